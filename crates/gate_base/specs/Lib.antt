@@ -1,4 +1,5 @@
 pub mod Causes
 pub mod Maps
+pub mod Named
 pub mod Told
 pub mod Wire

@@ -1,0 +1,46 @@
+-- What each call answers, and the account that it leaves. Source: Object Storage API v1.
+use Rattle.std.specs.Prelude.{◌≡◌, ℕ, ◌<◌, ◌≤◌, List, length, Contains, IsUtf8, Option, None, Some, IfSome}
+use Rattle.std.specs.FinMap.{get, insert}
+use Rattle.gate_base.specs.Maps.{adjust}
+use Rattle.swift_calls.specs.Tree.{Tree, Folder, with_head, new_folder}
+use Rattle.swift_calls.specs.declared.account.ReadList.{ReadList}
+use Rattle.swift_calls.specs.declared.calls.SwiftRequest.{SwiftRequest}
+use Rattle.swift_calls.specs.declared.calls.SwiftRequest.TheVariants.{HeadContainer, PutContainer}
+use Rattle.swift_calls.specs.declared.calls.SwiftReply.{SwiftReply}
+use Rattle.swift_calls.specs.declared.calls.SwiftReply.TheVariants.{Made, There, NotFound, Readers}
+
+-- a container's name: 1 to 256 bytes of UTF-8, none of them 0
+pub record IsContainerName (name : List ℕ) : Type 0 where
+  pub filled : 0 < length name
+  pub within : length name ≤ 256
+  pub text : IsUtf8 name
+  pub no_zero : ¬ (Contains name 0)
+
+-- a moment up to the end of the year 9999, in seconds since the beginning of 1970
+abbrev pub IsMoment : ℕ → Type 0
+IsMoment moment = moment < 253402300800
+
+-- what a store is asked: names and values within their limits
+abbrev pub Fit : SwiftRequest → Type 0
+Fit (HeadContainer container) = IsContainerName container
+Fit (PutContainer container readers created) = IsContainerName container × IfSome created IsMoment
+
+-- an answer, and the account after it
+pub record Answer : Type 0 where
+  pub reply : SwiftReply
+  pub tree : Tree
+
+-- HEAD of a container: its read list and creation time
+abbrev pub head_container : Option Folder → Tree → Answer
+head_container None tree = record { reply = NotFound; tree = tree }
+head_container (Some folder) tree = record { reply = Readers folder.readers folder.created; tree = tree }
+
+-- PUT of a container: a new one without objects, or one with its read list and creation time written over
+abbrev pub put_container : Option Folder → List ℕ → ReadList → Option ℕ → Tree → Answer
+put_container None name readers created tree = record { reply = Made; tree = insert tree name (new_folder readers created) }
+put_container (Some folder) name readers created tree = record { reply = There; tree = adjust name (with_head readers created) tree }
+
+-- the answer to a call on an account
+abbrev pub swift_step : SwiftRequest → Tree → Answer
+swift_step (HeadContainer container) tree = head_container (get tree container) tree
+swift_step (PutContainer container readers created) tree = put_container (get tree container) container readers created tree

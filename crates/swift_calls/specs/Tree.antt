@@ -1,0 +1,88 @@
+-- An account as maps by names: its containers, and the objects of each. Source: Object Storage API v1.
+use Rattle.std.specs.Prelude.{◌≡◌, ℕ, ◌+◌, ◌<◌, ◌^◌, Bool, true, false, ◌&&◌, List, [], ◌∷◌, length, map, sum_by, nat_lt, IsTrue, Option, None, Some}
+use Rattle.std.specs.List.{list_all}
+use Rattle.std.specs.FinMap.{empty, get, insert, from_entries}
+use Rattle.gate_base.specs.Maps.{Names, adjust}
+use Rattle.gate_base.specs.Named.{map_of, ascends}
+use Rattle.slo_manifest.specs.declared.Segment.{Segment}
+use Rattle.swift_calls.specs.declared.account.ReadList.{ReadList}
+use Rattle.swift_calls.specs.declared.account.Content.{Content}
+use Rattle.swift_calls.specs.declared.account.Content.TheVariants.{Plain, Segments}
+use Rattle.swift_calls.specs.declared.account.Stored.{Stored}
+use Rattle.swift_calls.specs.declared.account.Container.{Container}
+use Rattle.swift_calls.specs.declared.account.Account.{Account}
+
+-- an object, but for its name
+pub record File : Type 0 where
+  pub content_type : List ℕ
+  pub meta : List (List ℕ)
+  pub content : Content
+
+-- a container, but for its name
+pub record Folder : Type 0 where
+  pub readers : ReadList
+  pub created : Option ℕ
+  pub files : Names File
+
+-- an account
+abbrev pub Tree : Type 0
+Tree = Names Folder
+
+abbrev pub files_of : Option Folder → Names File
+files_of None = empty
+files_of (Some folder) = folder.files
+
+-- the objects of a container, none where it is missing
+abbrev pub files : Tree → List ℕ → Names File
+files tree folder = files_of (get tree folder)
+
+-- an object of a container
+abbrev pub look : Tree → List ℕ → List ℕ → Option File
+look tree folder name = get (files tree folder) name
+
+-- a container with its objects changed
+abbrev pub on_files : (Names File → Names File) → Folder → Folder
+on_files f folder = record folder { files = f folder.files }
+
+-- an object put into a container that is there
+abbrev pub put_file : List ℕ → List ℕ → File → Tree → Tree
+put_file folder name file tree = adjust folder (on_files (λ fs. insert fs name file)) tree
+
+-- a container with its read list and creation time written over
+abbrev pub with_head : ReadList → Option ℕ → Folder → Folder
+with_head readers created folder = record folder { readers = readers; created = created }
+
+-- a container without objects
+abbrev pub new_folder : ReadList → Option ℕ → Folder
+new_folder readers created = record { readers = readers; created = created; files = empty }
+
+-- ---- the account as it is declared, by lists
+
+abbrev pub file_of : Stored → File
+file_of s = record { content_type = s.content_type; meta = s.meta; content = s.content }
+
+abbrev pub folder_of : Container → Folder
+folder_of c = record { readers = c.readers; created = c.created; files = map_of (λ s. s.name) file_of c.objects }
+
+-- an account as maps; of two things with one name the first counts
+abbrev pub tree_of : Account → Tree
+tree_of account = map_of (λ c. c.name) folder_of account.containers
+
+-- the size of an object in bytes: its own, or the sum of its segments'
+abbrev pub size_of : Content → ℕ
+size_of (Plain bytes) = length bytes
+size_of (Segments segments) = sum_by (λ s. s.size) segments
+
+abbrev pub is_ordered : Account → Bool
+is_ordered account = ascends (map (λ c. c.name) account.containers) && list_all (λ c. ascends (map (λ s. s.name) c.objects)) account.containers
+
+-- names ascend strictly in byte order, those of the containers and those of each container's objects
+abbrev pub IsOrdered : Account → Type 0
+IsOrdered account = IsTrue (is_ordered account)
+
+abbrev pub is_sized : Account → Bool
+is_sized account = list_all (λ c. list_all (λ s. nat_lt (size_of s.content) (2 ^ 63)) c.objects) account.containers
+
+-- the size of each object is below 2^63
+abbrev pub IsSized : Account → Type 0
+IsSized account = IsTrue (is_sized account)

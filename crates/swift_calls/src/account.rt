@@ -1,0 +1,87 @@
+ghost use Rattle.std.specs.Prelude.{◌≡◌};
+
+use gate_base::{Bytes, Copying, List, Memory};
+use slo_manifest::Segment;
+
+/// Who may read the objects of a container: nobody but its owner, or everybody (`X-Container-Read: .r:*`).
+#[derive(Clone, Copy, Debug, PartialEq, Eq)]
+pub enum ReadList {
+    Nobody,
+    Everybody,
+}
+
+impl Copying for ReadList {
+    fn copy(&self) -> Result<ReadList, Memory> {
+        Ok(*self)
+    }
+}
+
+/// What an object has as its body: its own bytes, or those of the segments that a static large object lists.
+#[derive(Debug, Drop)]
+pub enum Content {
+    Plain(Bytes),
+    Segments(List<Segment>),
+}
+
+impl Copying for Content {
+    fn copy(&self) -> Result<Content, Memory> {
+        match self {
+            Content::Plain(bytes) => Ok(Content::Plain(bytes.copy()?)),
+            Content::Segments(segments) => Ok(Content::Segments(segments.copy()?)),
+        }
+    }
+}
+
+/// An object of a container. `meta` has the pieces of its metadata, in their order.
+#[derive(Debug, Drop)]
+pub struct Stored {
+    pub name: Bytes,
+    pub content_type: Bytes,
+    pub meta: List<Bytes>,
+    pub content: Content,
+}
+
+impl Copying for Stored {
+    fn copy(&self) -> Result<Stored, Memory> {
+        Ok(Stored {
+            name: self.name.copy()?,
+            content_type: self.content_type.copy()?,
+            meta: self.meta.copy()?,
+            content: self.content.copy()?,
+        })
+    }
+}
+
+/// A container. `created` is the moment of its making, in seconds since the beginning of 1970, where it keeps one.
+#[derive(Debug, Drop)]
+pub struct Container {
+    pub name: Bytes,
+    pub readers: ReadList,
+    pub created: Option<u64>,
+    pub objects: List<Stored>,
+}
+
+impl Copying for Container {
+    fn copy(&self) -> Result<Container, Memory> {
+        Ok(Container {
+            name: self.name.copy()?,
+            readers: self.readers,
+            created: self.created,
+            objects: self.objects.copy()?,
+        })
+    }
+}
+
+/// All that a store keeps for its user.
+#[derive(Debug, Drop)]
+pub struct Account {
+    pub containers: List<Container>,
+}
+
+impl Copying for Account {
+    fn copy(&self) -> Result<Account, Memory> {
+        Ok(Account {
+            containers: self.containers.copy()?,
+        })
+    }
+}
