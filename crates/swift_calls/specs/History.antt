@@ -63,3 +63,70 @@ Called at faults p q request (Err Memory) = Unread at faults p q request ⊎ (q 
 -- a call failed between p and q: the count of faults rose, or no call was left
 abbrev pub FailedBetween : (ℕ → ℕ) → ℕ → ℕ → Type 0
 FailedBetween faults p q = Rose (faults p) (faults q) ⊎ (budget ≤ q)
+
+-- ---- laws
+
+-- a call is counted once or not at all
+pub counts_near : (p q : ℕ) (result : Result SwiftReply SwiftFault) → Counts p q result → (p ≤ q) × (q ≤ p + 1)
+counts_near p q (Ok reply) c = let e = c.1 in (omega arith, omega arith)
+counts_near p q (Err Failed) (inl c) = let e = c.1 in (omega arith, omega arith)
+counts_near p q (Err Failed) (inr c) = let e = c.1 in (omega arith, omega arith)
+counts_near p q (Err Memory) (inl c) = let e = c.1 in (omega arith, omega arith)
+counts_near p q (Err Memory) (inr e) = (omega arith, omega arith)
+
+pub kept_refl : (c : ℕ) (at : ℕ → Tree) (faults : ℕ → ℕ) → Kept c at at faults faults
+kept_refl c at faults = record { accounts = λ k within. refl; counts = λ k within. refl }
+
+-- what is kept up to p, and then up to q, is kept up to p
+pub kept_trans : {p q : ℕ} {at at' at'' : ℕ → Tree} {faults faults' faults'' : ℕ → ℕ} → p ≤ q → Kept p at at' faults faults' → Kept q at' at'' faults' faults'' → Kept p at at'' faults faults''
+kept_trans near first then = record {
+  accounts = λ k within. then.accounts k (omega arith) ∙ first.accounts k within;
+  counts = λ k within. then.counts k (omega arith) ∙ first.counts k within;
+}
+
+-- what is kept up to q is kept up to a number before it
+pub kept_before : {p q : ℕ} {at at' : ℕ → Tree} {faults faults' : ℕ → ℕ} → p ≤ q → Kept q at at' faults faults' → Kept p at at' faults faults'
+kept_before near kept = record {
+  accounts = λ k within. kept.accounts k (omega arith);
+  counts = λ k within. kept.counts k (omega arith);
+}
+
+either_agree : (at at' : ℕ → Tree) (request : SwiftRequest) (p q : ℕ) → at' p ≡ at p → at' q ≡ at q → Either at p q request → Either at' p q request
+either_agree at at' request p q from to (inl same) = inl (to ∙ same ∙ sym from)
+either_agree at at' request p q from to (inr done) = inr (to ∙ done ∙ ap (λ t. (swift_step request t).tree) (sym from))
+
+rose_agree : (faults faults' : ℕ → ℕ) (p q : ℕ) → faults' p ≡ faults p → faults' q ≡ faults q → Rose (faults p) (faults q) → Rose (faults' p) (faults' q)
+rose_agree faults faults' p q from to rose = subst (λ n. Rose n (faults' q)) (sym from) (subst (Rose (faults p)) (sym to) rose)
+
+-- what a call did at q or before is so in each later history
+pub called_agree : {at at' : ℕ → Tree} {faults faults' : ℕ → ℕ} (p q : ℕ) (request : SwiftRequest) (result : Result SwiftReply SwiftFault) → Kept q at at' faults faults' → Called at faults p q request result → Called at' faults' p q request result
+called_agree {at = at} {at' = at'} {faults = faults} {faults' = faults'} p q request (Ok reply) kept c =
+    let next = c.next in
+    let from = kept.accounts p (omega arith) in
+    record {
+      next = next;
+      reply = c.reply ∙ ap (λ t. (swift_step request t).reply) (sym from);
+      tree = kept.accounts q (omega arith) ∙ c.tree ∙ ap (λ t. (swift_step request t).tree) (sym from);
+      quiet = kept.counts q (omega arith) ∙ c.quiet ∙ sym (kept.counts p (omega arith));
+    }
+called_agree {at = at} {at' = at'} {faults = faults} {faults' = faults'} p q request (Err Failed) kept (inl c) =
+    let next = c.next in
+    inl (record {
+      next = next;
+      either = either_agree at at' request p q (kept.accounts p (omega arith)) (kept.accounts q (omega arith)) c.either;
+      rose = rose_agree faults faults' p q (kept.counts p (omega arith)) (kept.counts q (omega arith)) c.rose;
+    })
+called_agree {at = at} {at' = at'} {faults = faults} {faults' = faults'} p q request (Err Failed) kept (inr spent) = inr spent
+called_agree {at = at} {at' = at'} {faults = faults} {faults' = faults'} p q request (Err Memory) kept (inl c) =
+    let next = c.next in
+    inl (record {
+      next = next;
+      either = either_agree at at' request p q (kept.accounts p (omega arith)) (kept.accounts q (omega arith)) c.either;
+      quiet = kept.counts q (omega arith) ∙ c.quiet ∙ sym (kept.counts p (omega arith));
+    })
+called_agree {at = at} {at' = at'} {faults = faults} {faults' = faults'} p q request (Err Memory) kept (inr same) = inr same
+
+-- and so is whether a call failed between p and q
+pub failed_agree : {at at' : ℕ → Tree} {faults faults' : ℕ → ℕ} (p q : ℕ) → p ≤ q → Kept q at at' faults faults' → FailedBetween faults p q → FailedBetween faults' p q
+failed_agree {faults = faults} {faults' = faults'} p q near kept (inl rose) = inl (rose_agree faults faults' p q (kept.counts p near) (kept.counts q (omega arith)) rose)
+failed_agree {faults = faults} {faults' = faults'} p q near kept (inr spent) = inr spent
