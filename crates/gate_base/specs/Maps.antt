@@ -228,8 +228,8 @@ module _ {K X : Type 0} {R : K → K → Ordering} (o : IsKeyOrder R) where
   -- of two inserts at a key the later one counts
   pub insert_again : (m : FinMap R X) (k : K) (x y : X) → insert (insert m k x) k y ≡ insert m k y
   insert_again m k x y = same_at_and_off o _ _ k
-    (at_insert o _ k y ∙ sym (at_insert o m k y))
-    (λ q a. off_insert o _ k y q a ∙ off_insert o m k x q a ∙ sym (off_insert o m k y q a))
+      (at_insert o _ k y ∙ sym (at_insert o m k y))
+      (λ q a. off_insert o _ k y q a ∙ off_insert o m k x q a ∙ sym (off_insert o m k y q a))
 
   -- to insert what is there changes nothing
   pub insert_there : (m : FinMap R X) (k : K) (x : X) → get m k ≡ Some x → insert m k x ≡ m
@@ -238,8 +238,8 @@ module _ {K X : Type 0} {R : K → K → Ordering} (o : IsKeyOrder R) where
   -- inserts at keys apart commute
   pub commute_insert : (m : FinMap R X) (k j : K) (x y : X) → eq_by_cmp R k j ≡ false → insert (insert m k x) j y ≡ insert (insert m j y) k x
   commute_insert m k j x y a = same_at_and_off o _ _ k
-    (off_insert o _ j y k a ∙ at_insert o m k x ∙ sym (at_insert o _ k x))
-    (λ q b. insert_alike o _ _ j y q (off_insert o m k x q b) ∙ sym (off_insert o _ k x q b))
+      (off_insert o _ j y k a ∙ at_insert o m k x ∙ sym (at_insert o _ k x))
+      (λ q b. insert_alike o _ _ j y q (off_insert o m k x q b) ∙ sym (off_insert o _ k x q b))
 
   -- a second removal changes nothing
   pub remove_again : (m : FinMap R X) (k : K) → remove (remove m k) k ≡ remove m k
@@ -252,32 +252,32 @@ module _ {K X : Type 0} {R : K → K → Ordering} (o : IsKeyOrder R) where
   -- to insert after a removal at the same key is to insert
   pub insert_remove : (m : FinMap R X) (k : K) (x : X) → insert (remove m k) k x ≡ insert m k x
   insert_remove m k x = same_at_and_off o _ _ k
-    (at_insert o _ k x ∙ sym (at_insert o m k x))
-    (λ q a. off_insert o _ k x q a ∙ off_remove o m k q a ∙ sym (off_insert o m k x q a))
+      (at_insert o _ k x ∙ sym (at_insert o m k x))
+      (λ q a. off_insert o _ k x q a ∙ off_remove o m k q a ∙ sym (off_insert o m k x q a))
 
   -- to remove after an insert at the same key is to remove
   pub remove_insert : (m : FinMap R X) (k : K) (x : X) → remove (insert m k x) k ≡ remove m k
   remove_insert m k x = same_at_and_off o _ _ k
-    (at_remove o _ k ∙ sym (at_remove o m k))
-    (λ q a. off_remove o _ k q a ∙ off_insert o m k x q a ∙ sym (off_remove o m k q a))
+      (at_remove o _ k ∙ sym (at_remove o m k))
+      (λ q a. off_remove o _ k q a ∙ off_insert o m k x q a ∙ sym (off_remove o m k q a))
 
   -- removals commute with inserts at keys apart
   pub commute_insert_remove : (m : FinMap R X) (k j : K) (x : X) → eq_by_cmp R k j ≡ false → remove (insert m k x) j ≡ insert (remove m j) k x
   commute_insert_remove m k j x a = same_at_and_off o _ _ k
-    (off_remove o _ j k a ∙ at_insert o m k x ∙ sym (at_insert o _ k x))
-    (λ q b. remove_alike o _ _ j q (off_insert o m k x q b) ∙ sym (off_insert o _ k x q b))
+      (off_remove o _ j k a ∙ at_insert o m k x ∙ sym (at_insert o _ k x))
+      (λ q b. remove_alike o _ _ j q (off_insert o m k x q b) ∙ sym (off_insert o _ k x q b))
 
   -- two changes at a key are one
   pub adjust_again : (k : K) (f g : X → X) (m : FinMap R X) → adjust k f (adjust k g m) ≡ adjust k (λ x. f (g x)) m
   adjust_again k f g m = same_at_and_off o _ _ k
-    (at_adjust o k f _ ∙ ap (option_map f) (at_adjust o k g m) ∙ mapped_again f g (get m k) ∙ sym (at_adjust o k _ m))
-    (λ q a. off_adjust o k f _ q a ∙ off_adjust o k g m q a ∙ sym (off_adjust o k _ m q a))
+      (at_adjust o k f _ ∙ ap (option_map f) (at_adjust o k g m) ∙ mapped_again f g (get m k) ∙ sym (at_adjust o k _ m))
+      (λ q a. off_adjust o k f _ q a ∙ off_adjust o k g m q a ∙ sym (off_adjust o k _ m q a))
 
   -- changes that agree on the value there are the same
   pub adjust_same : (k : K) (f g : X → X) (m : FinMap R X) → ((x : X) → get m k ≡ Some x → f x ≡ g x) → adjust k f m ≡ adjust k g m
   adjust_same k f g m alike = same_at_and_off o _ _ k
-    (at_adjust o k f m ∙ mapped_same f g (get m k) alike ∙ sym (at_adjust o k g m))
-    (λ q a. off_adjust o k f m q a ∙ sym (off_adjust o k g m q a))
+      (at_adjust o k f m ∙ mapped_same f g (get m k) alike ∙ sym (at_adjust o k g m))
+      (λ q a. off_adjust o k f m q a ∙ sym (off_adjust o k g m q a))
 
   -- a change that leaves the value there as it is changes nothing
   pub adjust_stays : (k : K) (f : X → X) (m : FinMap R X) → ((x : X) → get m k ≡ Some x → f x ≡ x) → adjust k f m ≡ m
@@ -290,14 +290,14 @@ module _ {K X : Type 0} {R : K → K → Ordering} (o : IsKeyOrder R) where
   -- a change of what is there is an insert
   pub adjust_there : (k : K) (f : X → X) (m : FinMap R X) (x : X) → get m k ≡ Some x → adjust k f m ≡ insert m k (f x)
   adjust_there k f m x is = same_at_and_off o _ _ k
-    (at_adjust o k f m ∙ ap (option_map f) is ∙ sym (at_insert o m k (f x)))
-    (λ q a. off_adjust o k f m q a ∙ sym (off_insert o m k (f x) q a))
+      (at_adjust o k f m ∙ ap (option_map f) is ∙ sym (at_insert o m k (f x)))
+      (λ q a. off_adjust o k f m q a ∙ sym (off_insert o m k (f x) q a))
 
   -- changes at keys apart commute
   pub commute_adjust : (k j : K) (f g : X → X) (m : FinMap R X) → eq_by_cmp R k j ≡ false → adjust j g (adjust k f m) ≡ adjust k f (adjust j g m)
   commute_adjust k j f g m a = same_at_and_off o _ _ k
-    (off_adjust o j g _ k a ∙ at_adjust o k f m ∙ sym (at_adjust o k f _ ∙ ap (option_map f) (off_adjust o j g m k a)))
-    (λ q b. adjust_alike o j g _ _ q (off_adjust o k f m j (apart_back o k j a)) (off_adjust o k f m q b) ∙ sym (off_adjust o k f _ q b))
+      (off_adjust o j g _ k a ∙ at_adjust o k f m ∙ sym (at_adjust o k f _ ∙ ap (option_map f) (off_adjust o j g m k a)))
+      (λ q b. adjust_alike o j g _ _ q (off_adjust o k f m j (apart_back o k j a)) (off_adjust o k f m q b) ∙ sym (off_adjust o k f _ q b))
 
 -- ---- what a function takes over
 
@@ -361,32 +361,32 @@ module _ {K X Y : Type 0} {R : K → K → Ordering} (o : IsKeyOrder R) where
   -- an entry that is taken over is put in its place
   pub picked_insert : (f : K → X → Option Y) (m : FinMap R X) (k : K) (x : X) (y : Y) → f k x ≡ Some y → picked f (insert m k x) ≡ insert (picked f m) k y
   picked_insert f m k x y is = same_at_and_off o _ _ k
-    (get-picked f _ k ∙ ap (option_and_then (f k)) (at_insert o m k x) ∙ is ∙ sym (at_insert o _ k y))
-    (λ q a. picked_alike f _ _ q (off_insert o m k x q a) ∙ sym (off_insert o _ k y q a))
+      (get-picked f _ k ∙ ap (option_and_then (f k)) (at_insert o m k x) ∙ is ∙ sym (at_insert o _ k y))
+      (λ q a. picked_alike f _ _ q (off_insert o m k x q a) ∙ sym (off_insert o _ k y q a))
 
   -- an entry that is not taken over leaves its key empty
   pub picked_insert_none : (f : K → X → Option Y) (m : FinMap R X) (k : K) (x : X) → f k x ≡ None → picked f (insert m k x) ≡ remove (picked f m) k
   picked_insert_none f m k x is = same_at_and_off o _ _ k
-    (get-picked f _ k ∙ ap (option_and_then (f k)) (at_insert o m k x) ∙ is ∙ sym (at_remove o _ k))
-    (λ q a. picked_alike f _ _ q (off_insert o m k x q a) ∙ sym (off_remove o _ k q a))
+      (get-picked f _ k ∙ ap (option_and_then (f k)) (at_insert o m k x) ∙ is ∙ sym (at_remove o _ k))
+      (λ q a. picked_alike f _ _ q (off_insert o m k x q a) ∙ sym (off_remove o _ k q a))
 
   -- an entry that is taken over as before changes nothing of what is picked
   pub picked_insert_same : (f : K → X → Option Y) (m : FinMap R X) (k : K) (x : X) → f k x ≡ get (picked f m) k → picked f (insert m k x) ≡ picked f m
   picked_insert_same f m k x is = same_at_and_off o _ _ k
-    (get-picked f _ k ∙ ap (option_and_then (f k)) (at_insert o m k x) ∙ is)
-    (λ q a. picked_alike f _ _ q (off_insert o m k x q a))
+      (get-picked f _ k ∙ ap (option_and_then (f k)) (at_insert o m k x) ∙ is)
+      (λ q a. picked_alike f _ _ q (off_insert o m k x q a))
 
   -- what is removed is not picked
   pub picked_remove : (f : K → X → Option Y) (m : FinMap R X) (k : K) → picked f (remove m k) ≡ remove (picked f m) k
   picked_remove f m k = same_at_and_off o _ _ k
-    (get-picked f _ k ∙ ap (option_and_then (f k)) (at_remove o m k) ∙ sym (at_remove o _ k))
-    (λ q a. picked_alike f _ _ q (off_remove o m k q a) ∙ sym (off_remove o _ k q a))
+      (get-picked f _ k ∙ ap (option_and_then (f k)) (at_remove o m k) ∙ sym (at_remove o _ k))
+      (λ q a. picked_alike f _ _ q (off_remove o m k q a) ∙ sym (off_remove o _ k q a))
 
   -- a change of an entry is the change g of what is taken over of it
   pub picked_adjust : (f : K → X → Option Y) (g : Y → Y) (k : K) (h : X → X) (m : FinMap R X) → ((x : X) → get m k ≡ Some x → f k (h x) ≡ option_map g (f k x)) → picked f (adjust k h m) ≡ adjust k g (picked f m)
   picked_adjust f g k h m along = same_at_and_off o _ _ k
-    (get-picked f _ k ∙ ap (option_and_then (f k)) (at_adjust o k h m) ∙ taken_mapped (f k) g h (get m k) along ∙ sym (at_adjust o k g _ ∙ ap (option_map g) (get-picked f m k)))
-    (λ q a. picked_alike f _ _ q (off_adjust o k h m q a) ∙ sym (off_adjust o k g _ q a))
+      (get-picked f _ k ∙ ap (option_and_then (f k)) (at_adjust o k h m) ∙ taken_mapped (f k) g h (get m k) along ∙ sym (at_adjust o k g _ ∙ ap (option_map g) (get-picked f m k)))
+      (λ q a. picked_alike f _ _ q (off_adjust o k h m q a) ∙ sym (off_adjust o k g _ q a))
 
   -- functions that agree on the entries pick the same
   pub picked_same : (f g : K → X → Option Y) (m : FinMap R X) → ((k : K) (x : X) → get m k ≡ Some x → f k x ≡ g k x) → picked f m ≡ picked g m
@@ -449,8 +449,8 @@ module _ {X : Type 0} where
   -- a function that is changed at one number within changes its table there
   pub table_insert : (f g : ℕ → Option X) (n k : ℕ) (x : X) → 0 < k → k ≤ n → g k ≡ Some x → ((j : ℕ) → j ≢ k → g j ≡ f j) → table g n ≡ insert (table f n) k x
   table_insert f g n k x low high is others = same_at_and_off by_number _ _ k
-    (table_within g n k low high ∙ is ∙ sym (at_insert by_number _ k x))
-    (λ q a. table_alike g f n q (others q (not_same by_number q k a)) ∙ sym (off_insert by_number _ k x q a))
+      (table_within g n k low high ∙ is ∙ sym (at_insert by_number _ k x))
+      (λ q a. table_alike g f n q (others q (not_same by_number q k a)) ∙ sym (off_insert by_number _ k x q a))
 
 -- ---- at names
 

@@ -5,11 +5,13 @@
 mod copying;
 mod faults;
 mod lists;
+mod named;
 mod outside;
 mod page;
 
 pub use copying::Copying;
 pub use faults::{Failed, Memory};
 pub use lists::{Bytes, List};
+pub use named::Named;
 pub use outside::{Clock, Counted, Draws, Line, MOMENT_LIMIT, NoCount, Piece, Sink};
 pub use page::{Caller, Page, Pair};
