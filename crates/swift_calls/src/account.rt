@@ -1,6 +1,6 @@
 ghost use Rattle.std.specs.Prelude.{◌≡◌};
 
-use gate_base::{Bytes, Copying, List, Memory};
+use gate_base::{Bytes, Copying, List, Memory, Named};
 use slo_manifest::Segment;
 
 /// Who may read the objects of a container: nobody but its owner, or everybody (`X-Container-Read: .r:*`).
@@ -52,6 +52,14 @@ impl Copying for Stored {
     }
 }
 
+impl Named for Stored {
+    ghost name_of = { λ s. s.name };
+
+    fn name(&self) -> &[u8] {
+        self.name.as_slice()
+    }
+}
+
 /// A container. `created` is the moment of its making, in seconds since the beginning of 1970, where it keeps one.
 #[derive(Debug, Drop)]
 pub struct Container {
@@ -69,6 +77,14 @@ impl Copying for Container {
             created: self.created,
             objects: self.objects.copy()?,
         })
+    }
+}
+
+impl Named for Container {
+    ghost name_of = { λ c. c.name };
+
+    fn name(&self) -> &[u8] {
+        self.name.as_slice()
     }
 }
 

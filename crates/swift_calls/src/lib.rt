@@ -4,6 +4,9 @@
 
 mod account;
 mod calls;
+mod memory;
+mod serve;
 
 pub use account::{Account, Container, Content, ReadList, Stored};
 pub use calls::{Swift, SwiftFault, SwiftReply, SwiftRequest};
+pub use memory::{MemSwift, Outcome};

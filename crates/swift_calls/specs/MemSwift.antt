@@ -1,0 +1,25 @@
+-- What a store in memory tells of itself.
+use Rattle.std.specs.Prelude.{◌≡◌, ℕ, ◌+◌, length, take}
+use Rattle.swift_calls.specs.Replay.{outcome_at, replayed}
+use Rattle.swift_calls.specs.declared.account.Account.{Account}
+use Rattle.swift_calls.specs.declared.memory.Outcome.{Outcome}
+use Rattle.swift_calls.specs.declared.memory.MemSwift.{MemSwift}
+
+-- how many calls it has counted
+abbrev pub calls_of : MemSwift → ℕ
+calls_of m = length m.log.items
+
+-- the account after so many of them
+abbrev pub account_after : MemSwift → ℕ → Account
+account_after m k = replayed m.first (take k m.log.items)
+
+-- how the call of a number goes
+abbrev pub planned : MemSwift → ℕ → Outcome
+planned m number = outcome_at m.before m.after m.stop number
+
+-- both began with one account, and their calls go alike
+pub record SamePlan (old new : MemSwift) : Type 0 where
+  pub first : new.first ≡ old.first
+  pub before : new.before ≡ old.before
+  pub after : new.after ≡ old.after
+  pub stop : new.stop ≡ old.stop

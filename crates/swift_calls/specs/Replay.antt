@@ -1,0 +1,50 @@
+-- How the calls of a store in memory go, and what they leave.
+use Rattle.std.specs.Prelude.{◌≡◌, ◌≢◌, ◌⊎◌, ℕ, Bool, true, false, ◌&&◌, ◌||◌, if◌then◌else◌, ◌==◌, nat_lt, nat_le, List, [], ◌∷◌, ◌++◌, count_by, Result, Ok, Err}
+use Rattle.std.specs.List.{list_any}
+use Rattle.swift_calls.specs.Lists.{after}
+use Rattle.swift_calls.specs.declared.account.Account.{Account}
+use Rattle.swift_calls.specs.declared.calls.SwiftRequest.{SwiftRequest}
+use Rattle.swift_calls.specs.declared.calls.SwiftReply.{SwiftReply}
+use Rattle.swift_calls.specs.declared.calls.SwiftFault.{SwiftFault}
+use Rattle.swift_calls.specs.declared.calls.SwiftFault.TheVariants.{Failed, Memory}
+use Rattle.swift_calls.specs.declared.memory.Outcome.{Outcome}
+use Rattle.swift_calls.specs.declared.memory.Outcome.TheVariants.{Answered, LostBefore, LostAfter}
+use Rattle.swift_calls.specs.declared.memory.Entry.{Entry}
+
+-- how the call of a number goes: lost in `before` and from `stop` on, unless that is 0, and else its answer lost in `after`
+abbrev pub outcome_at : List ℕ → List ℕ → ℕ → ℕ → Outcome
+outcome_at before after stop number =
+    if list_any (λ k. k == number) before || (nat_lt 0 stop && nat_le stop number) then LostBefore
+    else if list_any (λ k. k == number) after then LostAfter else Answered
+
+-- what a call leaves of an account
+abbrev pub left_by : Outcome → SwiftRequest → Account → Account
+left_by Answered request account = after request account
+left_by LostBefore request account = account
+left_by LostAfter request account = after request account
+
+-- an account after these calls
+unfoldable pub replayed : Account → List Entry → Account
+replayed account [] = account
+replayed account (e ∷ entries) = replayed (left_by e.outcome e.request account) entries
+
+abbrev pub is_lost : Outcome → Bool
+is_lost Answered = false
+is_lost LostBefore = true
+is_lost LostAfter = true
+
+-- how many of these calls failed
+abbrev pub failures : List Entry → ℕ
+failures entries = count_by (λ e. is_lost e.outcome) entries
+
+-- what a call answers, and the account that it leaves; for want of memory it leaves all as it was
+abbrev pub Goes : Outcome → SwiftRequest → Result SwiftReply SwiftFault → Account → Account → Type 0
+Goes outcome request (Ok reply) old new = (outcome ≡ Answered) × (new ≡ after request old)
+Goes outcome request (Err Failed) old new = (is_lost outcome ≡ true) × (new ≡ left_by outcome request old)
+Goes outcome request (Err Memory) old new = new ≡ old
+
+-- what a call adds to the record
+abbrev pub Logs : Outcome → SwiftRequest → Result SwiftReply SwiftFault → List Entry → List Entry → Type 0
+Logs outcome request (Ok reply) old new = (outcome ≡ Answered) × (new ≡ old ++ record { request = request; outcome = outcome } ∷ [])
+Logs outcome request (Err Failed) old new = (is_lost outcome ≡ true) × (new ≡ old ++ record { request = request; outcome = outcome } ∷ [])
+Logs outcome request (Err Memory) old new = new ≡ old

@@ -1,0 +1,42 @@
+//! A store in memory: what it keeps.
+ghost use Rattle.std.specs.Prelude.{◌≡◌};
+ghost use Rattle.swift_calls.specs.Tree.{IsOrdered, IsSized};
+ghost use Rattle.swift_calls.specs.Replay.{replayed};
+
+use crate::{Account, SwiftRequest};
+use gate_base::List;
+use std::alloc::Global;
+
+/// How a call of a store in memory goes.
+#[derive(Clone, Copy, Debug, PartialEq, Eq)]
+pub enum Outcome {
+    /// It takes effect and is answered.
+    Answered,
+    /// The request is lost: the call fails without effect.
+    LostBefore,
+    /// The answer is lost: the call fails after its effect.
+    LostAfter,
+}
+
+/// A call that was made, and how it went.
+#[derive(Debug, Drop)]
+pub(crate) struct Entry {
+    pub(crate) request: SwiftRequest,
+    pub(crate) outcome: Outcome,
+}
+
+/// A store in memory. It keeps the account that it began with and the record of all calls. Calls are numbered
+/// from 1.
+#[derive(Debug, Drop)]
+pub struct MemSwift {
+    pub(crate) first: Account,
+    pub(crate) present: Account,
+    pub(crate) log: Vec<Entry>,
+    pub(crate) before: List<u64>,
+    pub(crate) after: List<u64>,
+    pub(crate) stop: u64,
+    pub(crate) alloc: Global,
+    ghost replays: { present ≡ replayed first log.items },
+    ghost ordered: { IsOrdered first },
+    ghost sized: { IsSized first },
+}
