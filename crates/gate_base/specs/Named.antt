@@ -143,14 +143,14 @@ module _ {A : Type 0} (name : A → List ℕ) where
 
 -- ---- ascending names
 
-both : (a b : Bool) → a ≡ true → b ≡ true → (a && b) ≡ true
+pub both : (a b : Bool) → a ≡ true → b ≡ true → (a && b) ≡ true
 both a b is too = ap (λ x. x && b) is ∙ too
 
-first_of_two : (a b : Bool) → (a && b) ≡ true → a ≡ true
+pub first_of_two : (a b : Bool) → (a && b) ≡ true → a ≡ true
 first_of_two true b h = refl
 first_of_two false b h = h
 
-second_of_two : (a b : Bool) → (a && b) ≡ true → b ≡ true
+pub second_of_two : (a b : Bool) → (a && b) ≡ true → b ≡ true
 second_of_two true b h = h
 second_of_two false b h = absurd (true≢false (sym h))
 

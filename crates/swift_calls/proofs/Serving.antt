@@ -6,7 +6,7 @@ use Rattle.std.proofs.Common.{refl, sym, ap, ◌∙◌}
 use Rattle.gate_base.specs.Named.{named, index_named, get-map_of, map_placed, map_changed, index_none, index_item, index_changed}
 use Rattle.swift_calls.specs.Tree.{Tree, Folder, folder_of, tree_of, with_head}
 use Rattle.swift_calls.specs.Step.{swift_step, head_container, put_container}
-use Rattle.swift_calls.specs.Lists.{name_of, with_readers, with_container, after}
+use Rattle.swift_calls.specs.Lists.{name_of, with_readers, with_container, served}
 use Rattle.swift_calls.specs.declared.account.ReadList.{ReadList}
 use Rattle.swift_calls.specs.declared.account.Container.{Container}
 use Rattle.swift_calls.specs.declared.account.Account.{Account}
@@ -53,8 +53,8 @@ put_tree None n readers created cs = map_placed name_of folder_of _ cs
 put_tree (Some c) n readers created cs = map_changed name_of folder_of n (with_readers readers created) (with_head readers created) (λ c. refl) (λ c. refl) cs
 
 -- the account after a call with effect is the step's, as maps
-pub tree_after : (request : SwiftRequest) (account : Account) → tree_of (after request account) ≡ (swift_step request (tree_of account)).tree
-tree_after (HeadContainer n) account = sym (head_tree _ _)
-tree_after (PutContainer n readers created) account =
+pub tree_served : (request : SwiftRequest) (account : Account) → tree_of (served request account) ≡ (swift_step request (tree_of account)).tree
+tree_served (HeadContainer n) account = sym (head_tree _ _)
+tree_served (PutContainer n readers created) account =
     put_tree (named name_of n account.containers) n readers created account.containers
     ∙ ap (λ v. (put_container v n readers created (tree_of account)).tree) (sym (get-map_of name_of folder_of n account.containers))

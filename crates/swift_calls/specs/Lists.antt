@@ -20,6 +20,6 @@ with_container None name readers created cs = placed name_of (record { name = na
 with_container (Some c) name readers created cs = changed name_of name (with_readers readers created) cs
 
 -- the account after a call with effect
-abbrev pub after : SwiftRequest → Account → Account
-after (HeadContainer container) account = account
-after (PutContainer container readers created) account = record { containers = with_container (named name_of container account.containers) container readers created account.containers }
+abbrev pub served : SwiftRequest → Account → Account
+served (HeadContainer container) account = account
+served (PutContainer container readers created) account = record { containers = with_container (named name_of container account.containers) container readers created account.containers }

@@ -1,6 +1,6 @@
 -- What a store in memory tells of itself.
 use Rattle.std.specs.Prelude.{◌≡◌, ℕ, ◌+◌, length, take}
-use Rattle.swift_calls.specs.Replay.{outcome_at, replayed}
+use Rattle.swift_calls.specs.Replay.{outcome_at, replayed, failures}
 use Rattle.swift_calls.specs.declared.account.Account.{Account}
 use Rattle.swift_calls.specs.declared.memory.Outcome.{Outcome}
 use Rattle.swift_calls.specs.declared.memory.MemSwift.{MemSwift}
@@ -12,6 +12,10 @@ calls_of m = length m.log.items
 -- the account after so many of them
 abbrev pub account_after : MemSwift → ℕ → Account
 account_after m k = replayed m.first (take k m.log.items)
+
+-- how many of them failed
+abbrev pub faults_after : MemSwift → ℕ → ℕ
+faults_after m k = failures (take k m.log.items)
 
 -- how the call of a number goes
 abbrev pub planned : MemSwift → ℕ → Outcome

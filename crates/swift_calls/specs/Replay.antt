@@ -1,7 +1,7 @@
 -- How the calls of a store in memory go, and what they leave.
 use Rattle.std.specs.Prelude.{◌≡◌, ◌≢◌, ◌⊎◌, ℕ, Bool, true, false, ◌&&◌, ◌||◌, if◌then◌else◌, ◌==◌, nat_lt, nat_le, List, [], ◌∷◌, ◌++◌, count_by, Result, Ok, Err}
 use Rattle.std.specs.List.{list_any}
-use Rattle.swift_calls.specs.Lists.{after}
+use Rattle.swift_calls.specs.Lists.{served}
 use Rattle.swift_calls.specs.declared.account.Account.{Account}
 use Rattle.swift_calls.specs.declared.calls.SwiftRequest.{SwiftRequest}
 use Rattle.swift_calls.specs.declared.calls.SwiftReply.{SwiftReply}
@@ -19,9 +19,9 @@ outcome_at before after stop number =
 
 -- what a call leaves of an account
 abbrev pub left_by : Outcome → SwiftRequest → Account → Account
-left_by Answered request account = after request account
+left_by Answered request account = served request account
 left_by LostBefore request account = account
-left_by LostAfter request account = after request account
+left_by LostAfter request account = served request account
 
 -- an account after these calls
 unfoldable pub replayed : Account → List Entry → Account
@@ -39,7 +39,7 @@ failures entries = count_by (λ e. is_lost e.outcome) entries
 
 -- what a call answers, and the account that it leaves; for want of memory it leaves all as it was
 abbrev pub Goes : Outcome → SwiftRequest → Result SwiftReply SwiftFault → Account → Account → Type 0
-Goes outcome request (Ok reply) old new = (outcome ≡ Answered) × (new ≡ after request old)
+Goes outcome request (Ok reply) old new = (outcome ≡ Answered) × (new ≡ served request old)
 Goes outcome request (Err Failed) old new = (is_lost outcome ≡ true) × (new ≡ left_by outcome request old)
 Goes outcome request (Err Memory) old new = new ≡ old
 

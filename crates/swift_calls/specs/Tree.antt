@@ -80,8 +80,11 @@ is_ordered account = ascends (map (λ c. c.name) account.containers) && list_all
 abbrev pub IsOrdered : Account → Type 0
 IsOrdered account = IsTrue (is_ordered account)
 
+abbrev pub is_sized_object : Stored → Bool
+is_sized_object s = nat_lt (size_of s.content) (2 ^ 63)
+
 abbrev pub is_sized : Account → Bool
-is_sized account = list_all (λ c. list_all (λ s. nat_lt (size_of s.content) (2 ^ 63)) c.objects) account.containers
+is_sized account = list_all (λ c. list_all is_sized_object c.objects) account.containers
 
 -- the size of each object is below 2^63
 abbrev pub IsSized : Account → Type 0

@@ -5,6 +5,7 @@
 mod account;
 mod calls;
 mod memory;
+mod replay;
 mod serve;
 
 pub use account::{Account, Container, Content, ReadList, Stored};

@@ -2,7 +2,7 @@
 ghost use Rattle.std.specs.Prelude.{◌≡◌, IfOk, OnOk, OnErr};
 ghost use Rattle.swift_calls.specs.Tree.{tree_of};
 ghost use Rattle.swift_calls.specs.Step.{swift_step};
-ghost use Rattle.swift_calls.specs.Lists.{after};
+ghost use Rattle.swift_calls.specs.Lists.{served};
 
 use crate::{Account, Container, ReadList, SwiftReply, SwiftRequest};
 use gate_base::{Bytes, List, Memory};
@@ -36,7 +36,7 @@ fn put_container(
     created: Option<u64>,
 ) -> Result<SwiftReply, Memory>
     ensures reply { IfOk result (λ reply. reply ≡ (swift_step (SwiftRequest.PutContainer name.now readers created) (tree_of (record { containers = containers.old }))).reply) }
-    ensures effect { OnOk result (containers.new ≡ (after (SwiftRequest.PutContainer name.now readers created) (record { containers = containers.old })).containers) }
+    ensures effect { OnOk result (containers.new ≡ (served (SwiftRequest.PutContainer name.now readers created) (record { containers = containers.old })).containers) }
     ensures err { OnErr result (containers.new ≡ containers.old) }
 {
     match containers.find(name) {
@@ -61,7 +61,7 @@ fn put_container(
 /// Makes a call on an account. For want of memory nothing changes.
 pub(crate) fn serve(alloc: Global, account: &mut Account, request: &SwiftRequest) -> Result<SwiftReply, Memory>
     ensures reply { IfOk result (λ reply. reply ≡ (swift_step request.now (tree_of account.old)).reply) }
-    ensures effect { OnOk result (account.new ≡ after request.now account.old) }
+    ensures effect { OnOk result (account.new ≡ served request.now account.old) }
     ensures err { OnErr result (account.new ≡ account.old) }
 {
     match request {

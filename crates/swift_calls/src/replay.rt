@@ -1,0 +1,136 @@
+//! A store in memory: its calls, and its accounts again.
+ghost use Rattle.std.specs.Prelude.{◌≡◌, ℕ, ◌<◌, ◌≤◌, ◌+◌, [], ◌∷◌, ◌++◌, length, take, IfOk, OnErr, OnOk};
+ghost use Rattle.swift_calls.specs.Tree.{tree_of, IsOrdered, IsSized};
+ghost use Rattle.swift_calls.specs.Step.{Fit, swift_step};
+ghost use Rattle.swift_calls.specs.History.{Counts, CountsFaults, Kept, Called};
+ghost use Rattle.swift_calls.specs.Lists.{served};
+ghost use Rattle.swift_calls.specs.Replay.{outcome_at, left_by, replayed, failures, Goes, Logs};
+ghost use Rattle.swift_calls.specs.MemSwift.{calls_of, account_after, faults_after, planned, SamePlan};
+
+use crate::memory::Entry;
+use crate::serve::serve;
+use crate::{Account, MemSwift, Outcome, Swift, SwiftFault, SwiftReply, SwiftRequest};
+use gate_base::{Copying, Counted, List, Memory};
+use std::alloc::Global;
+
+impl MemSwift {
+    #[tactic(auto, using(crate::proofs::Replaying::replayed_none))]
+    /// A store with this account. The calls whose numbers are in `before` fail without effect, those in `after` after
+    /// their effect, and from `stop` on each call fails without effect, where `stop` isn't 0. A number in both
+    /// lists counts as one of `before`.
+    pub fn new(
+        alloc: Global,
+        account: Account,
+        before: List<u64>,
+        after: List<u64>,
+        stop: u64,
+    ) -> Result<MemSwift, Memory>
+        requires ordered { IsOrdered account }
+        requires sized { IsSized account }
+        ensures calls { IfOk result (λ m. calls_of m ≡ 0) }
+        ensures account { IfOk result (λ m. account_after m 0 ≡ account) }
+        ensures faults { IfOk result (λ m. faults_after m 0 ≡ 0) }
+        ensures planned { IfOk result (λ m. (number : ℕ) → planned m number ≡ outcome_at before after stop number) }
+    {
+        Ok(MemSwift {
+            present: account.copy()?,
+            first: account,
+            log: Vec::new(alloc),
+            before,
+            after,
+            stop,
+            alloc,
+        })
+    }
+
+    #[tactic(auto, using(crate::proofs::Replaying::ordered_replayed, crate::proofs::Replaying::sized_replayed))]
+    /// The account after all calls.
+    pub fn account(&self) -> &Account
+        ensures exact { result.now ≡ account_after self.now (calls_of self.now) }
+        ensures ordered { IsOrdered result.now }
+        ensures sized { IsSized result.now }
+    {
+        &self.present
+    }
+
+    #[tactic(auto, using(crate::proofs::Replaying::replayed_none, crate::proofs::Replaying::replayed_next, crate::proofs::Replaying::ordered_replayed, crate::proofs::Replaying::sized_replayed))]
+    /// The account after the first `k` calls.
+    pub fn account_at(&self, k: u64) -> Result<Account, Memory>
+        requires { k ≤ calls_of self.now }
+        ensures exact { IfOk result (λ account. account ≡ account_after self.now k) }
+        ensures ordered { IfOk result IsOrdered }
+        ensures sized { IfOk result IsSized }
+    {
+        let mut account = self.first.copy()?;
+        for entry in &self.log[..k as usize] {
+            leave(self.alloc, &mut account, entry)?;
+        }
+        Ok(account)
+    }
+
+    #[tactic(auto, using(crate::proofs::Replaying::ordered_replayed, crate::proofs::Replaying::sized_replayed))]
+    /// The account after all calls, and nothing else.
+    pub fn into_account(self) -> Account
+        ensures exact { result ≡ account_after self (calls_of self) }
+        ensures ordered { IsOrdered result }
+        ensures sized { IsSized result }
+    {
+        self.present
+    }
+
+    /// How the call of a number goes.
+    fn outcome(&self, number: u64) -> Outcome
+        ensures { result ≡ planned self.now number }
+    {
+        let stopped = 0 < self.stop && self.stop <= number;
+        if self.before.as_slice().contains(&number) || stopped {
+            Outcome::LostBefore
+        } else if self.after.as_slice().contains(&number) {
+            Outcome::LostAfter
+        } else {
+            Outcome::Answered
+        }
+    }
+
+    #[tactic(auto, using(crate::proofs::Replaying::replayed_more))]
+    /// Makes a call and records it. For want of memory all is as it was.
+    fn make(&mut self, request: &SwiftRequest) -> Result<SwiftReply, SwiftFault>
+        ensures plan { SamePlan self.old self.new }
+        ensures logs { Logs (planned self.old (calls_of self.old + 1)) request.now result self.old.log.items self.new.log.items }
+        ensures reply { IfOk result (λ reply. reply ≡ (swift_step request.now (tree_of self.old.present)).reply) }
+    {
+        self.log.reserve(1)?;
+        let request = request.copy()?;
+        let outcome = self.outcome(self.log.as_slice().len() as u64 + 1);
+        match outcome {
+            Outcome::Answered => {
+                let reply = serve(self.alloc, &mut self.present, &request)?;
+                self.log.push(Entry { request, outcome }).unwrap();
+                Ok(reply)
+            }
+            Outcome::LostBefore => {
+                self.log.push(Entry { request, outcome }).unwrap();
+                Err(SwiftFault::Failed)
+            }
+            Outcome::LostAfter => {
+                serve(self.alloc, &mut self.present, &request)?;
+                self.log.push(Entry { request, outcome }).unwrap();
+                Err(SwiftFault::Failed)
+            }
+        }
+    }
+}
+
+/// Makes a call as it went before. For want of memory nothing changes.
+fn leave(alloc: Global, account: &mut Account, entry: &Entry) -> Result<(), Memory>
+    ensures ok { OnOk result (account.new ≡ left_by entry.now.outcome entry.now.request account.old) }
+    ensures err { OnErr result (account.new ≡ account.old) }
+{
+    match entry.outcome {
+        Outcome::Answered | Outcome::LostAfter => {
+            serve(alloc, account, &entry.request)?;
+            Ok(())
+        }
+        Outcome::LostBefore => Ok(()),
+    }
+}
