@@ -1,5 +1,6 @@
 -- What a store in memory tells of itself.
 use Rattle.std.specs.Prelude.{◌≡◌, ℕ, ◌+◌, length, take}
+use Rattle.swift_calls.specs.Tree.{Tree, tree_of}
 use Rattle.swift_calls.specs.Replay.{outcome_at, replayed, failures}
 use Rattle.swift_calls.specs.declared.account.Account.{Account}
 use Rattle.swift_calls.specs.declared.memory.Outcome.{Outcome}
@@ -12,6 +13,10 @@ calls_of m = length m.log.items
 -- the account after so many of them
 abbrev pub account_after : MemSwift → ℕ → Account
 account_after m k = replayed m.first (take k m.log.items)
+
+-- the same as maps
+abbrev pub tree_after : MemSwift → ℕ → Tree
+tree_after m k = tree_of (account_after m k)
 
 -- how many of them failed
 abbrev pub faults_after : MemSwift → ℕ → ℕ

@@ -1,11 +1,11 @@
 //! A store in memory: its calls, and its accounts again.
-ghost use Rattle.std.specs.Prelude.{◌≡◌, ℕ, ◌<◌, ◌≤◌, ◌+◌, [], ◌∷◌, ◌++◌, length, take, IfOk, OnErr, OnOk};
+ghost use Rattle.std.specs.Prelude.{◌≡◌, ℕ, ◌<◌, ◌≤◌, ◌+◌, [], ◌∷◌, ◌++◌, length, take, IfOk, OnErr, OnOk, IsErrOf};
 ghost use Rattle.swift_calls.specs.Tree.{tree_of, IsOrdered, IsSized};
 ghost use Rattle.swift_calls.specs.Step.{Fit, swift_step};
 ghost use Rattle.swift_calls.specs.History.{Counts, CountsFaults, Kept, Called};
 ghost use Rattle.swift_calls.specs.Lists.{served};
 ghost use Rattle.swift_calls.specs.Replay.{outcome_at, left_by, replayed, failures, Goes, Logs};
-ghost use Rattle.swift_calls.specs.MemSwift.{calls_of, account_after, faults_after, planned, SamePlan};
+ghost use Rattle.swift_calls.specs.MemSwift.{calls_of, account_after, tree_after, faults_after, planned, SamePlan};
 
 use crate::memory::Entry;
 use crate::serve::serve;
@@ -118,6 +118,38 @@ impl MemSwift {
                 Err(SwiftFault::Failed)
             }
         }
+    }
+}
+
+impl Counted for MemSwift {
+    ghost called = { calls_of };
+
+    fn calls(&self) -> u64 {
+        self.log.as_slice().len() as u64
+    }
+}
+
+/// A call goes as its number was told to. It makes no difference to the numbers of later calls where memory was
+/// wanted: such a call is not counted, and all is as it was.
+impl Swift for MemSwift {
+    ghost tells = { λ _. Unit {0} };
+
+    ghost faults = { λ m. failures m.log.items };
+
+    ghost tree_at = { tree_after };
+
+    ghost faults_at = { faults_after };
+
+    fn call(&mut self, request: &SwiftRequest) -> Result<SwiftReply, SwiftFault>
+        ensures calls { Counts (calls_of self.old) (calls_of self.new) result }
+        ensures faults { CountsFaults (failures self.old.log.items) (failures self.new.log.items) result }
+        ensures kept { Kept (calls_of self.old) (tree_after self.old) (tree_after self.new) (faults_after self.old) (faults_after self.new) }
+        ensures told { Called (tree_after self.new) (faults_after self.new) (calls_of self.old) (calls_of self.new) request.now result }
+        ensures plan { SamePlan self.old self.new }
+        ensures exact { Goes (planned self.old (calls_of self.old + 1)) request.now result (account_after self.old (calls_of self.old)) (account_after self.new (calls_of self.new)) }
+        ensures memory { IsErrOf result SwiftFault.Memory → calls_of self.new ≡ calls_of self.old }
+    {
+        self.make(request)
     }
 }
 
