@@ -7,6 +7,8 @@ mod calls;
 mod memory;
 mod replay;
 mod serve;
+#[cfg(test)]
+mod tests;
 
 pub use account::{Account, Container, Content, ReadList, Stored};
 pub use calls::{Swift, SwiftFault, SwiftReply, SwiftRequest};
