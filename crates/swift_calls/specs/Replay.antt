@@ -1,5 +1,5 @@
 -- How the calls of a store in memory go, and what they leave.
-use Rattle.std.specs.Prelude.{◌≡◌, ◌≢◌, ◌⊎◌, ℕ, Bool, true, false, ◌&&◌, ◌||◌, if◌then◌else◌, ◌==◌, nat_lt, nat_le, List, [], ◌∷◌, ◌++◌, count_by, Result, Ok, Err}
+use Rattle.std.specs.Prelude.{◌≡◌, ◌≢◌, ◌⊎◌, ℕ, Bool, true, false, ◌&&◌, ◌||◌, if◌then◌else◌, ◌==◌, nat_lt, nat_le, List, [], ◌∷◌, ◌++◌, count_by, Option, None, Some, Result, Ok, Err}
 use Rattle.std.specs.List.{list_any}
 use Rattle.swift_calls.specs.Lists.{served}
 use Rattle.swift_calls.specs.declared.account.Account.{Account}
@@ -22,6 +22,12 @@ abbrev pub left_by : Outcome → SwiftRequest → Account → Account
 left_by Answered request account = served request account
 left_by LostBefore request account = account
 left_by LostAfter request account = served request account
+
+-- the reply that arrives
+abbrev pub reply_by : Outcome → SwiftReply → Option SwiftReply
+reply_by Answered reply = Some reply
+reply_by LostBefore reply = None
+reply_by LostAfter reply = None
 
 -- an account after these calls
 unfoldable pub replayed : Account → List Entry → Account

@@ -4,7 +4,7 @@ ghost use Rattle.swift_calls.specs.Tree.{tree_of, IsOrdered, IsSized};
 ghost use Rattle.swift_calls.specs.Step.{Fit, swift_step};
 ghost use Rattle.swift_calls.specs.History.{Counts, CountsFaults, Kept, Called};
 ghost use Rattle.swift_calls.specs.Lists.{served};
-ghost use Rattle.swift_calls.specs.Replay.{outcome_at, left_by, replayed, failures, Goes, Logs};
+ghost use Rattle.swift_calls.specs.Replay.{outcome_at, left_by, reply_by, replayed, failures, Goes, Logs};
 ghost use Rattle.swift_calls.specs.MemSwift.{calls_of, account_after, tree_after, faults_after, planned, SamePlan};
 
 use crate::memory::Entry;
@@ -63,7 +63,7 @@ impl MemSwift {
     {
         let mut account = self.first.copy()?;
         for entry in &self.log[..k as usize] {
-            leave(self.alloc, &mut account, entry)?;
+            let _reply = entry.go(self.alloc, &mut account)?;
         }
         Ok(account)
     }
@@ -100,22 +100,34 @@ impl MemSwift {
         ensures reply { IfOk result (λ reply. reply ≡ (swift_step request.now (tree_of self.old.present)).reply) }
     {
         self.log.reserve(1)?;
-        let request = request.copy()?;
-        let outcome = self.outcome(self.log.as_slice().len() as u64 + 1);
-        match outcome {
-            Outcome::Answered => {
-                let reply = serve(self.alloc, &mut self.present, &request)?;
-                self.log.push(Entry { request, outcome }).unwrap();
-                Ok(reply)
-            }
-            Outcome::LostBefore => {
-                self.log.push(Entry { request, outcome }).unwrap();
-                Err(SwiftFault::Failed)
-            }
+        let number = self.log.as_slice().len() as u64 + 1;
+        let entry = Entry {
+            request: request.copy()?,
+            outcome: self.outcome(number),
+        };
+        let reply = entry.go(self.alloc, &mut self.present)?;
+        self.log.push(entry).unwrap();
+        match reply {
+            Some(reply) => Ok(reply),
+            None => Err(SwiftFault::Failed),
+        }
+    }
+}
+
+impl Entry {
+    /// Makes the call as its outcome says, and gives its reply where it is answered. For want of memory nothing
+    /// changes.
+    fn go(&self, alloc: Global, account: &mut Account) -> Result<Option<SwiftReply>, Memory>
+        ensures reply { IfOk result (λ reply. reply ≡ reply_by self.now.outcome (swift_step self.now.request (tree_of account.old)).reply) }
+        ensures effect { OnOk result (account.new ≡ left_by self.now.outcome self.now.request account.old) }
+        ensures err { OnErr result (account.new ≡ account.old) }
+    {
+        match self.outcome {
+            Outcome::Answered => Ok(Some(serve(alloc, account, &self.request)?)),
+            Outcome::LostBefore => Ok(None),
             Outcome::LostAfter => {
-                serve(self.alloc, &mut self.present, &request)?;
-                self.log.push(Entry { request, outcome }).unwrap();
-                Err(SwiftFault::Failed)
+                let _lost = serve(alloc, account, &self.request)?;
+                Ok(None)
             }
         }
     }
@@ -150,19 +162,5 @@ impl Swift for MemSwift {
         ensures memory { IsErrOf result SwiftFault.Memory → calls_of self.new ≡ calls_of self.old }
     {
         self.make(request)
-    }
-}
-
-/// Makes a call as it went before. For want of memory nothing changes.
-fn leave(alloc: Global, account: &mut Account, entry: &Entry) -> Result<(), Memory>
-    ensures ok { OnOk result (account.new ≡ left_by entry.now.outcome entry.now.request account.old) }
-    ensures err { OnErr result (account.new ≡ account.old) }
-{
-    match entry.outcome {
-        Outcome::Answered | Outcome::LostAfter => {
-            serve(alloc, account, &entry.request)?;
-            Ok(())
-        }
-        Outcome::LostBefore => Ok(()),
     }
 }
