@@ -8,6 +8,7 @@ use crate::{
 use gate_base::{Bytes, Copying, Counted, List, Memory};
 use std::alloc::Global;
 use std::fmt::Write;
+use std::process::Abort;
 use std::test::Fail;
 
 fn name_of(alloc: Global, text: &str) -> Result<Bytes, Memory> {
@@ -86,41 +87,58 @@ fn first_account(alloc: Global) -> Result<Account, Fail>
     Ok(Account { containers })
 }
 
-#[test]
-fn calls_go_as_they_are_told(rt: HostRuntime) -> Result<(), Fail> {
-    let alloc = rt.alloc();
-    let rows = [
-        ("head photos", "nobody 1369353600", "[photos nobody 1369353600 1]"),
-        ("head music", "not found", "[photos nobody 1369353600 1]"),
-        ("open photos", "there", "[photos everybody 7 1]"),
-        ("head photos", "everybody 7", "[photos everybody 7 1]"),
-        ("open zoo", "made", "[photos everybody 7 1][zoo everybody 7 0]"),
-        ("close music", "made", "[music nobody 0][photos everybody 7 1][zoo everybody 7 0]"),
-        ("close zoo", "failed", "[music nobody 0][photos everybody 7 1][zoo everybody 7 0]"),
-        ("close zoo", "failed", "[music nobody 0][photos everybody 7 1][zoo nobody 0]"),
-        ("open zoo", "failed", "[music nobody 0][photos everybody 7 1][zoo nobody 0]"),
-        ("head zoo", "nobody", "[music nobody 0][photos everybody 7 1][zoo nobody 0]"),
-        ("open zoo", "failed", "[music nobody 0][photos everybody 7 1][zoo nobody 0]"),
-        ("head zoo", "failed", "[music nobody 0][photos everybody 7 1][zoo nobody 0]"),
-    ];
-    let before = List::from_vec(vec![in alloc; 7u64, 9]?);
-    let after = List::from_vec(vec![in alloc; 8u64, 9, 12]?);
-    let mut store = MemSwift::new(alloc, first_account(alloc)?, before, after, 11)?;
-    for (call, want, account) in rows {
-        let request = request_of(alloc, call)?;
-        let answer = store.call(&request);
+/// Each call, what it answers, and the account after it.
+const ROWS: [(&str, &str, &str); 12] = [
+    ("head photos", "nobody 1369353600", "[photos nobody 1369353600 1]"),
+    ("head music", "not found", "[photos nobody 1369353600 1]"),
+    ("open photos", "there", "[photos everybody 7 1]"),
+    ("head photos", "everybody 7", "[photos everybody 7 1]"),
+    ("open zoo", "made", "[photos everybody 7 1][zoo everybody 7 0]"),
+    ("close music", "made", "[music nobody 0][photos everybody 7 1][zoo everybody 7 0]"),
+    // in `before`
+    ("close zoo", "failed", "[music nobody 0][photos everybody 7 1][zoo everybody 7 0]"),
+    // in `after`
+    ("close zoo", "failed", "[music nobody 0][photos everybody 7 1][zoo nobody 0]"),
+    // in both
+    ("open zoo", "failed", "[music nobody 0][photos everybody 7 1][zoo nobody 0]"),
+    ("head zoo", "nobody", "[music nobody 0][photos everybody 7 1][zoo nobody 0]"),
+    // from `stop` on, the second in `after` too
+    ("open zoo", "failed", "[music nobody 0][photos everybody 7 1][zoo nobody 0]"),
+    ("open zoo", "failed", "[music nobody 0][photos everybody 7 1][zoo nobody 0]"),
+];
+
+fn makes_calls(rt: &impl Abort, alloc: Global, store: &mut MemSwift) -> Result<(), Fail> {
+    for (call, want, account) in ROWS {
+        let answer = store.call(&request_of(alloc, call)?);
         assert_eq!(rt; answer_text(alloc, &answer)?.as_str(), want, "{call}");
         assert_eq!(rt; account_text(alloc, store.account())?.as_str(), account, "{call}");
     }
     assert_eq!(rt; store.calls(), 12);
-    for index in 0..rows.len() {
-        let k = index as u64 + 1;
-        assert!(rt; k <= store.calls());
+    Ok(())
+}
+
+fn tells_accounts(rt: &impl Abort, alloc: Global, store: &MemSwift) -> Result<(), Fail> {
+    let mut k = 0;
+    for (_, _, account) in ROWS {
+        assert!(rt; k < store.calls());
+        k += 1;
         let told = store.account_at(k)?;
-        assert_eq!(rt; account_text(alloc, &told)?.as_str(), rows[index].2, "{k}");
+        assert_eq!(rt; account_text(alloc, &told)?.as_str(), account, "{k}");
     }
     let first = store.account_at(0)?;
-    assert_eq!(rt; account_text(alloc, &first)?.as_str(), rows[0].2);
-    assert_eq!(rt; account_text(alloc, &store.into_account())?.as_str(), rows[11].2);
+    assert_eq!(rt; account_text(alloc, &first)?.as_str(), ROWS[0].2);
+    Ok(())
+}
+
+#[test]
+fn calls_go_as_they_are_told(rt: HostRuntime) -> Result<(), Fail> {
+    let alloc = rt.alloc();
+    let before = List::from_vec(vec![in alloc; 7u64, 9]?);
+    let after = List::from_vec(vec![in alloc; 8u64, 9, 12]?);
+    let mut store = MemSwift::new(alloc, first_account(alloc)?, before, after, 11)?;
+    makes_calls(&rt, alloc, &mut store)?;
+    tells_accounts(&rt, alloc, &store)?;
+    let last = store.into_account();
+    assert_eq!(rt; account_text(alloc, &last)?.as_str(), ROWS[11].2);
     Ok(())
 }
