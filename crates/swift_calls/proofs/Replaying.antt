@@ -1,11 +1,11 @@
 -- A record of calls with one call more, and the order and the sizes that each call keeps.
-use Rattle.std.specs.Prelude.{◌≡◌, ℕ, ◌+◌, ◌<◌, Bool, true, false, ◌&&◌, List, [], ◌∷◌, ◌++◌, map, length, take, Option, None, Some}
+use Rattle.std.specs.Prelude.{◌≡◌, ℕ, ◌+◌, ◌<◌, List, [], ◌∷◌, ◌++◌, map, length, take, Option, None, Some}
 use Rattle.std.specs.List.{list_all}
 use Rattle.std.proofs.Common.{refl, sym, ap, ◌∙◌, get_or, add-one}
-use Rattle.gate_base.specs.Named.{named, ascends, placed, changed, ascends_placed, names_changed, all_placed, all_changed, both, first_of_two, second_of_two}
+use Rattle.gate_base.specs.Named.{ascends, ascends_placed, names_changed, all_placed, all_changed, both, first_of_two, second_of_two}
 use Rattle.std.proofs.Math.Seq.{take-suc}
 use Rattle.swift_calls.specs.Tree.{IsOrdered, is_sized_object, IsSized}
-use Rattle.swift_calls.specs.Lists.{name_of, with_readers, with_container, served}
+use Rattle.swift_calls.specs.Lists.{name_of, with_readers, with_container}
 use Rattle.swift_calls.specs.Replay.{left_by, replayed}
 use Rattle.swift_calls.specs.declared.account.ReadList.{ReadList}
 use Rattle.swift_calls.specs.declared.account.Container.{Container}

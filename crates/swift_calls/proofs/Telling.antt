@@ -1,14 +1,13 @@
 -- What a call adds to the record is what the history tells of it.
 use Rattle.std.specs.Prelude.{◌≡◌, ◌⊎◌, ℕ, ◌+◌, cond, Bool, true, false, List, [], ◌∷◌, ◌++◌, length, take, Result, Ok, Err, IfOk}
-use Rattle.std.proofs.Common.{refl, sym, ap, subst, ◌∙◌, inl, inr, true≢false, arith}
+use Rattle.std.proofs.Common.{sym, ap, subst, ◌∙◌, inl, inr, true≢false, arith}
 use Rattle.std.proofs.Math.Seq.{take-append_seam, take-length}
 use Rattle.std.proofs.lemmas.List.{length-append}
 use Rattle.std.proofs.lemmas.List.Sums.{sum_by_push}
 use Rattle.gate_base.specs.Causes.{Rose}
-use Rattle.swift_calls.specs.Tree.{Tree, tree_of}
+use Rattle.swift_calls.specs.Tree.{tree_of}
 use Rattle.swift_calls.specs.Step.{swift_step}
-use Rattle.swift_calls.specs.History.{Called, Either}
-use Rattle.swift_calls.specs.Lists.{served}
+use Rattle.swift_calls.specs.History.{Called}
 use Rattle.swift_calls.specs.Replay.{left_by, replayed, is_lost, failures, Logs, Goes}
 use Rattle.swift_calls.specs.declared.account.Account.{Account}
 use Rattle.swift_calls.specs.declared.calls.SwiftRequest.{SwiftRequest}

@@ -1,5 +1,5 @@
 -- What a store in memory tells of itself.
-use Rattle.std.specs.Prelude.{◌≡◌, ℕ, ◌+◌, length, take}
+use Rattle.std.specs.Prelude.{◌≡◌, ℕ, length, take}
 use Rattle.swift_calls.specs.Tree.{Tree, tree_of}
 use Rattle.swift_calls.specs.Replay.{outcome_at, replayed, failures}
 use Rattle.swift_calls.specs.declared.account.Account.{Account}

@@ -1,6 +1,10 @@
 -- What each call answers, and the account that it leaves. Source: Object Storage API v1.
-use Rattle.std.specs.Prelude.{◌≡◌, ℕ, ◌<◌, ◌≤◌, List, length, Contains, IsUtf8, Option, None, Some, IfSome}
+use Rattle.std.specs.Prelude.{ℕ, ◌<◌, ◌≤◌, List, length, nat_lt, All, Contains, IsUtf8, Option, None, Some, IfSome}
 use Rattle.std.specs.FinMap.{get, insert}
+use Rattle.std.proofs.Common.{arith, inl, inr}
+use Rattle.std.proofs.lemmas.Bool.{cases_Bool, ltb-true, ltb-false}
+use Rattle.std.proofs.lemmas.List.{get_or_past}
+use Rattle.std.proofs.lemmas.Str.{IsUtf8-from_ascii}
 use Rattle.gate_base.specs.Maps.{adjust}
 use Rattle.swift_calls.specs.Tree.{Tree, Folder, with_head, new_folder}
 use Rattle.swift_calls.specs.declared.account.ReadList.{ReadList}
@@ -15,6 +19,18 @@ pub record IsContainerName (name : List ℕ) : Type 0 where
   pub within : length name ≤ 256
   pub text : IsUtf8 name
   pub no_zero : ¬ (Contains name 0)
+
+-- a name of ASCII bytes is one
+pub ascii_name : (name : List ℕ) → 0 < length name → length name ≤ 256 → All (λ b. (0 < b) × (b < 128)) name → IsContainerName name
+ascii_name name filled within ascii = record {
+  filled = filled;
+  within = within;
+  text = IsUtf8-from_ascii name (λ i. elim (cases_Bool (nat_lt i (length name))) [
+    | inl is ↦ (ascii i 0 (ltb-true i (length name) is)).1
+    | inr not ↦ let e = get_or_past name i 0 (ltb-false i (length name) not) in omega arith
+  ]);
+  no_zero = λ (k, inside, e). let above = (ascii k 0 inside).0 in omega (arith, e, above);
+}
 
 -- a moment up to the end of the year 9999, in seconds since the beginning of 1970
 abbrev pub IsMoment : ℕ → Type 0

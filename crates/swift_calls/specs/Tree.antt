@@ -1,10 +1,9 @@
 -- An account as maps by names: its containers, and the objects of each. Source: Object Storage API v1.
-use Rattle.std.specs.Prelude.{◌≡◌, ℕ, ◌+◌, ◌<◌, ◌^◌, Bool, true, false, ◌&&◌, List, [], ◌∷◌, length, map, sum_by, nat_lt, IsTrue, Option, None, Some}
+use Rattle.std.specs.Prelude.{ℕ, ◌^◌, Bool, ◌&&◌, List, length, map, sum_by, nat_lt, IsTrue, Option, None, Some}
 use Rattle.std.specs.List.{list_all}
-use Rattle.std.specs.FinMap.{empty, get, insert, from_entries}
+use Rattle.std.specs.FinMap.{empty, get, insert}
 use Rattle.gate_base.specs.Maps.{Names, adjust}
 use Rattle.gate_base.specs.Named.{map_of, ascends}
-use Rattle.slo_manifest.specs.declared.Segment.{Segment}
 use Rattle.swift_calls.specs.declared.account.ReadList.{ReadList}
 use Rattle.swift_calls.specs.declared.account.Content.{Content}
 use Rattle.swift_calls.specs.declared.account.Content.TheVariants.{Plain, Segments}

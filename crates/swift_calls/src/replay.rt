@@ -14,10 +14,10 @@ use gate_base::{Copying, Counted, List, Memory};
 use std::alloc::Global;
 
 impl MemSwift {
-    #[tactic(auto, using(crate::proofs::Replaying::replayed_none))]
     /// A store with this account. The calls whose numbers are in `before` fail without effect, those in `after` after
     /// their effect, and from `stop` on each call fails without effect, where `stop` isn't 0. A number in both
     /// lists counts as one of `before`.
+    #[tactic(auto, using(crate::proofs::Replaying::replayed_none))]
     pub fn new(
         alloc: Global,
         account: Account,
@@ -43,8 +43,8 @@ impl MemSwift {
         })
     }
 
-    #[tactic(auto, using(crate::proofs::Replaying::ordered_replayed, crate::proofs::Replaying::sized_replayed))]
     /// The account after all calls.
+    #[tactic(auto, using(crate::proofs::Replaying::ordered_replayed, crate::proofs::Replaying::sized_replayed))]
     pub fn account(&self) -> &Account
         ensures exact { result.now ≡ account_after self.now (calls_of self.now) }
         ensures ordered { IsOrdered result.now }
@@ -53,8 +53,8 @@ impl MemSwift {
         &self.present
     }
 
-    #[tactic(auto, using(crate::proofs::Replaying::replayed_none, crate::proofs::Replaying::replayed_next, crate::proofs::Replaying::ordered_replayed, crate::proofs::Replaying::sized_replayed))]
     /// The account after the first `k` calls.
+    #[tactic(auto, using(crate::proofs::Replaying::replayed_none, crate::proofs::Replaying::replayed_next, crate::proofs::Replaying::ordered_replayed, crate::proofs::Replaying::sized_replayed))]
     pub fn account_at(&self, k: u64) -> Result<Account, Memory>
         requires { k ≤ calls_of self.now }
         ensures exact { IfOk result (λ account. account ≡ account_after self.now k) }
@@ -68,8 +68,8 @@ impl MemSwift {
         Ok(account)
     }
 
-    #[tactic(auto, using(crate::proofs::Replaying::ordered_replayed, crate::proofs::Replaying::sized_replayed))]
     /// The account after all calls, and nothing else.
+    #[tactic(auto, using(crate::proofs::Replaying::ordered_replayed, crate::proofs::Replaying::sized_replayed))]
     pub fn into_account(self) -> Account
         ensures exact { result ≡ account_after self (calls_of self) }
         ensures ordered { IsOrdered result }
@@ -92,8 +92,8 @@ impl MemSwift {
         }
     }
 
-    #[tactic(auto, using(crate::proofs::Replaying::replayed_more))]
     /// Makes a call and records it. For want of memory all is as it was.
+    #[tactic(auto, using(crate::proofs::Replaying::replayed_more))]
     fn make(&mut self, request: &SwiftRequest) -> Result<SwiftReply, SwiftFault>
         ensures plan { SamePlan self.old self.new }
         ensures logs { Logs (planned self.old (calls_of self.old + 1)) request.now result self.old.log.items self.new.log.items }
@@ -141,8 +141,8 @@ impl Counted for MemSwift {
     }
 }
 
-/// A call goes as its number was told to. It makes no difference to the numbers of later calls where memory was
-/// wanted: such a call is not counted, and all is as it was.
+/// A call goes as its number was told to. For want of memory it is not counted and changes nothing, so the next
+/// call has its number.
 impl Swift for MemSwift {
     ghost tells = { λ _. Unit {0} };
 

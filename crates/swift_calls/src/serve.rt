@@ -8,8 +8,8 @@ use crate::{Account, Container, ReadList, SwiftReply, SwiftRequest};
 use gate_base::{Bytes, List, Memory};
 use std::alloc::Global;
 
-#[tactic(auto, using(crate::proofs::Serving::head_missing, crate::proofs::Serving::head_there, std::proofs::lemmas::Option::slice_get_read))]
 /// Asks for a container's read list and creation time. The account stays.
+#[tactic(auto, using(crate::proofs::Serving::head_missing, crate::proofs::Serving::head_there, std::proofs::lemmas::Option::slice_get_read))]
 fn head_container(containers: &List<Container>, name: &[u8]) -> SwiftReply
     ensures { result ≡ (swift_step (SwiftRequest.HeadContainer name.now) (tree_of (record { containers = containers.now }))).reply }
 {
@@ -25,9 +25,9 @@ fn head_container(containers: &List<Container>, name: &[u8]) -> SwiftReply
     }
 }
 
-#[tactic(auto, using(crate::proofs::Serving::put_made, crate::proofs::Serving::put_there, crate::proofs::Serving::made, crate::proofs::Serving::written))]
 /// Makes a container, or writes the read list and the creation time of the one that is there over. For want of
 /// memory nothing changes.
+#[tactic(auto, using(crate::proofs::Serving::put_made, crate::proofs::Serving::put_there, crate::proofs::Serving::made, crate::proofs::Serving::written))]
 fn put_container(
     alloc: Global,
     containers: &mut List<Container>,
