@@ -1,3 +1,4 @@
+pub mod Fitting
 pub mod Replaying
 pub mod Serving
 pub mod Telling

@@ -1,11 +1,14 @@
 -- What each call answers, and the account that it leaves. Source: Object Storage API v1.
-use Rattle.std.specs.Prelude.{ℕ, ◌<◌, ◌≤◌, List, length, nat_lt, All, Contains, IsUtf8, Option, None, Some, IfSome}
+use Rattle.std.specs.Prelude.{◌≡◌, ℕ, ◌<◌, ◌≤◌, List, length, nat_lt, true, ◌&&◌, All, Contains, IsUtf8, Option, None, Some, IfSome}
 use Rattle.std.specs.FinMap.{get, insert}
 use Rattle.std.proofs.Common.{arith, inl, inr}
 use Rattle.std.proofs.lemmas.Bool.{cases_Bool, ltb-true, ltb-false}
+use Rattle.std.specs.List.{list_all}
 use Rattle.std.proofs.lemmas.List.{get_or_past}
+use Rattle.std.proofs.lemmas.List.Sums.{AllPass-from_list_all}
 use Rattle.std.proofs.lemmas.Str.{IsUtf8-from_ascii}
 use Rattle.gate_base.specs.Maps.{adjust}
+use Rattle.gate_base.specs.Named.{first_of_two, second_of_two}
 use Rattle.swift_calls.specs.Tree.{Tree, Folder, with_head, new_folder}
 use Rattle.swift_calls.specs.declared.account.ReadList.{ReadList}
 use Rattle.swift_calls.specs.declared.calls.SwiftRequest.{SwiftRequest}
@@ -31,6 +34,12 @@ ascii_name name filled within ascii = record {
   ]);
   no_zero = λ (k, inside, e). let above = (ascii k 0 inside).0 in omega (arith, e, above);
 }
+
+-- the same, where a test finds each byte so
+pub tested_name : (name : List ℕ) → 0 < length name → length name ≤ 256 → list_all (λ b. nat_lt 0 b && nat_lt b 128) name ≡ true → IsContainerName name
+tested_name name filled within tested =
+    let pass = AllPass-from_list_all (λ b. nat_lt 0 b && nat_lt b 128) name tested in
+    ascii_name name filled within (λ k d inside. (ltb-true 0 _ (first_of_two _ _ (pass k d inside)), ltb-true _ 128 (second_of_two _ _ (pass k d inside))))
 
 -- a moment up to the end of the year 9999, in seconds since the beginning of 1970
 abbrev pub IsMoment : ℕ → Type 0

@@ -12,7 +12,9 @@ use std::alloc::{AllocError, AllocFailed};
 #[derive(Debug, Drop)]
 pub enum SwiftRequest {
     /// Asks for a container's read list and creation time.
-    HeadContainer { container: Bytes },
+    HeadContainer {
+        container: Bytes,
+    },
     /// Makes a container, or writes the read list and the creation time of one that is there over.
     PutContainer {
         container: Bytes,

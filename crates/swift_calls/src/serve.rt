@@ -59,7 +59,11 @@ fn put_container(
 }
 
 /// Makes a call on an account. For want of memory nothing changes.
-pub(crate) fn serve(alloc: Global, account: &mut Account, request: &SwiftRequest) -> Result<SwiftReply, Memory>
+pub(crate) fn serve(
+    alloc: Global,
+    account: &mut Account,
+    request: &SwiftRequest,
+) -> Result<SwiftReply, Memory>
     ensures reply { IfOk result (λ reply. reply ≡ (swift_step request.now (tree_of account.old)).reply) }
     ensures effect { OnOk result (account.new ≡ served request.now account.old) }
     ensures err { OnErr result (account.new ≡ account.old) }
@@ -72,6 +76,12 @@ pub(crate) fn serve(alloc: Global, account: &mut Account, request: &SwiftRequest
             container,
             readers,
             created,
-        } => put_container(alloc, &mut account.containers, container.as_slice(), *readers, *created),
+        } => put_container(
+            alloc,
+            &mut account.containers,
+            container.as_slice(),
+            *readers,
+            *created,
+        ),
     }
 }

@@ -1,9 +1,9 @@
-ghost use Rattle.std.specs.Prelude.{◌<◌, ◌≤◌, length, Contains, IfOk};
-ghost use Rattle.swift_calls.specs.Step.{Fit};
+ghost use Rattle.std.specs.Prelude.{IfOk};
 ghost use Rattle.swift_calls.specs.Tree.{IsOrdered, IsSized};
 
 use crate::{
-    Account, Container, Content, MemSwift, ReadList, Stored, Swift, SwiftFault, SwiftReply, SwiftRequest,
+    Account, Container, Content, MemSwift, ReadList, Stored, Swift, SwiftFault, SwiftReply,
+    SwiftRequest,
 };
 use gate_base::{Bytes, Copying, Counted, List, Memory};
 use std::alloc::Global;
@@ -89,36 +89,82 @@ fn first_account(alloc: Global) -> Result<Account, Fail>
 
 /// Each call, what it answers, and the account after it.
 const ROWS: [(&str, &str, &str); 12] = [
-    ("head photos", "nobody 1369353600", "[photos nobody 1369353600 1]"),
+    (
+        "head photos",
+        "nobody 1369353600",
+        "[photos nobody 1369353600 1]",
+    ),
     ("head music", "not found", "[photos nobody 1369353600 1]"),
     ("open photos", "there", "[photos everybody 7 1]"),
     ("head photos", "everybody 7", "[photos everybody 7 1]"),
-    ("open zoo", "made", "[photos everybody 7 1][zoo everybody 7 0]"),
-    ("close music", "made", "[music nobody 0][photos everybody 7 1][zoo everybody 7 0]"),
+    (
+        "open zoo",
+        "made",
+        "[photos everybody 7 1][zoo everybody 7 0]",
+    ),
+    (
+        "close music",
+        "made",
+        "[music nobody 0][photos everybody 7 1][zoo everybody 7 0]",
+    ),
     // in `before`
-    ("close zoo", "failed", "[music nobody 0][photos everybody 7 1][zoo everybody 7 0]"),
+    (
+        "close zoo",
+        "failed",
+        "[music nobody 0][photos everybody 7 1][zoo everybody 7 0]",
+    ),
     // in `after`
-    ("close zoo", "failed", "[music nobody 0][photos everybody 7 1][zoo nobody 0]"),
+    (
+        "close zoo",
+        "failed",
+        "[music nobody 0][photos everybody 7 1][zoo nobody 0]",
+    ),
     // in both
-    ("open zoo", "failed", "[music nobody 0][photos everybody 7 1][zoo nobody 0]"),
-    ("head zoo", "nobody", "[music nobody 0][photos everybody 7 1][zoo nobody 0]"),
+    (
+        "open zoo",
+        "failed",
+        "[music nobody 0][photos everybody 7 1][zoo nobody 0]",
+    ),
+    (
+        "head zoo",
+        "nobody",
+        "[music nobody 0][photos everybody 7 1][zoo nobody 0]",
+    ),
     // from `stop` on, the second in `after` too
-    ("open zoo", "failed", "[music nobody 0][photos everybody 7 1][zoo nobody 0]"),
-    ("open zoo", "failed", "[music nobody 0][photos everybody 7 1][zoo nobody 0]"),
+    (
+        "open zoo",
+        "failed",
+        "[music nobody 0][photos everybody 7 1][zoo nobody 0]",
+    ),
+    (
+        "open zoo",
+        "failed",
+        "[music nobody 0][photos everybody 7 1][zoo nobody 0]",
+    ),
 ];
+
+/// HEAD of `photos`, as the layers above call a store.
+fn head_photos<W: Swift>(store: &mut W, alloc: Global) -> Result<SwiftReply, SwiftFault> {
+    let container = Bytes::from_slice(alloc, b"photos")?;
+    store.call(&SwiftRequest::HeadContainer { container })
+}
 
 fn makes_calls(rt: &impl Abort, alloc: Global, store: &mut MemSwift) -> Result<(), Fail> {
     for (call, want, account) in ROWS {
         let answer = store.call(&request_of(alloc, call)?);
         assert_eq!(rt; answer_text(alloc, &answer)?.as_str(), want, "{call}");
-        assert_eq!(rt; account_text(alloc, store.account())?.as_str(), account, "{call}");
+        assert_eq!(rt;
+            account_text(alloc, store.account())?.as_str(),
+            account,
+            "{call}"
+        );
     }
-    assert_eq!(rt; store.calls(), 12);
+    assert_eq!(rt; store.calls(), 13);
     Ok(())
 }
 
 fn tells_accounts(rt: &impl Abort, alloc: Global, store: &MemSwift) -> Result<(), Fail> {
-    let mut k = 0;
+    let mut k = 1;
     for (_, _, account) in ROWS {
         assert!(rt; k < store.calls());
         k += 1;
@@ -133,9 +179,11 @@ fn tells_accounts(rt: &impl Abort, alloc: Global, store: &MemSwift) -> Result<()
 #[test]
 fn calls_go_as_they_are_told(rt: HostRuntime) -> Result<(), Fail> {
     let alloc = rt.alloc();
-    let before = List::from_vec(vec![in alloc; 7u64, 9]?);
-    let after = List::from_vec(vec![in alloc; 8u64, 9, 12]?);
-    let mut store = MemSwift::new(alloc, first_account(alloc)?, before, after, 11)?;
+    let before = List::from_vec(vec![in alloc; 8u64, 10]?);
+    let after = List::from_vec(vec![in alloc; 9u64, 10, 13]?);
+    let mut store = MemSwift::new(alloc, first_account(alloc)?, before, after, 12)?;
+    let answer = head_photos(&mut &mut store, alloc);
+    assert_eq!(rt; answer_text(alloc, &answer)?.as_str(), "nobody 1369353600");
     makes_calls(&rt, alloc, &mut store)?;
     tells_accounts(&rt, alloc, &store)?;
     let last = store.into_account();
