@@ -1,3 +1,4 @@
 pub mod Causes
+pub mod Listed
 pub mod Told
 pub mod Wire

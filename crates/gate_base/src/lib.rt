@@ -5,6 +5,7 @@
 mod copying;
 mod faults;
 mod lists;
+mod numbered;
 mod outside;
 mod page;
 
