@@ -1,4 +1,4 @@
-ghost use Rattle.std.specs.Prelude.{◌≡◌, ◌<◌, ◌≤◌, ◌+◌, ◌-◌, ◌^◌, Bool, true, false, not, ◌&&◌, ◌||◌, if◌then◌else◌, IsTrue, is_err, IfOk, OnOk, OnErr, List, [], ◌++◌, length, take, min};
+ghost use Rattle.std.specs.Prelude.{◌≡◌, ◌<◌, ◌≤◌, ◌+◌, ◌-◌, ◌^◌, Bool, true, false, not, ◌&&◌, ◌||◌, if◌then◌else◌, IsTrue, IsErr, is_err, IfOk, OnOk, OnErr, List, [], ◌++◌, length, take, min};
 ghost use Rattle.gate_base.specs.Causes.{Rose, Spends, SpendsIf};
 ghost use Rattle.gate_base.specs.Wire.{Begins, Takes, with_piece, with_mark, SendsPrefix};
 ghost use Rattle.gate_base.specs.MemWire.{told_by};
@@ -69,5 +69,140 @@ impl MemLine {
         ensures { result ≡ wanted_of self.now }
     {
         self.wanted
+    }
+}
+
+impl<C: Counted> Line<C> for MemLine {
+    ghost use Rattle.gate_base.specs.MemLine.{is_open_of, wire_of, piece_of, fails_of, made_of, spent_of, past_of, wanted_of, faults_of, next_faults_of, is_to_fail, begins_past, reads_past};
+
+    ghost is_open = { is_open_of };
+
+    ghost faults = { faults_of };
+
+    ghost next_faults = { next_faults_of };
+
+    ghost spent = { spent_of };
+
+    ghost tells = { λ _. Unit {0} };
+
+    ghost wire = { wire_of };
+
+    /// Failed exactly where the number of the call was given, or where a connection waits and no call is left.
+    fn next(&mut self) -> Result<bool, Failed>
+        ensures open { IfOk result (λ begun. is_open_of self.new ≡ begun) }
+        ensures closed { OnErr result (is_open_of self.new ≡ false) }
+        ensures quiet { OnOk result (faults_of self.new ≡ faults_of self.old) }
+        ensures quiet_next { OnOk result (next_faults_of self.new ≡ next_faults_of self.old) }
+        ensures cause { OnErr result (Rose (faults_of self.old) (faults_of self.new)) }
+        ensures cause_next { OnErr result (Rose (next_faults_of self.old) (next_faults_of self.new)) }
+        ensures spent { IfOk result (λ begun. SpendsIf begun (spent_of self.old) (spent_of self.new)) }
+        ensures spent_err { OnErr result (spent_of self.new ≡ spent_of self.old) }
+        ensures told { IfOk result (λ begun. Begins begun (wire_of self.old) (wire_of self.new)) }
+        ensures told_err { OnErr result (wire_of self.new ≡ wire_of self.old) }
+
+        ensures failed { is_err result ≡ (is_to_fail self.old || begins_past self.old) }
+        ensures fails { fails_of self.new ≡ fails_of self.old }
+        ensures made { made_of self.new ≡ min (made_of self.old + 1) (2 ^ 64 - 1) }
+        ensures past { past_of self.new ≡ (if not (is_to_fail self.old) && begins_past self.old then min (past_of self.old + 1) (2 ^ 64 - 1) else past_of self.old) }
+        ensures wanted { wanted_of self.new ≡ wanted_of self.old }
+    {
+        self.connected = false;
+        if self.calls.count() {
+            self.next_faults = self.next_faults.saturating_add(1);
+            return Err(Failed);
+        }
+        if self.wire.has_waiting() && self.spent >= CALL_LIMIT {
+            self.next_faults = self.next_faults.saturating_add(1);
+            self.past = self.past.saturating_add(1);
+            return Err(Failed);
+        }
+        let begun = self.wire.begin();
+        if begun {
+            self.spent += 1;
+        }
+        self.connected = begun;
+        Ok(begun)
+    }
+
+    /// Failed exactly where the number of the call was given, or where bytes are left and no call is.
+    fn read(&mut self, buf: &mut [u8]) -> Result<usize, Failed>
+        requires open { IsTrue (is_open_of self.old) }
+        requires room { 0 < length buf.old }
+        ensures open { is_open_of self.new ≡ true }
+        ensures within { IfOk result (λ count. count ≤ length buf.old) }
+        ensures quiet { OnOk result (faults_of self.new ≡ faults_of self.old) }
+        ensures quiet_next { next_faults_of self.new ≡ next_faults_of self.old }
+        ensures cause { OnErr result (Rose (faults_of self.old) (faults_of self.new)) }
+        ensures spent { IfOk result (λ count. 0 < count → Spends (spent_of self.old) (spent_of self.new)) }
+        ensures unspent { IfOk result (λ count. count ≡ 0 → spent_of self.new ≡ spent_of self.old) }
+        ensures spent_err { OnErr result (spent_of self.new ≡ spent_of self.old) }
+        ensures told { IfOk result (λ count. Takes (take count buf.new) (wire_of self.old) (wire_of self.new)) }
+        ensures told_err { OnErr result (wire_of self.new ≡ with_mark (wire_of self.old)) }
+
+        ensures count { IfOk result (λ count. count ≡ min (piece_of self.old) (min (length buf.old) (length (wire_of self.old).rest))) }
+        ensures failed { is_err result ≡ (is_to_fail self.old || reads_past self.old) }
+        ensures fails { fails_of self.new ≡ fails_of self.old }
+        ensures made { made_of self.new ≡ min (made_of self.old + 1) (2 ^ 64 - 1) }
+        ensures past { past_of self.new ≡ (if not (is_to_fail self.old) && reads_past self.old then min (past_of self.old + 1) (2 ^ 64 - 1) else past_of self.old) }
+        ensures wanted { wanted_of self.new ≡ wanted_of self.old }
+    {
+        if self.calls.count() {
+            self.wire.mark();
+            return Err(Failed);
+        }
+        if self.wire.has_rest() && self.spent >= CALL_LIMIT {
+            self.past = self.past.saturating_add(1);
+            self.wire.mark();
+            return Err(Failed);
+        }
+        let count = self.wire.take(buf, self.piece);
+        if count > 0 {
+            self.spent += 1;
+        }
+        Ok(count)
+    }
+
+    /// Failed exactly where the number of the call was given, or where memory was wanted. Then nothing is sent.
+    fn write(&mut self, store: &C, bytes: &[u8]) -> Result<(), Failed>
+        requires { IsTrue (is_open_of self.old) }
+        ensures open { is_open_of self.new ≡ true }
+        ensures quiet { OnOk result (faults_of self.new ≡ faults_of self.old) }
+        ensures quiet_next { next_faults_of self.new ≡ next_faults_of self.old }
+        ensures cause { OnErr result (Rose (faults_of self.old) (faults_of self.new)) }
+        ensures spent { spent_of self.new ≡ spent_of self.old }
+        ensures told { OnOk result (wire_of self.new ≡ with_piece (wire_of self.old) (C.called store.now) bytes.now) }
+        ensures told_err { OnErr result (wire_of self.new ≡ with_mark (wire_of self.old)) }
+
+        ensures failed { IsTrue (is_to_fail self.old) → IsErr result }
+        ensures fails { fails_of self.new ≡ fails_of self.old }
+        ensures made { made_of self.new ≡ min (made_of self.old + 1) (2 ^ 64 - 1) }
+        ensures past { past_of self.new ≡ past_of self.old }
+        ensures wanted { wanted_of self.new ≡ (if not (is_to_fail self.old) && is_err result then min (wanted_of self.old + 1) (2 ^ 64 - 1) else wanted_of self.old) }
+    {
+        if self.calls.count() {
+            self.wire.mark();
+            return Err(Failed);
+        }
+        match self.wire.keep(store.calls(), bytes) {
+            Ok(()) => Ok(()),
+            Err(Memory) => {
+                self.wanted = self.wanted.saturating_add(1);
+                self.wire.mark();
+                Err(Failed)
+            }
+        }
+    }
+
+    fn close(&mut self)
+        ensures closed { is_open_of self.new ≡ false }
+        ensures wire { wire_of self.new ≡ wire_of self.old }
+        ensures spent { spent_of self.new ≡ spent_of self.old }
+        ensures next_faults { next_faults_of self.new ≡ next_faults_of self.old }
+        ensures fails { fails_of self.new ≡ fails_of self.old }
+        ensures made { made_of self.new ≡ made_of self.old }
+        ensures past { past_of self.new ≡ past_of self.old }
+        ensures wanted { wanted_of self.new ≡ wanted_of self.old }
+    {
+        self.connected = false;
     }
 }

@@ -6,6 +6,15 @@ use crate::{Bytes, List, Memory, Piece};
 use std::alloc::Global;
 use std::vec::IntoIter;
 
+/// Copies so many bytes to the front of the buffer.
+fn copy_front(bytes: &[u8], buf: &mut [u8], count: usize)
+    requires bytes { count ≤ length bytes.now }
+    requires room { count ≤ length buf.old }
+    ensures { take count buf.new ≡ take count bytes.now }
+{
+    buf[..count].copy_from_slice(&bytes[..count]);
+}
+
 /// Connections in memory: those that wait, the present one with how much of it was read, and the pieces sent.
 #[derive(Drop)]
 pub(crate) struct MemWire {
@@ -79,7 +88,7 @@ impl MemWire {
     {
         let rest = &self.present.as_slice()[self.at..];
         let count = most.min(buf.len().min(rest.len()));
-        buf[..count].copy_from_slice(&rest[..count]);
+        copy_front(rest, buf, count);
         self.at += count;
         count
     }
