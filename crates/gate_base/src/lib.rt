@@ -9,6 +9,9 @@ mod lists;
 mod numbered;
 mod outside;
 mod page;
+mod real;
+mod sink_memory;
+mod told_memory;
 mod wire_memory;
 
 pub use copying::Copying;
@@ -17,3 +20,5 @@ pub use line_memory::MemLine;
 pub use lists::{Bytes, List};
 pub use outside::{CALL_LIMIT, Clock, Counted, Draws, Line, MOMENT_LIMIT, NoCount, Piece, Sink};
 pub use page::{Caller, Page, Pair};
+pub use sink_memory::MemSink;
+pub use told_memory::{ListClock, ListDraws};

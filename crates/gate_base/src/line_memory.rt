@@ -101,6 +101,7 @@ impl<C: Counted> Line<C> for MemLine {
         ensures told_err { OnErr result (wire_of self.new ≡ wire_of self.old) }
 
         ensures failed { is_err result ≡ (is_to_fail self.old || begins_past self.old) }
+        ensures piece { piece_of self.new ≡ piece_of self.old }
         ensures fails { fails_of self.new ≡ fails_of self.old }
         ensures made { made_of self.new ≡ min (made_of self.old + 1) (2 ^ 64 - 1) }
         ensures past { past_of self.new ≡ (if not (is_to_fail self.old) && begins_past self.old then min (past_of self.old + 1) (2 ^ 64 - 1) else past_of self.old) }
@@ -141,6 +142,7 @@ impl<C: Counted> Line<C> for MemLine {
 
         ensures count { IfOk result (λ count. count ≡ min (piece_of self.old) (min (length buf.old) (length (wire_of self.old).rest))) }
         ensures failed { is_err result ≡ (is_to_fail self.old || reads_past self.old) }
+        ensures piece { piece_of self.new ≡ piece_of self.old }
         ensures fails { fails_of self.new ≡ fails_of self.old }
         ensures made { made_of self.new ≡ min (made_of self.old + 1) (2 ^ 64 - 1) }
         ensures past { past_of self.new ≡ (if not (is_to_fail self.old) && reads_past self.old then min (past_of self.old + 1) (2 ^ 64 - 1) else past_of self.old) }
@@ -174,6 +176,7 @@ impl<C: Counted> Line<C> for MemLine {
         ensures told_err { OnErr result (wire_of self.new ≡ with_mark (wire_of self.old)) }
 
         ensures failed { IsTrue (is_to_fail self.old) → IsErr result }
+        ensures piece { piece_of self.new ≡ piece_of self.old }
         ensures fails { fails_of self.new ≡ fails_of self.old }
         ensures made { made_of self.new ≡ min (made_of self.old + 1) (2 ^ 64 - 1) }
         ensures past { past_of self.new ≡ past_of self.old }
@@ -198,6 +201,7 @@ impl<C: Counted> Line<C> for MemLine {
         ensures wire { wire_of self.new ≡ wire_of self.old }
         ensures spent { spent_of self.new ≡ spent_of self.old }
         ensures next_faults { next_faults_of self.new ≡ next_faults_of self.old }
+        ensures piece { piece_of self.new ≡ piece_of self.old }
         ensures fails { fails_of self.new ≡ fails_of self.old }
         ensures made { made_of self.new ≡ made_of self.old }
         ensures past { past_of self.new ≡ past_of self.old }
