@@ -20,5 +20,9 @@ pub use line_memory::MemLine;
 pub use lists::{Bytes, List};
 pub use outside::{CALL_LIMIT, Clock, Counted, Draws, Line, MOMENT_LIMIT, NoCount, Piece, Sink};
 pub use page::{Caller, Page, Pair};
+pub use real::{RandomDraws, StdLine, StdSink, SystemClock};
 pub use sink_memory::MemSink;
 pub use told_memory::{ListClock, ListDraws};
+
+#[cfg(test)]
+mod tests;
