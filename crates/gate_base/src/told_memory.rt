@@ -1,4 +1,5 @@
-ghost use Rattle.std.specs.Prelude.{◌≡◌, ◌<◌, length, All};
+ghost use Rattle.std.specs.Prelude.{◌≡◌, ◌<◌, length, nat_lt, IsTrue};
+ghost use Rattle.std.specs.List.{list_all};
 ghost use Rattle.std.specs.Vec.Iter.{into_iter_items};
 ghost use Rattle.gate_base.specs.declared.outside.TheConstants.{MOMENT_LIMIT};
 
@@ -11,7 +12,7 @@ pub struct ListClock {
     next: u64,
     later: IntoIter<u64>,
     ghost limit: { next < MOMENT_LIMIT },
-    ghost limits: { All (λ m. m < MOMENT_LIMIT) (into_iter_items later) },
+    ghost limits: { IsTrue (list_all (λ m. nat_lt m MOMENT_LIMIT) (into_iter_items later)) },
 }
 
 impl ListClock {
@@ -19,7 +20,7 @@ impl ListClock {
 
     pub fn new(moments: List<u64>) -> ListClock
         requires some { 0 < length moments }
-        requires limits { All (λ m. m < MOMENT_LIMIT) moments }
+        requires limits { IsTrue (list_all (λ m. nat_lt m MOMENT_LIMIT) moments) }
         ensures { moments_of result ≡ moments }
     {
         let mut later = moments.into_vec().into_iter();
