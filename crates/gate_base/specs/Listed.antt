@@ -16,6 +16,8 @@ unfoldable pub listed : List ℕ → ℕ → ℕ
 listed fails zero = 0
 listed fails (suc made) = listed fails made + (if is_listed fails (suc made) then 1 else 0)
 
-pub listed_next : (fails : List ℕ) (made : ℕ) → listed fails (made + 1) ≡ listed fails made + (if is_listed fails (made + 1) then 1 else 0)
+-- one call more
+pub listed_next : (fails : List ℕ) (made : ℕ)
+    → listed fails (made + 1) ≡ listed fails made + (if is_listed fails (made + 1) then 1 else 0)
 unfolding listed
 listed_next fails made = rw add-one refl

@@ -1,5 +1,5 @@
 -- What a line in memory shows of itself.
-use Rattle.std.specs.Prelude.{ℕ, ◌+◌, ◌^◌, Bool, ◌&&◌, nat_le, nat_lt, List, length}
+use Rattle.std.specs.Prelude.{ℕ, ◌+◌, ◌^◌, Bool, not, ◌&&◌, nat_le, nat_lt, List, length}
 use Rattle.gate_base.specs.Wire.{Wire}
 use Rattle.gate_base.specs.MemWire.{told_by}
 use Rattle.gate_base.specs.Listed.{is_next_listed, listed}
@@ -46,10 +46,10 @@ next_faults_of line = line.next_faults
 abbrev pub is_to_fail : MemLine → Bool
 is_to_fail line = is_next_listed (fails_of line) (made_of line)
 
--- a connection waits, and no call is left to begin it
+-- else a connection waits, and no call is left to begin it
 abbrev pub begins_past : MemLine → Bool
-begins_past line = nat_lt 0 (length (wire_of line).waiting) && nat_le (2 ^ 63) (spent_of line)
+begins_past line = not (is_to_fail line) && nat_lt 0 (length (wire_of line).waiting) && nat_le (2 ^ 63) (spent_of line)
 
--- bytes are left, and no call is left to give them
+-- else bytes are left, and no call is left to give them
 abbrev pub reads_past : MemLine → Bool
-reads_past line = nat_lt 0 (length (wire_of line).rest) && nat_le (2 ^ 63) (spent_of line)
+reads_past line = not (is_to_fail line) && nat_lt 0 (length (wire_of line).rest) && nat_le (2 ^ 63) (spent_of line)

@@ -1,5 +1,5 @@
 -- The connections of a line in memory, as any line tells its own.
-use Rattle.std.specs.Prelude.{List, drop, vec_len}
+use Rattle.std.specs.Prelude.{drop, vec_len}
 use Rattle.std.specs.Vec.Iter.{into_iter_items}
 use Rattle.gate_base.specs.Wire.{Wire}
 use Rattle.gate_base.specs.declared.wire_memory.MemWire.{MemWire}
@@ -10,5 +10,5 @@ told_by wire = record {
   rest = drop wire.at wire.present;
   begun = vec_len wire.marks;
   sent = wire.sent;
-  marks = wire.marks.items
+  marks = wire.marks.items;
 }

@@ -40,6 +40,6 @@ with_mark wire = record wire { marks = slice_set wire.marks (wire.begun - 1) tru
 abbrev pub SendsPrefix : Wire → ℕ → List ℕ → Wire → Type 0
 SendsPrefix old at bytes new = (new ≡ with_mark old) ⊎ ((n : ℕ) × (new ≡ with_mark (with_piece old at (take n bytes))))
 
--- what a line has that tells nothing
-abbrev pub unknown : Wire
-unknown = record { waiting = []; rest = []; begun = 0; sent = []; marks = [] }
+-- no connection waits, and none was served
+abbrev pub empty : Wire
+empty = record { waiting = []; rest = []; begun = 0; sent = []; marks = [] }

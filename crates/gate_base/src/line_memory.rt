@@ -1,6 +1,7 @@
-ghost use Rattle.std.specs.Prelude.{◌≡◌, ◌<◌, ◌≤◌, ◌+◌, ◌-◌, ◌^◌, Bool, true, false, not, ◌&&◌, ◌||◌, if◌then◌else◌, IsTrue, IsErr, is_err, IfOk, OnOk, OnErr, List, [], ◌++◌, length, take, min};
-ghost use Rattle.gate_base.specs.Causes.{Rose, Spends, SpendsIf};
-ghost use Rattle.gate_base.specs.Wire.{Begins, Takes, with_piece, with_mark, SendsPrefix};
+ghost use Rattle.std.specs.Prelude.{◌≡◌, ◌<◌, ◌≤◌, true, false, not, ◌&&◌, ◌||◌, IsTrue, IsErr, is_err, IfOk, OnOk, OnErr};
+ghost use Rattle.std.specs.Prelude.{[], length, take, min};
+ghost use Rattle.gate_base.specs.Causes.{Rose, Spends, SpendsIf, one_more, one_more_if};
+ghost use Rattle.gate_base.specs.Wire.{empty, Begins, Takes, with_piece, with_mark, SendsPrefix};
 ghost use Rattle.gate_base.specs.MemWire.{told_by};
 
 use crate::numbered::Numbered;
@@ -27,15 +28,21 @@ pub struct MemLine {
 }
 
 impl MemLine {
-    ghost use Rattle.gate_base.specs.MemLine.{is_open_of, wire_of, piece_of, fails_of, made_of, spent_of, past_of, wanted_of, faults_of, next_faults_of};
+    ghost use Rattle.gate_base.specs.MemLine.{is_open_of, wire_of, piece_of, fails_of, made_of, spent_of, past_of};
+    ghost use Rattle.gate_base.specs.MemLine.{wanted_of, faults_of, next_faults_of};
 
     /// A line of these connections, whose reads give at most `piece` bytes, and whose calls of these numbers
     /// are Failed. It takes the room for a mark per connection.
     #[tactic(auto, unfolding(crate::specs::Listed::listed))]
-    pub fn new(alloc: Global, connections: List<Bytes>, piece: usize, fails: List<u64>) -> Result<MemLine, Memory>
+    pub fn new(
+        alloc: Global,
+        connections: List<Bytes>,
+        piece: usize,
+        fails: List<u64>,
+    ) -> Result<MemLine, Memory>
         requires { 0 < piece }
         ensures closed { IfOk result (λ line. is_open_of line ≡ false) }
-        ensures wire { IfOk result (λ line. wire_of line ≡ record { waiting = connections; rest = []; begun = 0; sent = []; marks = [] }) }
+        ensures wire { IfOk result (λ line. wire_of line ≡ record empty { waiting = connections }) }
         ensures piece { IfOk result (λ line. piece_of line ≡ piece) }
         ensures fails { IfOk result (λ line. fails_of line ≡ fails) }
         ensures made { IfOk result (λ line. made_of line ≡ 0) }
@@ -73,7 +80,8 @@ impl MemLine {
 }
 
 impl<C: Counted> Line<C> for MemLine {
-    ghost use Rattle.gate_base.specs.MemLine.{is_open_of, wire_of, piece_of, fails_of, made_of, spent_of, past_of, wanted_of, faults_of, next_faults_of, is_to_fail, begins_past, reads_past};
+    ghost use Rattle.gate_base.specs.MemLine.{is_open_of, wire_of, piece_of, fails_of, made_of, spent_of, past_of};
+    ghost use Rattle.gate_base.specs.MemLine.{wanted_of, faults_of, next_faults_of, is_to_fail, begins_past, reads_past};
 
     ghost is_open = { is_open_of };
 
@@ -103,8 +111,8 @@ impl<C: Counted> Line<C> for MemLine {
         ensures failed { is_err result ≡ (is_to_fail self.old || begins_past self.old) }
         ensures piece { piece_of self.new ≡ piece_of self.old }
         ensures fails { fails_of self.new ≡ fails_of self.old }
-        ensures made { made_of self.new ≡ min (made_of self.old + 1) (2 ^ 64 - 1) }
-        ensures past { past_of self.new ≡ (if not (is_to_fail self.old) && begins_past self.old then min (past_of self.old + 1) (2 ^ 64 - 1) else past_of self.old) }
+        ensures made { made_of self.new ≡ one_more (made_of self.old) }
+        ensures past { past_of self.new ≡ one_more_if (begins_past self.old) (past_of self.old) }
         ensures wanted { wanted_of self.new ≡ wanted_of self.old }
     {
         self.connected = false;
@@ -140,12 +148,13 @@ impl<C: Counted> Line<C> for MemLine {
         ensures told { IfOk result (λ count. Takes (take count buf.new) (wire_of self.old) (wire_of self.new)) }
         ensures told_err { OnErr result (wire_of self.new ≡ with_mark (wire_of self.old)) }
 
-        ensures count { IfOk result (λ count. count ≡ min (piece_of self.old) (min (length buf.old) (length (wire_of self.old).rest))) }
+        ensures count { IfOk result (λ count. count ≡ min (piece_of self.old)
+            (min (length buf.old) (length (wire_of self.old).rest))) }
         ensures failed { is_err result ≡ (is_to_fail self.old || reads_past self.old) }
         ensures piece { piece_of self.new ≡ piece_of self.old }
         ensures fails { fails_of self.new ≡ fails_of self.old }
-        ensures made { made_of self.new ≡ min (made_of self.old + 1) (2 ^ 64 - 1) }
-        ensures past { past_of self.new ≡ (if not (is_to_fail self.old) && reads_past self.old then min (past_of self.old + 1) (2 ^ 64 - 1) else past_of self.old) }
+        ensures made { made_of self.new ≡ one_more (made_of self.old) }
+        ensures past { past_of self.new ≡ one_more_if (reads_past self.old) (past_of self.old) }
         ensures wanted { wanted_of self.new ≡ wanted_of self.old }
     {
         if self.calls.count() {
@@ -178,9 +187,9 @@ impl<C: Counted> Line<C> for MemLine {
         ensures failed { IsTrue (is_to_fail self.old) → IsErr result }
         ensures piece { piece_of self.new ≡ piece_of self.old }
         ensures fails { fails_of self.new ≡ fails_of self.old }
-        ensures made { made_of self.new ≡ min (made_of self.old + 1) (2 ^ 64 - 1) }
+        ensures made { made_of self.new ≡ one_more (made_of self.old) }
         ensures past { past_of self.new ≡ past_of self.old }
-        ensures wanted { wanted_of self.new ≡ (if not (is_to_fail self.old) && is_err result then min (wanted_of self.old + 1) (2 ^ 64 - 1) else wanted_of self.old) }
+        ensures wanted { wanted_of self.new ≡ one_more_if (not (is_to_fail self.old) && is_err result) (wanted_of self.old) }
     {
         if self.calls.count() {
             self.wire.mark();

@@ -1,4 +1,5 @@
-ghost use Rattle.std.specs.Prelude.{◌≡◌, ◌+◌, ◌-◌, ◌^◌, min, if◌then◌else◌};
+ghost use Rattle.std.specs.Prelude.{◌≡◌, ◌+◌, if◌then◌else◌};
+ghost use Rattle.gate_base.specs.Causes.{one_more};
 ghost use Rattle.gate_base.specs.Listed.{is_next_listed, listed};
 
 use crate::List;
@@ -21,10 +22,11 @@ impl Numbered {
     /// Counts one more call. True where it is to fail. The number of calls stays at the greatest value of a `u64`.
     #[tactic(auto, using(crate::specs::Listed::listed_next))]
     pub(crate) fn count(&mut self) -> bool
-        ensures made { self.new.made ≡ min (self.old.made + 1) (2 ^ 64 - 1) }
+        ensures made { self.new.made ≡ one_more self.old.made }
         ensures fails { self.new.fails ≡ self.old.fails }
         ensures value { result ≡ is_next_listed self.old.fails self.old.made }
-        ensures listed { listed self.new.fails self.new.made ≡ listed self.old.fails self.old.made + (if result then 1 else 0) }
+        ensures listed { listed self.new.fails self.new.made
+            ≡ listed self.old.fails self.old.made + (if result then 1 else 0) }
     {
         match self.made.checked_add(1) {
             None => false,

@@ -2,7 +2,7 @@
 //! `u64` that stays at its greatest value. Only the `main` of a program and tests make them.
 ghost use Rattle.std.specs.Prelude.{◌≡◌, false, []};
 ghost use Rattle.gate_base.specs.Causes.{Rose};
-ghost use Rattle.gate_base.specs.Wire.{unknown};
+ghost use Rattle.gate_base.specs.Wire.{empty};
 
 use crate::{CALL_LIMIT, Clock, Counted, Draws, Failed, Line, MOMENT_LIMIT, NoCount, Sink};
 use std::io;
@@ -63,7 +63,7 @@ impl<R: Input + Print + Drop, C: Counted> Line<C> for StdLine<R> {
 
     ghost tells = { λ _. ⊥ };
 
-    ghost wire = { λ _. unknown };
+    ghost wire = { λ _. empty };
 
     /// True once, and false from then on.
     fn next(&mut self) -> Result<bool, Failed> {

@@ -1,5 +1,5 @@
-ghost use Rattle.std.specs.Prelude.{◌≡◌, ◌+◌, ◌-◌, ◌^◌, Bool, not, ◌&&◌, if◌then◌else◌, IsTrue, IsErr, is_err, OnOk, OnErr, [], ◌++◌, min};
-ghost use Rattle.gate_base.specs.Causes.{Rose};
+ghost use Rattle.std.specs.Prelude.{◌≡◌, not, ◌&&◌, IsTrue, IsErr, is_err, OnOk, OnErr, [], ◌++◌};
+ghost use Rattle.gate_base.specs.Causes.{Rose, one_more, one_more_if};
 
 use crate::numbered::Numbered;
 use crate::{Bytes, Failed, List, Memory, Sink};
@@ -68,8 +68,8 @@ impl Sink for MemSink {
 
         ensures failed { IsTrue (is_to_fail self.old) → IsErr result }
         ensures fails { fails_of self.new ≡ fails_of self.old }
-        ensures made { made_of self.new ≡ min (made_of self.old + 1) (2 ^ 64 - 1) }
-        ensures wanted { wanted_of self.new ≡ (if not (is_to_fail self.old) && is_err result then min (wanted_of self.old + 1) (2 ^ 64 - 1) else wanted_of self.old) }
+        ensures made { made_of self.new ≡ one_more (made_of self.old) }
+        ensures wanted { wanted_of self.new ≡ one_more_if (not (is_to_fail self.old) && is_err result) (wanted_of self.old) }
     {
         if self.calls.count() {
             return Err(Failed);

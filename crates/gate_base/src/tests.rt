@@ -91,7 +91,16 @@ fn ten_calls<N: Line<Store>>(line: &mut N) -> Option<Answers> {
     let lost = line.write(&early, b"y");
     let sent_again = line.write(&late, b"yz");
     line.close();
-    Some((got, sent, failed, ended, missed, lost, sent_again, line.next()))
+    Some((
+        got,
+        sent,
+        failed,
+        ended,
+        missed,
+        lost,
+        sent_again,
+        line.next(),
+    ))
 }
 
 #[test]
@@ -186,7 +195,10 @@ fn lists_and_pages_are_copied(rt: HostRuntime) -> Result<(), Memory> {
         body,
     }
     .copy()?;
-    assert_eq!(rt; (page.status, page.headers.len(), page.body.len()), (200, 2, 3));
+    assert_eq!(rt;
+        (page.status, page.headers.len(), page.body.len()),
+        (200, 2, 3)
+    );
     assert!(rt; page.headers.as_slice()[0].value.is_empty() && !page.headers.is_empty());
     assert!(rt; page.headers.as_slice()[1].value.as_slice() == b"abc".as_slice());
     assert_eq!(rt; Caller::Owner.copy(), Ok(Caller::Owner));

@@ -1,6 +1,6 @@
 ghost use Rattle.std.specs.Prelude.{◌≡◌, ◌<◌, ◌≤◌, ◌+◌, min, take, [], length, nat_lt, IfOk, OnOk, OnErr, vec_len, vec_capacity};
 ghost use Rattle.std.specs.Vec.Iter.{into_iter_len};
-ghost use Rattle.gate_base.specs.Wire.{Begins, Takes, with_piece, with_mark};
+ghost use Rattle.gate_base.specs.Wire.{empty, Begins, Takes, with_piece, with_mark};
 
 use crate::{Bytes, List, Memory, Piece};
 use std::alloc::Global;
@@ -33,7 +33,7 @@ impl MemWire {
 
     /// All the connections wait. It takes the room for a mark per connection.
     pub(crate) fn new(alloc: Global, connections: List<Bytes>) -> Result<MemWire, Memory>
-        ensures { IfOk result (λ wire. told_by wire ≡ record { waiting = connections; rest = []; begun = 0; sent = []; marks = [] }) }
+        ensures { IfOk result (λ wire. told_by wire ≡ record empty { waiting = connections }) }
     {
         let marks = Vec::with_capacity(alloc, connections.len())?;
         Ok(MemWire {
