@@ -1,4 +1,9 @@
 pub mod Causes
+pub mod ListTold
+pub mod Listed
 pub mod Maps
+pub mod MemLine
+pub mod MemSink
+pub mod MemWire
 pub mod Told
 pub mod Wire
