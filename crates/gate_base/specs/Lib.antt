@@ -1,5 +1,10 @@
 pub mod Causes
+pub mod ListTold
+pub mod Listed
 pub mod Maps
+pub mod MemLine
+pub mod MemSink
+pub mod MemWire
 pub mod Named
 pub mod Told
 pub mod Wire

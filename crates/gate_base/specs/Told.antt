@@ -16,3 +16,7 @@ abbrev pub GivesDraw : List ℕ → ℕ → List ℕ → Type 0
 GivesDraw [] draw new = ⊥
 GivesDraw (x ∷ []) draw new = (draw ≡ x) × (new ≡ (x + 1) % 2 ^ 128 ∷ [])
 GivesDraw (x ∷ y ∷ ys) draw new = (draw ≡ x) × (new ≡ y ∷ ys)
+
+-- each moment of a clock is below this one, as `MOMENT_LIMIT` says
+abbrev pub moment_limit : ℕ
+moment_limit = 253402300800

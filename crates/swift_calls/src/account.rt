@@ -11,7 +11,9 @@ pub enum ReadList {
 }
 
 impl Copying for ReadList {
-    fn copy(&self) -> Result<ReadList, Memory> {
+    fn copy(&self) -> Result<ReadList, Memory>
+        ensures { result ≡ Ok self.now }
+    {
         Ok(*self)
     }
 }

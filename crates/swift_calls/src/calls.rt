@@ -82,7 +82,9 @@ pub enum SwiftFault {
 }
 
 impl Copying for SwiftFault {
-    fn copy(&self) -> Result<SwiftFault, Memory> {
+    fn copy(&self) -> Result<SwiftFault, Memory>
+        ensures { result ≡ Ok self.now }
+    {
         Ok(*self)
     }
 }
