@@ -5,6 +5,17 @@ use Rattle.httparse.specs.Ascii.{line_feed, carriage_return, space}
 use Rattle.httparse.specs.Grammar.{is_token_byte}
 use Rattle.http_wire.specs.Front.{stays_in_target}
 
+-- the first byte is LF
+abbrev pub starts_lf : List ℕ → Bool
+starts_lf [] = false
+starts_lf (b ∷ bytes) = b == line_feed
+
+-- how long the line end is that stands first; 0 for none
+abbrev pub line_end_len : List ℕ → ℕ
+line_end_len [] = 0
+line_end_len (b ∷ bytes) =
+    if b == line_feed then 1 else (if (b == carriage_return) && starts_lf bytes then 2 else 0)
+
 -- the bytes after the empty lines
 unfoldable pub skip_blank : List ℕ → List ℕ
 skip_blank [] = []

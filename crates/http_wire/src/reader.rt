@@ -78,7 +78,7 @@ impl Reader {
 
         // After any answer but a request it has ended, and then it gives End and touches nothing.
         ensures ends { self.new.ended ≡ ends result }
-        ensures ended { self.old.ended ≡ true → (result ≡ Ok End) × (line.new ≡ line.old) × (self.new ≡ self.old) }
+        ensures ended { self.old.ended ≡ true → (result ≡ Ok Got.End) × (line.new ≡ line.old) × (self.new ≡ self.old) }
 
         // Where the line tells: the answer is the front of all that is left, read or not.
         ensures tells { N.tells line.old → N.tells line.new }
