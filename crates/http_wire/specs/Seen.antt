@@ -1,5 +1,5 @@
 -- What one look at the bytes that were read says of them, and what was found once enough of them came.
-use Rattle.std.specs.Prelude.{◌≡◌, ◌⊎◌, ℕ, ◌<◌, ◌≤◌, List, [], length, take}
+use Rattle.std.specs.Prelude.{◌≡◌, ◌⊎◌, ℕ, ◌<◌, ◌≤◌, List, [], ◌∷◌, length, take}
 use Rattle.httparse.specs.declared.spans.HeaderSpan.{HeaderSpan}
 use Rattle.httparse.specs.Grammar.{HasNoRequest}
 use Rattle.httparse.specs.Spans.{IsRequestOf, IsRequestWithin}
@@ -32,3 +32,8 @@ AtEnd (Head spans) rest = Unit {0}
 AtEnd Bad rest = Unit {0}
 AtEnd Cut rest = rest ≡ []
 AtEnd Nothing rest = rest ≡ []
+
+-- what the end of the connection says of bytes that have no whole head
+abbrev pub end_of : List ℕ → Found
+end_of [] = Nothing
+end_of (b ∷ bytes) = Cut

@@ -2,7 +2,7 @@ ghost use Rattle.std.specs.Prelude.{true, ◌≡◌, ◌≤◌, ◌<◌, ◌↔�
 ghost use Rattle.gate_base.specs.Causes.{Rose};
 ghost use Rattle.gate_base.specs.Wire.{with_mark};
 ghost use Rattle.http_wire.specs.Gives.{OnFailed, OnlyReads, UnlessFailed, weight};
-ghost use Rattle.http_wire.specs.Seen.{AtEnd, IsFound, window};
+ghost use Rattle.http_wire.specs.Seen.{AtEnd, IsFound, end_of, window};
 
 use crate::ReadFault;
 use crate::look::{Verdict, look};
@@ -32,11 +32,12 @@ pub(crate) enum Found {
 }
 
 /// The bytes among which a head has to end.
+#[tactic(auto, using(std::proofs::lemmas::List::take_min))]
 pub(crate) fn window(bytes: &[u8]) -> &[u8]
     ensures value { result.now ≡ window bytes.now }
     ensures short { length result.now ≤ 16384 }
 {
-    &bytes[..bytes.len().min(HEAD_LIMIT)]
+    &bytes[..HEAD_LIMIT.min(bytes.len())]
 }
 
 /// Reads until it is known what stands first. What was read stays in `pending`, whatever the answer.
@@ -109,12 +110,10 @@ fn fill<N: Line<C>, C: Counted>(
 
 /// What the end of the connection says of bytes that have no whole head.
 fn ended(pending: &[u8]) -> Found
-    ensures empty { (result ≡ Found.Nothing) ↔ (pending.now ≡ []) }
-    ensures cut { (result ≡ Found.Cut) ↔ (0 < length pending.now) }
+    ensures { result ≡ end_of pending.now }
 {
-    if pending.is_empty() {
-        Found::Nothing
-    } else {
-        Found::Cut
+    match pending.split_first() {
+        Some(_) => Found::Cut,
+        None => Found::Nothing,
     }
 }
