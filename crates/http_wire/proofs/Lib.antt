@@ -1,2 +1,4 @@
 pub mod ScanLemmas
 pub mod LookLemmas
+pub mod SeenLemmas
+pub mod MessageLemmas
