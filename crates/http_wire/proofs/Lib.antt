@@ -2,3 +2,4 @@ pub mod ScanLemmas
 pub mod LookLemmas
 pub mod SeenLemmas
 pub mod MessageLemmas
+pub mod FrontLemmas

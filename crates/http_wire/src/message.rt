@@ -1,8 +1,8 @@
-ghost use Rattle.std.specs.Prelude.{◌≡◌, ◌↔◌, [], ◌∷◌, map, length, All, IfOk, IsTrue};
+ghost use Rattle.std.specs.Prelude.{◌≡◌, ◌↔◌, [], ◌∷◌, map, length, All, IfOk, IsTrue, position};
 ghost use Rattle.std.specs.Char.{to_ascii_lowercase};
 ghost use Rattle.httparse.specs.Grammar.{RequestHead};
 ghost use Rattle.httparse.specs.Spans.{IsRequestAt, IsRequestWithin, IsHeaderWithin, IsWithin, span_bytes};
-ghost use Rattle.http_wire.specs.Front.{IsTaken, message_of, values_of};
+ghost use Rattle.http_wire.specs.Front.{IsTaken, has_name, message_of, values_of};
 ghost use Rattle.http_wire.specs.Headers.{header_at};
 
 use gate_base::{Bytes, Copying, Failed, List, Memory, Pair};
@@ -170,18 +170,29 @@ pub(crate) fn is_taken(message: &Message) -> bool
 fn is_absent(headers: &[Pair], name: &[u8]) -> bool
     ensures { IsTrue result ↔ (values_of name.now headers.now ≡ []) }
 {
-    !headers.iter().any(|header| header.name.as_slice() == name)
+    match place_of(headers, name) {
+        Some(_) => false,
+        None => true,
+    }
 }
 
 /// Whether just one header has the name, and this value.
 fn is_only(headers: &[Pair], name: &[u8], value: &[u8]) -> bool
     ensures { IsTrue result ↔ (values_of name.now headers.now ≡ value.now ∷ []) }
 {
-    match headers
-        .iter()
-        .position(|header| header.name.as_slice() == name)
-    {
-        Some(at) => { headers[at].value.as_slice() == value && is_absent(&headers[at + 1..], name) }
+    match place_of(headers, name) {
+        Some(at) => {
+            headers[at].value.as_slice() == value && is_absent(&headers[at + 1..], name)
+        }
         None => false,
     }
+}
+
+/// The place of the first header that has the name.
+fn place_of(headers: &[Pair], name: &[u8]) -> Option<usize>
+    ensures { result ≡ position (has_name name.now) headers.now }
+{
+    headers
+        .iter()
+        .position(|header| header.name.as_slice() == name)
 }
