@@ -1,7 +1,7 @@
 -- From what was found in the bytes that came to what stands first in all bytes that are left.
 use Rattle.std.proofs.Common.{◌≡◌, ℕ, ◌+◌, ◌-◌, ◌<◌, ◌≤◌, min, ◌⊎◌, Bool, false, List, [], ◌∷◌, ◌++◌, length, take, drop, refl, sym, ap, ap₂, subst, ◌∙◌, append_assoc, append-nil, length-append, length-take, take-append-drop, take_all, arith, inl, inr}
 use Rattle.std.proofs.lemmas.List.{take-append-le, take_min}
-use Rattle.std.proofs.Math.Seq.{take-append-add, drop-append_seam}
+use Rattle.std.proofs.Math.Seq.{take-append-add, take-append_seam, drop-append_seam}
 use Rattle.httparse.specs.declared.spans.HeaderSpan.{HeaderSpan}
 use Rattle.httparse.specs.declared.spans.RequestSpans.{RequestSpans}
 use Rattle.httparse.specs.Grammar.{RequestHead, print_request, ReadsRequest, HasNoRequest}
@@ -88,3 +88,7 @@ pub drop-append-le : (n : ℕ) (xs ys : List ℕ) → n ≤ length xs → drop n
 drop-append-le n xs ys within =
     sym (drop-append_seam (take n xs) (drop n xs ++ ys))
     ∙ ap₂ drop (omega (arith, within, length-take n xs)) (sym (append_assoc (take n xs) (drop n xs) ys) ∙ ap (λ v. v ++ ys) (take-append-drop n xs))
+
+-- a vector whose elements were all written through a slice
+pub written : (n : ℕ) (new old : List HeaderSpan) → length new ≡ n → new ≡ take n (new ++ drop (length new) old)
+written n new old all = sym (ap (λ v. take v (new ++ drop (length new) old)) (sym all) ∙ take-append_seam new (drop (length new) old))

@@ -1,6 +1,6 @@
 use Rattle.std.proofs.Common.{◌≡◌, ◌≤◌, length, min, arith, length-take, ap, ◌∙◌}
-use Rattle.http_wire.specs.Seen.{window}
 use Rattle.http_wire.proofs.reader.take_head.Goals as goal
 
 pub drop_front-requires : goal.drop_front-requires
-drop_front-requires c = ?
+drop_front-requires c =
+    omega (arith, c.requires.section.len_fits, length-take 16384 c.args.pending.now.items)
