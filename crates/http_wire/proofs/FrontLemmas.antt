@@ -22,17 +22,18 @@ after_head : (bytes : List ℕ) (h : RequestHead) (rest : List ℕ) (n : ℕ) �
     → ReadsRequest bytes h (drop n bytes)
 after_head bytes h rest n reads size =
     let rest_is : rest ≡ drop n bytes =
-      sym (drop-append_seam (print_request h) rest) ∙ ap₂ drop (sym size) (sym reads.1) in
+    sym (drop-append_seam (print_request h) rest) ∙ ap₂ drop (sym size) (sym reads.1) in
     subst (λ v. ReadsRequest bytes h v) rest_is reads
 
 pub whole_head : (bytes more : List ℕ) (headers : List HeaderSpan) (spans : RequestSpans) (h : RequestHead)
     → IsRequestAt (window bytes) headers spans h → IsRequestWithin (window bytes) headers spans
     → HasHead (bytes ++ more) h spans.len
 whole_head bytes more headers spans h at within =
-    let reads = ReadsRequest-append (window bytes) h (drop spans.len (window bytes)) (drop 16384 bytes ++ more) at.reads in
-    (after_head (bytes ++ more) h _ spans.len (subst (λ v. ReadsRequest v h (drop spans.len (window bytes) ++ (drop 16384 bytes ++ more))) (whole bytes more) reads) at.len,
+    let reads = ReadsRequest-append (window bytes) h (drop spans.len (window bytes)) (drop 16384 bytes ++ more) at.reads in (
+      after_head (bytes ++ more) h _ spans.len (subst (λ v. ReadsRequest v h (drop spans.len (window bytes) ++ (drop 16384 bytes ++ more))) (whole bytes more) reads) at.len,
       at.len,
-      omega (arith, within.section.len_fits, length-take 16384 bytes))
+      omega (arith, within.section.len_fits, length-take 16384 bytes),
+    )
 
 pub front_asks : (bytes more : List ℕ) (headers : List HeaderSpan) (spans : RequestSpans) (h : RequestHead) (message : Message)
     → IsRequestAt (window bytes) headers spans h → IsRequestWithin (window bytes) headers spans
@@ -48,13 +49,15 @@ front_untaken bytes more headers spans h head at within untaken is =
 dead_has_none : (bytes more : List ℕ) → IsDead (window bytes) → HasNoHead (bytes ++ more)
 dead_has_none bytes more dead h n has =
     dead.0 (drop 16384 bytes ++ more) h (drop n (bytes ++ more))
-      (subst (λ v. ReadsRequest v h (drop n (bytes ++ more))) (sym (whole bytes more)) has.0)
+    (subst (λ v. ReadsRequest v h (drop n (bytes ++ more))) (sym (whole bytes more)) has.0)
 
 dead_prefix : (bytes more : List ℕ) → IsDead (window bytes) → HasDeadPrefix (bytes ++ more)
 dead_prefix bytes more dead =
-    let n : ℕ = min 16384 (length bytes) in
-    (n, omega arith,
-      subst IsDead (sym (take_min 16384 bytes) ∙ sym (take-append-le n bytes more (omega arith))) dead)
+    let n : ℕ = min 16384 (length bytes) in (
+      n,
+      omega arith,
+      subst IsDead (sym (take_min 16384 bytes) ∙ sym (take-append-le n bytes more (omega arith))) dead,
+    )
 
 -- a head of up to 16,384 bytes ends in the window, where that is full
 long_has_none : (bytes more : List ℕ) → HasNoRequest (window bytes) → 16384 ≤ length bytes → HasNoHead (bytes ++ more)
@@ -62,9 +65,10 @@ long_has_none bytes more none long h n has =
     let rest : List ℕ = drop n (bytes ++ more) in
     let k : ℕ = 16384 - length (print_request h) in
     let full : length (print_request h) + k ≡ 16384 = omega (arith, has.1, has.2) in
-    none h (take k rest)
-      (has.0.0,
-        sym (take-append-le 16384 bytes more long) ∙ ap₂ take (sym full) has.0.1 ∙ take-append-add (print_request h) rest k)
+    none h (take k rest) (
+      has.0.0,
+      sym (take-append-le 16384 bytes more long) ∙ ap₂ take (sym full) has.0.1 ∙ take-append-add (print_request h) rest k,
+    )
 
 pub front_bad : (bytes more : List ℕ) → IsDead (window bytes) ⊎ (HasNoRequest (window bytes) × (16384 ≤ length bytes))
     → IsFront (bytes ++ more) (refused BadHead false)
@@ -76,10 +80,12 @@ pub front_cut : (bytes more : List ℕ) → 0 < length bytes → length bytes < 
     → ¬ (HasDeadPrefix (window bytes)) → more ≡ [] → IsFront (bytes ++ more) cut_short
 front_cut bytes more some short none lives end =
     let all : window bytes ≡ bytes ++ more =
-      take_all 16384 bytes (omega (arith, short)) ∙ sym (append-nil bytes) ∙ ap (λ v. bytes ++ v) (sym end) in
-    (omega (arith, some, length-append bytes more), omega (arith, short, length-append bytes more, ap length end),
+    take_all 16384 bytes (omega (arith, short)) ∙ sym (append-nil bytes) ∙ ap (λ v. bytes ++ v) (sym end) in (
+      omega (arith, some, length-append bytes more),
+      omega (arith, short, length-append bytes more, ap length end),
       λ h n has. subst HasNoRequest all none h (drop n (bytes ++ more)) has.0,
-      subst (λ v. ¬ (HasDeadPrefix v)) all lives)
+      subst (λ v. ¬ (HasDeadPrefix v)) all lives,
+    )
 
 pub front_ends : (bytes more : List ℕ) → bytes ≡ [] → more ≡ [] → IsFront (bytes ++ more) nothing
 front_ends bytes more none end = ap₂ (λ a b. a ++ b) none end

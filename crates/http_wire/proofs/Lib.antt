@@ -3,3 +3,4 @@ pub mod LookLemmas
 pub mod SeenLemmas
 pub mod MessageLemmas
 pub mod FrontLemmas
+pub mod UniqueLemmas

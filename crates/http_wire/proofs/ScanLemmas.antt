@@ -187,10 +187,15 @@ starts_reads : (bytes rest : List ℕ) → Blanks bytes rest → starts_method r
 starts_reads bytes [] blank h = absurd (false≢true h)
 starts_reads bytes (b ∷ rest) blank h =
     let both = and_parts (is_token_byte b) (in_method rest) h in
-    let inside = method_reads rest both.1 in
-    (blank.0, b ∷ inside.0, inside.1, (omega arith, All-cons IsTokenByte b inside.0 both.0 inside.2), inside.3,
+    let inside = method_reads rest both.1 in (
+      blank.0,
+      b ∷ inside.0,
+      inside.1,
+      (omega arith, All-cons IsTokenByte b inside.0 both.0 inside.2),
+      inside.3,
       blank.1 ∙ ap (λ v. print_blank blank.0 ++ b ∷ v) inside.4
-      ∙ sym (append_assoc (print_blank blank.0) (b ∷ inside.0) (32 ∷ inside.1)))
+          ∙ sym (append_assoc (print_blank blank.0) (b ∷ inside.0) (32 ∷ inside.1)),
+    )
 
 starts_found : (blank : List LineEnd) (method target : List ℕ) → IsToken method → AllPass stays_in_target target
     → is_inside (print_blank blank ++ (method ++ 32 ∷ target)) ≡ true
@@ -202,7 +207,8 @@ starts_found blank (b ∷ method) target token stays =
 
 -- the test says exactly whether the bytes end inside a target
 pub is_inside_decides : (bytes : List ℕ) → IsTrue (is_inside bytes) ↔ EndsInside bytes
-is_inside_decides bytes =
-    (λ h. starts_reads bytes (skip_blank bytes) (skipped bytes) h,
-      λ (blank, method, target, token, stays, e). ap is_inside (e ∙ append_assoc (print_blank blank) method (32 ∷ target))
-        ∙ starts_found blank method target token stays)
+is_inside_decides bytes = (
+  λ h. starts_reads bytes (skip_blank bytes) (skipped bytes) h,
+  λ (blank, method, target, token, stays, e). ap is_inside (e ∙ append_assoc (print_blank blank) method (32 ∷ target))
+      ∙ starts_found blank method target token stays,
+)

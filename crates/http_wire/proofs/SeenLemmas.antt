@@ -21,7 +21,7 @@ pub found_ended : (old new seen : List ℕ) (headers : List HeaderSpan) → seen
     → ¬ (HasDeadPrefix seen) → length old < 16384 → IsFound new headers (end_of new)
 found_ended old new seen headers same stays none lives short =
     subst (λ v. IsFound v headers (end_of v)) (sym stays)
-      (found_end old headers (subst HasNoRequest same none) (subst (λ v. ¬ (HasDeadPrefix v)) same lives) short)
+    (found_end old headers (subst HasNoRequest same none) (subst (λ v. ¬ (HasDeadPrefix v)) same lives) short)
 
 pub at_end : (bytes rest : List ℕ) → rest ≡ [] → AtEnd (end_of bytes) rest
 at_end [] rest none = none

@@ -2,12 +2,17 @@
 #![tactic(auto)]
 
 mod advance;
+mod laws;
 mod look;
 mod message;
 mod print;
 mod reader;
 mod scan;
 
+pub use laws::one_front;
 pub use message::{Got, Kind, Message, ReadFault};
 pub use print::{print_memory, print_page};
 pub use reader::Reader;
+
+#[cfg(test)]
+mod tests;

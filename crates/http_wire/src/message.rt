@@ -181,9 +181,7 @@ fn is_only(headers: &[Pair], name: &[u8], value: &[u8]) -> bool
     ensures { IsTrue result ↔ (values_of name.now headers.now ≡ value.now ∷ []) }
 {
     match place_of(headers, name) {
-        Some(at) => {
-            headers[at].value.as_slice() == value && is_absent(&headers[at + 1..], name)
-        }
+        Some(at) => { headers[at].value.as_slice() == value && is_absent(&headers[at + 1..], name) }
         None => false,
     }
 }

@@ -15,7 +15,8 @@ invariant-come g l = record {
   only_reads : g.N.Line.tells l.initial.line → OnlyReads (g.N.Line.wire l.initial.line) (g.N.Line.wire l.line);
   marks : g.N.Line.tells l.initial.line → (g.N.Line.wire l.line).marks ≡ (g.N.Line.wire l.initial.line).marks;
   kept : g.N.Line.tells l.initial.line
-    → l.pending.items ++ (g.N.Line.wire l.line).rest ≡ l.initial.pending.items ++ (g.N.Line.wire l.initial.line).rest }
+      → l.pending.items ++ (g.N.Line.wire l.line).rest ≡ l.initial.pending.items ++ (g.N.Line.wire l.initial.line).rest;
+}
 
 -- each round but the last reads some bytes
 abbrev pub decreases-come : goal.decreases-come

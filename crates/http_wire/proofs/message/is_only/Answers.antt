@@ -11,11 +11,11 @@ returns-then-eq c =
     let headers = c.args.headers.now in
     let next : suc c.in-Some.at ≡ c.in-Some.at + 1 = omega arith in
     let rest : drop (suc c.in-Some.at) headers ≡ take (length headers - (c.in-Some.at + 1)) (drop (c.in-Some.at + 1) headers) =
-      ap (λ n. drop n headers) next ∙ sym (take_rest headers (c.in-Some.at + 1)) in
+    ap (λ n. drop n headers) next ∙ sym (take_rest headers (c.in-Some.at + 1)) in
     let first = first_of name headers c.in-Some.at c.index-headers-at.result (sym c.place_of.ensures ∙ c.in-Some.is) in
     only_value (values_of name headers) (values_of name (drop (suc c.in-Some.at) headers)) _ c.args.value.now c.is_absent.result first
-      (sym c.as_slice.ensures ∙ same_text _ _ (sym c.if-eq.true ∙ c.eq.ensures))
-      (subst (λ v. IsTrue c.is_absent.result ↔ (values_of name v ≡ [])) (sym rest) c.is_absent.ensures)
+    (sym c.as_slice.ensures ∙ same_text _ _ (sym c.if-eq.true ∙ c.eq.ensures))
+    (subst (λ v. IsTrue c.is_absent.result ↔ (values_of name v ≡ [])) (sym rest) c.is_absent.ensures)
 
 pub returns-else-eq : goal.returns-else-eq
 returns-else-eq c =
@@ -24,7 +24,7 @@ returns-else-eq c =
     let first = first_of name headers c.in-Some.at c.index-headers-at.result (sym c.place_of.ensures ∙ c.in-Some.is) in
     let other = other_text _ _ (sym c.if-eq.false ∙ c.eq.ensures) in
     subst (λ r. IsTrue r ↔ (values_of name headers ≡ c.args.value.now ∷ [])) (sym c.if-eq.false)
-      (other_value (values_of name headers) _ _ c.args.value.now first (λ e. other (c.as_slice.ensures ∙ e)))
+    (other_value (values_of name headers) _ _ c.args.value.now first (λ e. other (c.as_slice.ensures ∙ e)))
 
 pub returns-in-None : goal.returns-in-None
 returns-in-None c =

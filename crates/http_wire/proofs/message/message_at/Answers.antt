@@ -7,7 +7,7 @@ use Rattle.http_wire.proofs.message.message_at.Goals as goal
 pub returns : goal.returns
 returns c h at =
     let headers : c.in_ok-headers_at.field-0 ≡ map header_of h.fields =
-      c.in_ok-headers_at.ensures ∙ headers_of c.args.bytes.now c.args.headers.now c.args.spans.now.headers h.fields at.fields in
+    c.in_ok-headers_at.ensures ∙ headers_of c.args.bytes.now c.args.headers.now c.args.spans.now.headers h.fields at.fields in
     λ i. record {
       method = (c.in_ok-text_at.ensures ∙ at.method) i;
       target = (c.in_ok-text_at-2.ensures ∙ at.path) i;
