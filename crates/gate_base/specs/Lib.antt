@@ -1,3 +1,8 @@
 pub mod Causes
+pub mod ListTold
+pub mod Listed
+pub mod MemLine
+pub mod MemSink
+pub mod MemWire
 pub mod Told
 pub mod Wire

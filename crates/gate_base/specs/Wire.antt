@@ -39,3 +39,7 @@ with_mark wire = record wire { marks = slice_set wire.marks (wire.begun - 1) tru
 -- a write failed: nothing was sent, or one piece with the first of the bytes
 abbrev pub SendsPrefix : Wire → ℕ → List ℕ → Wire → Type 0
 SendsPrefix old at bytes new = (new ≡ with_mark old) ⊎ ((n : ℕ) × (new ≡ with_mark (with_piece old at (take n bytes))))
+
+-- no connection waits, and none was served
+abbrev pub empty : Wire
+empty = record { waiting = []; rest = []; begun = 0; sent = []; marks = [] }

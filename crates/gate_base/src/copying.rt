@@ -9,37 +9,49 @@ pub trait Copying: Sized {
 }
 
 impl Copying for u8 {
-    fn copy(&self) -> Result<u8, Memory> {
+    fn copy(&self) -> Result<u8, Memory>
+        ensures { result ≡ Ok self.now }
+    {
         Ok(*self)
     }
 }
 
 impl Copying for u16 {
-    fn copy(&self) -> Result<u16, Memory> {
+    fn copy(&self) -> Result<u16, Memory>
+        ensures { result ≡ Ok self.now }
+    {
         Ok(*self)
     }
 }
 
 impl Copying for u32 {
-    fn copy(&self) -> Result<u32, Memory> {
+    fn copy(&self) -> Result<u32, Memory>
+        ensures { result ≡ Ok self.now }
+    {
         Ok(*self)
     }
 }
 
 impl Copying for u64 {
-    fn copy(&self) -> Result<u64, Memory> {
+    fn copy(&self) -> Result<u64, Memory>
+        ensures { result ≡ Ok self.now }
+    {
         Ok(*self)
     }
 }
 
 impl Copying for u128 {
-    fn copy(&self) -> Result<u128, Memory> {
+    fn copy(&self) -> Result<u128, Memory>
+        ensures { result ≡ Ok self.now }
+    {
         Ok(*self)
     }
 }
 
 impl Copying for usize {
-    fn copy(&self) -> Result<usize, Memory> {
+    fn copy(&self) -> Result<usize, Memory>
+        ensures { result ≡ Ok self.now }
+    {
         Ok(*self)
     }
 }

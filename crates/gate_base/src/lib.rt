@@ -4,12 +4,25 @@
 
 mod copying;
 mod faults;
+mod line_memory;
 mod lists;
+mod numbered;
 mod outside;
 mod page;
+mod real;
+mod sink_memory;
+mod told_memory;
+mod wire_memory;
 
 pub use copying::Copying;
 pub use faults::{Failed, Memory};
+pub use line_memory::MemLine;
 pub use lists::{Bytes, List};
-pub use outside::{Clock, Counted, Draws, Line, MOMENT_LIMIT, NoCount, Piece, Sink};
+pub use outside::{CALL_LIMIT, Clock, Counted, Draws, Line, MOMENT_LIMIT, NoCount, Piece, Sink};
 pub use page::{Caller, Page, Pair};
+pub use real::{RandomDraws, StdLine, StdSink, SystemClock};
+pub use sink_memory::MemSink;
+pub use told_memory::{ListClock, ListDraws};
+
+#[cfg(test)]
+mod tests;

@@ -122,6 +122,13 @@ impl<T> List<T> {
         List { items }
     }
 
+    /// The vector that held the list.
+    pub fn into_vec(self) -> Vec<T>
+        ensures { result.items ≡ self }
+    {
+        self.items
+    }
+
     pub fn as_slice(&self) -> &[T]
         ensures { result.now ≡ self.now }
     {

@@ -11,6 +11,9 @@ use crate::{Bytes, Copying, Failed, Memory};
 /// Each moment of a clock is below this one: the end of the year 9999, in seconds since the beginning of 1970.
 pub const MOMENT_LIMIT: u64 = 253_402_300_800;
 
+/// How many calls of a line begin a connection or give bytes: past it each further call that would be one is Failed.
+pub const CALL_LIMIT: u64 = 1 << 63;
+
 /// What has counted its calls since it was made.
 pub trait Counted {
     ghost called: { Self → ℕ };

@@ -10,7 +10,9 @@ pub enum Caller {
 }
 
 impl Copying for Caller {
-    fn copy(&self) -> Result<Caller, Memory> {
+    fn copy(&self) -> Result<Caller, Memory>
+        ensures { result ≡ Ok self.now }
+    {
         Ok(*self)
     }
 }

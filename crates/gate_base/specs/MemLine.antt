@@ -1,0 +1,55 @@
+-- What a line in memory shows of itself.
+use Rattle.std.specs.Prelude.{ℕ, ◌+◌, ◌^◌, Bool, not, ◌&&◌, nat_le, nat_lt, List, length}
+use Rattle.gate_base.specs.Wire.{Wire}
+use Rattle.gate_base.specs.MemWire.{told_by}
+use Rattle.gate_base.specs.Listed.{is_next_listed, listed}
+use Rattle.gate_base.specs.declared.line_memory.MemLine.{MemLine}
+
+abbrev pub is_open_of : MemLine → Bool
+is_open_of line = line.connected
+
+abbrev pub wire_of : MemLine → Wire
+wire_of line = told_by line.wire
+
+-- at most so many bytes come by one read
+abbrev pub piece_of : MemLine → ℕ
+piece_of line = line.piece
+
+-- how many calls began a connection or gave bytes
+abbrev pub spent_of : MemLine → ℕ
+spent_of line = line.spent
+
+-- the numbers of the calls that are to fail
+abbrev pub fails_of : MemLine → List ℕ
+fails_of line = line.calls.fails
+
+-- how many calls of `next`, `read` and `write` were made; at the greatest value of a `u64` it stays
+abbrev pub made_of : MemLine → ℕ
+made_of line = line.calls.made
+
+-- how many of them, not to fail by their number, were past the limit of the calls that begin a connection or give bytes
+abbrev pub past_of : MemLine → ℕ
+past_of line = line.past
+
+-- how many of them, not to fail by their number, were writes that found no memory
+abbrev pub wanted_of : MemLine → ℕ
+wanted_of line = line.wanted
+
+-- the count of faults: the calls made that were to fail or past the limit, and the writes that found no memory
+abbrev pub faults_of : MemLine → ℕ
+faults_of line = listed (fails_of line) (made_of line) + past_of line + wanted_of line
+
+abbrev pub next_faults_of : MemLine → ℕ
+next_faults_of line = line.next_faults
+
+-- the next call is to fail by its number
+abbrev pub is_to_fail : MemLine → Bool
+is_to_fail line = is_next_listed (fails_of line) (made_of line)
+
+-- else a connection waits, and no call is left to begin it
+abbrev pub begins_past : MemLine → Bool
+begins_past line = not (is_to_fail line) && nat_lt 0 (length (wire_of line).waiting) && nat_le (2 ^ 63) (spent_of line)
+
+-- else bytes are left, and no call is left to give them
+abbrev pub reads_past : MemLine → Bool
+reads_past line = not (is_to_fail line) && nat_lt 0 (length (wire_of line).rest) && nat_le (2 ^ 63) (spent_of line)

@@ -1,0 +1,221 @@
+ghost use Rattle.std.specs.Prelude.{◌≡◌, ◌<◌, ◌≤◌, true, false, not, ◌&&◌, ◌||◌, IsTrue, IsErr, is_err, IfOk, OnOk, OnErr};
+ghost use Rattle.std.specs.Prelude.{[], length, take, min};
+ghost use Rattle.gate_base.specs.Causes.{Rose, Spends, SpendsIf, one_more, one_more_if};
+ghost use Rattle.gate_base.specs.Wire.{empty, Begins, Takes, with_piece, with_mark, SendsPrefix};
+ghost use Rattle.gate_base.specs.MemWire.{told_by};
+
+use crate::numbered::Numbered;
+use crate::wire_memory::MemWire;
+use crate::{Bytes, CALL_LIMIT, Counted, Failed, Line, List, Memory, Piece};
+use std::alloc::Global;
+
+/// A line in memory, for tests: the connections are given whole, and what is written is kept.
+///
+/// The calls of `next`, `read` and `write` are numbered together from 1, and those whose numbers it was given are
+/// Failed: nothing is begun, read or sent. So is a `write` that finds no memory, which [`MemLine::wanted`] counts.
+#[derive(Drop)]
+pub struct MemLine {
+    wire: MemWire,
+    piece: usize,
+    connected: bool,
+    calls: Numbered,
+    spent: u64,
+    past: u64,
+    wanted: u64,
+    next_faults: u64,
+    ghost some_piece: { 0 < piece },
+    ghost begun: { IsTrue connected → 0 < (told_by wire).begun },
+}
+
+impl MemLine {
+    ghost use Rattle.gate_base.specs.MemLine.{is_open_of, wire_of, piece_of, fails_of, made_of, spent_of, past_of};
+    ghost use Rattle.gate_base.specs.MemLine.{wanted_of, faults_of, next_faults_of};
+
+    /// A line of these connections, whose reads give at most `piece` bytes, and whose calls of these numbers
+    /// are Failed. It takes the room for a mark per connection.
+    #[tactic(auto, unfolding(crate::specs::Listed::listed))]
+    pub fn new(
+        alloc: Global,
+        connections: List<Bytes>,
+        piece: usize,
+        fails: List<u64>,
+    ) -> Result<MemLine, Memory>
+        requires { 0 < piece }
+        ensures closed { IfOk result (λ line. is_open_of line ≡ false) }
+        ensures wire { IfOk result (λ line. wire_of line ≡ record empty { waiting = connections }) }
+        ensures piece { IfOk result (λ line. piece_of line ≡ piece) }
+        ensures fails { IfOk result (λ line. fails_of line ≡ fails) }
+        ensures made { IfOk result (λ line. made_of line ≡ 0) }
+        ensures spent { IfOk result (λ line. spent_of line ≡ 0) }
+        ensures past { IfOk result (λ line. past_of line ≡ 0) }
+        ensures wanted { IfOk result (λ line. wanted_of line ≡ 0) }
+        ensures faults { IfOk result (λ line. faults_of line ≡ 0) }
+        ensures next_faults { IfOk result (λ line. next_faults_of line ≡ 0) }
+    {
+        Ok(MemLine {
+            wire: MemWire::new(alloc, connections)?,
+            piece,
+            connected: false,
+            calls: Numbered::new(fails),
+            spent: 0,
+            past: 0,
+            wanted: 0,
+            next_faults: 0,
+        })
+    }
+
+    /// The pieces sent, in order.
+    pub fn pieces(&self) -> &[Piece]
+        ensures { result.now ≡ (wire_of self.now).sent }
+    {
+        self.wire.pieces()
+    }
+
+    /// How many calls of `write` found no memory. At the greatest value it stays.
+    pub fn wanted(&self) -> u64
+        ensures { result ≡ wanted_of self.now }
+    {
+        self.wanted
+    }
+}
+
+impl<C: Counted> Line<C> for MemLine {
+    ghost use Rattle.gate_base.specs.MemLine.{is_open_of, wire_of, piece_of, fails_of, made_of, spent_of, past_of};
+    ghost use Rattle.gate_base.specs.MemLine.{wanted_of, faults_of, next_faults_of, is_to_fail, begins_past, reads_past};
+
+    ghost is_open = { is_open_of };
+
+    ghost faults = { faults_of };
+
+    ghost next_faults = { next_faults_of };
+
+    ghost spent = { spent_of };
+
+    ghost tells = { λ _. Unit {0} };
+
+    ghost wire = { wire_of };
+
+    /// Failed exactly where the number of the call was given, or where a connection waits and no call is left.
+    fn next(&mut self) -> Result<bool, Failed>
+        ensures open { IfOk result (λ begun. is_open_of self.new ≡ begun) }
+        ensures closed { OnErr result (is_open_of self.new ≡ false) }
+        ensures quiet { OnOk result (faults_of self.new ≡ faults_of self.old) }
+        ensures quiet_next { OnOk result (next_faults_of self.new ≡ next_faults_of self.old) }
+        ensures cause { OnErr result (Rose (faults_of self.old) (faults_of self.new)) }
+        ensures cause_next { OnErr result (Rose (next_faults_of self.old) (next_faults_of self.new)) }
+        ensures spent { IfOk result (λ begun. SpendsIf begun (spent_of self.old) (spent_of self.new)) }
+        ensures spent_err { OnErr result (spent_of self.new ≡ spent_of self.old) }
+        ensures told { IfOk result (λ begun. Begins begun (wire_of self.old) (wire_of self.new)) }
+        ensures told_err { OnErr result (wire_of self.new ≡ wire_of self.old) }
+
+        ensures failed { is_err result ≡ (is_to_fail self.old || begins_past self.old) }
+        ensures piece { piece_of self.new ≡ piece_of self.old }
+        ensures fails { fails_of self.new ≡ fails_of self.old }
+        ensures made { made_of self.new ≡ one_more (made_of self.old) }
+        ensures past { past_of self.new ≡ one_more_if (begins_past self.old) (past_of self.old) }
+        ensures wanted { wanted_of self.new ≡ wanted_of self.old }
+    {
+        self.connected = false;
+        if self.calls.count() {
+            self.next_faults = self.next_faults.saturating_add(1);
+            return Err(Failed);
+        }
+        if self.wire.has_waiting() && self.spent >= CALL_LIMIT {
+            self.next_faults = self.next_faults.saturating_add(1);
+            self.past = self.past.saturating_add(1);
+            return Err(Failed);
+        }
+        let begun = self.wire.begin();
+        if begun {
+            self.spent += 1;
+        }
+        self.connected = begun;
+        Ok(begun)
+    }
+
+    /// Failed exactly where the number of the call was given, or where bytes are left and no call is.
+    fn read(&mut self, buf: &mut [u8]) -> Result<usize, Failed>
+        requires open { IsTrue (is_open_of self.old) }
+        requires room { 0 < length buf.old }
+        ensures open { is_open_of self.new ≡ true }
+        ensures within { IfOk result (λ count. count ≤ length buf.old) }
+        ensures quiet { OnOk result (faults_of self.new ≡ faults_of self.old) }
+        ensures quiet_next { next_faults_of self.new ≡ next_faults_of self.old }
+        ensures cause { OnErr result (Rose (faults_of self.old) (faults_of self.new)) }
+        ensures spent { IfOk result (λ count. 0 < count → Spends (spent_of self.old) (spent_of self.new)) }
+        ensures unspent { IfOk result (λ count. count ≡ 0 → spent_of self.new ≡ spent_of self.old) }
+        ensures spent_err { OnErr result (spent_of self.new ≡ spent_of self.old) }
+        ensures told { IfOk result (λ count. Takes (take count buf.new) (wire_of self.old) (wire_of self.new)) }
+        ensures told_err { OnErr result (wire_of self.new ≡ with_mark (wire_of self.old)) }
+
+        ensures count { IfOk result (λ count. count ≡ min (piece_of self.old)
+            (min (length buf.old) (length (wire_of self.old).rest))) }
+        ensures failed { is_err result ≡ (is_to_fail self.old || reads_past self.old) }
+        ensures piece { piece_of self.new ≡ piece_of self.old }
+        ensures fails { fails_of self.new ≡ fails_of self.old }
+        ensures made { made_of self.new ≡ one_more (made_of self.old) }
+        ensures past { past_of self.new ≡ one_more_if (reads_past self.old) (past_of self.old) }
+        ensures wanted { wanted_of self.new ≡ wanted_of self.old }
+    {
+        if self.calls.count() {
+            self.wire.mark();
+            return Err(Failed);
+        }
+        if self.wire.has_rest() && self.spent >= CALL_LIMIT {
+            self.past = self.past.saturating_add(1);
+            self.wire.mark();
+            return Err(Failed);
+        }
+        let count = self.wire.take(buf, self.piece);
+        if count > 0 {
+            self.spent += 1;
+        }
+        Ok(count)
+    }
+
+    /// Failed exactly where the number of the call was given, or where memory was wanted. Then nothing is sent.
+    fn write(&mut self, store: &C, bytes: &[u8]) -> Result<(), Failed>
+        requires { IsTrue (is_open_of self.old) }
+        ensures open { is_open_of self.new ≡ true }
+        ensures quiet { OnOk result (faults_of self.new ≡ faults_of self.old) }
+        ensures quiet_next { next_faults_of self.new ≡ next_faults_of self.old }
+        ensures cause { OnErr result (Rose (faults_of self.old) (faults_of self.new)) }
+        ensures spent { spent_of self.new ≡ spent_of self.old }
+        ensures told { OnOk result (wire_of self.new ≡ with_piece (wire_of self.old) (C.called store.now) bytes.now) }
+        ensures told_err { OnErr result (wire_of self.new ≡ with_mark (wire_of self.old)) }
+
+        ensures failed { IsTrue (is_to_fail self.old) → IsErr result }
+        ensures piece { piece_of self.new ≡ piece_of self.old }
+        ensures fails { fails_of self.new ≡ fails_of self.old }
+        ensures made { made_of self.new ≡ one_more (made_of self.old) }
+        ensures past { past_of self.new ≡ past_of self.old }
+        ensures wanted { wanted_of self.new ≡ one_more_if (not (is_to_fail self.old) && is_err result) (wanted_of self.old) }
+    {
+        if self.calls.count() {
+            self.wire.mark();
+            return Err(Failed);
+        }
+        match self.wire.keep(store.calls(), bytes) {
+            Ok(()) => Ok(()),
+            Err(Memory) => {
+                self.wanted = self.wanted.saturating_add(1);
+                self.wire.mark();
+                Err(Failed)
+            }
+        }
+    }
+
+    fn close(&mut self)
+        ensures closed { is_open_of self.new ≡ false }
+        ensures wire { wire_of self.new ≡ wire_of self.old }
+        ensures spent { spent_of self.new ≡ spent_of self.old }
+        ensures next_faults { next_faults_of self.new ≡ next_faults_of self.old }
+        ensures piece { piece_of self.new ≡ piece_of self.old }
+        ensures fails { fails_of self.new ≡ fails_of self.old }
+        ensures made { made_of self.new ≡ made_of self.old }
+        ensures past { past_of self.new ≡ past_of self.old }
+        ensures wanted { wanted_of self.new ≡ wanted_of self.old }
+    {
+        self.connected = false;
+    }
+}
