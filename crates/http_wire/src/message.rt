@@ -43,7 +43,9 @@ pub enum Kind {
 }
 
 impl Copying for Kind {
-    fn copy(&self) -> Result<Kind, Memory> {
+    fn copy(&self) -> Result<Kind, Memory>
+        ensures { result ≡ Ok self.now }
+    {
         Ok(*self)
     }
 }
