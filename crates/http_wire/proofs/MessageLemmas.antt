@@ -1,5 +1,5 @@
 -- The headers of a message, by the spans of a head; and the headers of a name.
-use Rattle.std.proofs.Common.{◌≡◌, ℕ, zero, suc, ◌+◌, ◌<◌, ◌≤◌, Bool, true, false, cond, not, List, [], ◌∷◌, length, take, drop, map, refl, sym, ap, ap₂, subst, ◌∙◌, ◌↔◌, IsTrue, arith}
+use Rattle.std.proofs.Common.{◌≡◌, ℕ, zero, suc, ◌+◌, ◌<◌, ◌≤◌, Bool, true, false, cond, not, List, [], ◌∷◌, length, take, drop, map, refl, sym, ap, ap₂, ◌∙◌, ◌↔◌, IsTrue, arith}
 use Rattle.std.specs.Prelude.{filter, position, slice_index_or, Option, Some, None}
 use Rattle.std.specs.Char.{to_ascii_lowercase}
 use Rattle.std.specs.List.{position_or_len}

@@ -1,8 +1,8 @@
 -- What was found in the bytes that came, by what the last look saw.
-use Rattle.std.proofs.Common.{◌≡◌, ℕ, ◌<◌, ◌≤◌, List, [], ◌∷◌, length, refl, sym, ap, subst, ◌∙◌, arith, inr}
+use Rattle.std.proofs.Common.{◌≡◌, ℕ, ◌<◌, ◌≤◌, List, [], ◌∷◌, length, refl, sym, subst, arith, inr}
 use Rattle.httparse.specs.declared.spans.HeaderSpan.{HeaderSpan}
 use Rattle.httparse.specs.Grammar.{HasNoRequest}
-use Rattle.http_wire.specs.declared.advance.Found.TheVariants.{Bad, Cut, Nothing}
+use Rattle.http_wire.specs.declared.advance.Found.TheVariants.{Bad}
 use Rattle.http_wire.specs.Front.{HasDeadPrefix}
 use Rattle.http_wire.specs.Seen.{AtEnd, IsFound, end_of, window}
 

@@ -1,11 +1,11 @@
--- Just one thing stands first in a list of bytes.
-use Rattle.std.proofs.Common.{◌≡◌, ℕ, ◌+◌, ◌<◌, ◌≤◌, ◌⊎◌, Bool, false, List, [], ◌∷◌, ◌++◌, length, take, drop, refl, sym, ap, ap₂, subst, ◌∙◌, length-append, arith, inl, inr}
-use Rattle.httparse.specs.Grammar.{RequestHead, print_request, ReadsRequest, LineEnd, lf}
+-- Just one thing stands first in a list of bytes; a request has a byte, and no more than there are.
+use Rattle.std.proofs.Common.{◌≡◌, ℕ, ◌<◌, ◌≤◌, Bool, List, [], length, drop, refl, sym, ap, ap₂, subst, ◌∙◌, length-append, arith, inl, inr}
+use Rattle.httparse.specs.Grammar.{RequestHead, print_request}
 use Rattle.httparse.proofs.GrammarLemmas.{request_unique}
 use Rattle.http_wire.specs.declared.message.Message.{Message}
 use Rattle.http_wire.specs.declared.message.Kind.{Kind}
 use Rattle.http_wire.specs.declared.message.Kind.TheVariants.{BadHead}
-use Rattle.http_wire.specs.Front.{Front, HasDeadPrefix, HasHead, HasNoHead, IsDead, IsFront, IsHeadless, IsTaken, IsUntaken, asks, cut_short, is_head, message_of, nothing, refused}
+use Rattle.http_wire.specs.Front.{Front, HasHead, IsFront, IsTaken, asks, cut_short, is_head, message_of, nothing, refused}
 use Rattle.http_wire.proofs.LookLemmas.{head_has_byte, nothing_lives}
 
 same_head : (bytes : List ℕ) (h k : RequestHead) (n m : ℕ) → HasHead bytes h n → HasHead bytes k m → h ≡ k
@@ -64,3 +64,12 @@ one_front bytes (refused kind head) (asks l k) out (h, has, is, taken) =
 one_front bytes (refused kind head) nothing out none = absurd (empty_refused bytes kind head none out)
 one_front bytes (refused kind head) cut_short out cut = absurd (cut_refused bytes kind head cut out)
 one_front bytes (refused kind head) (refused other had) out away = both_refused bytes kind other head had out away
+
+-- ---- how long a request is
+
+pub request_some : (bytes : List ℕ) (message : Message) (size : ℕ) → IsFront bytes (asks message size) → 0 < size
+request_some bytes message size (h, has, is, taken) = omega (arith, head_has_byte h, has.1)
+
+pub request_within : (bytes : List ℕ) (message : Message) (size : ℕ) → IsFront bytes (asks message size) → size ≤ length bytes
+request_within bytes message size (h, has, is, taken) =
+    omega (arith, has.1, ap length has.0.1, length-append (print_request h) (drop size bytes))

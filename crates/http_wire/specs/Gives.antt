@@ -1,5 +1,5 @@
 -- What a call of the reader gives, and what it does to the bytes that are left and to the line.
-use Rattle.std.specs.Prelude.{◌≡◌, ◌⊎◌, ℕ, ◌+◌, ◌-◌, ◌*◌, ◌^◌, ◌<◌, min, Bool, true, false, List, ◌++◌, length, drop, Result, Ok, Err, ⊤}
+use Rattle.std.specs.Prelude.{◌≡◌, ◌⊎◌, ℕ, ◌+◌, ◌-◌, ◌*◌, ◌^◌, min, Bool, true, false, List, length, drop, Result, Ok, Err, ⊤}
 use Rattle.gate_base.specs.Wire.{Wire}
 use Rattle.http_wire.specs.declared.message.Got.{Got}
 use Rattle.http_wire.specs.declared.message.Got.TheVariants.{Request, End, CutShort, Refused}

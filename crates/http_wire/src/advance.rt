@@ -40,7 +40,8 @@ pub(crate) fn window(bytes: &[u8]) -> &[u8]
     &bytes[..HEAD_LIMIT.min(bytes.len())]
 }
 
-/// Reads until it is known what stands first. What was read stays in `pending`, whatever the answer.
+/// Reads until it is known what stands first. What was read stays in `pending`, whatever the answer. The store only
+/// says whose calls the line records.
 pub(crate) fn advance<N: Line<C>, C: Counted>(
     pending: &mut Vec<u8>,
     headers: &mut [HeaderSpan],

@@ -9,7 +9,7 @@ mod print;
 mod reader;
 mod scan;
 
-pub use laws::one_front;
+pub use laws::{one_front, request_size};
 pub use message::{Got, Kind, Message, ReadFault};
 pub use print::{print_memory, print_page};
 pub use reader::Reader;

@@ -1,4 +1,4 @@
-use Rattle.std.proofs.Common.{◌≡◌, ◌<◌, ◌≤◌, length, sym, ap, subst, ◌∙◌, arith}
+use Rattle.std.proofs.Common.{◌≡◌, length, sym, ap, subst, ◌∙◌, arith}
 use Rattle.http_wire.specs.Seen.{AtEnd, IsFound, end_of, window}
 use Rattle.http_wire.proofs.SeenLemmas.{found_long, found_ended, at_end}
 use Rattle.http_wire.proofs.advance.advance.Goals as goal

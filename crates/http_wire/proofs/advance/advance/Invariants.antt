@@ -1,4 +1,4 @@
-use Rattle.std.proofs.Common.{◌≡◌, ◌≤◌, ◌++◌, ℕ, true, length, IsTrue}
+use Rattle.std.proofs.Common.{◌≡◌, ◌≤◌, ◌++◌, true, length}
 use Rattle.http_wire.specs.Gives.{OnlyReads, weight}
 use Rattle.http_wire.proofs.advance.advance.Given as goal
 

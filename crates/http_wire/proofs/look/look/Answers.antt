@@ -1,4 +1,4 @@
-use Rattle.std.proofs.Common.{◌≡◌, ap, sym, ◌∙◌, Err}
+use Rattle.std.proofs.Common.{ap, sym, ◌∙◌, Err}
 use Rattle.std.proofs.lemmas.Bool.{false≢true}
 use Rattle.http_wire.proofs.LookLemmas.{never, none_of_never, partial_lives, inside_has_none}
 use Rattle.http_wire.proofs.look.look.Goals as goal

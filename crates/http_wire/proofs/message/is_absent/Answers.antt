@@ -1,4 +1,4 @@
-use Rattle.std.proofs.Common.{◌≡◌, sym, ◌∙◌}
+use Rattle.std.proofs.Common.{sym, ◌∙◌}
 use Rattle.http_wire.proofs.MessageLemmas.{absent_none, present_some}
 use Rattle.http_wire.proofs.message.is_absent.Goals as goal
 

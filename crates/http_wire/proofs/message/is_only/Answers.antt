@@ -1,7 +1,7 @@
-use Rattle.std.proofs.Common.{◌≡◌, ◌+◌, ◌-◌, ℕ, suc, List, [], ◌∷◌, length, take, drop, ap, sym, ◌∙◌, subst, ◌↔◌, IsTrue, false, arith}
+use Rattle.std.proofs.Common.{◌≡◌, ◌+◌, ◌-◌, suc, [], ◌∷◌, length, take, drop, ap, sym, ◌∙◌, subst, ◌↔◌, IsTrue, arith}
 use Rattle.std.specs.Cmp.Lexicographic.{same_text, other_text}
 use Rattle.std.proofs.lemmas.List.{take_rest}
-use Rattle.http_wire.specs.Front.{value_of, values_of}
+use Rattle.http_wire.specs.Front.{values_of}
 use Rattle.http_wire.proofs.MessageLemmas.{first_of, none_of, only_value, other_value, no_value}
 use Rattle.http_wire.proofs.message.is_only.Goals as goal
 

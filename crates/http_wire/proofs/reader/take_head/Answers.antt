@@ -1,4 +1,4 @@
-use Rattle.std.proofs.Common.{◌≡◌, ◌≤◌, length, min, arith, length-take, ap, ◌∙◌}
+use Rattle.std.proofs.Common.{arith, length-take}
 use Rattle.http_wire.proofs.reader.take_head.Goals as goal
 
 pub drop_front-requires : goal.drop_front-requires

@@ -1,4 +1,4 @@
-use Rattle.std.proofs.Common.{◌≡◌, ◌++◌, ◌≤◌, ℕ, false, List, length, drop, arith, length-take, ap, sym, subst, ◌∙◌}
+use Rattle.std.proofs.Common.{◌≡◌, ◌++◌, false, drop, arith, length-take, ap, sym, subst, ◌∙◌}
 use Rattle.http_wire.specs.declared.message.Kind.TheVariants.{BadHead}
 use Rattle.http_wire.specs.Front.{IsFront, asks, cut_short, refused}
 use Rattle.http_wire.specs.Gives.{place_after}
