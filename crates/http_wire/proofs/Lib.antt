@@ -1,0 +1,6 @@
+pub mod ScanLemmas
+pub mod LookLemmas
+pub mod SeenLemmas
+pub mod MessageLemmas
+pub mod FrontLemmas
+pub mod UniqueLemmas

@@ -1,0 +1,28 @@
+-- What was found in the bytes that came, by what the last look saw.
+use Rattle.std.proofs.Common.{◌≡◌, ℕ, ◌<◌, ◌≤◌, List, [], ◌∷◌, length, refl, sym, subst, arith, inr}
+use Rattle.httparse.specs.declared.spans.HeaderSpan.{HeaderSpan}
+use Rattle.httparse.specs.Grammar.{HasNoRequest}
+use Rattle.http_wire.specs.declared.advance.Found.TheVariants.{Bad}
+use Rattle.http_wire.specs.Front.{HasDeadPrefix}
+use Rattle.http_wire.specs.Seen.{AtEnd, IsFound, end_of, window}
+
+pub found_long : (bytes seen : List ℕ) (headers : List HeaderSpan) → seen ≡ window bytes → HasNoRequest seen
+    → 16384 ≤ length bytes → IsFound bytes headers Bad
+found_long bytes seen headers same none long = inr (subst HasNoRequest same none, long)
+
+-- the connection ended inside a head, or with no byte left
+pub found_end : (bytes : List ℕ) (headers : List HeaderSpan) → HasNoRequest (window bytes) → ¬ (HasDeadPrefix (window bytes))
+    → length bytes < 16384 → IsFound bytes headers (end_of bytes)
+found_end [] headers none lives short = refl
+found_end (b ∷ bytes) headers none lives short = (omega arith, short, none, lives)
+
+-- the same, where the last read gave nothing
+pub found_ended : (old new seen : List ℕ) (headers : List HeaderSpan) → seen ≡ window old → new ≡ old → HasNoRequest seen
+    → ¬ (HasDeadPrefix seen) → length old < 16384 → IsFound new headers (end_of new)
+found_ended old new seen headers same stays none lives short =
+    subst (λ v. IsFound v headers (end_of v)) (sym stays)
+    (found_end old headers (subst HasNoRequest same none) (subst (λ v. ¬ (HasDeadPrefix v)) same lives) short)
+
+pub at_end : (bytes rest : List ℕ) → rest ≡ [] → AtEnd (end_of bytes) rest
+at_end [] rest none = none
+at_end (b ∷ bytes) rest none = none

@@ -1,0 +1,5 @@
+use Rattle.http_wire.proofs.UniqueLemmas.{request_some, request_within}
+use Rattle.http_wire.proofs.laws.request_size.Goals as goal
+
+pub returns : goal.returns
+returns c = record { some = request_some; within = request_within }

@@ -1,0 +1,17 @@
+use Rattle.std.proofs.Common.{◌≡◌, map, ap, ◌∙◌}
+use Rattle.std.specs.Prelude.{◌==◌}
+use Rattle.http_wire.specs.Front.{header_of}
+use Rattle.http_wire.proofs.MessageLemmas.{headers_of}
+use Rattle.http_wire.proofs.message.message_at.Goals as goal
+
+pub returns : goal.returns
+returns c h at =
+    let headers : c.in_ok-headers_at.field-0 ≡ map header_of h.fields =
+    c.in_ok-headers_at.ensures ∙ headers_of c.args.bytes.now c.args.headers.now c.args.spans.now.headers h.fields at.fields in
+    λ i. record {
+      method = (c.in_ok-text_at.ensures ∙ at.method) i;
+      target = (c.in_ok-text_at-2.ensures ∙ at.path) i;
+      old = ap (λ v. v == 0) at.version i;
+      headers = headers i;
+      body = c.new.ensures i;
+    }

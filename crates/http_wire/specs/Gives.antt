@@ -1,0 +1,70 @@
+-- What a call of the reader gives, and what it does to the bytes that are left and to the line.
+use Rattle.std.specs.Prelude.{◌≡◌, ◌⊎◌, ℕ, ◌+◌, ◌-◌, ◌*◌, ◌^◌, min, Bool, true, false, List, length, drop, Result, Ok, Err, ⊤}
+use Rattle.gate_base.specs.Wire.{Wire}
+use Rattle.http_wire.specs.declared.message.Got.{Got}
+use Rattle.http_wire.specs.declared.message.Got.TheVariants.{Request, End, CutShort, Refused}
+use Rattle.http_wire.specs.declared.message.ReadFault.{ReadFault}
+use Rattle.http_wire.specs.declared.message.ReadFault.TheVariants.{Failed, Memory}
+use Rattle.http_wire.specs.Front.{IsFront, asks, nothing, cut_short, refused}
+
+-- the state of a reader
+pub record Pending : Type 0 where
+  -- the bytes that were read of the line and not given yet
+  pub bytes : List ℕ
+  -- how many bytes of the connection were given
+  pub place : ℕ
+  -- whether it answers End from now on
+  pub ended : Bool
+
+-- a count of bytes that a `u64` keeps: it stays at its greatest value
+abbrev pub place_after : ℕ → ℕ → ℕ
+place_after place size = min (place + size) (2 ^ 64 - 1)
+
+-- the answer is the front of all bytes that are left, read or not, and just the bytes of a request are gone from them
+abbrev pub Gives : Pending → List ℕ → Got → Pending → List ℕ → Type 0
+Gives old all (Request message) new left =
+    (size : ℕ) × (old.ended ≡ false) × IsFront all (asks message size) × (left ≡ drop size all) × (new.place ≡ place_after old.place size)
+Gives old all End new left =
+    ((old.ended ≡ true) ⊎ IsFront all nothing) × (left ≡ all) × (new.place ≡ old.place)
+Gives old all (CutShort place) new left =
+    (old.ended ≡ false) × IsFront all cut_short × (place ≡ old.place) × (left ≡ all) × (new.place ≡ old.place)
+Gives old all (Refused kind place head) new left =
+    (old.ended ≡ false) × IsFront all (refused kind head) × (place ≡ old.place) × (left ≡ all) × (new.place ≡ old.place)
+
+-- whether the reader answers End after this answer: after any but a request
+abbrev pub ends : Result Got ReadFault → Bool
+ends (Ok (Request message)) = false
+ends (Ok End) = true
+ends (Ok (CutShort place)) = true
+ends (Ok (Refused kind place head)) = true
+ends (Err fault) = true
+
+-- P, if the answer is a request
+abbrev pub OnRequest : Result Got ReadFault → Type 0 → Type 0
+OnRequest (Ok (Request message)) P = P
+OnRequest (Ok End) P = ⊤
+OnRequest (Ok (CutShort place)) P = ⊤
+OnRequest (Ok (Refused kind place head)) P = ⊤
+OnRequest (Err fault) P = ⊤
+
+-- P, unless the line failed
+abbrev pub UnlessFailed : {A : Type 0} → Result A ReadFault → Type 0 → Type 0
+UnlessFailed (Ok a) P = P
+UnlessFailed (Err Failed) P = ⊤
+UnlessFailed (Err Memory) P = P
+
+-- P, if the line failed
+abbrev pub OnFailed : {A : Type 0} → Result A ReadFault → Type 0 → Type 0
+OnFailed (Ok a) P = ⊤
+OnFailed (Err Failed) P = P
+OnFailed (Err Memory) P = ⊤
+
+-- only bytes of the present connection were read
+pub record OnlyReads (old new : Wire) : Type 0 where
+  pub waiting : new.waiting ≡ old.waiting
+  pub begun : new.begun ≡ old.begun
+  pub sent : new.sent ≡ old.sent
+
+-- what is left to do over a line: it falls at each request, so that a loop over requests ends
+abbrev pub weight : ℕ → List ℕ → ℕ
+weight spent bytes = (2 ^ 63 - spent) * 32768 + length bytes

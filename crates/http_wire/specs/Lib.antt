@@ -1,0 +1,7 @@
+pub mod Front
+pub mod Gives
+pub mod Headers
+pub mod Print
+pub mod Scan
+pub mod Seen
+pub mod Taken

@@ -1,0 +1,18 @@
+//! Requests of HTTP/1.1 read from a line, and replies printed (RFC 9110, RFC 9112, and this profile's limits).
+#![tactic(auto)]
+
+mod advance;
+mod laws;
+mod look;
+mod message;
+mod print;
+mod reader;
+mod scan;
+
+pub use laws::{one_front, request_size};
+pub use message::{Got, Kind, Message, ReadFault};
+pub use print::{print_memory, print_page};
+pub use reader::Reader;
+
+#[cfg(test)]
+mod tests;

@@ -1,0 +1,100 @@
+ghost use Rattle.std.specs.Prelude.{◌≡◌, ◌≤◌, ◌↔◌, IsTrue, length};
+ghost use Rattle.std.specs.List.{list_all};
+ghost use Rattle.httparse.specs.Grammar.{is_token_byte};
+ghost use Rattle.http_wire.specs.Front.{EndsInside, stays_in_target};
+ghost use Rattle.http_wire.specs.Scan.{in_method, line_end_len, skip_blank, starts_lf, starts_method};
+
+/// Whether the bytes end inside a target: after any empty lines a method, one space and no space, CR or LF since.
+#[tactic(auto, using(crate::proofs::ScanLemmas::is_inside_decides))]
+pub(crate) fn ends_inside(bytes: &[u8]) -> bool
+    ensures { IsTrue result ↔ EndsInside bytes.now }
+{
+    starts_method(skip_blank(bytes))
+}
+
+/// The bytes after the empty lines.
+#[tactic(auto, using(crate::proofs::ScanLemmas::skip_steps))]
+fn skip_blank(bytes: &[u8]) -> &[u8]
+    ensures { result.now ≡ skip_blank bytes.now }
+{
+    let mut rest = bytes;
+    'lines: loop {
+        let count = line_end(rest);
+        if count == 0 {
+            return rest;
+        }
+        rest = &rest[count..];
+    }
+}
+
+/// How long the line end is that stands first; 0 for none.
+fn line_end(bytes: &[u8]) -> usize
+    ensures within { result ≤ length bytes.now }
+    ensures value { result ≡ line_end_len bytes.now }
+{
+    match bytes.split_first() {
+        Some((first, rest)) => {
+            if *first == b'\n' {
+                1
+            } else if *first == b'\r' && starts_lf(rest) {
+                2
+            } else {
+                0
+            }
+        }
+        None => 0,
+    }
+}
+
+fn starts_lf(bytes: &[u8]) -> bool
+    ensures within { IsTrue result → 1 ≤ length bytes.now }
+    ensures value { result ≡ starts_lf bytes.now }
+{
+    match bytes.split_first() {
+        Some((first, _)) => *first == b'\n',
+        None => false,
+    }
+}
+
+/// Whether the bytes are a method, a space and a target so far.
+fn starts_method(bytes: &[u8]) -> bool
+    ensures { result ≡ starts_method bytes.now }
+{
+    match bytes.split_first() {
+        Some((first, rest)) => is_token_byte(*first) && in_method(rest),
+        None => false,
+    }
+}
+
+/// Whether the bytes are the rest of a method, a space and a target so far.
+#[tactic(auto, using(crate::proofs::ScanLemmas::method_steps))]
+fn in_method(bytes: &[u8]) -> bool
+    ensures { result ≡ in_method bytes.now }
+{
+    let mut rest = bytes;
+    'bytes: while let Some((first, tail)) = rest.split_first() {
+        if *first == b' ' {
+            return stays_in_target(tail);
+        }
+        if !is_token_byte(*first) {
+            return false;
+        }
+        rest = tail;
+    }
+    false
+}
+
+fn stays_in_target(bytes: &[u8]) -> bool
+    ensures { result ≡ list_all stays_in_target bytes.now }
+{
+    bytes
+        .iter()
+        .all(|byte| *byte != b' ' && (*byte != b'\r' && *byte != b'\n'))
+}
+
+#[tactic(auto, unfolding(httparse::specs::Grammar::is_token_byte))]
+fn is_token_byte(byte: u8) -> bool
+    ensures { result ≡ is_token_byte byte }
+{
+    byte.is_ascii_alphanumeric() || b"!#$%&'*+-.^_`|~".contains(&byte)
+}
