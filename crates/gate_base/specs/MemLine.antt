@@ -1,5 +1,6 @@
 -- What a line in memory shows of itself.
-use Rattle.std.specs.Prelude.{ℕ, ◌+◌, ◌^◌, Bool, not, ◌&&◌, nat_le, nat_lt, List, length}
+use Rattle.std.specs.Prelude.{◌≡◌, ℕ, ◌+◌, ◌^◌, Bool, not, ◌&&◌, nat_le, nat_lt, List, length}
+use Rattle.std.proofs.Common.{sym}
 use Rattle.gate_base.specs.Wire.{Wire}
 use Rattle.gate_base.specs.MemWire.{told_by}
 use Rattle.gate_base.specs.Listed.{is_next_listed, listed}
@@ -53,3 +54,7 @@ begins_past line = not (is_to_fail line) && nat_lt 0 (length (wire_of line).wait
 -- else bytes are left, and no call is left to give them
 abbrev pub reads_past : MemLine → Bool
 reads_past line = not (is_to_fail line) && nat_lt 0 (length (wire_of line).rest) && nat_le (2 ^ 63) (spent_of line)
+
+-- each connection that has begun has its mark
+pub marks_begun : (line : MemLine) → length (wire_of line).marks ≡ (wire_of line).begun
+marks_begun line = sym line.wire.marks.ok.0

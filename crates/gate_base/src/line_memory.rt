@@ -81,7 +81,7 @@ impl MemLine {
 
 impl<C: Counted> Line<C> for MemLine {
     ghost use Rattle.gate_base.specs.MemLine.{is_open_of, wire_of, piece_of, fails_of, made_of, spent_of, past_of};
-    ghost use Rattle.gate_base.specs.MemLine.{wanted_of, faults_of, next_faults_of, is_to_fail, begins_past, reads_past};
+    ghost use Rattle.gate_base.specs.MemLine.{wanted_of, faults_of, next_faults_of, is_to_fail, begins_past, reads_past, marks_begun};
 
     ghost is_open = { is_open_of };
 
@@ -94,6 +94,8 @@ impl<C: Counted> Line<C> for MemLine {
     ghost tells = { λ _. Unit {0} };
 
     ghost wire = { wire_of };
+
+    ghost marked = { λ line tells. marks_begun line };
 
     /// Failed exactly where the number of the call was given, or where a connection waits and no call is left.
     fn next(&mut self) -> Result<bool, Failed>

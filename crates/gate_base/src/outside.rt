@@ -133,6 +133,9 @@ pub trait Line<C: Counted> {
         ensures spent { spent self.new ≡ spent self.old }
         ensures tells { tells self.old → tells self.new }
         ensures told { tells self.old → wire self.new ≡ wire self.old };
+
+    /// Each connection that has begun has its mark.
+    ghost marked: { (line : Self) → tells line → length (wire line).marks ≡ (wire line).begun };
 }
 
 /// Where a program's report goes.

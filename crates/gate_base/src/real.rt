@@ -65,6 +65,8 @@ impl<R: Input + Print + Drop, C: Counted> Line<C> for StdLine<R> {
 
     ghost wire = { λ _. empty };
 
+    ghost marked = { λ line tells. absurd tells };
+
     /// True once, and false from then on.
     fn next(&mut self) -> Result<bool, Failed> {
         self.connected = self.spent == 0;

@@ -1,5 +1,7 @@
 -- What a store in memory tells of itself.
 use Rattle.std.specs.Prelude.{◌≡◌, ℕ, length, take}
+use Rattle.std.proofs.Common.{ap}
+use Rattle.std.proofs.Math.Seq.{take-length}
 use Rattle.swift_calls.specs.Tree.{Tree, tree_of}
 use Rattle.swift_calls.specs.Replay.{outcome_at, replayed, failures}
 use Rattle.swift_calls.specs.declared.account.Account.{Account}
@@ -32,3 +34,7 @@ pub record SamePlan (old new : MemSwift) : Type 0 where
   pub before : new.before ≡ old.before
   pub after : new.after ≡ old.after
   pub stop : new.stop ≡ old.stop
+
+-- the failures of all calls are those of the record
+pub failures_of_all : (m : MemSwift) → faults_after m (calls_of m) ≡ failures m.log.items
+failures_of_all m = ap failures (take-length m.log.items)

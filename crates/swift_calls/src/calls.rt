@@ -1,7 +1,7 @@
-ghost use Rattle.std.specs.Prelude.{◌≡◌, ℕ};
+ghost use Rattle.std.specs.Prelude.{◌≡◌, ◌<◌, ℕ};
 ghost use Rattle.swift_calls.specs.Tree.{Tree};
 ghost use Rattle.swift_calls.specs.Step.{Fit};
-ghost use Rattle.swift_calls.specs.History.{Counts, CountsFaults, Kept, Called};
+ghost use Rattle.swift_calls.specs.History.{budget, Counts, CountsFaults, Kept, Called};
 ghost use Rattle.swift_calls.specs.declared.calls.SwiftFault.TheVariants as fault;
 
 use crate::ReadList;
@@ -145,6 +145,9 @@ pub trait Swift: Counted {
         ensures tells { tells self.old → tells self.new }
         ensures kept { tells self.old → Kept (Self.called self.old) (tree_at self.old) (tree_at self.new) (faults_at self.old) (faults_at self.new) }
         ensures told { tells self.old → Called (tree_at self.new) (faults_at self.new) (Self.called self.old) (Self.called self.new) request.now result };
+
+    /// While calls are left, the count after the calls made is the count of faults itself.
+    ghost counts_match: { (store : Self) → tells store → Self.called store < budget → faults_at store (Self.called store) ≡ faults store };
 }
 
 impl<W: Swift> Swift for &mut W {
@@ -155,6 +158,8 @@ impl<W: Swift> Swift for &mut W {
     ghost tree_at = { λ s. W.tree_at s.now };
 
     ghost faults_at = { λ s. W.faults_at s.now };
+
+    ghost counts_match = { λ store tells left. W.counts_match store.now tells left };
 
     fn call(&mut self, request: &SwiftRequest) -> Result<SwiftReply, SwiftFault> {
         (**self).call(request)

@@ -5,7 +5,7 @@ ghost use Rattle.swift_calls.specs.Step.{Fit, swift_step};
 ghost use Rattle.swift_calls.specs.History.{Counts, CountsFaults, Kept, Called};
 ghost use Rattle.swift_calls.specs.Lists.{served};
 ghost use Rattle.swift_calls.specs.Replay.{outcome_at, left_by, reply_by, replayed, failures, Goes, Logs};
-ghost use Rattle.swift_calls.specs.MemSwift.{calls_of, account_after, tree_after, faults_after, planned, SamePlan};
+ghost use Rattle.swift_calls.specs.MemSwift.{calls_of, account_after, tree_after, faults_after, planned, SamePlan, failures_of_all};
 
 use crate::memory::Entry;
 use crate::serve::serve;
@@ -151,6 +151,8 @@ impl Swift for MemSwift {
     ghost tree_at = { tree_after };
 
     ghost faults_at = { faults_after };
+
+    ghost counts_match = { λ m tells left. failures_of_all m };
 
     fn call(&mut self, request: &SwiftRequest) -> Result<SwiftReply, SwiftFault>
         ensures calls { Counts (calls_of self.old) (calls_of self.new) result }

@@ -1,0 +1,61 @@
+-- What a request means, and what it is answered.
+use Rattle.std.proofs.Common.{◌≡◌, ◌≢◌, ◌≤◌, ℕ, ◌+◌, refl, sym, ap, subst, ◌∙◌, inl, arith}
+use Rattle.s3_machine.specs.declared.code.Code.{Code}
+use Rattle.s3_machine.specs.declared.operation.Label.{Label}
+use Rattle.s3_machine.specs.declared.operation.Settings.{Settings}
+use Rattle.s3_machine.specs.declared.operation.Op.{Op}
+use Rattle.s3_machine.specs.declared.operation.Reply.{Reply}
+use Rattle.s3_machine.specs.declared.operation.Reply.TheVariants as answer
+use Rattle.swift_calls.specs.Tree.{Tree}
+use Rattle.upload_records.specs.Native.{native}
+use Rattle.upload_records.specs.Sound.{Sound}
+use Rattle.recovery.specs.Turns.{Quiet, Turns}
+use Rattle.recovery.specs.Agree.{turns_quiet}
+use Rattle.recovery.specs.Answers.{Answers, memory, most_calls}
+use Rattle.gateway.specs.declared.meant.Meant.{Meant}
+use Rattle.gateway.specs.declared.meant.Meant.TheVariants as meant
+use Rattle.gateway.specs.Heard.{Understands}
+use Rattle.gateway.specs.Request.{Request}
+use Rattle.gateway.specs.Exchange.{Replies, refused, answered}
+
+-- a reply is due, and it is the one that is given, unless memory was wanted
+abbrev pub IsReplied : Settings → (ℕ → Tree) → (ℕ → ℕ) → ℕ → ℕ → Request → Label → Reply → Type 0
+IsReplied settings at faults p q request label given =
+    (t : ℕ) × (due : Reply) × Replies settings at faults p t q request label due × (given ≢ answer.Memory → given ≡ due)
+
+-- one number alone
+pub still : (at : ℕ → Tree) (p : ℕ) → Sound (at p) → Quiet at p p
+still at p sound = record {
+  ordered = omega arith;
+  same = λ k from to. let e : k ≡ p = omega arith in ap (λ j. native (at j)) e;
+  sound = λ k from to. let e : p ≡ k = omega arith in subst (λ j. Sound (at j)) e sound;
+}
+
+pub replies_op : (settings : Settings) (at : ℕ → Tree) (faults : ℕ → ℕ) (p q : ℕ) (request : Request) (label : Label) (means : Meant) (op : Op) (given : Reply)
+    → means ≡ meant.Op op → Understands means request → ((t : ℕ) × Answers settings at faults p t q op label given) → q ≤ p + most_calls op (at p)
+    → IsReplied settings at faults p q request label given
+replies_op settings at faults p q request label means op given e u a bound =
+    let not_memory : means ≢ meant.Memory = λ m. (let no : meant.Op op ≡ meant.Memory = sym e ∙ m in cc) in
+    (a.0, given, answered op (sym (u.same not_memory) ∙ e) a.1 bound, λ _. refl)
+
+pub replies_refused : (settings : Settings) (at : ℕ → Tree) (faults : ℕ → ℕ) (p : ℕ) (request : Request) (label : Label) (means : Meant) (code : Code)
+    → means ≡ meant.Refused code → Understands means request → Sound (at p)
+    → IsReplied settings at faults p p request label (answer.Refused code)
+replies_refused settings at faults p request label means code e u sound =
+    let not_memory : means ≢ meant.Memory = λ m. (let no : meant.Refused code ≡ meant.Memory = sym e ∙ m in cc) in
+    (p, answer.Refused code, refused code (sym (u.same not_memory) ∙ e) refl sound refl refl, λ _. refl)
+
+replies_none : (settings : Settings) (at : ℕ → Tree) (faults : ℕ → ℕ) (p : ℕ) (request : Request) (label : Label) (means : Meant)
+    → request.means ≡ means → means ≢ meant.Memory → Sound (at p) → (t : ℕ) × (due : Reply) × Replies settings at faults p t p request label due
+replies_none settings at faults p request label (meant.Op op) e known sound =
+    (p, answer.Memory, answered op e (record { turns = turns_quiet (still at p sound); by = memory refl (λ k from to. absurd (omega arith)) (inl refl) }) (omega arith))
+replies_none settings at faults p request label (meant.Refused code) e known sound =
+    (p, answer.Refused code, refused code e refl sound refl refl)
+replies_none settings at faults p request label meant.Memory e known sound = absurd (known refl)
+
+-- memory was wanted before any call
+pub replies_memory : (settings : Settings) (at : ℕ → Tree) (faults : ℕ → ℕ) (p : ℕ) (request : Request) (label : Label)
+    → request.means ≢ meant.Memory → Sound (at p) → IsReplied settings at faults p p request label answer.Memory
+replies_memory settings at faults p request label known sound =
+    let due = replies_none settings at faults p request label request.means refl known sound in
+    (due.0, due.1, due.2, λ not. absurd (not refl))

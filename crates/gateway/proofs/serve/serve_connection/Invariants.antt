@@ -1,0 +1,30 @@
+use Rattle.std.proofs.Common.{◌≡◌, ◌≤◌, ◌++◌, ℕ, true, false}
+use Rattle.swift_calls.specs.History.{Kept}
+use Rattle.http_wire.specs.Gives.{weight}
+use Rattle.gateway.specs.Connection.{tally, point}
+use Rattle.gateway.specs.Serving.{OnlyServes}
+use Rattle.gateway.proofs.Looping.{Answered}
+use Rattle.gateway.proofs.serve.serve_connection.Given as goal
+
+abbrev pub invariant-requests : goal.invariant-requests
+invariant-requests g l = record {
+  opened : g.N.Line.is_open l.line ≡ true;
+  goes : l.reader.ended ≡ false;
+  quiet : g.N.Line.faults l.line ≡ g.N.Line.faults l.initial.line;
+  quiet_next : g.N.Line.next_faults l.line ≡ g.N.Line.next_faults l.initial.line;
+  spent : g.N.Line.spent l.initial.line ≤ g.N.Line.spent l.line;
+  tells_line : g.N.Line.tells l.initial.line → g.N.Line.tells l.line;
+  tells_store : g.W.Swift.tells l.initial.store → g.W.Swift.tells l.store;
+  tells_clock : g.C.Clock.tells l.initial.clock → g.C.Clock.tells l.clock;
+  tells_draws : g.D.Draws.tells l.initial.draws → g.D.Draws.tells l.draws;
+  ordered : g.W.Counted.called l.initial.store ≤ g.W.Counted.called l.store;
+  kept : g.W.Swift.tells l.initial.store → Kept (g.W.Counted.called l.initial.store) (g.W.Swift.tree_at l.initial.store) (g.W.Swift.tree_at l.store) (g.W.Swift.faults_at l.initial.store) (g.W.Swift.faults_at l.store);
+  only_serves : g.N.Line.tells l.initial.line → OnlyServes false (g.N.Line.wire l.initial.line) (g.N.Line.wire l.line);
+  answered : g.N.Line.tells l.initial.line → g.W.Swift.tells l.initial.store → g.C.Clock.tells l.initial.clock → g.D.Draws.tells l.initial.draws
+      → Answered l.settings (g.W.Swift.tree_at l.store) (g.W.Swift.faults_at l.store) (g.N.Line.wire l.initial.line).begun
+          (point (g.N.Line.wire l.initial.line).rest 0 (tally (g.W.Counted.called l.initial.store) (g.C.Clock.moments l.initial.clock) (g.D.Draws.draws l.initial.draws) (g.N.Line.wire l.initial.line).sent))
+          (point (l.reader.bytes ++ (g.N.Line.wire l.line).rest) l.reader.place (tally (g.W.Counted.called l.store) (g.C.Clock.moments l.clock) (g.D.Draws.draws l.draws) (g.N.Line.wire l.line).sent));
+}
+
+abbrev pub decreases-requests : goal.decreases-requests
+decreases-requests g l = weight (g.N.Line.spent l.line) l.reader.bytes

@@ -1,0 +1,182 @@
+-- What a connection was in a history, it is in each later one; its numbers rise, and it leaves the account sound.
+use Rattle.std.specs.Prelude.{◌≡◌, ◌≤◌, ℕ, ◌+◌, List, Option}
+use Rattle.std.proofs.Common.{sym, ap, subst, arith}
+use Rattle.gate_base.specs.declared.outside.Piece.{Piece}
+use Rattle.s3_machine.specs.declared.operation.Label.{Label}
+use Rattle.s3_machine.specs.declared.operation.Settings.{Settings}
+use Rattle.s3_machine.specs.declared.operation.Reply.{Reply}
+use Rattle.swift_calls.specs.Tree.{Tree}
+use Rattle.swift_calls.specs.History.{Kept, kept_before}
+use Rattle.upload_records.specs.Native.{native}
+use Rattle.upload_records.specs.Sound.{Sound}
+use Rattle.recovery.specs.Turns.{Turns}
+use Rattle.recovery.specs.Answers.{most_calls}
+use Rattle.recovery.specs.Agree.{answers_agree}
+use Rattle.gateway.specs.declared.ended.Ended.{Ended}
+use Rattle.gateway.specs.Request.{Request}
+use Rattle.gateway.specs.Exchange.{Turn, Replies, refused, answered, Exchange, CutExchange}
+use Rattle.gateway.specs.Connection.{Tally, Point, Serves, Exchanges, none, more, Breaks, Ends, over, cut, served, unread, unheard, untold, broken, TalkOne}
+
+-- ---- the numbers rise
+
+-- the turn of a reply stands between its numbers
+pub replies_order : {settings : Settings} {at : ℕ → Tree} {faults : ℕ → ℕ} {p t q : ℕ} {request : Request} {label : Label} {due : Reply}
+    → Replies settings at faults p t q request label due → (p ≤ t) × (t ≤ q)
+replies_order (refused code means is sound turned one) = (omega arith, omega arith)
+replies_order (answered op means answers bound) = (answers.turns.after_p, answers.turns.up_to_q)
+
+pub serves_order : {settings : Settings} {at : ℕ → Tree} {faults : ℕ → ℕ} {connection t : ℕ} {end : Option Ended} {old new : Point}
+    → Serves settings at faults connection end old t new → old.tally.number ≤ new.tally.number
+serves_order serves = let near = replies_order serves.exchange.replies in let first = near.0 in let last = near.1 in omega arith
+
+pub breaks_order : {settings : Settings} {at : ℕ → Tree} {faults : ℕ → ℕ} {connection t : ℕ} {old : Point} {new : Tally}
+    → Breaks settings at faults connection old t new → old.tally.number ≤ new.number
+breaks_order breaks = let near = replies_order breaks.exchange.replies in let first = near.0 in let last = near.1 in omega arith
+
+pub exchanges_order : {settings : Settings} {at : ℕ → Tree} {faults : ℕ → ℕ} {connection : ℕ} {old new : Point} {turns : List Turn}
+    → Exchanges settings at faults connection old turns new → old.tally.number ≤ new.tally.number
+exchanges_order (none point) = omega arith
+exchanges_order (more old middle new turns t exchanges serves) = let first = exchanges_order exchanges in let last = serves_order serves in omega arith
+
+pub ends_order : {settings : Settings} {at : ℕ → Tree} {faults : ℕ → ℕ} {connection : ℕ} {ended : Ended} {last : Point} {new : Tally} {turns : List Turn}
+    → Ends settings at faults connection ended last new turns → last.tally.number ≤ new.number
+ends_order (over is front same) = let e = ap (λ t. t.number) same in omega arith
+ends_order (cut is front same) = let e = ap (λ t. t.number) same in omega arith
+ends_order (served point t serves same) = let e = ap (λ t. t.number) same in let near = serves_order serves in omega arith
+ends_order (unread is only sends) = let e = only.number in omega arith
+ends_order (unheard is same) = let e = ap (λ t. t.number) same in omega arith
+ends_order (untold is only sends) = let e = only.number in omega arith
+ends_order (broken t is breaks) = breaks_order breaks
+
+pub talk_one_order : {settings : Settings} {at : ℕ → Tree} {faults : ℕ → ℕ} {connection : ℕ} {ended : Ended} {old : Point} {turns : List Turn} {new : Tally}
+    → TalkOne settings at faults connection ended old turns new → old.tally.number ≤ new.number
+talk_one_order talk = let first = exchanges_order talk.exchanges in let last = ends_order talk.ends in omega arith
+
+-- ---- the account is left sound
+
+-- each reply turns once
+pub replies_turns : {settings : Settings} {at : ℕ → Tree} {faults : ℕ → ℕ} {p t q : ℕ} {request : Request} {label : Label} {due : Reply}
+    → Replies settings at faults p t q request label due → Turns at p t q
+replies_turns {at = at} {p = p} {q = q} (refused code means is sound turned one) = record {
+  after_p = omega arith;
+  up_to_q = omega arith;
+  before = λ k from to. absurd (omega arith);
+  since = λ k from to. let same : k ≡ q = omega arith in ap (λ n. native (at n)) same;
+  sound = λ k from to. let same : p ≡ k = omega arith in subst (λ n. Sound (at n)) same sound;
+}
+replies_turns (answered op means answers bound) = answers.turns
+
+-- the account is sound after a turn
+turns_end : {at : ℕ → Tree} {p t q : ℕ} → Turns at p t q → Sound (at q)
+turns_end {q = q} turns = let first = turns.after_p in let last = turns.up_to_q in turns.sound q (omega arith) (omega arith)
+
+pub serves_sound : {settings : Settings} {at : ℕ → Tree} {faults : ℕ → ℕ} {connection t : ℕ} {end : Option Ended} {old new : Point}
+    → Serves settings at faults connection end old t new → Sound (at new.tally.number)
+serves_sound serves = turns_end (replies_turns serves.exchange.replies)
+
+pub breaks_sound : {settings : Settings} {at : ℕ → Tree} {faults : ℕ → ℕ} {connection t : ℕ} {old : Point} {new : Tally}
+    → Breaks settings at faults connection old t new → Sound (at new.number)
+breaks_sound breaks = turns_end (replies_turns breaks.exchange.replies)
+
+pub exchanges_sound : {settings : Settings} {at : ℕ → Tree} {faults : ℕ → ℕ} {connection : ℕ} {old new : Point} {turns : List Turn}
+    → Exchanges settings at faults connection old turns new → Sound (at old.tally.number) → Sound (at new.tally.number)
+exchanges_sound (none point) sound = sound
+exchanges_sound (more old middle new turns t exchanges serves) sound = serves_sound serves
+
+pub ends_sound : {settings : Settings} {at : ℕ → Tree} {faults : ℕ → ℕ} {connection : ℕ} {ended : Ended} {last : Point} {new : Tally} {turns : List Turn}
+    → Ends settings at faults connection ended last new turns → Sound (at last.tally.number) → Sound (at new.number)
+ends_sound {at = at} (over is front same) sound = subst (λ t. Sound (at t.number)) (sym same) sound
+ends_sound {at = at} (cut is front same) sound = subst (λ t. Sound (at t.number)) (sym same) sound
+ends_sound {at = at} (served point t serves same) sound = subst (λ t. Sound (at t.number)) (sym same) (serves_sound serves)
+ends_sound {at = at} (unread is only sends) sound = subst (λ n. Sound (at n)) (sym only.number) sound
+ends_sound {at = at} (unheard is same) sound = subst (λ t. Sound (at t.number)) (sym same) sound
+ends_sound {at = at} (untold is only sends) sound = subst (λ n. Sound (at n)) (sym only.number) sound
+ends_sound (broken t is breaks) sound = breaks_sound breaks
+
+pub talk_one_sound : {settings : Settings} {at : ℕ → Tree} {faults : ℕ → ℕ} {connection : ℕ} {ended : Ended} {old : Point} {turns : List Turn} {new : Tally}
+    → TalkOne settings at faults connection ended old turns new → Sound (at old.tally.number) → Sound (at new.number)
+talk_one_sound talk sound = ends_sound talk.ends (exchanges_sound talk.exchanges sound)
+
+-- ---- later histories
+
+pub replies_agree : {settings : Settings} {at at' : ℕ → Tree} {faults faults' : ℕ → ℕ} {p t q : ℕ} {request : Request} {label : Label} {due : Reply} → Kept q at at' faults faults'
+    → Replies settings at faults p t q request label due → Replies settings at' faults' p t q request label due
+replies_agree {p = p} kept (refused code means is sound turned one) =
+    refused code means is (subst Sound (sym (kept.accounts p (omega arith))) sound) turned one
+replies_agree {p = p} {q = q} kept (answered op means answers bound) =
+    let first = answers.turns.after_p in
+    let last = answers.turns.up_to_q in
+    answered op means (answers_agree kept answers) (subst (λ tree. q ≤ p + most_calls op tree) (sym (kept.accounts p (omega arith))) bound)
+
+pub exchange_agree : {settings : Settings} {at at' : ℕ → Tree} {faults faults' : ℕ → ℕ} {connection c : ℕ} {turn : Turn} {request : Request} {label : Label} {end : Option Ended} {old new : List Piece} → Kept c at at' faults faults'
+    → Exchange settings at faults connection turn request label end old new → turn.to ≤ c → Exchange settings at' faults' connection turn request label end old new
+exchange_agree kept exchange near = record {
+  reply = exchange.reply;
+  bytes = exchange.bytes;
+  replies = replies_agree (kept_before near kept) exchange.replies;
+  due = exchange.due;
+  sends = exchange.sends;
+}
+
+pub cut_exchange_agree : {settings : Settings} {at at' : ℕ → Tree} {faults faults' : ℕ → ℕ} {connection c : ℕ} {turn : Turn} {request : Request} {label : Label} {old new : List Piece} → Kept c at at' faults faults'
+    → CutExchange settings at faults connection turn request label old new → turn.to ≤ c → CutExchange settings at' faults' connection turn request label old new
+cut_exchange_agree kept exchange near = record {
+  reply = exchange.reply;
+  end = exchange.end;
+  bytes = exchange.bytes;
+  replies = replies_agree (kept_before near kept) exchange.replies;
+  due = exchange.due;
+  sends = exchange.sends;
+}
+
+pub serves_agree : {settings : Settings} {at at' : ℕ → Tree} {faults faults' : ℕ → ℕ} {connection c t : ℕ} {end : Option Ended} {old new : Point} → Kept c at at' faults faults'
+    → Serves settings at faults connection end old t new → new.tally.number ≤ c → Serves settings at' faults' connection end old t new
+serves_agree kept serves near = record {
+  request = serves.request;
+  label = serves.label;
+  hears = serves.hears;
+  labels = serves.labels;
+  exchange = exchange_agree kept serves.exchange near;
+}
+
+pub breaks_agree : {settings : Settings} {at at' : ℕ → Tree} {faults faults' : ℕ → ℕ} {connection c t : ℕ} {old : Point} {new : Tally} → Kept c at at' faults faults'
+    → Breaks settings at faults connection old t new → new.number ≤ c → Breaks settings at' faults' connection old t new
+breaks_agree kept breaks near = record {
+  request = breaks.request;
+  label = breaks.label;
+  rest = breaks.rest;
+  place = breaks.place;
+  hears = breaks.hears;
+  labels = breaks.labels;
+  exchange = cut_exchange_agree kept breaks.exchange near;
+}
+
+pub exchanges_agree : {settings : Settings} {at at' : ℕ → Tree} {faults faults' : ℕ → ℕ} {connection c : ℕ} {old new : Point} {turns : List Turn} → Kept c at at' faults faults'
+    → Exchanges settings at faults connection old turns new → new.tally.number ≤ c → Exchanges settings at' faults' connection old turns new
+exchanges_agree kept (none point) near = none point
+exchanges_agree kept (more old middle new turns t exchanges serves) near =
+    let last = serves_order serves in
+    more old middle new turns t (exchanges_agree kept exchanges (omega arith)) (serves_agree kept serves near)
+
+pub ends_agree : {settings : Settings} {at at' : ℕ → Tree} {faults faults' : ℕ → ℕ} {connection c : ℕ} {ended : Ended} {last : Point} {new : Tally} {turns : List Turn} → Kept c at at' faults faults'
+    → Ends settings at faults connection ended last new turns → new.number ≤ c → Ends settings at' faults' connection ended last new turns
+ends_agree kept (over is front same) near = over is front same
+ends_agree kept (cut is front same) near = cut is front same
+ends_agree kept (served point t serves same) near = let e = ap (λ t. t.number) same in served point t (serves_agree kept serves (omega arith)) same
+ends_agree kept (unread is only sends) near = unread is only sends
+ends_agree kept (unheard is same) near = unheard is same
+ends_agree kept (untold is only sends) near = untold is only sends
+ends_agree kept (broken t is breaks) near = broken t is (breaks_agree kept breaks near)
+
+pub talk_one_agree : {settings : Settings} {at at' : ℕ → Tree} {faults faults' : ℕ → ℕ} {connection c : ℕ} {ended : Ended} {old : Point} {turns : List Turn} {new : Tally} → Kept c at at' faults faults'
+    → TalkOne settings at faults connection ended old turns new → new.number ≤ c → TalkOne settings at' faults' connection ended old turns new
+talk_one_agree kept talk near =
+    let last = ends_order talk.ends in
+    record {
+      last = talk.last;
+      before = talk.before;
+      after = talk.after;
+      exchanges = exchanges_agree kept talk.exchanges (omega arith);
+      ends = ends_agree kept talk.ends near;
+      all = talk.all;
+    }

@@ -1,0 +1,42 @@
+-- A request as the code holds it, and the request that it is.
+use Rattle.std.specs.Prelude.{◌≡◌, ◌≢◌, ℕ, Option}
+use Rattle.s3_machine.specs.declared.code.Code.TheVariants.{ServiceUnavailable}
+use Rattle.s3_machine.specs.Step.{IsProperOp}
+use Rattle.swift_calls.specs.Tree.{Tree}
+use Rattle.recovery.specs.Answers.{most_calls}
+use Rattle.gate_base.specs.declared.page.Caller.TheVariants.{Owner}
+use Rattle.gateway.specs.declared.ended.Ended.{Ended}
+use Rattle.gateway.specs.declared.heard.Heard.{Heard}
+use Rattle.gateway.specs.declared.meant.Meant.{Meant}
+use Rattle.gateway.specs.declared.meant.Meant.TheVariants.{Op, Refused, Memory}
+use Rattle.http_wire.specs.declared.message.Message.{Message}
+use Rattle.gateway.specs.Request.{Request, request_of}
+
+-- an operation that is meant keeps the limits, and a code is not the one for a store that failed
+abbrev pub IsProperMeant : Meant → Type 0
+IsProperMeant (Op op) = IsProperOp op
+IsProperMeant (Refused code) = code ≢ ServiceUnavailable
+IsProperMeant Memory = Unit {0}
+
+-- the greatest number of calls that it takes
+abbrev pub most_calls_of : Meant → Tree → ℕ
+most_calls_of (Op op) tree = most_calls op tree
+most_calls_of (Refused code) tree = 0
+most_calls_of Memory tree = 0
+
+-- what was understood is what the request means, unless memory was wanted
+pub record Understands (means : Meant) (request : Request) : Type 0 where
+  pub meant : request.means ≢ Memory
+  pub same : means ≢ Memory → means ≡ request.means
+
+-- the code holds this request
+pub record Is (heard : Heard) (ending : Option Ended) (request : Request) : Type 0 where
+  pub caller : request.caller ≡ Owner
+  pub method : heard.method.now ≡ request.method
+  pub resource : heard.resource.now ≡ request.resource
+  pub understands : Understands heard.means request
+  pub end : ending ≡ request.end
+
+-- how the connection ends after the reply to a message, if it does
+abbrev pub end_after : Message → Option Ended
+end_after message = (request_of message).end

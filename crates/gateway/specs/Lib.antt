@@ -1,0 +1,12 @@
+pub mod Agree
+pub mod Closing
+pub mod Connection
+pub mod Exchange
+pub mod Heard
+pub mod Meaning
+pub mod Request
+pub mod Serving
+pub mod Stands
+pub mod StandsLaws
+pub mod Turned
+pub mod Write

@@ -1,0 +1,35 @@
+-- One step of a connection: a request that was answered, or its end.
+use Rattle.std.specs.Prelude.{◌≡◌, ℕ, Bool, true, false, List, if◌then◌else◌, Option, None, Some}
+use Rattle.gate_base.specs.Wire.{Wire, with_mark}
+use Rattle.s3_machine.specs.declared.operation.Settings.{Settings}
+use Rattle.swift_calls.specs.Tree.{Tree}
+use Rattle.http_wire.specs.Print.{memory_reply}
+use Rattle.gateway.specs.declared.ended.Ended.{Ended}
+use Rattle.gateway.specs.declared.ended.Ended.TheVariants.{End, Closed, CutShort, Refused, LineFailed, Memory}
+use Rattle.gateway.specs.Exchange.{Turn, Sends, SendsPart}
+use Rattle.gateway.specs.Connection.{Point, Serves, Ends, has_failed}
+
+-- whether the connection ended because the line failed
+abbrev pub has_ended_failed : Option Ended → Bool
+has_ended_failed None = false
+has_ended_failed (Some ended) = has_failed ended
+
+-- bytes of the present connection were read and pieces sent, and a failure left its mark
+pub record OnlyServes (failed : Bool) (old new : Wire) : Type 0 where
+  pub waiting : new.waiting ≡ old.waiting
+  pub begun : new.begun ≡ old.begun
+  pub marks : new.marks ≡ (if failed then (with_mark old).marks else old.marks)
+
+-- a request was answered and the connection goes on, or it ended so
+abbrev pub NextOne : Settings → (ℕ → Tree) → (ℕ → ℕ) → ℕ → Point → Option Ended → Point → Type 0
+NextOne settings at faults connection old None new = (t : ℕ) × Serves settings at faults connection None old t new
+NextOne settings at faults connection old (Some ended) new = (turns : List Turn) × Ends settings at faults connection ended old new.tally turns
+
+-- the reply for want of memory was written, or the line failed under it
+abbrev pub EndsUnread : ℕ → Wire → Ended → Wire → Type 0
+EndsUnread number old End new = ⊥
+EndsUnread number old Closed new = ⊥
+EndsUnread number old (CutShort place) new = ⊥
+EndsUnread number old (Refused kind place) new = ⊥
+EndsUnread number old LineFailed new = SendsPart old.begun number number (memory_reply false) old.sent new.sent
+EndsUnread number old Memory new = Sends old.begun number number (memory_reply false) old.sent new.sent

@@ -1,0 +1,24 @@
+-- What the writing of a reply does to the line.
+use Rattle.std.specs.Prelude.{◌≡◌, ◌≢◌, ◌⊎◌, ℕ, Bool, List}
+use Rattle.gate_base.specs.Wire.{Wire, with_piece, SendsPrefix}
+use Rattle.http_wire.specs.Front.{is_head}
+use Rattle.http_wire.specs.Print.{memory_reply}
+use Rattle.s3_machine.specs.declared.operation.Label.{Label}
+use Rattle.s3_machine.specs.declared.operation.Reply.{Reply}
+use Rattle.s3_machine.specs.declared.operation.Reply.TheVariants as answer
+use Rattle.gateway.specs.Request.{reply_text}
+use Rattle.gateway.specs.declared.write.Written.{Written}
+use Rattle.gateway.specs.declared.write.Written.TheVariants.{Whole, Memory, Failed}
+
+-- the text of the reply, or that of the reply for want of memory
+abbrev pub IsText : Reply → Label → List ℕ → List ℕ → Bool → List ℕ → Type 0
+IsText reply label method resource closing bytes =
+    ((reply ≢ answer.Memory) × (bytes ≡ reply_text reply label method resource closing)) ⊎ (bytes ≡ memory_reply (is_head method))
+
+-- one piece was sent, after `at` calls: the whole text, that for want of memory, or the first bytes of either
+abbrev pub Writes : Wire → ℕ → Reply → Label → List ℕ → List ℕ → Bool → Written → Wire → Type 0
+Writes old at reply label method resource closing Whole new =
+    (reply ≢ answer.Memory) × (new ≡ with_piece old at (reply_text reply label method resource closing))
+Writes old at reply label method resource closing Memory new = new ≡ with_piece old at (memory_reply (is_head method))
+Writes old at reply label method resource closing Failed new =
+    (bytes : List ℕ) × IsText reply label method resource closing bytes × SendsPrefix old at bytes new

@@ -1,0 +1,18 @@
+use http_wire::Kind;
+
+/// How a connection ended.
+#[derive(Debug, Drop)]
+pub enum Ended {
+    /// No byte was left.
+    End,
+    /// A request was answered that ends the connection.
+    Closed,
+    /// The connection ended inside a head that could still go on, after so many bytes of requests.
+    CutShort(u64),
+    /// A request was refused before it was understood, after so many bytes of requests.
+    Refused { kind: Kind, place: u64 },
+    /// The line failed: its count of faults rose.
+    LineFailed,
+    /// Memory was wanted and not there.
+    Memory,
+}

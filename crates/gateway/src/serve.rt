@@ -1,0 +1,155 @@
+ghost use Rattle.std.specs.Prelude.{◌≡◌, ◌≢◌, ◌<◌, ◌≤◌, ◌++◌, ℕ, Bool, true, false, List, IsTrue, None};
+ghost use Rattle.gate_base.specs.Causes.{Rose};
+ghost use Rattle.gate_base.specs.Wire.{with_mark};
+ghost use Rattle.swift_calls.specs.History.{Kept};
+ghost use Rattle.upload_records.specs.Sound.{Sound};
+ghost use Rattle.http_wire.specs.Gives.{weight};
+ghost use Rattle.gateway.specs.Exchange.{Turn};
+ghost use Rattle.gateway.specs.Connection.{tally, point, has_failed, TalkOne};
+ghost use Rattle.recovery.specs.Calls.{Within};
+ghost use Rattle.gateway.specs.Heard.{IsProperMeant, most_calls_of, Is};
+ghost use Rattle.gateway.specs.Request.{Request};
+ghost use Rattle.gateway.specs.Turned.{TurnEnds};
+ghost use Rattle.gateway.specs.Serving.{has_ended_failed, OnlyServes, NextOne, EndsUnread};
+
+use crate::hear::{end_of, hear, hear_refused};
+use crate::turn::{Turned, take_turn};
+use crate::write::{Written, write_memory};
+use crate::{Ended, Heard};
+use gate_base::{Clock, Draws, Line};
+use http_wire::{Got, ReadFault, Reader};
+use s3_machine::Settings;
+use std::alloc::Global;
+use swift_calls::Swift;
+
+/// Serves one open connection to its end: its requests are heard and answered in order. After the first that ends the
+/// connection, and where the line fails or memory is wanted while a request is read, no more is read of it.
+pub fn serve_connection<N: Line<W>, W: Swift, C: Clock, D: Draws>(alloc: Global, store: &mut W, settings: &Settings, line: &mut N, clock: &mut C, draws: &mut D) -> Ended
+    requires { IsTrue (N.is_open line.old) }
+
+    // Faults of the line.
+    ensures quiet { has_failed result ≡ false → N.faults line.new ≡ N.faults line.old }
+    ensures cause { has_failed result ≡ true → Rose (N.faults line.old) (N.faults line.new) }
+    ensures quiet_next { N.next_faults line.new ≡ N.next_faults line.old }
+    ensures spent { N.spent line.old ≤ N.spent line.new }
+
+    ensures tells_line { N.tells line.old → N.tells line.new }
+    ensures tells_store { W.tells store.old → W.tells store.new }
+    ensures tells_clock { C.tells clock.old → C.tells clock.new }
+    ensures tells_draws { D.tells draws.old → D.tells draws.new }
+
+    ensures ordered { W.called store.old ≤ W.called store.new }
+    ensures kept { W.tells store.old → Kept (W.called store.old) (W.tree_at store.old) (W.tree_at store.new) (W.faults_at store.old) (W.faults_at store.new) }
+    ensures only_serves { N.tells line.old → OnlyServes (has_failed result) (N.wire line.old) (N.wire line.new) }
+
+    // Where line, store, clock and draws tell, and the account is sound: it is one connection.
+    ensures told { N.tells line.old → W.tells store.old → C.tells clock.old → D.tells draws.old → Sound (W.tree_at store.new (W.called store.old))
+        → (turns : List Turn) × TalkOne settings.now (W.tree_at store.new) (W.faults_at store.new) (N.wire line.old).begun result
+            (point (N.wire line.old).rest 0 (tally (W.called store.old) (C.moments clock.old) (D.draws draws.old) (N.wire line.old).sent))
+            turns
+            (tally (W.called store.new) (C.moments clock.new) (D.draws draws.new) (N.wire line.new).sent) }
+{
+    let mut reader = match Reader::new(alloc) {
+        Ok(reader) => reader,
+        Err(_) => return end_unread(line, store),
+    };
+    'requests: loop {
+        match serve_next(alloc, &mut reader, store, settings, line, clock, draws) {
+            Some(ended) => return ended,
+            None => {}
+        }
+    }
+}
+
+/// Hears the next request and answers it. `None` says that the connection goes on.
+fn serve_next<N: Line<W>, W: Swift, C: Clock, D: Draws>(alloc: Global, reader: &mut Reader, store: &mut W, settings: &Settings, line: &mut N, clock: &mut C, draws: &mut D) -> Option<Ended>
+    requires open { IsTrue (N.is_open line.old) }
+    requires goes { reader.old.ended ≡ false }
+
+    ensures open { N.is_open line.new ≡ true }
+    ensures goes { result ≡ None → reader.new.ended ≡ false }
+    ensures falls { result ≡ None → weight (N.spent line.new) reader.new.bytes < weight (N.spent line.old) reader.old.bytes }
+    ensures quiet { has_ended_failed result ≡ false → N.faults line.new ≡ N.faults line.old }
+    ensures cause { has_ended_failed result ≡ true → Rose (N.faults line.old) (N.faults line.new) }
+    ensures quiet_next { N.next_faults line.new ≡ N.next_faults line.old }
+    ensures spent { N.spent line.old ≤ N.spent line.new }
+
+    ensures tells_line { N.tells line.old → N.tells line.new }
+    ensures tells_store { W.tells store.old → W.tells store.new }
+    ensures tells_clock { C.tells clock.old → C.tells clock.new }
+    ensures tells_draws { D.tells draws.old → D.tells draws.new }
+
+    ensures ordered { W.called store.old ≤ W.called store.new }
+    ensures kept { W.tells store.old → Kept (W.called store.old) (W.tree_at store.old) (W.tree_at store.new) (W.faults_at store.old) (W.faults_at store.new) }
+    ensures only_serves { N.tells line.old → OnlyServes (has_ended_failed result) (N.wire line.old) (N.wire line.new) }
+
+    ensures told { N.tells line.old → W.tells store.old → C.tells clock.old → D.tells draws.old → Sound (W.tree_at store.new (W.called store.old))
+        → NextOne settings.now (W.tree_at store.new) (W.faults_at store.new) (N.wire line.old).begun
+            (point (reader.old.bytes ++ (N.wire line.old).rest) reader.old.place (tally (W.called store.old) (C.moments clock.old) (D.draws draws.old) (N.wire line.old).sent))
+            result
+            (point (reader.new.bytes ++ (N.wire line.new).rest) reader.new.place (tally (W.called store.new) (C.moments clock.new) (D.draws draws.new) (N.wire line.new).sent)) }
+{
+    match reader.next_request(line, store) {
+        Ok(Got::Request(message)) => answer(alloc, store, settings, line, clock, draws, &hear(alloc, &message), end_of(&message)),
+        Ok(Got::Refused { kind, place, head }) => answer(alloc, store, settings, line, clock, draws, &hear_refused(kind, head), Some(Ended::Refused { kind, place })),
+        Ok(Got::End) => Some(Ended::End),
+        Ok(Got::CutShort(place)) => Some(Ended::CutShort(place)),
+        Err(ReadFault::Failed) => Some(Ended::LineFailed),
+        Err(ReadFault::Memory) => Some(end_unread(line, store)),
+    }
+}
+
+/// Answers a request. `None` says that the connection goes on.
+fn answer<N: Line<W>, W: Swift, C: Clock, D: Draws>(alloc: Global, store: &mut W, settings: &Settings, line: &mut N, clock: &mut C, draws: &mut D, heard: &Heard<'_>, end: Option<Ended>) -> Option<Ended>
+    requires open { IsTrue (N.is_open line.old) }
+    requires proper { IsProperMeant heard.now.means }
+    requires end { has_ended_failed end ≡ false }
+
+    ensures open { N.is_open line.new ≡ true }
+    ensures ends { result ≡ None → end ≡ None }
+    ensures quiet { has_ended_failed result ≡ false → N.faults line.new ≡ N.faults line.old }
+    ensures cause { has_ended_failed result ≡ true → Rose (N.faults line.old) (N.faults line.new) }
+    ensures quiet_next { N.next_faults line.new ≡ N.next_faults line.old }
+    ensures spent { N.spent line.new ≡ N.spent line.old }
+
+    ensures tells_line { N.tells line.old → N.tells line.new }
+    ensures tells_store { W.tells store.old → W.tells store.new }
+    ensures tells_clock { C.tells clock.old → C.tells clock.new }
+    ensures tells_draws { D.tells draws.old → D.tells draws.new }
+
+    ensures calls { Within (most_calls_of heard.now.means (W.tree_at store.old (W.called store.old))) (W.called store.old) (W.called store.new) }
+    ensures kept { W.tells store.old → Kept (W.called store.old) (W.tree_at store.old) (W.tree_at store.new) (W.faults_at store.old) (W.faults_at store.new) }
+    ensures only_serves { N.tells line.old → OnlyServes (has_ended_failed result) (N.wire line.old) (N.wire line.new) }
+    ensures rest { N.tells line.old → (N.wire line.new).rest ≡ (N.wire line.old).rest }
+
+    ensures told { N.tells line.old → W.tells store.old → C.tells clock.old → D.tells draws.old → Sound (W.tree_at store.new (W.called store.old))
+        → (request : Request) → Is heard.now end request
+        → TurnEnds settings.now (W.tree_at store.new) (W.faults_at store.new) (N.wire line.old).begun
+            (tally (W.called store.old) (C.moments clock.old) (D.draws draws.old) (N.wire line.old).sent)
+            (tally (W.called store.new) (C.moments clock.new) (D.draws draws.new) (N.wire line.new).sent)
+            request result }
+{
+    match take_turn(alloc, store, settings, line, clock, draws, heard, end) {
+        Turned::Served(ended) => ended,
+        Turned::Broken => Some(Ended::LineFailed),
+    }
+}
+
+/// Ends a connection whose next request could not be read for want of memory: the reply for that is written.
+fn end_unread<N: Line<W>, W: Swift>(line: &mut N, store: &W) -> Ended
+    requires { IsTrue (N.is_open line.old) }
+    ensures open { N.is_open line.new ≡ true }
+    ensures quiet { has_failed result ≡ false → N.faults line.new ≡ N.faults line.old }
+    ensures cause { has_failed result ≡ true → Rose (N.faults line.old) (N.faults line.new) }
+    ensures quiet_next { N.next_faults line.new ≡ N.next_faults line.old }
+    ensures spent { N.spent line.new ≡ N.spent line.old }
+    ensures tells { N.tells line.old → N.tells line.new }
+    ensures only_serves { N.tells line.old → OnlyServes (has_failed result) (N.wire line.old) (N.wire line.new) }
+    ensures rest { N.tells line.old → (N.wire line.new).rest ≡ (N.wire line.old).rest }
+    ensures told { N.tells line.old → EndsUnread (W.called store.now) (N.wire line.old) result (N.wire line.new) }
+{
+    match write_memory(line, store, false) {
+        Written::Failed => Ended::LineFailed,
+        Written::Whole | Written::Memory => Ended::Memory,
+    }
+}

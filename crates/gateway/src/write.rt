@@ -1,0 +1,83 @@
+//! What is written for a reply.
+ghost use Rattle.std.specs.Prelude.{◌≡◌, ◌≢◌, ◌<◌, ℕ, true, IsTrue, IfOk, OnOk, OnErr};
+ghost use Rattle.gate_base.specs.Causes.{Rose};
+ghost use Rattle.gate_base.specs.Told.{moment_limit};
+ghost use Rattle.gate_base.specs.Wire.{with_piece, SendsPrefix};
+ghost use Rattle.http_wire.specs.Print.{memory_reply};
+ghost use Rattle.s3_machine.specs.declared.operation.Reply.TheVariants as answer;
+ghost use Rattle.gateway.specs.declared.write.Written.TheVariants as written;
+ghost use Rattle.gateway.specs.Request.{reply_text};
+ghost use Rattle.gateway.specs.Write.{Writes};
+
+use gate_base::{Bytes, Line, Memory};
+use http_wire::{print_memory, print_page};
+use s3_bodies::page;
+use s3_machine::{Label, Reply};
+use std::alloc::Global;
+use swift_calls::Swift;
+
+/// What became of the bytes of a reply.
+#[derive(Clone, Copy, Debug, PartialEq, Eq)]
+pub enum Written {
+    /// The reply was written.
+    Whole,
+    /// Memory was wanted, and the reply for that was written.
+    Memory,
+    /// The line failed under either.
+    Failed,
+}
+
+/// Writes a reply as one piece, or the reply for want of memory in its place.
+pub fn write_reply<N: Line<W>, W: Swift>(alloc: Global, line: &mut N, store: &W, reply: &Reply, label: &Label, method: &[u8], resource: &[u8], closing: bool) -> Written
+    requires open { IsTrue (N.is_open line.old) }
+    requires moment { label.now.moment < moment_limit }
+    ensures open { N.is_open line.new ≡ true }
+    ensures quiet { result ≢ written.Failed → N.faults line.new ≡ N.faults line.old }
+    ensures cause { result ≡ written.Failed → Rose (N.faults line.old) (N.faults line.new) }
+    ensures quiet_next { N.next_faults line.new ≡ N.next_faults line.old }
+    ensures spent { N.spent line.new ≡ N.spent line.old }
+    ensures tells { N.tells line.old → N.tells line.new }
+    ensures told { N.tells line.old → Writes (N.wire line.old) (W.called store.now) reply.now label.now method.now resource.now closing result (N.wire line.new) }
+{
+    match print(alloc, reply, label, method, resource, closing) {
+        Ok(text) => match line.write(store, text.as_slice()) {
+            Ok(()) => Written::Whole,
+            Err(_) => Written::Failed,
+        },
+        Err(_) => write_memory(line, store, method == b"HEAD".as_slice()),
+    }
+}
+
+/// Writes the reply for want of memory.
+pub fn write_memory<N: Line<W>, W: Swift>(line: &mut N, store: &W, head: bool) -> Written
+    requires { IsTrue (N.is_open line.old) }
+    ensures open { N.is_open line.new ≡ true }
+    ensures outcome { result ≢ written.Whole }
+    ensures quiet { result ≢ written.Failed → N.faults line.new ≡ N.faults line.old }
+    ensures cause { result ≡ written.Failed → Rose (N.faults line.old) (N.faults line.new) }
+    ensures quiet_next { N.next_faults line.new ≡ N.next_faults line.old }
+    ensures spent { N.spent line.new ≡ N.spent line.old }
+    ensures tells { N.tells line.old → N.tells line.new }
+    ensures told { N.tells line.old → result ≢ written.Failed → N.wire line.new ≡ with_piece (N.wire line.old) (W.called store.now) (memory_reply head) }
+    ensures told_err { N.tells line.old → result ≡ written.Failed → SendsPrefix (N.wire line.old) (W.called store.now) (memory_reply head) (N.wire line.new) }
+{
+    match line.write(store, print_memory(head)) {
+        Ok(()) => Written::Memory,
+        Err(_) => Written::Failed,
+    }
+}
+
+// The text of a reply. The word that memory was wanted has none.
+#[tactic(auto, using(crate::proofs::Statuses::reply_status), unfolding(crate::specs::Request::reply_text))]
+fn print(alloc: Global, reply: &Reply, label: &Label, method: &[u8], resource: &[u8], closing: bool) -> Result<Bytes, Memory>
+    requires { label.now.moment < moment_limit }
+    ensures text { IfOk result (λ text. text ≡ reply_text reply.now label.now method.now resource.now closing) }
+    ensures known { OnOk result (reply.now ≢ answer.Memory) }
+{
+    if let Reply::Memory = reply {
+        return Err(Memory);
+    }
+    let page = page(alloc, reply, label, resource)?;
+    let text = print_page(alloc, &page, method, closing)?;
+    Ok(text)
+}

@@ -1,0 +1,25 @@
+use Rattle.std.proofs.Common.{◌≡◌, ◌≤◌, ◌-◌, ◌^◌, ℕ}
+use Rattle.swift_calls.specs.History.{Kept}
+use Rattle.gateway.specs.Connection.{tally}
+use Rattle.gateway_cmd.specs.Run.{place_of}
+use Rattle.gateway_cmd.specs.Session.{default_settings}
+use Rattle.gateway_cmd.proofs.Sessions.{Served}
+use Rattle.gateway_cmd.proofs.session.session.Given as goal
+
+abbrev pub invariant-connections : goal.invariant-connections
+invariant-connections g l = record {
+  quiet : g.N.Line.next_faults l.line ≡ g.N.Line.next_faults l.initial.line;
+  tells_line : g.N.Line.tells l.initial.line → g.N.Line.tells l.line;
+  tells_store : g.W.Swift.tells l.initial.store → g.W.Swift.tells l.store;
+  tells_clock : g.C.Clock.tells l.initial.clock → g.C.Clock.tells l.clock;
+  tells_draws : g.D.Draws.tells l.initial.draws → g.D.Draws.tells l.draws;
+  ordered : g.W.Counted.called l.initial.store ≤ g.W.Counted.called l.store;
+  kept : g.W.Swift.tells l.initial.store → Kept (g.W.Counted.called l.initial.store) (g.W.Swift.tree_at l.initial.store) (g.W.Swift.tree_at l.store) (g.W.Swift.faults_at l.initial.store) (g.W.Swift.faults_at l.store);
+  served : g.N.Line.tells l.initial.line → g.W.Swift.tells l.initial.store → g.C.Clock.tells l.initial.clock → g.D.Draws.tells l.initial.draws
+      → Served default_settings (g.W.Swift.tree_at l.store) (g.W.Swift.faults_at l.store)
+          (place_of (g.N.Line.wire l.initial.line) (tally (g.W.Counted.called l.initial.store) (g.C.Clock.moments l.initial.clock) (g.D.Draws.draws l.initial.draws) (g.N.Line.wire l.initial.line).sent))
+          (place_of (g.N.Line.wire l.line) (tally (g.W.Counted.called l.store) (g.C.Clock.moments l.clock) (g.D.Draws.draws l.draws) (g.N.Line.wire l.line).sent));
+}
+
+abbrev pub decreases-connections : goal.decreases-connections
+decreases-connections g l = 2 ^ 63 - g.N.Line.spent l.line

@@ -1,0 +1,5 @@
+pub mod Laws
+pub mod Report
+pub mod Run
+pub mod Session
+pub mod TalkLaws

@@ -1,0 +1,10 @@
+//! The top call of `s3gate`: the words, the connections of the line in turn, the status and the report.
+#![tactic(auto)]
+
+mod command;
+mod laws;
+mod session;
+mod status;
+
+pub use command::run;
+pub use laws::{law_talk_stands, law_turns_follow};

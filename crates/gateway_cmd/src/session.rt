@@ -1,0 +1,93 @@
+//! The command `session`: the connections of the line, in turn.
+ghost use Rattle.std.specs.Prelude.{◌≡◌, ◌≢◌, ◌<◌, ◌≤◌, ◌-◌, ◌^◌, ℕ, List, [], None, Some, IfOk};
+ghost use Rattle.gate_base.specs.Causes.{Rose};
+ghost use Rattle.swift_calls.specs.History.{Kept};
+ghost use Rattle.upload_records.specs.Sound.{Sound};
+ghost use Rattle.gateway.specs.Exchange.{Turn};
+ghost use Rattle.gateway.specs.Connection.{tally};
+ghost use Rattle.gateway_cmd.specs.declared.status.Status.TheVariants as status;
+ghost use Rattle.gateway_cmd.specs.Run.{place_of, Talk};
+ghost use Rattle.gateway_cmd.specs.Session.{default_settings, NextPlace};
+
+use crate::status::Status;
+use gate_base::{Bytes, Clock, Draws, Line, Memory};
+use gateway::serve_connection;
+use s3_machine::Settings;
+use std::alloc::Global;
+use swift_calls::Swift;
+
+/// The least size in bytes of a part that isn't the last, where none is given.
+const LEAST_PART: u64 = 5_242_880;
+
+/// Serves the connections of the line until there is none.
+pub fn session<N: Line<W>, W: Swift, C: Clock, D: Draws>(alloc: Global, line: &mut N, store: &mut W, clock: &mut C, draws: &mut D) -> Status
+    ensures known { result ≢ status.Usage }
+    ensures cause { result ≡ status.Line → Rose (N.next_faults line.old) (N.next_faults line.new) }
+    ensures quiet { result ≢ status.Line → N.next_faults line.new ≡ N.next_faults line.old }
+    ensures done { N.tells line.old → result ≡ status.Done → (N.wire line.new).waiting ≡ [] }
+
+    ensures tells_line { N.tells line.old → N.tells line.new }
+    ensures tells_store { W.tells store.old → W.tells store.new }
+    ensures tells_clock { C.tells clock.old → C.tells clock.new }
+    ensures tells_draws { D.tells draws.old → D.tells draws.new }
+    ensures ordered { W.called store.old ≤ W.called store.new }
+    ensures kept { W.tells store.old → Kept (W.called store.old) (W.tree_at store.old) (W.tree_at store.new) (W.faults_at store.old) (W.faults_at store.new) }
+
+    ensures told { N.tells line.old → W.tells store.old → C.tells clock.old → D.tells draws.old → Sound (W.tree_at store.new (W.called store.old))
+        → (turns : List Turn) × Talk default_settings (W.tree_at store.new) (W.faults_at store.new)
+            (place_of (N.wire line.old) (tally (W.called store.old) (C.moments clock.old) (D.draws draws.old) (N.wire line.old).sent))
+            turns
+            (place_of (N.wire line.new) (tally (W.called store.new) (C.moments clock.new) (D.draws draws.new) (N.wire line.new).sent)) }
+{
+    let settings = match settings(alloc) {
+        Ok(settings) => settings,
+        Err(_) => return Status::Memory,
+    };
+    'connections: loop {
+        match serve_another(alloc, &settings, line, store, clock, draws) {
+            Some(status) => return status,
+            None => {}
+        }
+    }
+}
+
+/// Serves the next connection, if there is one. `None` says that it was served.
+fn serve_another<N: Line<W>, W: Swift, C: Clock, D: Draws>(alloc: Global, settings: &Settings, line: &mut N, store: &mut W, clock: &mut C, draws: &mut D) -> Option<Status>
+    ensures known { (result ≢ Some status.Usage) }
+    ensures falls { result ≡ None → 2 ^ 63 - N.spent line.new < 2 ^ 63 - N.spent line.old }
+    ensures cause { result ≡ Some status.Line → Rose (N.next_faults line.old) (N.next_faults line.new) }
+    ensures quiet { result ≢ Some status.Line → N.next_faults line.new ≡ N.next_faults line.old }
+
+    ensures tells_line { N.tells line.old → N.tells line.new }
+    ensures tells_store { W.tells store.old → W.tells store.new }
+    ensures tells_clock { C.tells clock.old → C.tells clock.new }
+    ensures tells_draws { D.tells draws.old → D.tells draws.new }
+    ensures ordered { W.called store.old ≤ W.called store.new }
+    ensures kept { W.tells store.old → Kept (W.called store.old) (W.tree_at store.old) (W.tree_at store.new) (W.faults_at store.old) (W.faults_at store.new) }
+
+    ensures done { N.tells line.old → result ≡ Some status.Done → (N.wire line.new).waiting ≡ [] }
+    ensures told { N.tells line.old → W.tells store.old → C.tells clock.old → D.tells draws.old → Sound (W.tree_at store.new (W.called store.old))
+        → NextPlace settings.now (W.tree_at store.new) (W.faults_at store.new)
+            (place_of (N.wire line.old) (tally (W.called store.old) (C.moments clock.old) (D.draws draws.old) (N.wire line.old).sent))
+            result
+            (place_of (N.wire line.new) (tally (W.called store.new) (C.moments clock.new) (D.draws draws.new) (N.wire line.new).sent)) }
+{
+    match line.next() {
+        Ok(true) => {
+            let _ended = serve_connection(alloc, store, settings, line, clock, draws);
+            None
+        }
+        Ok(false) => Some(Status::Done),
+        Err(_) => Some(Status::Line),
+    }
+}
+
+// What holds where no option says otherwise.
+fn settings(alloc: Global) -> Result<Settings, Memory>
+    ensures { IfOk result (λ settings. settings ≡ default_settings) }
+{
+    Ok(Settings {
+        region: Bytes::from_slice(alloc, b"us-east-1")?,
+        least_part: LEAST_PART,
+    })
+}

@@ -1,0 +1,2 @@
+pub mod CreateBucket
+pub mod Replies

@@ -1,0 +1,36 @@
+-- What the end of a plan says of its reply.
+use Rattle.std.specs.Prelude.{◌≡◌, ◌≢◌, ℕ, List, Result, Ok, Err, IfOk}
+use Rattle.std.proofs.Common.{refl}
+use Rattle.gate_base.specs.Causes.{Rose}
+use Rattle.s3_machine.specs.declared.code.Code.TheVariants.{BucketAlreadyOwnedByYou, InconsistentStore, ServiceUnavailable}
+use Rattle.s3_machine.specs.declared.operation.Reply.{Reply}
+use Rattle.s3_machine.specs.declared.operation.Reply.TheVariants.{Refused, Made}
+use Rattle.recovery.specs.Fault.{CausesFault}
+use Rattle.recovery.specs.declared.fault.PlanFault.{PlanFault}
+use Rattle.recovery.specs.declared.fault.PlanFault.TheVariants.{Failed, Memory, Inconsistent}
+use Rattle.planner.specs.Plan.{reply_of, IsOwnReply}
+
+-- the replies of CreateBucket that are its own
+pub owned_is_own : IsOwnReply (Refused BucketAlreadyOwnedByYou)
+owned_is_own = record { no_memory = λ e. cc; no_failure = λ e. cc; no_inconsistency = λ e. cc }
+
+pub made_is_own : (bucket : List ℕ) → IsOwnReply (Made bucket)
+made_is_own bucket = record { no_memory = λ e. cc; no_failure = λ e. cc; no_inconsistency = λ e. cc }
+
+pub rose_of : (before now : ℕ) (end : Result Reply PlanFault) → IfOk end IsOwnReply → CausesFault before now end → reply_of end ≡ Refused ServiceUnavailable → Rose before now
+rose_of before now (Ok reply) own cause is = absurd (own.no_failure is)
+rose_of before now (Err Failed) own cause is = cause
+rose_of before now (Err Memory) own cause is = cc
+rose_of before now (Err Inconsistent) own cause is = cc
+
+pub steady_of : (before now : ℕ) (end : Result Reply PlanFault) → CausesFault before now end → reply_of end ≢ Refused ServiceUnavailable → now ≡ before
+steady_of before now (Ok reply) cause not = cause
+steady_of before now (Err Failed) cause not = absurd (not refl)
+steady_of before now (Err Memory) cause not = cause
+steady_of before now (Err Inconsistent) cause not = cause
+
+pub consistent_of : (end : Result Reply PlanFault) → IfOk end IsOwnReply → end ≢ Err Inconsistent → reply_of end ≢ Refused InconsistentStore
+consistent_of (Ok reply) own not = own.no_inconsistency
+consistent_of (Err Failed) own not = λ e. cc
+consistent_of (Err Memory) own not = λ e. cc
+consistent_of (Err Inconsistent) own not = absurd (not refl)

@@ -1,0 +1,10 @@
+//! The plan of each operation on buckets and objects: which calls of the store answer it, in which order, and
+//! which one commits.
+#![tactic(auto)]
+
+mod buckets;
+mod operation;
+#[cfg(test)]
+mod tests;
+
+pub use operation::answer;

@@ -1,0 +1,4 @@
+pub mod Faults
+pub mod Head
+pub mod Names
+pub mod Put

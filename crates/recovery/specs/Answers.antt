@@ -1,0 +1,34 @@
+-- What the calls of one operation may amount to. It stands between two numbers of calls, over an account that is
+-- sound at the first. Source: this profile.
+use Rattle.std.specs.Prelude.{◌≡◌, ◌⊎◌, ℕ}
+use Rattle.s3_machine.specs.declared.code.Code.TheVariants.{ServiceUnavailable}
+use Rattle.s3_machine.specs.declared.operation.Label.{Label}
+use Rattle.s3_machine.specs.declared.operation.Settings.{Settings}
+use Rattle.s3_machine.specs.declared.operation.Op.{Op}
+use Rattle.s3_machine.specs.declared.operation.Op.TheVariants.{CreateBucket}
+use Rattle.s3_machine.specs.declared.operation.Reply.{Reply}
+use Rattle.s3_machine.specs.declared.operation.Reply.TheVariants.{Refused, Memory}
+use Rattle.s3_machine.specs.State.{State}
+use Rattle.s3_machine.specs.Step.{S3Step}
+use Rattle.swift_calls.specs.Tree.{Tree}
+use Rattle.upload_records.specs.Native.{native}
+use Rattle.recovery.specs.Turns.{Turns, OldBefore, LastFailed}
+
+-- the new state is the old one, or the one that the service's step gives
+abbrev pub OldOrStepped : Settings → State → Op → Label → State → Type 0
+OldOrStepped settings old op label new = (new ≡ old) ⊎ ((reply : Reply) × S3Step settings old op label reply new)
+
+-- the service's own answer; or ServiceUnavailable, where the last call failed and no earlier one did; or the word that memory was wanted
+pub data AnswersBy (settings : Settings) (at : ℕ → Tree) (faults : ℕ → ℕ) (p q : ℕ) (op : Op) (label : Label) (reply : Reply) : Type 0 where
+  machine : S3Step settings (native (at p)) op label reply (native (at q)) → AnswersBy settings at faults p q op label reply
+  unavailable : reply ≡ Refused ServiceUnavailable → LastFailed faults p q → OldBefore at p q → OldOrStepped settings (native (at p)) op label (native (at q)) → AnswersBy settings at faults p q op label reply
+  memory : reply ≡ Memory → OldBefore at p q → OldOrStepped settings (native (at p)) op label (native (at q)) → AnswersBy settings at faults p q op label reply
+
+-- and the account turns once, from the old state to the new one, sound at each number
+pub record Answers (settings : Settings) (at : ℕ → Tree) (faults : ℕ → ℕ) (p t q : ℕ) (op : Op) (label : Label) (reply : Reply) : Type 0 where
+  pub turns : Turns at p t q
+  pub by : AnswersBy settings at faults p q op label reply
+
+-- the greatest number of calls of an operation, by the account as it began
+abbrev pub most_calls : Op → Tree → ℕ
+most_calls (CreateBucket bucket acl) tree = 2

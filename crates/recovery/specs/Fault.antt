@@ -1,0 +1,18 @@
+-- The faults of a plan, and their causes over every store.
+use Rattle.std.specs.Prelude.{◌≡◌, ℕ, Result, Ok, Err}
+use Rattle.gate_base.specs.Causes.{Rose}
+use Rattle.swift_calls.specs.declared.calls.SwiftFault.{SwiftFault}
+use Rattle.swift_calls.specs.declared.calls.SwiftFault.TheVariants as swift
+use Rattle.recovery.specs.declared.fault.PlanFault.{PlanFault}
+use Rattle.recovery.specs.declared.fault.PlanFault.TheVariants.{Failed, Memory, Inconsistent}
+
+abbrev pub plan_fault : SwiftFault → PlanFault
+plan_fault swift.Failed = Failed
+plan_fault swift.Memory = Memory
+
+-- the store's count of faults rose where the fault is Failed, and else stayed
+abbrev pub CausesFault : {T : Type 0} → ℕ → ℕ → Result T PlanFault → Type 0
+CausesFault before now (Ok x) = now ≡ before
+CausesFault before now (Err Failed) = Rose before now
+CausesFault before now (Err Memory) = now ≡ before
+CausesFault before now (Err Inconsistent) = now ≡ before

@@ -1,0 +1,5 @@
+pub mod Agree
+pub mod Answers
+pub mod Calls
+pub mod Fault
+pub mod Turns

@@ -1,0 +1,36 @@
+ghost use Rattle.std.specs.Prelude.{◌≡◌};
+ghost use Rattle.recovery.specs.Fault.{plan_fault};
+ghost use Rattle.recovery.specs.declared.fault.PlanFault.TheVariants as plan;
+
+use gate_base::Memory;
+use swift_calls::SwiftFault;
+
+/// Why a plan ended before its reply was the machine's.
+#[derive(Clone, Copy, Debug, PartialEq, Eq)]
+pub enum PlanFault {
+    /// The last call of the store failed: its count of faults rose.
+    Failed,
+    /// Memory was wanted and not there.
+    Memory,
+    /// The store answered what Object Storage API v1 doesn't let it answer over a sound account.
+    Inconsistent,
+}
+
+impl From<SwiftFault> for PlanFault {
+    ghost from_gives = { λ fault e. e ≡ plan_fault fault };
+
+    fn from(fault: SwiftFault) -> PlanFault {
+        match fault {
+            SwiftFault::Failed => PlanFault::Failed,
+            SwiftFault::Memory => PlanFault::Memory,
+        }
+    }
+}
+
+impl From<Memory> for PlanFault {
+    ghost from_gives = { λ _ e. e ≡ plan.Memory };
+
+    fn from(_: Memory) -> PlanFault {
+        PlanFault::Memory
+    }
+}

@@ -1,0 +1,5 @@
+pub mod Codes
+pub mod Date
+pub mod Pages
+pub mod Texts
+pub mod Xml

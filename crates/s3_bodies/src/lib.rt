@@ -1,0 +1,11 @@
+//! What an S3 reply is on the wire: its status, its headers and its XML body.
+#![tactic(auto)]
+
+mod codes;
+mod pages;
+#[cfg(test)]
+mod tests;
+mod texts;
+mod xml;
+
+pub use pages::page;

@@ -1,0 +1,96 @@
+ghost use Rattle.std.specs.Prelude.{◌≡◌, ◌≢◌, ◌<◌, [], ◌∷◌, ◌++◌, IfOk, OnOk};
+ghost use Rattle.gate_base.specs.Told.{moment_limit};
+ghost use Rattle.s3_bodies.specs.Pages.{page_of, common_headers, header, made_page, refused_page};
+ghost use Rattle.s3_bodies.specs.Xml.{error_body};
+
+use crate::xml::Xml;
+use crate::{codes, texts};
+use gate_base::{Bytes, List, Memory, Page, Pair};
+use s3_machine::{Code, Label, Reply};
+use std::alloc::Global;
+
+/// The page of a reply: its status, its headers in their order, and its body (Amazon S3 API Reference; what that
+/// leaves open is this profile's). `resource` is the raw path of the request's target, and the label's moment, in
+/// seconds since the beginning of 1970, lies before the year 10000. Headers that belong to the message and not to
+/// the reply, as `Content-Length`, are not among these. The reply for want of memory has no page: its bytes are
+/// fixed. The call fails only for want of memory.
+pub fn page(alloc: Global, reply: &Reply, label: &Label, resource: &[u8]) -> Result<Page, Memory>
+    requires reply { reply.now ≢ Reply.Memory }
+    requires moment { label.now.moment < moment_limit }
+    ensures { IfOk result (λ page. page ≡ page_of reply.now label.now resource.now) }
+{
+    match reply {
+        Reply::Refused(code) => refused(alloc, *code, label, resource),
+        Reply::Memory => unreachable!(),
+        Reply::Made { bucket } => made(alloc, bucket.as_slice(), label),
+    }
+}
+
+fn refused(alloc: Global, code: Code, label: &Label, resource: &[u8]) -> Result<Page, Memory>
+    requires { label.now.moment < moment_limit }
+    ensures { IfOk result (λ page. page ≡ refused_page code label.now resource.now) }
+{
+    let mut headers = common(alloc, label)?;
+    add_header(alloc, &mut headers, b"Content-Type", b"application/xml")?;
+    Ok(Page {
+        status: codes::status(code),
+        headers,
+        body: error(alloc, code, resource, label.request_id)?,
+    })
+}
+
+fn made(alloc: Global, bucket: &[u8], label: &Label) -> Result<Page, Memory>
+    requires { label.now.moment < moment_limit }
+    ensures { IfOk result (λ page. page ≡ made_page bucket.now label.now) }
+{
+    let mut place = Bytes::from_slice(alloc, b"/")?;
+    place.append(bucket)?;
+    let mut headers = common(alloc, label)?;
+    add_header(alloc, &mut headers, b"Location", place.as_slice())?;
+    Ok(Page {
+        status: 200,
+        headers,
+        body: Bytes::new(alloc),
+    })
+}
+
+/// The headers that every page begins with.
+fn common(alloc: Global, label: &Label) -> Result<List<Pair>, Memory>
+    requires { label.now.moment < moment_limit }
+    ensures { IfOk result (λ headers. headers ≡ common_headers label.now) }
+{
+    let date = texts::date_bytes(label.moment);
+    let id = texts::id_digits(label.request_id);
+    let mut headers = List::new(alloc);
+    add_header(alloc, &mut headers, b"Date", &date)?;
+    add_header(alloc, &mut headers, b"x-amz-request-id", &id)?;
+    Ok(headers)
+}
+
+fn add_header(
+    alloc: Global,
+    headers: &mut List<Pair>,
+    name: &[u8],
+    value: &[u8],
+) -> Result<(), Memory>
+    ensures { OnOk result (headers.new ≡ headers.old ++ header name.now value.now ∷ []) }
+{
+    headers.push(Pair {
+        name: Bytes::from_slice(alloc, name)?,
+        value: Bytes::from_slice(alloc, value)?,
+    })
+}
+
+#[tactic(auto, unfolding(crate::specs::Xml::error_body))]
+fn error(alloc: Global, code: Code, resource: &[u8], id: u128) -> Result<Bytes, Memory>
+    ensures { IfOk result (λ body. body ≡ error_body code resource.now id) }
+{
+    let mut xml = Xml::new(alloc)?;
+    xml.tags(b"<Error>")?;
+    xml.element(b"Code", codes::name(code))?;
+    xml.element(b"Message", codes::message(code))?;
+    xml.element(b"Resource", resource)?;
+    xml.element(b"RequestId", &texts::id_digits(id))?;
+    xml.tags(b"</Error>")?;
+    Ok(xml.text)
+}

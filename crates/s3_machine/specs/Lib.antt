@@ -1,0 +1,4 @@
+pub mod Native
+pub mod State
+pub mod Step
+pub mod StepLaws

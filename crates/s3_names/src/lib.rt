@@ -1,0 +1,25 @@
+//! The names of Amazon S3 as this profile takes them: buckets and their canned access control lists, object keys,
+//! percent escapes, user metadata, queries and targets.
+#![tactic(auto)]
+
+mod acl;
+mod bucket;
+mod cut;
+mod escapes;
+mod fault;
+mod key;
+mod meta;
+mod query;
+mod target;
+#[cfg(test)]
+mod tests;
+mod text;
+
+pub use acl::Acl;
+pub use bucket::{BucketName, is_bucket};
+pub use escapes::{decode, encode_all, encode_path};
+pub use fault::NameFault;
+pub use key::{Key, is_key};
+pub use meta::Meta;
+pub use query::Query;
+pub use target::Target;

@@ -1,0 +1,28 @@
+ghost use Rattle.std.specs.Prelude.{◌≡◌};
+ghost use Rattle.std.specs.Str.{is_utf8};
+ghost use Rattle.s3_names.specs.Text.{has_zero, is_text};
+
+use std::str;
+
+#[tactic(auto, using(crate::proofs::Texts::is_utf8_where, crate::proofs::Texts::is_utf8_unless))]
+fn is_utf8(bytes: &[u8]) -> bool
+    ensures { result ≡ is_utf8 bytes.now }
+{
+    match str::from_utf8(bytes) {
+        Ok(_) => true,
+        Err(_) => false,
+    }
+}
+
+fn has_zero(bytes: &[u8]) -> bool
+    ensures { result ≡ has_zero bytes.now }
+{
+    bytes.contains(&0)
+}
+
+/// Whether the bytes are UTF-8 without byte 0.
+pub fn is_text(bytes: &[u8]) -> bool
+    ensures { result ≡ is_text bytes.now }
+{
+    is_utf8(bytes) && !has_zero(bytes)
+}

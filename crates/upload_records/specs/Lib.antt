@@ -1,0 +1,5 @@
+pub mod BucketLaws
+pub mod Laws
+pub mod Marks
+pub mod Native
+pub mod Sound

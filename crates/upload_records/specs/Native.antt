@@ -1,0 +1,42 @@
+-- The S3 state that an account stands for. It is a total function: what doesn't read as a bucket, an object, an
+-- upload or a completion isn't there. Source: this profile.
+use Rattle.std.specs.Prelude.{ℕ, List, cond, Option, None, Some}
+use Rattle.std.specs.Option.{unwrap_or}
+use Rattle.gate_base.specs.Maps.{Names, picked}
+use Rattle.s3_names.specs.Bucket.{is_bucket}
+use Rattle.s3_machine.specs.State.{Object, Upload, Completion, Bucket, State}
+use Rattle.swift_calls.specs.Tree.{File, Folder, Tree, files}
+use Rattle.upload_records.specs.Marks.{uploads_name, segments_name, acl_of}
+
+-- the object that a file of a bucket stands for, its parts looked up in the container beside it
+abbrev pub object_of : Names File → List ℕ → File → Option Object
+object_of segments key file = None
+
+-- the open upload that a record stands for
+abbrev pub upload_of : Names File → List ℕ → File → Option Upload
+upload_of segments id file = None
+
+-- the kept completion that a record stands for
+abbrev pub kept_of : List ℕ → File → Option Completion
+kept_of id file = None
+
+-- a bucket, of its container and the files of the two beside it
+abbrev pub bucket_from : Names File → Names File → Folder → Bucket
+bucket_from records segments folder = record {
+  created = unwrap_or folder.created 0;
+  acl = acl_of folder.readers;
+  objects = picked (object_of segments) folder.files;
+  uploads = picked (upload_of segments) records;
+  kept = picked kept_of records;
+}
+
+abbrev pub bucket_of : Tree → List ℕ → Folder → Option Bucket
+bucket_of tree name folder = cond (is_bucket name) (Some (bucket_from (files tree (uploads_name name)) (files tree (segments_name name)) folder)) None
+
+-- the buckets of an account
+unfoldable pub plain : Tree → State
+plain tree = picked (bucket_of tree) tree
+
+-- the state that an account stands for
+unfoldable pub native : Tree → State
+native tree = plain tree
