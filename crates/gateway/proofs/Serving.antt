@@ -46,7 +46,7 @@ module _ (settings : Settings) (at : ℕ → Tree) (faults : ℕ → ℕ) (numbe
       let P : (ℕ × List Piece) → Type 0 = λ x. TurnEnds settings at faults x.0 (tally number moments draws x.1) new (request_of message) ended in
       let own : P (begun, sent) = subst P (λ i. (b i, s i)) turn in
       next_of settings at faults begun (point all pending.place (tally number moments draws sent)) (point rest pending'.place new) (request_of message) ended
-          (read message gives.0 gives.2 refl (r ∙ gives.3) gives.4) own
+      (read message gives.0 gives.2 refl (r ∙ gives.3) gives.4) own
 
   -- what was read is refused
   pub next_refused : (wire : Wire) (kind : Kind) (place : ℕ) (head : Bool) (left : List ℕ) (new : Tally) (ended : Option Ended) → Gives pending all (got.Refused kind place head) pending' left
@@ -57,7 +57,7 @@ module _ (settings : Settings) (at : ℕ → Tree) (faults : ℕ → ℕ) (numbe
       let P : (ℕ × List Piece) → Type 0 = λ x. TurnEnds settings at faults x.0 (tally number moments draws x.1) new (refused_request kind place head) ended in
       let own : P (begun, sent) = subst P (λ i. (b i, s i)) turn in
       next_of settings at faults begun (point all pending.place (tally number moments draws sent)) (point rest pending'.place new) (refused_request kind place head) ended
-          (rejected kind head gives.1 (ap (λ n. refused_request kind n head) gives.2) (r ∙ gives.3) gives.4) own
+      (rejected kind head gives.1 (ap (λ n. refused_request kind n head) gives.2) (r ∙ gives.3) gives.4) own
 
   same_tally : (sent' : List Piece) → sent' ≡ sent → tally number moments draws sent' ≡ tally number moments draws sent
   same_tally sent' e = ap (tally number moments draws) e

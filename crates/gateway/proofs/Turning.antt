@@ -70,52 +70,68 @@ module _ (settings : Settings) (at : ℕ → Tree) (faults : ℕ → ℕ) (p q :
       → TurnsOnce settings at faults wire.begun (tally p moments draws wire.sent) (tally q moments' draws' wire'.sent) request (Served request.end)
   turn_whole labels replied known wrote =
       let near = replies_order settings at faults p replied.0 q request label replied.1 replied.2 in
-      let same : given ≡ replied.1 = replied.3 known in
-      (replied.0, label, labels, record {
-        reply = replied.1;
-        bytes = print given label request;
-        replies = replied.2;
-        due = printed (λ e. known (same ∙ e)) (λ i. print (same i) label request) refl;
-        sends = one_piece replied.0 q (print given label request) wire wire' near.1 wrote;
-      })
+      let same : given ≡ replied.1 = replied.3 known in (
+        replied.0,
+        label,
+        labels,
+        record {
+          reply = replied.1;
+          bytes = print given label request;
+          replies = replied.2;
+          due = printed (λ e. known (same ∙ e)) (λ i. print (same i) label request) refl;
+          sends = one_piece replied.0 q (print given label request) wire wire' near.1 wrote;
+        },
+      )
 
   pub turn_wanted : LabelGiven moments draws moments' draws' request.caller label → IsReplied settings at faults p q request label given
       → wire' ≡ with_piece wire q (memory_reply (is_head request.method))
       → TurnsOnce settings at faults wire.begun (tally p moments draws wire.sent) (tally q moments' draws' wire'.sent) request (Served (Some ended.Memory))
   turn_wanted labels replied wrote =
-      let near = replies_order settings at faults p replied.0 q request label replied.1 replied.2 in
-      (replied.0, label, labels, record {
-        reply = replied.1;
-        bytes = memory_reply (is_head request.method);
-        replies = replied.2;
-        due = wanted refl refl;
-        sends = one_piece replied.0 q (memory_reply (is_head request.method)) wire wire' near.1 wrote;
-      })
+      let near = replies_order settings at faults p replied.0 q request label replied.1 replied.2 in (
+        replied.0,
+        label,
+        labels,
+        record {
+          reply = replied.1;
+          bytes = memory_reply (is_head request.method);
+          replies = replied.2;
+          due = wanted refl refl;
+          sends = one_piece replied.0 q (memory_reply (is_head request.method)) wire wire' near.1 wrote;
+        },
+      )
 
   pub turn_broken : LabelGiven moments draws moments' draws' request.caller label → IsReplied settings at faults p q request label given
       → (bytes : List ℕ) → IsText given label request.method request.resource (is_some request.end) bytes → SendsPrefix wire q bytes wire'
       → TurnsOnce settings at faults wire.begun (tally p moments draws wire.sent) (tally q moments' draws' wire'.sent) request Broken
   turn_broken labels replied bytes (inl text) part =
       let near = replies_order settings at faults p replied.0 q request label replied.1 replied.2 in
-      let same : given ≡ replied.1 = replied.3 text.0 in
-      (replied.0, label, labels, record {
-        reply = replied.1;
-        end = request.end;
-        bytes = bytes;
-        replies = replied.2;
-        due = printed (λ e. text.0 (same ∙ e)) (text.1 ∙ (λ i. print (same i) label request)) refl;
-        sends = part_of replied.0 q bytes wire wire' near.1 part;
-      })
+      let same : given ≡ replied.1 = replied.3 text.0 in (
+        replied.0,
+        label,
+        labels,
+        record {
+          reply = replied.1;
+          end = request.end;
+          bytes = bytes;
+          replies = replied.2;
+          due = printed (λ e. text.0 (same ∙ e)) (text.1 ∙ (λ i. print (same i) label request)) refl;
+          sends = part_of replied.0 q bytes wire wire' near.1 part;
+        },
+      )
   turn_broken labels replied bytes (inr text) part =
-      let near = replies_order settings at faults p replied.0 q request label replied.1 replied.2 in
-      (replied.0, label, labels, record {
-        reply = replied.1;
-        end = Some ended.Memory;
-        bytes = bytes;
-        replies = replied.2;
-        due = wanted text refl;
-        sends = part_of replied.0 q bytes wire wire' near.1 part;
-      })
+      let near = replies_order settings at faults p replied.0 q request label replied.1 replied.2 in (
+        replied.0,
+        label,
+        labels,
+        record {
+          reply = replied.1;
+          end = Some ended.Memory;
+          bytes = bytes;
+          replies = replied.2;
+          due = wanted text refl;
+          sends = part_of replied.0 q bytes wire wire' near.1 part;
+        },
+      )
 
 -- the same, of a request as the code holds it
 module _ (settings : Settings) (at : ℕ → Tree) (faults : ℕ → ℕ) (p q : ℕ) (moments draws moments' draws' : List ℕ) (wire wire' : Wire) (request : Request) (label : Label) (given : Reply)
@@ -127,7 +143,7 @@ module _ (settings : Settings) (at : ℕ → Tree) (faults : ℕ → ℕ) (p q :
       → TurnsOnce settings at faults wire.begun (tally p moments draws wire.sent) (tally q moments' draws' wire'.sent) request (Served ending)
   heard_whole closing ends known wrote =
       let same : reply_text given label heard.method.now heard.resource.now closing ≡ print given label request
-          = ap (reply_text given label heard.method.now heard.resource.now) ends ∙ (λ i. reply_text given label (is.method i) (is.resource i) (is_some (is.end i))) in
+      = ap (reply_text given label heard.method.now heard.resource.now) ends ∙ (λ i. reply_text given label (is.method i) (is.resource i) (is_some (is.end i))) in
       let done = turn_whole settings at faults p q moments draws moments' draws' wire wire' request label given own_labels replied known (wrote ∙ ap (with_piece wire q) same) in
       let P : Option Ended → Type 0 = λ e. TurnsOnce settings at faults wire.begun (tally p moments draws wire.sent) (tally q moments' draws' wire'.sent) request (Served e) in
       subst P (sym is.end) done

@@ -43,7 +43,9 @@ pub fn meaning(alloc: Global, message: &Message) -> Meant
 fn creation(message: &Message) -> bool
     ensures { result ≡ is_creation message.now }
 {
-    message.method.as_slice() == b"PUT".as_slice() && bucket_target(message.target.as_slice()) && !names_acl(message.headers.as_slice())
+    message.method.as_slice() == b"PUT".as_slice()
+        && bucket_target(message.target.as_slice())
+        && !names_acl(message.headers.as_slice())
 }
 
 fn bucket_target(target: &[u8]) -> bool

@@ -27,7 +27,7 @@ pub fn reply_to<W: Swift>(store: &mut W, settings: &Settings, means: &Meant, lab
     // Where memory was wanted, some reply is due, and it is not this one.
     ensures told { W.tells store.old → Sound (W.tree_at store.new (W.called store.old)) → (request : Request) → Understands means.now request
         → (t : ℕ) × (due : _) × Replies settings.now (W.tree_at store.new) (W.faults_at store.new) (W.called store.old) t (W.called store.new) request label.now due
-            × (result ≢ answer.Memory → result ≡ due) }
+        × (result ≢ answer.Memory → result ≡ due) }
 {
     match means {
         Meant::Op(op) => planner::answer(store, settings, op, label),

@@ -24,7 +24,14 @@ use swift_calls::Swift;
 
 /// Serves one open connection to its end: its requests are heard and answered in order. After the first that ends the
 /// connection, and where the line fails or memory is wanted while a request is read, no more is read of it.
-pub fn serve_connection<N: Line<W>, W: Swift, C: Clock, D: Draws>(alloc: Global, store: &mut W, settings: &Settings, line: &mut N, clock: &mut C, draws: &mut D) -> Ended
+pub fn serve_connection<N: Line<W>, W: Swift, C: Clock, D: Draws>(
+    alloc: Global,
+    store: &mut W,
+    settings: &Settings,
+    line: &mut N,
+    clock: &mut C,
+    draws: &mut D,
+) -> Ended
     requires { IsTrue (N.is_open line.old) }
 
     // Faults of the line.
@@ -45,9 +52,9 @@ pub fn serve_connection<N: Line<W>, W: Swift, C: Clock, D: Draws>(alloc: Global,
     // Where line, store, clock and draws tell, and the account is sound: it is one connection.
     ensures told { N.tells line.old → W.tells store.old → C.tells clock.old → D.tells draws.old → Sound (W.tree_at store.new (W.called store.old))
         → (turns : List Turn) × TalkOne settings.now (W.tree_at store.new) (W.faults_at store.new) (N.wire line.old).begun result
-            (point (N.wire line.old).rest 0 (tally (W.called store.old) (C.moments clock.old) (D.draws draws.old) (N.wire line.old).sent))
-            turns
-            (tally (W.called store.new) (C.moments clock.new) (D.draws draws.new) (N.wire line.new).sent) }
+        (point (N.wire line.old).rest 0 (tally (W.called store.old) (C.moments clock.old) (D.draws draws.old) (N.wire line.old).sent))
+        turns
+        (tally (W.called store.new) (C.moments clock.new) (D.draws draws.new) (N.wire line.new).sent) }
 {
     let mut reader = match Reader::new(alloc) {
         Ok(reader) => reader,
@@ -62,7 +69,15 @@ pub fn serve_connection<N: Line<W>, W: Swift, C: Clock, D: Draws>(alloc: Global,
 }
 
 /// Hears the next request and answers it. `None` says that the connection goes on.
-fn serve_next<N: Line<W>, W: Swift, C: Clock, D: Draws>(alloc: Global, reader: &mut Reader, store: &mut W, settings: &Settings, line: &mut N, clock: &mut C, draws: &mut D) -> Option<Ended>
+fn serve_next<N: Line<W>, W: Swift, C: Clock, D: Draws>(
+    alloc: Global,
+    reader: &mut Reader,
+    store: &mut W,
+    settings: &Settings,
+    line: &mut N,
+    clock: &mut C,
+    draws: &mut D,
+) -> Option<Ended>
     requires open { IsTrue (N.is_open line.old) }
     requires goes { reader.old.ended ≡ false }
 
@@ -85,13 +100,31 @@ fn serve_next<N: Line<W>, W: Swift, C: Clock, D: Draws>(alloc: Global, reader: &
 
     ensures told { N.tells line.old → W.tells store.old → C.tells clock.old → D.tells draws.old → Sound (W.tree_at store.new (W.called store.old))
         → NextOne settings.now (W.tree_at store.new) (W.faults_at store.new) (N.wire line.old).begun
-            (point (reader.old.bytes ++ (N.wire line.old).rest) reader.old.place (tally (W.called store.old) (C.moments clock.old) (D.draws draws.old) (N.wire line.old).sent))
-            result
-            (point (reader.new.bytes ++ (N.wire line.new).rest) reader.new.place (tally (W.called store.new) (C.moments clock.new) (D.draws draws.new) (N.wire line.new).sent)) }
+        (point (reader.old.bytes ++ (N.wire line.old).rest) reader.old.place (tally (W.called store.old) (C.moments clock.old) (D.draws draws.old) (N.wire line.old).sent))
+        result
+        (point (reader.new.bytes ++ (N.wire line.new).rest) reader.new.place (tally (W.called store.new) (C.moments clock.new) (D.draws draws.new) (N.wire line.new).sent)) }
 {
     match reader.next_request(line, store) {
-        Ok(Got::Request(message)) => answer(alloc, store, settings, line, clock, draws, &hear(alloc, &message), end_of(&message)),
-        Ok(Got::Refused { kind, place, head }) => answer(alloc, store, settings, line, clock, draws, &hear_refused(kind, head), Some(Ended::Refused { kind, place })),
+        Ok(Got::Request(message)) => answer(
+            alloc,
+            store,
+            settings,
+            line,
+            clock,
+            draws,
+            &hear(alloc, &message),
+            end_of(&message),
+        ),
+        Ok(Got::Refused { kind, place, head }) => answer(
+            alloc,
+            store,
+            settings,
+            line,
+            clock,
+            draws,
+            &hear_refused(kind, head),
+            Some(Ended::Refused { kind, place }),
+        ),
         Ok(Got::End) => Some(Ended::End),
         Ok(Got::CutShort(place)) => Some(Ended::CutShort(place)),
         Err(ReadFault::Failed) => Some(Ended::LineFailed),
@@ -100,7 +133,16 @@ fn serve_next<N: Line<W>, W: Swift, C: Clock, D: Draws>(alloc: Global, reader: &
 }
 
 /// Answers a request. `None` says that the connection goes on.
-fn answer<N: Line<W>, W: Swift, C: Clock, D: Draws>(alloc: Global, store: &mut W, settings: &Settings, line: &mut N, clock: &mut C, draws: &mut D, heard: &Heard<'_>, end: Option<Ended>) -> Option<Ended>
+fn answer<N: Line<W>, W: Swift, C: Clock, D: Draws>(
+    alloc: Global,
+    store: &mut W,
+    settings: &Settings,
+    line: &mut N,
+    clock: &mut C,
+    draws: &mut D,
+    heard: &Heard<'_>,
+    end: Option<Ended>,
+) -> Option<Ended>
     requires open { IsTrue (N.is_open line.old) }
     requires proper { IsProperMeant heard.now.means }
     requires end { has_ended_failed end ≡ false }
@@ -125,9 +167,9 @@ fn answer<N: Line<W>, W: Swift, C: Clock, D: Draws>(alloc: Global, store: &mut W
     ensures told { N.tells line.old → W.tells store.old → C.tells clock.old → D.tells draws.old → Sound (W.tree_at store.new (W.called store.old))
         → (request : Request) → Is heard.now end request
         → TurnEnds settings.now (W.tree_at store.new) (W.faults_at store.new) (N.wire line.old).begun
-            (tally (W.called store.old) (C.moments clock.old) (D.draws draws.old) (N.wire line.old).sent)
-            (tally (W.called store.new) (C.moments clock.new) (D.draws draws.new) (N.wire line.new).sent)
-            request result }
+        (tally (W.called store.old) (C.moments clock.old) (D.draws draws.old) (N.wire line.old).sent)
+        (tally (W.called store.new) (C.moments clock.new) (D.draws draws.new) (N.wire line.new).sent)
+        request result }
 {
     match take_turn(alloc, store, settings, line, clock, draws, heard, end) {
         Turned::Served(ended) => ended,

@@ -30,7 +30,16 @@ pub enum Turned {
 
 /// Answers one request: the clock is read once and two words are drawn, the reply is found, and it is written as one
 /// piece. `end` says how the connection ends after the reply, if it does.
-pub fn take_turn<N: Line<W>, W: Swift, C: Clock, D: Draws>(alloc: Global, store: &mut W, settings: &Settings, line: &mut N, clock: &mut C, draws: &mut D, heard: &Heard<'_>, end: Option<Ended>) -> Turned
+pub fn take_turn<N: Line<W>, W: Swift, C: Clock, D: Draws>(
+    alloc: Global,
+    store: &mut W,
+    settings: &Settings,
+    line: &mut N,
+    clock: &mut C,
+    draws: &mut D,
+    heard: &Heard<'_>,
+    end: Option<Ended>,
+) -> Turned
     requires open { IsTrue (N.is_open line.old) }
     requires proper { IsProperMeant heard.now.means }
 
@@ -55,13 +64,22 @@ pub fn take_turn<N: Line<W>, W: Swift, C: Clock, D: Draws>(alloc: Global, store:
     ensures told { N.tells line.old → W.tells store.old → C.tells clock.old → D.tells draws.old → Sound (W.tree_at store.new (W.called store.old))
         → (request : Request) → Is heard.now end request
         → TurnsOnce settings.now (W.tree_at store.new) (W.faults_at store.new) (N.wire line.old).begun
-            (tally (W.called store.old) (C.moments clock.old) (D.draws draws.old) (N.wire line.old).sent)
-            (tally (W.called store.new) (C.moments clock.new) (D.draws draws.new) (N.wire line.new).sent)
-            request result }
+        (tally (W.called store.old) (C.moments clock.old) (D.draws draws.old) (N.wire line.old).sent)
+        (tally (W.called store.new) (C.moments clock.new) (D.draws draws.new) (N.wire line.new).sent)
+        request result }
 {
     let label = next_label(clock, draws);
     let reply = reply_to(store, settings, &heard.means, &label);
-    match write_reply(alloc, line, store, &reply, &label, heard.method, heard.resource, end.is_some()) {
+    match write_reply(
+        alloc,
+        line,
+        store,
+        &reply,
+        &label,
+        heard.method,
+        heard.resource,
+        end.is_some(),
+    ) {
         Written::Whole => Turned::Served(end),
         Written::Memory => Turned::Served(Some(Ended::Memory)),
         Written::Failed => Turned::Broken,

@@ -28,7 +28,16 @@ pub enum Written {
 }
 
 /// Writes a reply as one piece, or the reply for want of memory in its place.
-pub fn write_reply<N: Line<W>, W: Swift>(alloc: Global, line: &mut N, store: &W, reply: &Reply, label: &Label, method: &[u8], resource: &[u8], closing: bool) -> Written
+pub fn write_reply<N: Line<W>, W: Swift>(
+    alloc: Global,
+    line: &mut N,
+    store: &W,
+    reply: &Reply,
+    label: &Label,
+    method: &[u8],
+    resource: &[u8],
+    closing: bool,
+) -> Written
     requires open { IsTrue (N.is_open line.old) }
     requires moment { label.now.moment < moment_limit }
     ensures open { N.is_open line.new ≡ true }
@@ -69,7 +78,14 @@ pub fn write_memory<N: Line<W>, W: Swift>(line: &mut N, store: &W, head: bool) -
 
 // The text of a reply. The word that memory was wanted has none.
 #[tactic(auto, using(crate::proofs::Statuses::reply_status), unfolding(crate::specs::Request::reply_text))]
-fn print(alloc: Global, reply: &Reply, label: &Label, method: &[u8], resource: &[u8], closing: bool) -> Result<Bytes, Memory>
+fn print(
+    alloc: Global,
+    reply: &Reply,
+    label: &Label,
+    method: &[u8],
+    resource: &[u8],
+    closing: bool,
+) -> Result<Bytes, Memory>
     requires { label.now.moment < moment_limit }
     ensures text { IfOk result (λ text. text ≡ reply_text reply.now label.now method.now resource.now closing) }
     ensures known { OnOk result (reply.now ≢ answer.Memory) }

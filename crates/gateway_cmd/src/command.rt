@@ -19,7 +19,16 @@ use swift_calls::Swift;
 /// A whole run of `s3gate` with these words, which follow the program's name. Its answer is the exit status: 0 where
 /// the words are `session` and each connection of the line was served, 2 where the words are refused, 3 where the line
 /// failed to give another connection, 5 where memory was wanted. The key text isn't looked at yet.
-pub fn run<N: Line<W>, R: Sink, W: Swift, C: Clock, D: Draws>(alloc: Global, words: &[String], _keys: &str, line: &mut N, report: &mut R, store: &mut W, clock: &mut C, draws: &mut D) -> u8
+pub fn run<N: Line<W>, R: Sink, W: Swift, C: Clock, D: Draws>(
+    alloc: Global,
+    words: &[String],
+    _keys: &str,
+    line: &mut N,
+    report: &mut R,
+    store: &mut W,
+    clock: &mut C,
+    draws: &mut D,
+) -> u8
     // The causes of the status. Want of memory, 5, is free.
     ensures status { IsStatus result }
     ensures usage { (result ≡ 2) ↔ (is_accepted words.now ≡ false) }
@@ -41,12 +50,12 @@ pub fn run<N: Line<W>, R: Sink, W: Swift, C: Clock, D: Draws>(alloc: Global, wor
     // the entry or stands for the state before or after the one request that has the number.
     ensures told { N.tells line.old → W.tells store.old → C.tells clock.old → D.tells draws.old → Sound (W.tree_at store.new (W.called store.old))
         → (turns : List Turn)
-            × Talk default_settings (W.tree_at store.new) (W.faults_at store.new)
-                (place_of (N.wire line.old) (tally (W.called store.old) (C.moments clock.old) (D.draws draws.old) (N.wire line.old).sent))
-                turns
-                (place_of (N.wire line.new) (tally (W.called store.new) (C.moments clock.new) (D.draws draws.new) (N.wire line.new).sent))
-            × StandsThroughout (W.tree_at store.new) turns (W.called store.old) (W.called store.new)
-            × Follows (W.called store.old) turns (W.called store.new) }
+        × Talk default_settings (W.tree_at store.new) (W.faults_at store.new)
+        (place_of (N.wire line.old) (tally (W.called store.old) (C.moments clock.old) (D.draws draws.old) (N.wire line.old).sent))
+        turns
+        (place_of (N.wire line.new) (tally (W.called store.new) (C.moments clock.new) (D.draws draws.new) (N.wire line.new).sent))
+        × StandsThroughout (W.tree_at store.new) turns (W.called store.old) (W.called store.new)
+        × Follows (W.called store.old) turns (W.called store.new) }
 {
     let ended = attempt(alloc, words, line, store, clock, draws);
     let _ = report.put(ended.line());
@@ -54,7 +63,14 @@ pub fn run<N: Line<W>, R: Sink, W: Swift, C: Clock, D: Draws>(alloc: Global, wor
 }
 
 // The run but for its report.
-fn attempt<N: Line<W>, W: Swift, C: Clock, D: Draws>(alloc: Global, words: &[String], line: &mut N, store: &mut W, clock: &mut C, draws: &mut D) -> Status
+fn attempt<N: Line<W>, W: Swift, C: Clock, D: Draws>(
+    alloc: Global,
+    words: &[String],
+    line: &mut N,
+    store: &mut W,
+    clock: &mut C,
+    draws: &mut D,
+) -> Status
     ensures usage { (result ≡ variant.Usage) ↔ (is_accepted words.now ≡ false) }
     ensures line { result ≡ variant.Line → Rose (N.next_faults line.old) (N.next_faults line.new) }
     ensures quiet { result ≢ variant.Line → N.next_faults line.new ≡ N.next_faults line.old }
@@ -63,10 +79,10 @@ fn attempt<N: Line<W>, W: Swift, C: Clock, D: Draws>(alloc: Global, words: &[Str
     ensures ordered { W.called store.old ≤ W.called store.new }
     ensures told { N.tells line.old → W.tells store.old → C.tells clock.old → D.tells draws.old → Sound (W.tree_at store.new (W.called store.old))
         → (turns : List Turn)
-            × Talk default_settings (W.tree_at store.new) (W.faults_at store.new)
-                (place_of (N.wire line.old) (tally (W.called store.old) (C.moments clock.old) (D.draws draws.old) (N.wire line.old).sent))
-                turns
-                (place_of (N.wire line.new) (tally (W.called store.new) (C.moments clock.new) (D.draws draws.new) (N.wire line.new).sent)) }
+        × Talk default_settings (W.tree_at store.new) (W.faults_at store.new)
+        (place_of (N.wire line.old) (tally (W.called store.old) (C.moments clock.old) (D.draws draws.old) (N.wire line.old).sent))
+        turns
+        (place_of (N.wire line.new) (tally (W.called store.new) (C.moments clock.new) (D.draws draws.new) (N.wire line.new).sent)) }
 {
     if accepted(words) {
         session(alloc, line, store, clock, draws)

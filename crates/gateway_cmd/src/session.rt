@@ -20,7 +20,13 @@ use swift_calls::Swift;
 const LEAST_PART: u64 = 5_242_880;
 
 /// Serves the connections of the line until there is none.
-pub fn session<N: Line<W>, W: Swift, C: Clock, D: Draws>(alloc: Global, line: &mut N, store: &mut W, clock: &mut C, draws: &mut D) -> Status
+pub fn session<N: Line<W>, W: Swift, C: Clock, D: Draws>(
+    alloc: Global,
+    line: &mut N,
+    store: &mut W,
+    clock: &mut C,
+    draws: &mut D,
+) -> Status
     ensures known { result ≢ status.Usage }
     ensures cause { result ≡ status.Line → Rose (N.next_faults line.old) (N.next_faults line.new) }
     ensures quiet { result ≢ status.Line → N.next_faults line.new ≡ N.next_faults line.old }
@@ -35,9 +41,9 @@ pub fn session<N: Line<W>, W: Swift, C: Clock, D: Draws>(alloc: Global, line: &m
 
     ensures told { N.tells line.old → W.tells store.old → C.tells clock.old → D.tells draws.old → Sound (W.tree_at store.new (W.called store.old))
         → (turns : List Turn) × Talk default_settings (W.tree_at store.new) (W.faults_at store.new)
-            (place_of (N.wire line.old) (tally (W.called store.old) (C.moments clock.old) (D.draws draws.old) (N.wire line.old).sent))
-            turns
-            (place_of (N.wire line.new) (tally (W.called store.new) (C.moments clock.new) (D.draws draws.new) (N.wire line.new).sent)) }
+        (place_of (N.wire line.old) (tally (W.called store.old) (C.moments clock.old) (D.draws draws.old) (N.wire line.old).sent))
+        turns
+        (place_of (N.wire line.new) (tally (W.called store.new) (C.moments clock.new) (D.draws draws.new) (N.wire line.new).sent)) }
 {
     let settings = match settings(alloc) {
         Ok(settings) => settings,
@@ -52,7 +58,14 @@ pub fn session<N: Line<W>, W: Swift, C: Clock, D: Draws>(alloc: Global, line: &m
 }
 
 /// Serves the next connection, if there is one. `None` says that it was served.
-fn serve_another<N: Line<W>, W: Swift, C: Clock, D: Draws>(alloc: Global, settings: &Settings, line: &mut N, store: &mut W, clock: &mut C, draws: &mut D) -> Option<Status>
+fn serve_another<N: Line<W>, W: Swift, C: Clock, D: Draws>(
+    alloc: Global,
+    settings: &Settings,
+    line: &mut N,
+    store: &mut W,
+    clock: &mut C,
+    draws: &mut D,
+) -> Option<Status>
     ensures known { (result ≢ Some status.Usage) }
     ensures falls { result ≡ None → 2 ^ 63 - N.spent line.new < 2 ^ 63 - N.spent line.old }
     ensures cause { result ≡ Some status.Line → Rose (N.next_faults line.old) (N.next_faults line.new) }
@@ -68,9 +81,9 @@ fn serve_another<N: Line<W>, W: Swift, C: Clock, D: Draws>(alloc: Global, settin
     ensures done { N.tells line.old → result ≡ Some status.Done → (N.wire line.new).waiting ≡ [] }
     ensures told { N.tells line.old → W.tells store.old → C.tells clock.old → D.tells draws.old → Sound (W.tree_at store.new (W.called store.old))
         → NextPlace settings.now (W.tree_at store.new) (W.faults_at store.new)
-            (place_of (N.wire line.old) (tally (W.called store.old) (C.moments clock.old) (D.draws draws.old) (N.wire line.old).sent))
-            result
-            (place_of (N.wire line.new) (tally (W.called store.new) (C.moments clock.new) (D.draws draws.new) (N.wire line.new).sent)) }
+        (place_of (N.wire line.old) (tally (W.called store.old) (C.moments clock.old) (D.draws draws.old) (N.wire line.old).sent))
+        result
+        (place_of (N.wire line.new) (tally (W.called store.new) (C.moments clock.new) (D.draws draws.new) (N.wire line.new).sent)) }
 {
     match line.next() {
         Ok(true) => {

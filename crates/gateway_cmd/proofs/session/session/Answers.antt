@@ -31,7 +31,7 @@ returns-in-Some-clause-told g c = λ line store clock draws sound.
     let next : Place = (place_of (g.N.Line.wire c.serve_another.new.line) (tally (g.W.Counted.called c.serve_another.new.store) (g.C.Clock.moments c.serve_another.new.clock) (g.D.Draws.draws c.serve_another.new.draws) (g.N.Line.wire c.serve_another.new.line).sent)) in
     let P : Settings → Type 0 = λ settings. NextPlace settings (g.W.Swift.tree_at c.serve_another.new.store) (g.W.Swift.faults_at c.serve_another.new.store) present (Some c.in-Some.status) next in
     let step = λ (sound_now : Sound (g.W.Swift.tree_at c.serve_another.new.store (g.W.Counted.called c.connections.store))).
-        subst P c.in-Ok.ensures (s.told (i.tells_line line) (i.tells_store store) (i.tells_clock clock) (i.tells_draws draws) sound_now) in
+    subst P c.in-Ok.ensures (s.told (i.tells_line line) (i.tells_store store) (i.tells_clock clock) (i.tells_draws draws) sound_now) in
     served_all _ (place_of (g.N.Line.wire c.args.line.now) (tally (g.W.Counted.called c.args.store.now) (g.C.Clock.moments c.args.clock.now) (g.D.Draws.draws c.args.draws.now) (g.N.Line.wire c.args.line.now).sent)) present _ _ _ _ i.ordered (s.kept (i.tells_store store)) (i.served line store clock draws) next c.in-Some.status step sound
 
 pub connections-preserved : goal.connections-preserved
@@ -47,10 +47,10 @@ connections-preserved g c =
       ordered = (let a = i.ordered in let b = s.ordered in omega arith);
       kept = λ tells. kept_trans i.ordered (i.kept tells) (s.kept (i.tells_store tells));
       served = λ line store clock draws.
-    let present : Place = (place_of (g.N.Line.wire c.connections.line) (tally (g.W.Counted.called c.connections.store) (g.C.Clock.moments c.connections.clock) (g.D.Draws.draws c.connections.draws) (g.N.Line.wire c.connections.line).sent)) in
-    let next : Place = (place_of (g.N.Line.wire c.serve_another.new.line) (tally (g.W.Counted.called c.serve_another.new.store) (g.C.Clock.moments c.serve_another.new.clock) (g.D.Draws.draws c.serve_another.new.draws) (g.N.Line.wire c.serve_another.new.line).sent)) in
-    let P : Settings → Type 0 = λ settings. NextPlace settings (g.W.Swift.tree_at c.serve_another.new.store) (g.W.Swift.faults_at c.serve_another.new.store) present None next in
-    let step = λ (sound_now : Sound (g.W.Swift.tree_at c.serve_another.new.store (g.W.Counted.called c.connections.store))).
-        subst P c.in-Ok.ensures (s.told (i.tells_line line) (i.tells_store store) (i.tells_clock clock) (i.tells_draws draws) sound_now) in
-    served_more _ (place_of (g.N.Line.wire c.args.line.now) (tally (g.W.Counted.called c.args.store.now) (g.C.Clock.moments c.args.clock.now) (g.D.Draws.draws c.args.draws.now) (g.N.Line.wire c.args.line.now).sent)) present _ _ _ _ i.ordered (s.kept (i.tells_store store)) (i.served line store clock draws) next step;
+          let present : Place = (place_of (g.N.Line.wire c.connections.line) (tally (g.W.Counted.called c.connections.store) (g.C.Clock.moments c.connections.clock) (g.D.Draws.draws c.connections.draws) (g.N.Line.wire c.connections.line).sent)) in
+          let next : Place = (place_of (g.N.Line.wire c.serve_another.new.line) (tally (g.W.Counted.called c.serve_another.new.store) (g.C.Clock.moments c.serve_another.new.clock) (g.D.Draws.draws c.serve_another.new.draws) (g.N.Line.wire c.serve_another.new.line).sent)) in
+          let P : Settings → Type 0 = λ settings. NextPlace settings (g.W.Swift.tree_at c.serve_another.new.store) (g.W.Swift.faults_at c.serve_another.new.store) present None next in
+          let step = λ (sound_now : Sound (g.W.Swift.tree_at c.serve_another.new.store (g.W.Counted.called c.connections.store))).
+          subst P c.in-Ok.ensures (s.told (i.tells_line line) (i.tells_store store) (i.tells_clock clock) (i.tells_draws draws) sound_now) in
+          served_more _ (place_of (g.N.Line.wire c.args.line.now) (tally (g.W.Counted.called c.args.store.now) (g.C.Clock.moments c.args.clock.now) (g.D.Draws.draws c.args.draws.now) (g.N.Line.wire c.args.line.now).sent)) present _ _ _ _ i.ordered (s.kept (i.tells_store store)) (i.served line store clock draws) next step;
     }

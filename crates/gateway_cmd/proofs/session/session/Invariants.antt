@@ -17,8 +17,8 @@ invariant-connections g l = record {
   kept : g.W.Swift.tells l.initial.store → Kept (g.W.Counted.called l.initial.store) (g.W.Swift.tree_at l.initial.store) (g.W.Swift.tree_at l.store) (g.W.Swift.faults_at l.initial.store) (g.W.Swift.faults_at l.store);
   served : g.N.Line.tells l.initial.line → g.W.Swift.tells l.initial.store → g.C.Clock.tells l.initial.clock → g.D.Draws.tells l.initial.draws
       → Served default_settings (g.W.Swift.tree_at l.store) (g.W.Swift.faults_at l.store)
-          (place_of (g.N.Line.wire l.initial.line) (tally (g.W.Counted.called l.initial.store) (g.C.Clock.moments l.initial.clock) (g.D.Draws.draws l.initial.draws) (g.N.Line.wire l.initial.line).sent))
-          (place_of (g.N.Line.wire l.line) (tally (g.W.Counted.called l.store) (g.C.Clock.moments l.clock) (g.D.Draws.draws l.draws) (g.N.Line.wire l.line).sent));
+      (place_of (g.N.Line.wire l.initial.line) (tally (g.W.Counted.called l.initial.store) (g.C.Clock.moments l.initial.clock) (g.D.Draws.draws l.initial.draws) (g.N.Line.wire l.initial.line).sent))
+      (place_of (g.N.Line.wire l.line) (tally (g.W.Counted.called l.store) (g.C.Clock.moments l.clock) (g.D.Draws.draws l.draws) (g.N.Line.wire l.line).sent));
 }
 
 abbrev pub decreases-connections : goal.decreases-connections
