@@ -7,7 +7,7 @@ use Rattle.http_wire.specs.declared.message.Kind.TheVariants.{BadHead}
 use Rattle.gateway.specs.declared.ended.Ended.TheVariants as ended
 use Rattle.gateway.specs.declared.heard.Heard.{Heard}
 use Rattle.gateway.specs.declared.meant.Meant.{Meant}
-use Rattle.gateway.specs.declared.meant.Meant.TheVariants.{Op, Refused, Memory}
+use Rattle.gateway.specs.declared.meant.Meant.TheVariants.{Refused, Memory}
 use Rattle.gateway.specs.Meaning.{meaning_of, is_creation}
 use Rattle.gateway.specs.Request.{raw_path, request_of, refused_request, code_of}
 use Rattle.gateway.specs.Heard.{Is, end_after}

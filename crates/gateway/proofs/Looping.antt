@@ -1,5 +1,5 @@
 -- A connection, request by request, over a history that grows.
-use Rattle.std.proofs.Common.{◌≡◌, ◌≤◌, ℕ, List, [], ◌∷◌, ◌++◌, Bool, true, false, Option, None, Some, slice_set, ◌-◌, refl, sym, subst, ◌∙◌, arith}
+use Rattle.std.proofs.Common.{◌≡◌, ◌≤◌, ℕ, List, [], ◌∷◌, ◌++◌, Bool, true, false, None, Some, slice_set, ◌-◌, refl, sym, subst, ◌∙◌, arith}
 use Rattle.gate_base.specs.Wire.{Wire}
 use Rattle.s3_machine.specs.declared.operation.Settings.{Settings}
 use Rattle.swift_calls.specs.Tree.{Tree}
@@ -8,8 +8,8 @@ use Rattle.upload_records.specs.Sound.{Sound}
 use Rattle.http_wire.specs.Gives.{Pending}
 use Rattle.gateway.specs.declared.ended.Ended.{Ended}
 use Rattle.gateway.specs.Exchange.{Turn}
-use Rattle.gateway.specs.Connection.{Tally, Point, tally, point, turn_of, Serves, Exchanges, none, more, Ends, TalkOne}
-use Rattle.gateway.specs.Agree.{exchanges_agree, exchanges_order, exchanges_sound}
+use Rattle.gateway.specs.Connection.{Tally, Point, tally, point, turn_of, Exchanges, none, more, TalkOne}
+use Rattle.gateway.specs.Agree.{exchanges_agree, exchanges_sound}
 use Rattle.gateway.specs.Serving.{NextOne, EndsUnread, OnlyServes}
 use Rattle.gateway.proofs.Serving.{next_unread}
 

@@ -1,7 +1,6 @@
 -- The pieces of a header's value between its commas.
-use Rattle.std.proofs.Common.{◌≡◌, ℕ, ◌+◌, Bool, true, false, ◌||◌, List, [], ◌∷◌, take, drop, Some, None, position, refl, sym, ap, ◌∙◌}
+use Rattle.std.proofs.Common.{◌≡◌, ℕ, ◌+◌, Bool, true, false, ◌||◌, List, take, drop, Some, None, position, refl, sym, ap, ◌∙◌}
 use Rattle.std.proofs.lemmas.List.{drop-drop}
-use Rattle.std.specs.List.{list_any, slice_split}
 use Rattle.s3_names.proofs.Dots.{slice_split_from, slice_split_none_at}
 use Rattle.gateway.specs.Closing.{is_close, is_comma, has_close}
 

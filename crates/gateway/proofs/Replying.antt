@@ -9,7 +9,7 @@ use Rattle.s3_machine.specs.declared.operation.Reply.TheVariants as answer
 use Rattle.swift_calls.specs.Tree.{Tree}
 use Rattle.upload_records.specs.Native.{native}
 use Rattle.upload_records.specs.Sound.{Sound}
-use Rattle.recovery.specs.Turns.{Quiet, Turns}
+use Rattle.recovery.specs.Turns.{Quiet}
 use Rattle.recovery.specs.Agree.{turns_quiet}
 use Rattle.recovery.specs.Answers.{Answers, memory, most_calls}
 use Rattle.gateway.specs.declared.meant.Meant.{Meant}

@@ -1,5 +1,5 @@
 -- One step of a connection.
-use Rattle.std.proofs.Common.{◌≡◌, ◌≢◌, ◌≤◌, ℕ, Bool, true, false, List, [], ◌∷◌, ◌++◌, drop, Option, None, Some, refl, sym, ap, subst, ◌∙◌, inl, inr, arith}
+use Rattle.std.proofs.Common.{◌≡◌, ℕ, Bool, true, false, List, [], Option, None, Some, refl, sym, ap, subst, ◌∙◌, inl, inr}
 use Rattle.gate_base.specs.declared.outside.Piece.{Piece}
 use Rattle.gate_base.specs.Wire.{Wire}
 use Rattle.s3_machine.specs.declared.operation.Settings.{Settings}
@@ -7,7 +7,6 @@ use Rattle.swift_calls.specs.Tree.{Tree}
 use Rattle.http_wire.specs.declared.message.Message.{Message}
 use Rattle.http_wire.specs.declared.message.Kind.{Kind}
 use Rattle.http_wire.specs.declared.message.Got.TheVariants as got
-use Rattle.http_wire.specs.Front.{IsFront, asks, nothing, cut_short, refused}
 use Rattle.http_wire.specs.Gives.{Pending, Gives}
 use Rattle.http_wire.specs.Print.{memory_reply}
 use Rattle.gateway.specs.declared.ended.Ended.{Ended}
@@ -15,7 +14,7 @@ use Rattle.gateway.specs.declared.ended.Ended.TheVariants.{End, Closed, CutShort
 use Rattle.gateway.specs.declared.turn.Turned.TheVariants.{Served, Broken}
 use Rattle.gateway.specs.Exchange.{Sends, SendsPart}
 use Rattle.gateway.specs.Request.{Request, request_of, refused_request}
-use Rattle.gateway.specs.Connection.{Tally, Point, tally, point, Hears, read, rejected, Serves, Breaks, Ends, over, cut, served, unread, unheard, untold, broken}
+use Rattle.gateway.specs.Connection.{Tally, Point, tally, point, Hears, read, rejected, over, cut, served, unread, unheard, untold, broken}
 use Rattle.gateway.specs.Turned.{TurnsOnce, TurnEnds}
 use Rattle.gateway.specs.Serving.{NextOne, EndsUnread}
 

@@ -1,5 +1,5 @@
 -- The statuses of the pages of replies.
-use Rattle.std.proofs.Common.{◌≡◌, ℕ, List, true, refl}
+use Rattle.std.proofs.Common.{ℕ, List, refl}
 use Rattle.s3_machine.specs.declared.code.Code.{Code}
 use Rattle.s3_machine.specs.declared.code.Code.TheVariants.{BucketAlreadyOwnedByYou, InconsistentStore, InvalidRequest, NotImplemented, ServiceUnavailable}
 use Rattle.s3_machine.specs.declared.operation.Label.{Label}

@@ -1,9 +1,9 @@
 -- One request answered: the pieces, and the exchange that they are.
-use Rattle.std.proofs.Common.{◌≡◌, ◌≢◌, ◌≤◌, ◌⊎◌, ℕ, List, [], ◌∷◌, ◌++◌, take, drop, Bool, Option, Some, refl, sym, ap, subst, ◌∙◌, inl, inr, arith, append-nil, is_some, All}
+use Rattle.std.proofs.Common.{◌≡◌, ◌≢◌, ◌≤◌, ℕ, List, [], ◌∷◌, ◌++◌, take, drop, Bool, Option, Some, refl, sym, ap, subst, ◌∙◌, inl, inr, arith, append-nil, is_some, All}
 use Rattle.std.proofs.lemmas.List.{take-append-drop}
 use Rattle.std.proofs.lemmas.List.Elements.{All-nil, All-cons}
 use Rattle.gate_base.specs.declared.outside.Piece.{Piece}
-use Rattle.gate_base.specs.Wire.{Wire, with_piece, with_mark, SendsPrefix}
+use Rattle.gate_base.specs.Wire.{Wire, with_piece, SendsPrefix}
 use Rattle.s3_machine.specs.declared.operation.Label.{Label}
 use Rattle.s3_machine.specs.declared.operation.Settings.{Settings}
 use Rattle.s3_machine.specs.declared.operation.Reply.{Reply}
@@ -19,7 +19,7 @@ use Rattle.gateway.specs.declared.heard.Heard.{Heard}
 use Rattle.gateway.specs.Heard.{Is}
 use Rattle.gateway.specs.declared.turn.Turned.TheVariants.{Served, Broken}
 use Rattle.gateway.specs.Request.{Request, reply_text, print}
-use Rattle.gateway.specs.Exchange.{Replies, refused, answered, Due, printed, wanted, Sends, SendsPart, IsPiece}
+use Rattle.gateway.specs.Exchange.{Replies, refused, answered, printed, wanted, Sends, SendsPart, IsPiece}
 use Rattle.gateway.specs.Connection.{LabelGiven, tally}
 use Rattle.gateway.specs.Turned.{TurnsOnce}
 use Rattle.gateway.specs.Write.{IsText}

@@ -1,5 +1,5 @@
 -- A request as it is answered, whether it was read as a message or refused before.
-use Rattle.std.specs.Prelude.{◌≡◌, ◌≢◌, ℕ, Bool, true, cond, is_some, ◌==◌, List, [], Option, None, Some, codes}
+use Rattle.std.specs.Prelude.{ℕ, Bool, cond, is_some, ◌==◌, List, [], Option, None, Some, codes}
 use Rattle.std.specs.List.{before_first}
 use Rattle.gate_base.specs.declared.page.Caller.{Caller}
 use Rattle.gate_base.specs.declared.page.Caller.TheVariants.{Owner}

@@ -1,5 +1,5 @@
 -- One step of a connection: a request that was answered, or its end.
-use Rattle.std.specs.Prelude.{◌≡◌, ℕ, Bool, true, false, List, if◌then◌else◌, Option, None, Some}
+use Rattle.std.specs.Prelude.{◌≡◌, ℕ, Bool, false, List, if◌then◌else◌, Option, None, Some}
 use Rattle.gate_base.specs.Wire.{Wire, with_mark}
 use Rattle.s3_machine.specs.declared.operation.Settings.{Settings}
 use Rattle.swift_calls.specs.Tree.{Tree}

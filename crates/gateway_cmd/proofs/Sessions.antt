@@ -1,5 +1,5 @@
 -- A session, connection by connection, over a history that grows.
-use Rattle.std.proofs.Common.{◌≡◌, ◌≤◌, ℕ, List, [], ◌++◌, Option, None, Some, refl, sym, subst, arith}
+use Rattle.std.proofs.Common.{◌≤◌, ℕ, List, ◌++◌, None, Some, sym, subst, arith}
 use Rattle.s3_machine.specs.declared.operation.Settings.{Settings}
 use Rattle.swift_calls.specs.Tree.{Tree}
 use Rattle.swift_calls.specs.History.{Kept}
@@ -7,7 +7,7 @@ use Rattle.upload_records.specs.Sound.{Sound}
 use Rattle.gateway.specs.Exchange.{Turn}
 use Rattle.gateway.specs.Stands.{StandsThroughout, Follows}
 use Rattle.gateway_cmd.specs.declared.status.Status.{Status}
-use Rattle.gateway_cmd.specs.Run.{Place, ServesNext, Talk, none, more}
+use Rattle.gateway_cmd.specs.Run.{Place, Talk, more}
 use Rattle.gateway_cmd.specs.Session.{NextPlace}
 use Rattle.gateway_cmd.specs.TalkLaws.{talk_agree, talk_sound, talk_stands, talk_turns_follow}
 

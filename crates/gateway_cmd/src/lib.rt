@@ -8,3 +8,6 @@ mod status;
 
 pub use command::run;
 pub use laws::{law_talk_stands, law_turns_follow};
+
+#[cfg(test)]
+mod tests;

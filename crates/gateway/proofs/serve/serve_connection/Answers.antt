@@ -1,8 +1,8 @@
-use Rattle.std.proofs.Common.{◌≡◌, ◌≤◌, ◌∙◌, ◌++◌, ℕ, None, Some, rules, refl, subst, ap, arith}
+use Rattle.std.proofs.Common.{◌∙◌, ◌++◌, ℕ, None, Some, rules, refl, subst, ap, arith}
 use Rattle.upload_records.specs.Sound.{Sound}
 use Rattle.gateway.specs.Connection.{Point, point, tally}
 use Rattle.gateway.specs.Serving.{NextOne}
-use Rattle.swift_calls.specs.History.{Kept, kept_trans}
+use Rattle.swift_calls.specs.History.{kept_trans}
 use Rattle.gateway.proofs.Looping.{answered_more, answered_ends, answered_none, unread_at_once, serves_on}
 use Rattle.gateway.proofs.serve.serve_connection.Goals as goal
 

@@ -1,4 +1,4 @@
-use Rattle.std.proofs.Common.{◌≡◌, ◌≤◌, ◌++◌, ℕ, true, false}
+use Rattle.std.proofs.Common.{◌≡◌, ◌≤◌, ◌++◌, true, false}
 use Rattle.swift_calls.specs.History.{Kept}
 use Rattle.http_wire.specs.Gives.{weight}
 use Rattle.gateway.specs.Connection.{tally, point}

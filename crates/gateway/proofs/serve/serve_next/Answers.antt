@@ -1,4 +1,4 @@
-use Rattle.std.proofs.Common.{◌≡◌, ◌++◌, Option, List, ℕ, false, sym, subst, ap, refl}
+use Rattle.std.proofs.Common.{◌++◌, Option, List, ℕ, sym, subst, ap}
 use Rattle.gateway.specs.declared.ended.Ended.{Ended}
 use Rattle.gateway.specs.Heard.{Is}
 use Rattle.gateway.specs.Request.{request_of, refused_request}

@@ -1,6 +1,6 @@
-use Rattle.std.proofs.Common.{◌≡◌, ◌≤◌, ◌∙◌, ℕ, [], None, Some, rules, refl, subst, ap, arith}
+use Rattle.std.proofs.Common.{◌∙◌, [], None, Some, refl, subst, arith}
 use Rattle.s3_machine.specs.declared.operation.Settings.{Settings}
-use Rattle.swift_calls.specs.History.{Kept, kept_trans}
+use Rattle.swift_calls.specs.History.{kept_trans}
 use Rattle.upload_records.specs.Sound.{Sound}
 use Rattle.gateway.specs.Connection.{tally}
 use Rattle.gateway_cmd.specs.Run.{Place, place_of, none}

@@ -1,4 +1,4 @@
-use Rattle.std.proofs.Common.{◌≡◌, ◌≤◌, ◌-◌, ◌^◌, ℕ}
+use Rattle.std.proofs.Common.{◌≡◌, ◌≤◌, ◌-◌, ◌^◌}
 use Rattle.swift_calls.specs.History.{Kept}
 use Rattle.gateway.specs.Connection.{tally}
 use Rattle.gateway_cmd.specs.Run.{place_of}
