@@ -197,6 +197,8 @@ impl Swift for OddStore {
 
     ghost faults_at = { λ _ _. 0 };
 
+    ghost counts_match = { λ store tells left. absurd tells };
+
     fn call(&mut self, _request: &SwiftRequest) -> Result<SwiftReply, SwiftFault> {
         if self.calls >= 1000 {
             return Err(SwiftFault::Memory);
