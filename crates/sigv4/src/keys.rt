@@ -1,0 +1,176 @@
+ghost use Rattle.std.specs.Prelude.{◌≡◌, ◌==◌, position, find, is_some, IfOk};
+ghost use Rattle.std.specs.Option.{option_copied};
+ghost use Rattle.std.specs.List.{list_all, list_any as any_of, before_first, after_first};
+ghost use Rattle.sigv4.specs.Keys.{is_newline, is_space, is_letter_or_digit, is_visible, has_word_length, is_key, key_of, keys_of, has_id, are_keys, ReadsKeys, secret_of};
+
+use gate_base::{Bytes, Copying, List, Memory};
+use std::alloc::Global;
+use std::marker::Model;
+
+/// The longest id or secret, in bytes.
+const LONGEST: usize = 128;
+
+/// An access key: its id, of letters and digits, and its secret, of visible ASCII, each of 1 to 128 bytes.
+#[derive(Debug, Drop)]
+pub struct AccessKey {
+    pub id: Bytes,
+    pub secret: Bytes,
+}
+
+/// Why a text of keys isn't read. `BadLine`: the first line, counted from 0, that isn't an id of 1 to 128 letters and
+/// digits, a space and a secret of 1 to 128 bytes of visible ASCII. `Twice`: the first line whose id an earlier line
+/// has. The lines before it are good. `Memory`: memory was wanted.
+#[derive(Clone, Copy, Debug, PartialEq, Eq)]
+pub enum KeysFault {
+    BadLine(u64),
+    Twice(u64),
+    Memory,
+}
+
+impl From<Memory> for KeysFault {
+    ghost use Rattle.std.specs.Prelude.{◌≡◌};
+    ghost use Rattle.sigv4.specs.declared.keys.KeysFault.TheVariants.{Memory as memory_wanted};
+
+    ghost from_gives = { λ _ fault. fault ≡ memory_wanted };
+
+    fn from(_: Memory) -> KeysFault {
+        KeysFault::Memory
+    }
+}
+
+/// The access keys that sign requests, in the order of their text, no id twice. Contracts see them as their list.
+#[derive(Debug, Drop)]
+pub struct Keys {
+    entries: List<AccessKey>,
+}
+
+impl Model for Keys {
+    ghost use Rattle.std.specs.Prelude.{◌≡◌, List, true};
+    ghost use Rattle.sigv4.specs.declared.keys.AccessKey.{AccessKey};
+    ghost use Rattle.sigv4.specs.Keys.{are_keys};
+
+    ghost Value = { List AccessKey };
+
+    ghost view = { λ keys. keys.entries };
+
+    ghost invariant = { λ keys. are_keys keys.entries ≡ true };
+}
+
+impl Keys {
+    /// Reads lines `ID SECRET`, each ended by LF, the last one perhaps not; a text of no byte has no line. The first
+    /// line that is bad, or has the id of an earlier one, is the fault.
+    #[tactic(auto, using(crate::proofs::KeysLemmas::behind_is_shorter))]
+    pub fn read(alloc: Global, text: &[u8]) -> Result<Keys, KeysFault>
+        ensures { ReadsKeys (keys_of text.now) result }
+    {
+        let mut keys = List::new(alloc);
+        let mut rest = text;
+        'lines: while !rest.is_empty() {
+            let (line, behind) = cut(rest, b'\n');
+            let key = read_line(alloc, line)?;
+            if !is_key(&key) {
+                return Err(KeysFault::BadLine(keys.len() as u64));
+            }
+            if has_id(key.id.as_slice(), keys.as_slice()) {
+                return Err(KeysFault::Twice(keys.len() as u64));
+            }
+            keys.push(key)?;
+            rest = behind;
+        }
+        Ok(Keys { entries: keys })
+    }
+
+    /// The secret of the id, or none exactly where no line has the id. It takes no memory.
+    pub fn secret(&self, id: &[u8]) -> Option<&[u8]>
+        ensures value { option_copied result ≡ secret_of id.now self.now }
+        ensures found { is_some result ≡ any_of (has_id id.now) self.now }
+    {
+        match self.find(id) {
+            Some(key) => Some(key.secret.as_slice()),
+            None => None,
+        }
+    }
+
+    fn find(&self, id: &[u8]) -> Option<&AccessKey>
+        ensures { option_copied result ≡ find (has_id id.now) self.now }
+    {
+        self.entries
+            .as_slice()
+            .iter()
+            .find(|key| key.id.as_slice() == id)
+    }
+}
+
+/// The text before the first such byte and the text behind it: all of it and none where there is no such byte.
+fn cut(text: &[u8], separator: u8) -> (&[u8], &[u8])
+    ensures before { result.0.now ≡ before_first (λ byte. byte == separator) text.now }
+    ensures behind { result.1.now ≡ after_first (λ byte. byte == separator) text.now }
+{
+    match first_place(text, separator) {
+        Some(at) => (&text[..at], &text[at + 1..]),
+        None => (text, &text[text.len()..]),
+    }
+}
+
+fn first_place(text: &[u8], byte: u8) -> Option<usize>
+    ensures { result ≡ position (λ item. item == byte) text.now }
+{
+    text.iter().position(|item| *item == byte)
+}
+
+fn read_line(alloc: Global, line: &[u8]) -> Result<AccessKey, Memory>
+    ensures { IfOk result (λ key. key ≡ key_of line.now) }
+{
+    let (id, secret) = cut(line, b' ');
+    Ok(AccessKey {
+        id: Bytes::from_slice(alloc, id)?,
+        secret: Bytes::from_slice(alloc, secret)?,
+    })
+}
+
+fn is_key(key: &AccessKey) -> bool
+    ensures { result ≡ is_key key.now }
+{
+    let id = key.id.as_slice();
+    let secret = key.secret.as_slice();
+    has_word_length(id)
+        && all_letters_or_digits(id)
+        && has_word_length(secret)
+        && all_visible(secret)
+}
+
+fn has_word_length(word: &[u8]) -> bool
+    ensures { result ≡ has_word_length word.now }
+{
+    1 <= word.len() && word.len() <= LONGEST
+}
+
+fn all_letters_or_digits(word: &[u8]) -> bool
+    ensures { result ≡ list_all is_letter_or_digit word.now }
+{
+    word.iter().all(|byte| is_letter_or_digit(*byte))
+}
+
+fn is_letter_or_digit(byte: u8) -> bool
+    ensures { result ≡ is_letter_or_digit byte }
+{
+    byte.is_ascii_digit() || byte.is_ascii_uppercase() || byte.is_ascii_lowercase()
+}
+
+fn all_visible(word: &[u8]) -> bool
+    ensures { result ≡ list_all is_visible word.now }
+{
+    word.iter().all(|byte| is_visible(*byte))
+}
+
+fn is_visible(byte: u8) -> bool
+    ensures { result ≡ is_visible byte }
+{
+    byte.is_ascii_graphic()
+}
+
+fn has_id(id: &[u8], keys: &[AccessKey]) -> bool
+    ensures { result ≡ any_of (has_id id.now) keys.now }
+{
+    keys.iter().any(|key| key.id.as_slice() == id)
+}

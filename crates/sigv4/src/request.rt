@@ -1,0 +1,222 @@
+ghost use Rattle.std.specs.Prelude.{◌≡◌, ◌==◌, ◌++◌, ◌≤◌, length, map, flat_map, position, IfOk, OnOk};
+ghost use Rattle.std.specs.Ordering.{is_lt};
+ghost use Rattle.http_wire.specs.Front.{has_name, values_of};
+ghost use Rattle.sigv4.specs.Canonical.{is_blank, skip_blanks, cut_blanks, begins_with_space, single_spaced, clean, canonical_value, canonical_header, canonical_headers, escaped_pair, pair_cmp, place_of, placed, ordered, pair_text, canonical_query, canonical_text};
+
+use crate::join::joined;
+use gate_base::{Bytes, Copying, List, Memory, Pair};
+use http_wire::Message;
+use s3_names::{Target, encode_all, encode_path};
+use std::alloc::Global;
+use std::cmp::Ordering;
+
+/// The canonical request: the method, the path escaped, the query escaped and ordered, the headers of these names,
+/// the names, and the hash of the body, joined by LF (Amazon S3 API Reference, "Authenticating requests: using the
+/// Authorization header", task 1). A name that no header has stands with no value.
+#[tactic(auto, unfolding(crate::specs::Canonical::canonical_text))]
+pub fn canonical(
+    alloc: Global,
+    message: &Message,
+    target: &Target,
+    names: &[Bytes],
+    payload: &[u8],
+) -> Result<Bytes, Memory>
+    ensures { IfOk result (λ text. text ≡ canonical_text message.now target.now names.now payload.now) }
+{
+    let parts = [
+        message.method.copy()?,
+        encode_path(alloc, target.path.as_slice())?,
+        canonical_query(alloc, target.query.pairs())?,
+        canonical_headers(alloc, message.headers.as_slice(), names)?,
+        joined(alloc, b';', names)?,
+        Bytes::from_slice(alloc, payload)?,
+    ];
+    joined(alloc, b'\n', &parts)
+}
+
+fn canonical_headers(alloc: Global, headers: &[Pair], names: &[Bytes]) -> Result<Bytes, Memory>
+    ensures { IfOk result (λ text. text ≡ canonical_headers headers.now names.now) }
+{
+    let mut text = Bytes::new(alloc);
+    for name in names {
+        append_header(alloc, &mut text, headers, name.as_slice())?;
+    }
+    Ok(text)
+}
+
+fn append_header(
+    alloc: Global,
+    text: &mut Bytes,
+    headers: &[Pair],
+    name: &[u8],
+) -> Result<(), Memory>
+    ensures { OnOk result (text.new ≡ text.old ++ canonical_header headers.now name.now) }
+{
+    let values = values_of(alloc, headers, name)?;
+    let value = joined(alloc, b',', values.as_slice())?;
+    text.append(name)?;
+    text.push(b':')?;
+    text.append(value.as_slice())?;
+    text.push(b'\n')
+}
+
+/// The values of the headers of a name, without the blanks around them and in single spacing.
+fn values_of(alloc: Global, headers: &[Pair], name: &[u8]) -> Result<List<Bytes>, Memory>
+    ensures { IfOk result (λ values. values ≡ map clean (values_of name.now headers.now)) }
+{
+    let mut values = List::new(alloc);
+    for header in headers {
+        if has_name(name, header) {
+            values.push(clean(alloc, header.value.as_slice())?)?;
+        }
+    }
+    Ok(values)
+}
+
+fn has_name(name: &[u8], header: &Pair) -> bool
+    ensures { result ≡ has_name name.now header.now }
+{
+    header.name.as_slice() == name
+}
+
+fn clean(alloc: Global, value: &[u8]) -> Result<Bytes, Memory>
+    ensures { IfOk result (λ text. text ≡ clean value.now) }
+{
+    single_spaced(alloc, cut_blanks(skip_blanks(value)))
+}
+
+fn is_blank(byte: u8) -> bool
+    ensures { result ≡ is_blank byte }
+{
+    byte == b' ' || byte == b'\t'
+}
+
+#[tactic(auto, unfolding(crate::specs::Canonical::skip_blanks))]
+fn skip_blanks(text: &[u8]) -> &[u8]
+    ensures { result.now ≡ skip_blanks text.now }
+{
+    let mut rest = text;
+    'bytes: while let [first, behind @ ..] = rest {
+        if !is_blank(*first) {
+            return rest;
+        }
+        rest = behind;
+    }
+    rest
+}
+
+#[tactic(auto, unfolding(crate::specs::Canonical::skip_blanks))]
+fn cut_blanks(text: &[u8]) -> &[u8]
+    ensures { result.now ≡ cut_blanks text.now }
+{
+    let mut rest = text;
+    'bytes: while let [before @ .., last] = rest {
+        if !is_blank(*last) {
+            return rest;
+        }
+        rest = before;
+    }
+    rest
+}
+
+fn begins_with_space(text: &[u8]) -> bool
+    ensures { result ≡ begins_with_space text.now }
+{
+    match text {
+        [first, ..] => *first == b' ',
+        [] => false,
+    }
+}
+
+#[tactic(auto, unfolding(crate::specs::Canonical::single_spaced))]
+fn single_spaced(alloc: Global, text: &[u8]) -> Result<Bytes, Memory>
+    ensures { IfOk result (λ spaced. spaced ≡ single_spaced text.now) }
+{
+    let mut spaced = Bytes::new(alloc);
+    let mut rest = text;
+    'bytes: while let [first, behind @ ..] = rest {
+        if *first != b' ' || !begins_with_space(behind) {
+            spaced.push(*first)?;
+        }
+        rest = behind;
+    }
+    Ok(spaced)
+}
+
+fn canonical_query(alloc: Global, pairs: &[Pair]) -> Result<Bytes, Memory>
+    ensures { IfOk result (λ text. text ≡ canonical_query pairs.now) }
+{
+    let pairs = ordered(alloc, pairs)?;
+    let texts = pair_texts(alloc, pairs.as_slice())?;
+    joined(alloc, b'&', texts.as_slice())
+}
+
+/// The pairs escaped, in the order of what they are escaped to.
+#[tactic(auto, unfolding(crate::specs::Canonical::ordered))]
+fn ordered(alloc: Global, pairs: &[Pair]) -> Result<List<Pair>, Memory>
+    ensures { IfOk result (λ sorted. sorted ≡ ordered (map escaped_pair pairs.now)) }
+{
+    let mut sorted = List::new(alloc);
+    for pair in pairs {
+        place(&mut sorted, escaped_pair(alloc, pair)?)?;
+    }
+    Ok(sorted)
+}
+
+fn escaped_pair(alloc: Global, pair: &Pair) -> Result<Pair, Memory>
+    ensures { IfOk result (λ escaped. escaped ≡ escaped_pair pair.now) }
+{
+    Ok(Pair {
+        name: encode_all(alloc, pair.name.as_slice())?,
+        value: encode_all(alloc, pair.value.as_slice())?,
+    })
+}
+
+fn place(sorted: &mut List<Pair>, pair: Pair) -> Result<(), Memory>
+    ensures { OnOk result (sorted.new ≡ placed sorted.old pair) }
+{
+    let at = place_of(&pair, sorted.as_slice());
+    sorted.insert(at, pair)
+}
+
+#[tactic(auto, using(crate::proofs::OrderLemmas::place_is, crate::proofs::OrderLemmas::place_within))]
+fn place_of(pair: &Pair, pairs: &[Pair]) -> usize
+    ensures place { result ≡ place_of pair.now pairs.now }
+    ensures within { result ≤ length pairs.now }
+{
+    first_behind(pair, pairs).unwrap_or(pairs.len())
+}
+
+fn first_behind(pair: &Pair, pairs: &[Pair]) -> Option<usize>
+    ensures { result ≡ position (λ other. is_lt (pair_cmp pair.now other)) pairs.now }
+{
+    pairs.iter().position(|other| pair_cmp(pair, other).is_lt())
+}
+
+fn pair_cmp(pair: &Pair, other: &Pair) -> Ordering
+    ensures { result ≡ pair_cmp pair.now other.now }
+{
+    pair.name
+        .as_slice()
+        .cmp(other.name.as_slice())
+        .then(pair.value.as_slice().cmp(other.value.as_slice()))
+}
+
+fn pair_texts(alloc: Global, pairs: &[Pair]) -> Result<List<Bytes>, Memory>
+    ensures { IfOk result (λ texts. texts ≡ map pair_text pairs.now) }
+{
+    let mut texts = List::new(alloc);
+    for pair in pairs {
+        texts.push(pair_text(alloc, pair)?)?;
+    }
+    Ok(texts)
+}
+
+fn pair_text(alloc: Global, pair: &Pair) -> Result<Bytes, Memory>
+    ensures { IfOk result (λ text. text ≡ pair_text pair.now) }
+{
+    let mut text = pair.name.copy()?;
+    text.push(b'=')?;
+    text.append(pair.value.as_slice())?;
+    Ok(text)
+}
