@@ -142,6 +142,29 @@ fn escapes(rt: HostRuntime) -> Result<(), Fail> {
     Ok(())
 }
 
+/// The escape of each byte, in order, as `urllib.parse.quote` of Python with `safe="-._~"` gives it.
+const ESCAPES: &str =
+    "%00 %01 %02 %03 %04 %05 %06 %07 %08 %09 %0A %0B %0C %0D %0E %0F %10 %11 %12 %13 %14 %15 %16 %17 %18 %19 %1A %1B %1C %1D %1E %1F %20 %21 %22 %23 %24 %25 %26 %27 %28 %29 %2A %2B %2C - . %2F 0 1 2 3 4 5 6 7 8 9 %3A %3B %3C %3D %3E %3F %40 A B C D E F G H I J K L M N O P Q R S T U V W X Y Z %5B %5C %5D %5E _ %60 a b c d e f g h i j k l m n o p q r s t u v w x y z %7B %7C %7D ~ %7F %80 %81 %82 %83 %84 %85 %86 %87 %88 %89 %8A %8B %8C %8D %8E %8F %90 %91 %92 %93 %94 %95 %96 %97 %98 %99 %9A %9B %9C %9D %9E %9F %A0 %A1 %A2 %A3 %A4 %A5 %A6 %A7 %A8 %A9 %AA %AB %AC %AD %AE %AF %B0 %B1 %B2 %B3 %B4 %B5 %B6 %B7 %B8 %B9 %BA %BB %BC %BD %BE %BF %C0 %C1 %C2 %C3 %C4 %C5 %C6 %C7 %C8 %C9 %CA %CB %CC %CD %CE %CF %D0 %D1 %D2 %D3 %D4 %D5 %D6 %D7 %D8 %D9 %DA %DB %DC %DD %DE %DF %E0 %E1 %E2 %E3 %E4 %E5 %E6 %E7 %E8 %E9 %EA %EB %EC %ED %EE %EF %F0 %F1 %F2 %F3 %F4 %F5 %F6 %F7 %F8 %F9 %FA %FB %FC %FD %FE %FF";
+
+#[test]
+fn escapes_each_byte(rt: HostRuntime) -> Result<(), Fail> {
+    let mut wanted = ESCAPES.split(' ');
+    for byte in 0..=255u8 {
+        let escape = wanted.next().ok_or("an escape")?;
+        let in_path = if byte == b'/' { "/" } else { escape };
+        let path = encode_path(rt.alloc(), &[byte])?;
+        let all = encode_all(rt.alloc(), &[byte])?;
+        assert_eq!(rt; path.as_slice(), in_path.as_bytes());
+        assert_eq!(rt; all.as_slice(), escape.as_bytes());
+        assert_eq!(rt;
+            decode(rt.alloc(), escape.as_bytes())?.as_slice(),
+            [byte].as_slice()
+        );
+    }
+    assert!(rt; wanted.next().is_none());
+    Ok(())
+}
+
 #[test]
 fn decodes(rt: HostRuntime) {
     let table: [(&str, Result<&str, NameFault>); 12] = [
@@ -192,10 +215,12 @@ fn adds_metadata(rt: HostRuntime) -> Result<(), Fail> {
 
 #[test]
 fn reads_queries(rt: HostRuntime) {
-    let table: [(&str, Result<&str, NameFault>); 17] = [
+    let table: [(&str, Result<&str, NameFault>); 21] = [
         ("", Ok("")),
         ("&&", Ok("")),
+        ("=", Ok(":;")),
         ("acl", Ok("acl:;")),
+        ("a=b=c", Ok("a:b=c;")),
         ("a=1&&b=2&", Ok("a:1;b:2;")),
         ("a=1=2", Ok("a:1=2;")),
         ("=x", Ok(":x;")),
@@ -212,6 +237,8 @@ fn reads_queries(rt: HostRuntime) {
         ("a=%ff&b=%zz", Err(NameFault::BadEscape)),
         ("a=%ff", Err(NameFault::NotUtf8)),
         ("%c3=1", Err(NameFault::NotUtf8)),
+        ("%C3", Err(NameFault::NotUtf8)),
+        ("%zz", Err(NameFault::BadEscape)),
         ("a=1&b=%00", Err(NameFault::NotUtf8)),
     ];
     for (text, wanted) in table {
@@ -224,8 +251,12 @@ fn reads_queries(rt: HostRuntime) {
 
 #[test]
 fn reads_targets(rt: HostRuntime) {
-    let table: [(&str, Result<&str, NameFault>); 20] = [
+    let table: [(&str, Result<&str, NameFault>); 24] = [
         ("/", Ok("/ /   ")),
+        ("/b", Ok("/b /b b  ")),
+        ("/b/", Ok("/b/ /b/ b  ")),
+        ("/b//k", Ok("/b//k /b//k b /k ")),
+        ("/%62/k?x", Ok("/%62/k /b/k b k x:;")),
         ("/photos", Ok("/photos /photos photos  ")),
         ("/photos/", Ok("/photos/ /photos/ photos  ")),
         ("/photos?acl", Ok("/photos /photos photos  acl:;")),
