@@ -1,9 +1,31 @@
-//! The segments of a static large object, as Object Storage API v1 has them.
+//! Manifests of static large objects, as Object Storage API v1 has them: the lists of segments that are put and got
+//! as JSON, the ETag of the joined object, and where its bytes lie.
 #![tactic(auto)]
 
 ghost use Rattle.std.specs.Prelude.{◌≡◌};
 
+mod covering;
+mod entries;
+mod etags;
+mod laws;
+mod manifest;
+mod paths;
+mod ranges;
+mod reading;
+mod segments;
+#[cfg(test)]
+mod tests;
+mod writing;
+
+pub use covering::cover;
+pub use etags::joined_etag;
 use gate_base::{Bytes, Copying, Memory};
+pub use laws::{law_byte_lies, law_one_answer, law_text_reads_back};
+pub use manifest::{Form, MOST_SEGMENTS, ManifestFault};
+pub use ranges::Cover;
+pub use reading::read;
+pub use segments::{is_manifest, is_segment};
+pub use writing::write;
 
 /// One segment of a static large object: the container and the name under which it is stored, its ETag as the
 /// store gives it, and its size in bytes.
@@ -23,31 +45,5 @@ impl Copying for Segment {
             etag: self.etag.copy()?,
             size: self.size,
         })
-    }
-}
-
-#[cfg(test)]
-mod tests {
-    use super::*;
-    use std::alloc::Global;
-    use std::test::Fail;
-
-    fn segment(alloc: Global) -> Result<Segment, Memory> {
-        Ok(Segment {
-            container: Bytes::from_slice(alloc, b"photos+segments")?,
-            name: Bytes::from_slice(alloc, b"1/00001")?,
-            etag: Bytes::from_slice(alloc, b"5d41402abc4b2a76b9719d911017c592")?,
-            size: 5,
-        })
-    }
-
-    #[test]
-    fn copies_a_segment(rt: HostRuntime) -> Result<(), Fail> {
-        let copied = segment(rt.alloc())?.copy()?;
-        assert!(rt; copied.container.as_slice() == b"photos+segments".as_slice());
-        assert!(rt; copied.name.as_slice() == b"1/00001".as_slice());
-        assert!(rt; copied.etag.as_slice() == b"5d41402abc4b2a76b9719d911017c592".as_slice());
-        assert_eq!(rt; copied.size, 5);
-        Ok(())
     }
 }

@@ -1,0 +1,11 @@
+pub mod AnswerLemmas
+pub mod CoverLemmas
+pub mod CutLemmas
+pub mod EntryLemmas
+pub mod ListLemmas
+pub mod ReadLemmas
+pub mod RoundTrip
+pub mod SegmentLemmas
+pub mod TextLemmas
+pub mod Texts
+pub mod Utf8Lemmas

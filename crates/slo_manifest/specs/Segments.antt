@@ -1,0 +1,36 @@
+-- Which segments a manifest may list. Source: Object Storage API v1, "Static large objects": at most 1000 segments,
+-- each with the MD5 of its object and a size above 0. That a size is below 2^63 is this profile.
+use Rattle.std.specs.Prelude.{ℕ, ◌^◌, Bool, not, ◌&&◌, ◌||◌, ◌==◌, nat_le, nat_lt, List, length}
+use Rattle.std.specs.List.{list_all, list_any}
+use Rattle.std.specs.Str.{is_utf8}
+use Rattle.slo_manifest.specs.declared.Segment.{Segment}
+
+abbrev pub is_slash : ℕ → Bool
+is_slash byte = byte == 47
+
+-- `0` to `9` and `a` to `f`
+abbrev pub is_lower_hex_digit : ℕ → Bool
+is_lower_hex_digit byte = (nat_le 48 byte && nat_le byte 57) || (nat_le 97 byte && nat_le byte 102)
+
+-- 32 lower-case hexadecimal digits
+unfoldable pub is_etag : List ℕ → Bool
+is_etag text = (length text == 32) && list_all is_lower_hex_digit text
+
+abbrev pub is_filled : List ℕ → Bool
+is_filled text = nat_lt 0 (length text)
+
+-- what the fields of an entry must be, whatever its size is otherwise
+unfoldable pub is_proper : List ℕ → List ℕ → List ℕ → ℕ → Bool
+is_proper container name etag size = is_filled container && is_filled name && is_etag etag && nat_lt size (2 ^ 63)
+
+-- what else a segment must be to be listed
+unfoldable pub is_listable : List ℕ → List ℕ → ℕ → Bool
+is_listable container name size = nat_lt 0 size && not (list_any is_slash container) && is_utf8 container && is_utf8 name
+
+-- a segment that may be listed
+unfoldable pub is_segment : Segment → Bool
+is_segment s = is_proper s.container s.name s.etag s.size && is_listable s.container s.name s.size
+
+-- segments that have a text
+unfoldable pub is_manifest : List Segment → Bool
+is_manifest segments = nat_le (length segments) 1000 && list_all is_segment segments

@@ -1,0 +1,162 @@
+ghost use Rattle.std.specs.Prelude.{◌≡◌, option_and_then, option_map, codes, IfOk, true};
+ghost use Rattle.std.specs.Str.{IsUtf8, is_utf8};
+ghost use Rattle.serde_json.specs.Find.{get, as_number, as_str, as_u64};
+ghost use Rattle.serde_json.specs.View.{view};
+ghost use Rattle.slo_manifest.specs.Segments.{is_segment};
+ghost use Rattle.slo_manifest.specs.Entry.{etag_field, path_field, size_field, text_at, number_at, entry_of, segment_of, EntryGives};
+ghost use Rattle.slo_manifest.specs.Text.{entry_value, put_value, got_value};
+
+use crate::Segment;
+use crate::manifest::Form;
+use crate::paths::{parts, path_of};
+use crate::segments::is_proper;
+use gate_base::{Bytes, Memory};
+use serde_json::{Value, json};
+use std::alloc::{AllocError, Global};
+use std::str;
+
+/// Why an entry gives no segment.
+#[derive(Clone, Copy, Debug, PartialEq, Eq)]
+pub enum EntryFault {
+    /// It is no segment.
+    Bad,
+    /// It is a segment of size 0.
+    Empty,
+    /// Memory was wanted and not there.
+    Memory,
+}
+
+impl From<Memory> for EntryFault {
+    ghost use Rattle.slo_manifest.specs.declared.entries.EntryFault.{EntryFault};
+
+    ghost from_gives = { λ _ fault. fault ≡ EntryFault.Memory };
+
+    fn from(_: Memory) -> EntryFault {
+        EntryFault::Memory
+    }
+}
+
+fn etag_field(form: Form) -> &'static str
+    ensures { result.now ≡ etag_field form }
+{
+    match form {
+        Form::Put => "etag",
+        Form::Got => "hash",
+    }
+}
+
+fn path_field(form: Form) -> &'static str
+    ensures { result.now ≡ path_field form }
+{
+    match form {
+        Form::Put => "path",
+        Form::Got => "name",
+    }
+}
+
+fn size_field(form: Form) -> &'static str
+    ensures { result.now ≡ size_field form }
+{
+    match form {
+        Form::Put => "size_bytes",
+        Form::Got => "bytes",
+    }
+}
+
+fn text_at<'v>(value: &'v Value, field: &str) -> Option<&'v str>
+    ensures { option_map (λ text. text.now) result ≡ text_at field.now (view value.now) }
+{
+    value.get(field)?.as_str()
+}
+
+fn number_at(value: &Value, field: &str) -> Option<u64>
+    ensures { result ≡ number_at field.now (view value.now) }
+{
+    value.get(field)?.as_u64()
+}
+
+/// The segment that an entry of a manifest's list is.
+#[tactic(auto, unfolding(crate::specs::Entry::entry_of))]
+pub fn read_entry(alloc: Global, value: &Value, form: Form) -> Result<Segment, EntryFault>
+    ensures answer { EntryGives result (entry_of form (view value.now)) }
+    ensures listed { IfOk result (λ segment. is_segment segment ≡ true) }
+{
+    let Some(etag) = text_at(value, etag_field(form)) else {
+        return Err(EntryFault::Bad);
+    };
+    let Some(path) = text_at(value, path_field(form)) else {
+        return Err(EntryFault::Bad);
+    };
+    let Some(size) = number_at(value, size_field(form)) else {
+        return Err(EntryFault::Bad);
+    };
+    read_fields(alloc, etag.as_bytes(), path.as_bytes(), size)
+}
+
+/// The segment that the three fields of an entry are.
+#[tactic(auto, using(crate::proofs::CutLemmas::segment_listed), unfolding(crate::specs::Entry::segment_of))]
+fn read_fields(alloc: Global, etag: &[u8], path: &[u8], size: u64) -> Result<Segment, EntryFault>
+    requires { IsUtf8 path.now }
+    ensures answer { EntryGives result (segment_of etag.now path.now size) }
+    ensures listed { IfOk result (λ segment. is_segment segment ≡ true) }
+{
+    let (container, name) = parts(path);
+    if !is_proper(container, name, etag, size) {
+        return Err(EntryFault::Bad);
+    }
+    if size == 0 {
+        return Err(EntryFault::Empty);
+    }
+    Ok(Segment {
+        container: Bytes::from_slice(alloc, container)?,
+        name: Bytes::from_slice(alloc, name)?,
+        etag: Bytes::from_slice(alloc, etag)?,
+        size,
+    })
+}
+
+/// Bytes that are UTF-8, as text.
+#[tactic(auto, using(crate::proofs::Texts::utf8_after_all))]
+fn text(bytes: &[u8]) -> &str
+    requires { is_utf8 bytes.now ≡ true }
+    ensures { result.now ≡ bytes.now }
+{
+    match str::from_utf8(bytes) {
+        Ok(text) => text,
+        Err(_) => unreachable!(),
+    }
+}
+
+/// The entry of a segment, as JSON.
+#[tactic(auto, using(crate::proofs::SegmentLemmas::container_is_utf8, crate::proofs::SegmentLemmas::name_is_utf8, crate::proofs::SegmentLemmas::etag_is_utf8))]
+pub fn entry_value(alloc: Global, segment: &Segment, form: Form) -> Result<Value, AllocError>
+    requires { is_segment segment.now ≡ true }
+    ensures { IfOk result (λ value. view value ≡ entry_value form segment.now) }
+{
+    let container = text(segment.container.as_slice());
+    let name = text(segment.name.as_slice());
+    let path = path_of(alloc, container, name)?;
+    let etag = text(segment.etag.as_slice());
+    match form {
+        Form::Put => put_value(alloc, etag, path.as_str(), segment.size),
+        Form::Got => got_value(alloc, etag, path.as_str(), segment.size),
+    }
+}
+
+fn put_value(alloc: Global, etag: &str, path: &str, size: u64) -> Result<Value, AllocError>
+    ensures { IfOk result (λ value. view value ≡ put_value etag.now path.now size) }
+{
+    json!(in alloc; {"etag": etag, "path": path, "size_bytes": size})
+}
+
+fn got_value(alloc: Global, etag: &str, path: &str, size: u64) -> Result<Value, AllocError>
+    ensures { IfOk result (λ value. view value ≡ got_value etag.now path.now size) }
+{
+    json!(in alloc; {
+        "bytes": size,
+        "content_type": "application/octet-stream",
+        "hash": etag,
+        "last_modified": "1970-01-01T00:00:00.000000",
+        "name": path
+    })
+}
