@@ -1,15 +1,20 @@
 -- The headers of a message, by the spans of a head; and the headers of a name.
-use Rattle.std.proofs.Common.{◌≡◌, ℕ, zero, suc, ◌+◌, ◌<◌, ◌≤◌, Bool, true, false, cond, not, List, [], ◌∷◌, length, take, drop, map, refl, sym, ap, ap₂, ◌∙◌, ◌↔◌, IsTrue, arith}
-use Rattle.std.specs.Prelude.{filter, position, slice_index_or, Option, Some, None}
+use Rattle.std.proofs.Common.{◌≡◌, ℕ, zero, suc, ◌+◌, ◌-◌, ◌*◌, ◌^◌, ◌<◌, ◌≤◌, Bool, true, false, cond, not, List, [], ◌∷◌, length, take, drop, map, refl, sym, ap, ◌∙◌, ◌↔◌, IsTrue, Ok, Err, get_or, drop-cons, rules, arith}
+use Rattle.std.specs.Prelude.{filter, position, slice_index_or, Option, Some, None, Result, nat_lt, nat_le, if◌then◌else◌}
+use Rattle.std.specs.List.{list_all}
+use Rattle.std.proofs.lemmas.Str.Parse.{IsNumeralModel, numerals_by_fold, digits_value_short}
 use Rattle.std.specs.Char.{to_ascii_lowercase}
 use Rattle.std.specs.List.{position_or_len}
-use Rattle.std.proofs.lemmas.Bool.{cond-false, cond-true, false≢true, ltb-false}
+use Rattle.std.proofs.lemmas.Bool.{cond-false, cond-true, false≢true, ltb-false, and_parts, leb-true}
+use Rattle.std.proofs.lemmas.List.{drop_all}
 use Rattle.std.proofs.lemmas.List.Quantifiers.{position-Some}
 use Rattle.gate_base.specs.declared.page.Pair.{Pair}
 use Rattle.httparse.specs.declared.spans.HeaderSpan.{HeaderSpan}
 use Rattle.httparse.specs.Grammar.{Field}
 use Rattle.httparse.specs.Spans.{AreFieldsAt, header_bytes, name_and_value}
-use Rattle.http_wire.specs.Front.{header_of, has_name, value_of, values_of}
+use Rattle.http_wire.specs.declared.message.Kind.{Kind}
+use Rattle.http_wire.specs.declared.message.Kind.TheVariants.{BadLength, NoLength}
+use Rattle.http_wire.specs.Front.{header_of, has_name, value_of, values_of, is_digit, is_length, number_after, number_of, value_judged, length_judged}
 use Rattle.http_wire.specs.Headers.{header_at}
 
 -- the header of a name and a value
@@ -77,26 +82,66 @@ pub present_some : (name : List ℕ) (headers : List Pair) (at : ℕ) → positi
 present_some name headers at is =
     (λ h. absurd (false≢true h), λ h. absurd (not_none _ _ _ (first_of name headers at (record { name = []; value = [] }) is) h))
 
-tail_of : {A : Type 0} → List A → List A
-tail_of [] = []
-tail_of (x ∷ xs) = xs
+abbrev pub refused_length : Result ℕ Kind
+refused_length = Err NoLength
 
-first_or : {A : Type 0} → A → List A → A
-first_or d [] = d
-first_or d (x ∷ xs) = x
+abbrev pub no_length : Result ℕ Kind
+no_length = Ok 0
 
--- one value is all, where it is the first and none comes after it
-pub only_value : (values rest : List (List ℕ)) (v value : List ℕ) (r : Bool) → values ≡ v ∷ rest → v ≡ value
-    → (IsTrue r ↔ (rest ≡ [])) → IsTrue r ↔ (values ≡ value ∷ [])
-unfolding tail_of
-only_value values rest v value r first same after =
-    (λ h. first ∙ ap₂ (λ a b. a ∷ b) same (after.0 h), λ h. after.1 (ap tail_of (sym first ∙ h)))
+-- the length that is judged, where a first value is given and another or none comes after it
+pub judged_one : (put : Bool) (values rest : List (List ℕ)) (value : List ℕ) → values ≡ value ∷ rest → rest ≡ []
+    → value_judged value ≡ length_judged put values
+judged_one put values rest value first none = sym (ap (length_judged put) (first ∙ ap (λ v. value ∷ v) none))
 
-pub other_value : (values rest : List (List ℕ)) (v value : List ℕ) → values ≡ v ∷ rest → (v ≡ value → ⊥)
-    → IsTrue false ↔ (values ≡ value ∷ [])
-unfolding first_or
-other_value values rest v value first other =
-    (λ h. absurd (false≢true h), λ h. absurd (other (ap (first_or []) (sym first ∙ h))))
+judged_more : (put : Bool) (value : List ℕ) (rest : List (List ℕ)) → ¬ (rest ≡ []) → length_judged put (value ∷ rest) ≡ Err BadLength
+judged_more put value [] some = absurd (some refl)
+judged_more put value (other ∷ rest) some = refl
 
-pub no_value : (values : List (List ℕ)) (value : List ℕ) → values ≡ [] → IsTrue false ↔ (values ≡ value ∷ [])
-no_value values value none = (λ h. absurd (false≢true h), λ h. absurd (not_none values [] value h none))
+pub judged_many : (put : Bool) (values rest : List (List ℕ)) (value : List ℕ) → values ≡ value ∷ rest → ¬ (rest ≡ [])
+    → Err BadLength ≡ length_judged put values
+judged_many put values rest value first some = sym (ap (length_judged put) first ∙ judged_more put value rest some)
+
+pub judged_none_by : (put : Bool) → put ≡ true → (if put then refused_length else no_length) ≡ refused_length
+judged_none_by put is = cond-true put _ _ is
+
+pub judged_some_by : (put : Bool) → put ≡ false → (if put then refused_length else no_length) ≡ no_length
+judged_some_by put is = cond-false put _ _ is
+
+pub judged_none : (put : Bool) (values : List (List ℕ)) → values ≡ [] → length_judged put values ≡ (if put then refused_length else no_length)
+judged_none put values none = ap (length_judged put) none
+
+-- ---- the number that digits write
+
+digits_model : IsNumeralModel (λ ds. list_all is_digit ds ≡ true) (number_after 0)
+unfolding number_after
+digits_model = numerals_by_fold _ (search rules) number_after (search rules)
+
+-- so many digits fit 64 bits
+pub number_short : (digits : List ℕ) → IsTrue (is_length digits) → number_after 0 digits < 10 ^ 19
+number_short digits fine =
+    let parts = and_parts (nat_lt 0 (length digits)) _ fine in
+    let last = and_parts (nat_le (length digits) 19) _ parts.1 in
+    digits_value_short digits_model digits 19 last.1 (leb-true _ _ last.0)
+
+-- what was read of a number is no more than the number
+pub number_rises : (n : ℕ) (digits : List ℕ) → n ≤ number_after n digits
+unfolding number_after
+number_rises n [] = omega arith
+number_rises n (d ∷ digits) = omega (arith, number_rises (n * 10 + (d - 48)) digits)
+
+-- one digit more
+pub number_step : (digits : List ℕ) (n i : ℕ) → IsTrue (is_length digits) → i < length digits → number_after n (drop i digits) ≡ number_of digits
+    → (n * 10 + (get_or digits i 0 - 48) < 10 ^ 19) × (number_after (n * 10 + (get_or digits i 0 - 48)) (drop (i + 1) digits) ≡ number_of digits)
+unfolding number_after
+number_step digits n i fine within same =
+    let next : n * 10 + (get_or digits i 0 - 48) ≤ number_after (n * 10 + (get_or digits i 0 - 48)) (drop (suc i) digits) =
+    number_rises (n * 10 + (get_or digits i 0 - 48)) (drop (suc i) digits) in
+    let all : number_after (n * 10 + (get_or digits i 0 - 48)) (drop (suc i) digits) ≡ number_of digits =
+    sym (ap (number_after n) (drop-cons digits i 0 within)) ∙ same in
+    let one : suc i ≡ i + 1 = omega arith in
+    (omega (arith, next, all, number_short digits fine), ap (λ k. number_after (n * 10 + (get_or digits i 0 - 48)) (drop k digits)) (sym one) ∙ all)
+
+-- no digit more
+pub number_end : (digits : List ℕ) (n i : ℕ) → length digits ≤ i → number_after n (drop i digits) ≡ number_of digits → n ≡ number_of digits
+unfolding number_after
+number_end digits n i past same = sym (ap (number_after n) (drop_all i digits past)) ∙ same

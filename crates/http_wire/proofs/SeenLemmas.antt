@@ -1,14 +1,16 @@
 -- What was found in the bytes that came, by what the last look saw.
-use Rattle.std.proofs.Common.{◌≡◌, ℕ, ◌<◌, ◌≤◌, List, [], ◌∷◌, length, refl, sym, subst, arith, inr}
+use Rattle.std.proofs.Common.{◌≡◌, ℕ, ◌<◌, ◌≤◌, List, [], ◌∷◌, length, refl, sym, subst, arith}
 use Rattle.httparse.specs.declared.spans.HeaderSpan.{HeaderSpan}
 use Rattle.httparse.specs.Grammar.{HasNoRequest}
-use Rattle.http_wire.specs.declared.advance.Found.TheVariants.{Bad}
+use Rattle.http_wire.specs.declared.advance.Found.TheVariants.{Long}
 use Rattle.http_wire.specs.Front.{HasDeadPrefix}
 use Rattle.http_wire.specs.Seen.{AtEnd, IsFound, end_of, window}
 
 pub found_long : (bytes seen : List ℕ) (headers : List HeaderSpan) → seen ≡ window bytes → HasNoRequest seen
-    → 16384 ≤ length bytes → IsFound bytes headers Bad
-found_long bytes seen headers same none long = inr (subst HasNoRequest same none, long)
+    → ¬ (HasDeadPrefix seen) → 16384 ≤ length bytes
+    → IsFound bytes headers Long
+found_long bytes seen headers same none lives long =
+    (subst HasNoRequest same none, subst (λ v. ¬ (HasDeadPrefix v)) same lives, long)
 
 -- the connection ended inside a head, or with no byte left
 pub found_end : (bytes : List ℕ) (headers : List HeaderSpan) → HasNoRequest (window bytes) → ¬ (HasDeadPrefix (window bytes))

@@ -1,11 +1,16 @@
--- Just one thing stands first in a list of bytes; a request has a byte, and no more than there are.
-use Rattle.std.proofs.Common.{◌≡◌, ℕ, ◌<◌, ◌≤◌, Bool, List, [], length, drop, refl, sym, ap, ap₂, subst, ◌∙◌, length-append, arith, inl, inr}
-use Rattle.httparse.specs.Grammar.{RequestHead, print_request}
-use Rattle.httparse.proofs.GrammarLemmas.{request_unique}
+-- Just one thing stands first in a list of bytes; a request has a byte, and no more than there are; and what spells a message.
+use Rattle.std.proofs.Common.{◌≡◌, ℕ, ◌+◌, ◌<◌, ◌≤◌, Bool, true, false, cond, List, [], ◌++◌, length, take, drop, Ok, Err, refl, sym, ap, ap₂, subst, ◌∙◌, length-append, length-take, take-append-drop, arith}
+use Rattle.std.specs.Prelude.{Result, nat_le}
+use Rattle.std.proofs.lemmas.Bool.{cond-true, cond-false}
+use Rattle.std.proofs.lemmas.Bool.Decides.{nat_tests}
+use Rattle.std.proofs.lemmas.List.{drop-append-le, drop-take}
+use Rattle.std.proofs.Math.Seq.{take-append-add}
+use Rattle.httparse.specs.Grammar.{RequestHead, print_request, ReadsRequest}
+use Rattle.httparse.proofs.GrammarLemmas.{request_unique, ReadsRequest-append}
 use Rattle.http_wire.specs.declared.message.Message.{Message}
 use Rattle.http_wire.specs.declared.message.Kind.{Kind}
-use Rattle.http_wire.specs.declared.message.Kind.TheVariants.{BadHead}
-use Rattle.http_wire.specs.Front.{Front, HasHead, IsFront, IsTaken, asks, cut_short, is_head, message_of, nothing, refused}
+use Rattle.http_wire.specs.declared.message.Kind.TheVariants.{BadHead, LongHead, ManyHeaders, NoLength, BadLength, LongBody, Transfer, ShortBody}
+use Rattle.http_wire.specs.Front.{Front, EndsInBody, HasDeadPrefix, HasHead, HasNoHead, IsAsked, IsFront, IsJudged, IsRefused, Spells, asks, cut_short, is_head, judge, message_of, message_with, nothing, refused}
 use Rattle.http_wire.proofs.LookLemmas.{head_has_byte, nothing_lives}
 
 same_head : (bytes : List ℕ) (h k : RequestHead) (n m : ℕ) → HasHead bytes h n → HasHead bytes k m → h ≡ k
@@ -20,56 +25,149 @@ not_empty : (bytes : List ℕ) (h : RequestHead) (n : ℕ) → HasHead bytes h n
 not_empty bytes h n has none =
     omega (arith, head_has_byte h, ap length has.0.1, ap length none, length-append (print_request h) (drop n bytes))
 
-asks_refused : (bytes : List ℕ) (h : RequestHead) (n : ℕ) (kind : Kind) (head : Bool) → HasHead bytes h n → IsTaken (message_of h)
-    → IsFront bytes (refused kind head) → ⊥
-asks_refused bytes h n BadHead head has taken (inl (k, m, had, untaken, is)) =
-    untaken (subst (λ v. IsTaken (message_of v)) (same_head bytes h k n m has had) taken)
-asks_refused bytes h n BadHead head has taken (inr (none, out, is)) = none h n has
+-- ---- what stands first, by the head
 
-empty_refused : (bytes : List ℕ) (kind : Kind) (head : Bool) → bytes ≡ [] → IsFront bytes (refused kind head) → ⊥
-empty_refused bytes BadHead head none (inl (h, n, has, untaken, is)) = not_empty bytes h n has none
-empty_refused bytes BadHead head none (inr (no_head, inl dead, is)) = nothing_lives bytes none dead
-empty_refused bytes BadHead head none (inr (no_head, inr long, is)) = omega (arith, long, ap length none)
+-- what stands first where a whole head does, by how it is judged
+abbrev behind : List ℕ → RequestHead → ℕ → Result ℕ Kind → Front
+behind bytes h n (Ok m) =
+    cond (nat_le (n + m) (length bytes)) (asks (message_with h (take m (drop n bytes))) (n + m)) (refused ShortBody (is_head h.method))
+behind bytes h n (Err kind) = refused kind (is_head h.method)
 
-cut_refused : (bytes : List ℕ) (kind : Kind) (head : Bool) → IsFront bytes cut_short → IsFront bytes (refused kind head) → ⊥
-cut_refused bytes BadHead head cut (inl (h, n, has, untaken, is)) = cut.2 h n has
-cut_refused bytes BadHead head cut (inr (no_head, inl dead, is)) = cut.3 dead
-cut_refused bytes BadHead head cut (inr (no_head, inr long, is)) = omega (arith, long, cut.1)
+-- either a head stands first, and then only one thing can, or it is one of the four others
+data Sort (bytes : List ℕ) (front : Front) : Type 0 where
+  headed : (h : RequestHead) (n : ℕ) → HasHead bytes h n → front ≡ behind bytes h n (judge (message_of h)) → Sort bytes front
+  empty : bytes ≡ [] → front ≡ nothing → Sort bytes front
+  dead : HasNoHead bytes → HasDeadPrefix bytes → front ≡ refused BadHead false → Sort bytes front
+  long : HasNoHead bytes → ¬ (HasDeadPrefix bytes) → 16384 ≤ length bytes → front ≡ refused LongHead false → Sort bytes front
+  cut : HasNoHead bytes → ¬ (HasDeadPrefix bytes) → 0 < length bytes → length bytes < 16384 → front ≡ cut_short → Sort bytes front
 
-both_refused : (bytes : List ℕ) (kind other : Kind) (head had : Bool) → IsFront bytes (refused kind head)
-    → IsFront bytes (refused other had) → refused kind head ≡ refused other had
-both_refused bytes BadHead BadHead head had (inl (h, n, has, untaken, is)) (inl (k, m, too, unto, was)) =
-    ap (refused BadHead) (is ∙ ap (λ v. is_head v.method) (same_head bytes h k n m has too) ∙ sym was)
-both_refused bytes BadHead BadHead head had (inl (h, n, has, untaken, is)) (inr (none, out, was)) = absurd (none h n has)
-both_refused bytes BadHead BadHead head had (inr (none, out, is)) (inl (k, m, too, unto, was)) = absurd (none k m too)
-both_refused bytes BadHead BadHead head had (inr (none, out, is)) (inr (others, away, was)) = ap (refused BadHead) (is ∙ sym was)
+le_true : (a b : ℕ) → a ≤ b → nat_le a b ≡ true
+le_true a b low = grind (arith, nat_tests)
+
+le_false : (a b : ℕ) → b < a → nat_le a b ≡ false
+le_false a b high = grind (arith, nat_tests)
+
+asked : (bytes : List ℕ) (message : Message) (size : ℕ) → IsAsked bytes message size → Sort bytes (asks message size)
+asked bytes message size (h, n, m, has, is, sized, within, spelt) =
+    headed h n has
+    (ap₂ asks spelt sized
+    ∙ sym (cond-true (nat_le (n + m) (length bytes)) _ (refused ShortBody (is_head h.method)) (le_true (n + m) (length bytes) (omega (arith, sized, within))))
+    ∙ sym (ap (behind bytes h n) is))
+
+judged : (bytes : List ℕ) (kind : Kind) (head : Bool) → IsJudged bytes kind head → Sort bytes (refused kind head)
+judged bytes kind head (h, n, has, is, method) = headed h n has (ap (refused kind) method ∙ sym (ap (behind bytes h n) is))
+
+shorter : (bytes : List ℕ) (head : Bool) → EndsInBody bytes head → Sort bytes (refused ShortBody head)
+shorter bytes head (h, n, m, has, is, short, method) =
+    headed h n has
+    (ap (refused ShortBody) method
+    ∙ sym (cond-false (nat_le (n + m) (length bytes)) (asks (message_with h (take m (drop n bytes))) (n + m)) _ (le_false (n + m) (length bytes) short))
+    ∙ sym (ap (behind bytes h n) is))
+
+sort_refused : (bytes : List ℕ) (kind : Kind) (head : Bool) → IsRefused bytes kind head → Sort bytes (refused kind head)
+sort_refused bytes BadHead head (none, prefix, is) = dead none prefix (ap (refused BadHead) is)
+sort_refused bytes LongHead head (none, lives, far, is) = long none lives far (ap (refused LongHead) is)
+sort_refused bytes ManyHeaders head is = judged bytes ManyHeaders head is
+sort_refused bytes NoLength head is = judged bytes NoLength head is
+sort_refused bytes BadLength head is = judged bytes BadLength head is
+sort_refused bytes LongBody head is = judged bytes LongBody head is
+sort_refused bytes Transfer head is = judged bytes Transfer head is
+sort_refused bytes ShortBody head is = shorter bytes head is
+
+sort : (bytes : List ℕ) (front : Front) → IsFront bytes front → Sort bytes front
+sort bytes (asks message size) is = asked bytes message size is
+sort bytes nothing is = empty is refl
+sort bytes cut_short (some, short, none, lives) = cut none lives some short refl
+sort bytes (refused kind head) is = sort_refused bytes kind head is
+
+one : (bytes : List ℕ) (a b : Front) → Sort bytes a → Sort bytes b → a ≡ b
+one bytes a b (headed h n has is) (headed k m had was) =
+    is ∙ ap₂ (λ g l. behind bytes g l (judge (message_of g))) (same_head bytes h k n m has had) (same_size bytes h k n m has had) ∙ sym was
+one bytes a b (headed h n has is) (empty none was) = absurd (not_empty bytes h n has none)
+one bytes a b (headed h n has is) (dead none prefix was) = absurd (none h n has)
+one bytes a b (headed h n has is) (long none lives far was) = absurd (none h n has)
+one bytes a b (headed h n has is) (cut none lives some short was) = absurd (none h n has)
+one bytes a b (empty none is) (headed k m had was) = absurd (not_empty bytes k m had none)
+one bytes a b (empty none is) (empty too was) = is ∙ sym was
+one bytes a b (empty none is) (dead without prefix was) = absurd (nothing_lives bytes none prefix)
+one bytes a b (empty none is) (long without lives far was) = absurd (omega (arith, far, ap length none))
+one bytes a b (empty none is) (cut without lives some short was) = absurd (omega (arith, some, ap length none))
+one bytes a b (dead none prefix is) (headed k m had was) = absurd (none k m had)
+one bytes a b (dead none prefix is) (empty without was) = absurd (nothing_lives bytes without prefix)
+one bytes a b (dead none prefix is) (dead too other was) = is ∙ sym was
+one bytes a b (dead none prefix is) (long too lives far was) = absurd (lives prefix)
+one bytes a b (dead none prefix is) (cut too lives some short was) = absurd (lives prefix)
+one bytes a b (long none lives far is) (headed k m had was) = absurd (none k m had)
+one bytes a b (long none lives far is) (empty without was) = absurd (omega (arith, far, ap length without))
+one bytes a b (long none lives far is) (dead too prefix was) = absurd (lives prefix)
+one bytes a b (long none lives far is) (long too live away was) = is ∙ sym was
+one bytes a b (long none lives far is) (cut too live some short was) = absurd (omega (arith, far, short))
+one bytes a b (cut none lives some short is) (headed k m had was) = absurd (none k m had)
+one bytes a b (cut none lives some short is) (empty without was) = absurd (omega (arith, some, ap length without))
+one bytes a b (cut none lives some short is) (dead too prefix was) = absurd (lives prefix)
+one bytes a b (cut none lives some short is) (long too live far was) = absurd (omega (arith, far, short))
+one bytes a b (cut none lives some short is) (cut too live any near was) = is ∙ sym was
 
 pub one_front : (bytes : List ℕ) (a b : Front) → IsFront bytes a → IsFront bytes b → a ≡ b
-one_front bytes (asks m n) (asks l k) (h, has, is, taken) (g, had, was, too) =
-    ap₂ asks (is ∙ ap message_of (same_head bytes h g n k has had) ∙ sym was) (same_size bytes h g n k has had)
-one_front bytes (asks m n) nothing (h, has, is, taken) none = absurd (not_empty bytes h n has none)
-one_front bytes (asks m n) cut_short (h, has, is, taken) cut = absurd (cut.2 h n has)
-one_front bytes (asks m n) (refused kind head) (h, has, is, taken) out =
-    absurd (asks_refused bytes h n kind head has (subst IsTaken is taken) out)
-one_front bytes nothing (asks l k) none (h, has, is, taken) = absurd (not_empty bytes h k has none)
-one_front bytes nothing nothing none too = refl
-one_front bytes nothing cut_short none cut = absurd (omega (arith, cut.0, ap length none))
-one_front bytes nothing (refused kind head) none out = absurd (empty_refused bytes kind head none out)
-one_front bytes cut_short (asks l k) cut (h, has, is, taken) = absurd (cut.2 h k has)
-one_front bytes cut_short nothing cut none = absurd (omega (arith, cut.0, ap length none))
-one_front bytes cut_short cut_short cut too = refl
-one_front bytes cut_short (refused kind head) cut out = absurd (cut_refused bytes kind head cut out)
-one_front bytes (refused kind head) (asks l k) out (h, has, is, taken) =
-    absurd (asks_refused bytes h k kind head has (subst IsTaken is taken) out)
-one_front bytes (refused kind head) nothing out none = absurd (empty_refused bytes kind head none out)
-one_front bytes (refused kind head) cut_short out cut = absurd (cut_refused bytes kind head cut out)
-one_front bytes (refused kind head) (refused other had) out away = both_refused bytes kind other head had out away
+one_front bytes a b is was = one bytes a b (sort bytes a is) (sort bytes b was)
 
 -- ---- how long a request is
 
 pub request_some : (bytes : List ℕ) (message : Message) (size : ℕ) → IsFront bytes (asks message size) → 0 < size
-request_some bytes message size (h, has, is, taken) = omega (arith, head_has_byte h, has.1)
+request_some bytes message size (h, n, m, has, is, sized, within, spelt) = omega (arith, head_has_byte h, has.1, sized)
 
 pub request_within : (bytes : List ℕ) (message : Message) (size : ℕ) → IsFront bytes (asks message size) → size ≤ length bytes
-request_within bytes message size (h, has, is, taken) =
-    omega (arith, has.1, ap length has.0.1, length-append (print_request h) (drop size bytes))
+request_within bytes message size (h, n, m, has, is, sized, within, spelt) = within
+
+-- ---- what spells a message
+
+-- a head that a prefix begins with
+longer_head : (bytes : List ℕ) (size : ℕ) (h : RequestHead) (n : ℕ) → HasHead (take size bytes) h n → n ≤ length (take size bytes) → HasHead bytes h n
+longer_head bytes size h n has within =
+    let all : take size bytes ++ drop size bytes ≡ bytes = take-append-drop size bytes in
+    let reads = ReadsRequest-append (take size bytes) h (drop n (take size bytes)) (drop size bytes) has.0 in
+    let rest : drop n (take size bytes) ++ drop size bytes ≡ drop n bytes =
+    sym (drop-append-le n (take size bytes) (drop size bytes) within) ∙ ap (drop n) all in
+    let P : (List ℕ × List ℕ) → Type 0 = λ p. ReadsRequest p.0 h p.1 in
+    (subst P (λ i. (all i, rest i)) reads, has.1, has.2)
+
+-- what spells a message stands first
+pub spelt_front : (bytes : List ℕ) (message : Message) (size : ℕ) → size ≤ length bytes → Spells (take size bytes) message
+    → IsFront bytes (asks message size)
+spelt_front bytes message size within (h, n, m, has, is, sized, spelt) =
+    let exact : size ≡ n + m = omega (arith, within, sized, length-take size bytes) in (
+      h,
+      n,
+      m,
+      longer_head bytes size h n has (omega (arith, sized)),
+      is,
+      exact,
+      within,
+      spelt ∙ ap (message_with h) (ap (λ k. drop n (take k bytes)) exact ∙ drop-take n m bytes),
+    )
+
+-- and what stands first is spelt by its bytes
+pub front_spells : (bytes : List ℕ) (message : Message) (size : ℕ) → IsFront bytes (asks message size) → Spells (take size bytes) message
+front_spells bytes message size (h, n, m, has, is, sized, within, spelt) =
+    let reads = has.0 in (
+      h,
+      n,
+      m,
+      ((reads.0, cut_head bytes h n m size reads.1 has.1 sized), has.1, has.2),
+      is,
+      omega (arith, within, sized, length-take size bytes),
+      spelt ∙ ap (message_with h) (sym (ap (λ k. drop n (take k bytes)) sized ∙ drop-take n m bytes)),
+    )
+  where
+    cut_head : (bytes : List ℕ) (h : RequestHead) (n m size : ℕ) → bytes ≡ print_request h ++ drop n bytes → n ≡ length (print_request h)
+        → size ≡ n + m → take size bytes ≡ print_request h ++ drop n (take size bytes)
+    cut_head bytes h n m size e far sized =
+        ap₂ take (sized ∙ ap (λ k. k + m) far) e ∙ take-append-add (print_request h) (drop n bytes) m
+        ∙ ap (λ v. print_request h ++ v) (sym (ap (λ k. drop n (take k bytes)) sized ∙ drop-take n m bytes))
+
+pub one_spelling : (bytes : List ℕ) (a b : Message) (n m : ℕ) → n ≤ length bytes → m ≤ length bytes → Spells (take n bytes) a → Spells (take m bytes) b
+    → (n ≡ m) × (a ≡ b)
+one_spelling bytes a b n m low high first other =
+    let same : asks a n ≡ asks b m =
+    one_front bytes (asks a n) (asks b m) (spelt_front bytes a n low first) (spelt_front bytes b m high other) in
+    (cc, cc)

@@ -65,6 +65,6 @@ pub record OnlyReads (old new : Wire) : Type 0 where
   pub begun : new.begun ≡ old.begun
   pub sent : new.sent ≡ old.sent
 
--- what is left to do over a line: it falls at each request, so that a loop over requests ends
+-- what is left to do over a line: it falls at each request, so that a loop over requests ends. One read brings fewer bytes than the factor
 abbrev pub weight : ℕ → List ℕ → ℕ
 weight spent bytes = (2 ^ 63 - spent) * 32768 + length bytes

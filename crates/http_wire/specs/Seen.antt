@@ -1,12 +1,12 @@
 -- What one look at the bytes that were read says of them, and what was found once enough of them came.
-use Rattle.std.specs.Prelude.{◌≡◌, ◌⊎◌, ℕ, ◌<◌, ◌≤◌, List, [], ◌∷◌, length, take}
+use Rattle.std.specs.Prelude.{◌≡◌, ℕ, ◌<◌, ◌≤◌, List, [], ◌∷◌, length, take}
 use Rattle.httparse.specs.declared.spans.HeaderSpan.{HeaderSpan}
 use Rattle.httparse.specs.Grammar.{HasNoRequest}
 use Rattle.httparse.specs.Spans.{IsRequestOf, IsRequestWithin}
 use Rattle.http_wire.specs.declared.look.Verdict.{Verdict}
 use Rattle.http_wire.specs.declared.look.Verdict.TheVariants.{Whole, More, Dead}
 use Rattle.http_wire.specs.declared.advance.Found.{Found}
-use Rattle.http_wire.specs.declared.advance.Found.TheVariants.{Head, Bad, Cut, Nothing}
+use Rattle.http_wire.specs.declared.advance.Found.TheVariants.{Head, Bad, Long, Cut, Nothing}
 use Rattle.http_wire.specs.Front.{IsDead, HasDeadPrefix}
 
 -- what the first of the bytes are
@@ -22,7 +22,8 @@ window bytes = take 16384 bytes
 -- what was found in all bytes that came
 abbrev pub IsFound : List ℕ → List HeaderSpan → Found → Type 0
 IsFound bytes headers (Head spans) = IsRequestOf (window bytes) headers spans × IsRequestWithin (window bytes) headers spans
-IsFound bytes headers Bad = IsDead (window bytes) ⊎ (HasNoRequest (window bytes) × (16384 ≤ length bytes))
+IsFound bytes headers Bad = IsDead (window bytes)
+IsFound bytes headers Long = HasNoRequest (window bytes) × ¬ (HasDeadPrefix (window bytes)) × (16384 ≤ length bytes)
 IsFound bytes headers Cut = (0 < length bytes) × (length bytes < 16384) × HasNoRequest (window bytes) × ¬ (HasDeadPrefix (window bytes))
 IsFound bytes headers Nothing = bytes ≡ []
 
@@ -30,6 +31,7 @@ IsFound bytes headers Nothing = bytes ≡ []
 abbrev pub AtEnd : Found → List ℕ → Type 0
 AtEnd (Head spans) rest = Unit {0}
 AtEnd Bad rest = Unit {0}
+AtEnd Long rest = Unit {0}
 AtEnd Cut rest = rest ≡ []
 AtEnd Nothing rest = rest ≡ []
 

@@ -1,16 +1,26 @@
 -- What becomes of a whole head.
-use Rattle.std.specs.Prelude.{◌≡◌, ℕ, List, drop}
-use Rattle.http_wire.specs.declared.reader.Taken.{Taken}
-use Rattle.http_wire.specs.declared.reader.Taken.TheVariants.{Whole, Not}
-use Rattle.http_wire.specs.Front.{IsTaken, message_of, is_head}
+use Rattle.std.specs.Prelude.{◌≡◌, ◌⊎◌, ℕ, ◌+◌, ◌<◌, ◌≤◌, Bool, true, false, List, ◌++◌, length, take, drop, Ok, Err}
+use Rattle.http_wire.specs.declared.message.Kind.TheVariants.{ShortBody}
+use Rattle.http_wire.specs.declared.take.Taken.{Taken}
+use Rattle.http_wire.specs.declared.take.Taken.TheVariants.{Whole, Not}
+use Rattle.http_wire.specs.Front.{judge, message_of, message_with, is_head}
 use Rattle.httparse.specs.Grammar.{RequestHead}
 
--- the head's message, or that it is not taken
-abbrev pub TakenFrom : RequestHead → Taken → Type 0
-TakenFrom h (Whole message) = (message ≡ message_of h) × IsTaken message
-TakenFrom h (Not head) = ¬ (IsTaken (message_of h)) × (head ≡ is_head h.method)
+-- the message of the head h, of n bytes, with its body, and what is left behind them; or why it is refused, and then all is left
+abbrev pub TakenFrom : List ℕ → RequestHead → ℕ → Taken → List ℕ → Type 0
+TakenFrom all h n (Whole message size) left =
+    (m : ℕ) × (judge (message_of h) ≡ Ok m) × (size ≡ n + m) × (n + m ≤ length all) × (message ≡ message_with h (take m (drop n all)))
+    × (left ≡ drop (n + m) all)
+TakenFrom all h n (Not kind head) left =
+    (left ≡ all) × (head ≡ is_head h.method)
+    × ((judge (message_of h) ≡ Err kind) ⊎ ((kind ≡ ShortBody) × (m : ℕ) × (judge (message_of h) ≡ Ok m) × (length all < n + m)))
 
--- the bytes that are left
-abbrev pub left_by : Taken → ℕ → List ℕ → List ℕ
-left_by (Whole message) n bytes = drop n bytes
-left_by (Not head) n bytes = bytes
+-- m bytes behind the first n of all came whole, or the connection ended before, and then all is left
+abbrev pub BodyFrom : List ℕ → ℕ → ℕ → Bool → List ℕ → List ℕ → List ℕ → Type 0
+BodyFrom all n m true body before rest = (n + m ≤ length all) × (body ≡ take m (drop n all)) × (before ++ rest ≡ drop (n + m) all)
+BodyFrom all n m false body before rest = (length all < n + m) × ((before ++ body) ++ rest ≡ all)
+
+-- P, if the head's request came whole
+abbrev pub OnWhole : Type 0 → Taken → Type 0
+OnWhole P (Whole message size) = P
+OnWhole P (Not kind head) = Unit {0}

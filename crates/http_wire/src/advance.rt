@@ -1,19 +1,17 @@
-ghost use Rattle.std.specs.Prelude.{true, ◌≡◌, ◌≤◌, ◌<◌, ◌↔◌, ◌++◌, [], length, IsTrue, IfOk};
+ghost use Rattle.std.specs.Prelude.{true, ◌≡◌, ◌≤◌, ◌++◌, length, IsTrue, IfOk};
 ghost use Rattle.gate_base.specs.Causes.{Rose};
 ghost use Rattle.gate_base.specs.Wire.{with_mark};
 ghost use Rattle.http_wire.specs.Gives.{OnFailed, OnlyReads, UnlessFailed, weight};
 ghost use Rattle.http_wire.specs.Seen.{AtEnd, IsFound, end_of, window};
 
 use crate::ReadFault;
+use crate::fill::fill;
 use crate::look::{Verdict, look};
 use gate_base::{Counted, Line};
 use httparse::spans::{HeaderSpan, RequestSpans};
 
 /// The bytes of a head, at most.
 pub(crate) const HEAD_LIMIT: usize = 16_384;
-
-/// The bytes that one read asks for.
-pub(crate) const READ_SIZE: usize = 1_024;
 
 /// What the bytes that came begin with.
 #[derive(Clone, Copy, Debug, PartialEq, Eq)]
@@ -23,6 +21,9 @@ pub(crate) enum Found {
 
     /// No whole head of `HEAD_LIMIT` bytes, and none can come.
     Bad,
+
+    /// `HEAD_LIMIT` bytes, with no whole head, though they could go on to one.
+    Long,
 
     /// The connection's end inside a head.
     Cut,
@@ -71,42 +72,12 @@ pub(crate) fn advance<N: Line<C>, C: Counted>(
             Verdict::More => (),
         }
         if pending.len() >= HEAD_LIMIT {
-            return Ok(Found::Bad);
+            return Ok(Found::Long);
         }
         if fill(pending, line, store)? == 0 {
             return Ok(ended(pending));
         }
     }
-}
-
-/// Reads once, and puts what came at the end of `pending`: no byte only at the connection's end.
-fn fill<N: Line<C>, C: Counted>(
-    pending: &mut Vec<u8>,
-    line: &mut N,
-    store: &C,
-) -> Result<usize, ReadFault>
-    requires { IsTrue (N.is_open line.old) }
-    ensures open { N.is_open line.new ≡ true }
-    ensures quiet { UnlessFailed result (N.faults line.new ≡ N.faults line.old) }
-    ensures cause { OnFailed result (Rose (N.faults line.old) (N.faults line.new)) }
-    ensures quiet_next { N.next_faults line.new ≡ N.next_faults line.old }
-    ensures spent { N.spent line.old ≤ N.spent line.new }
-    ensures weight { weight (N.spent line.new) pending.new.items ≤ weight (N.spent line.old) pending.old.items }
-    ensures falls { IfOk result (λ count. 0 < count
-        → weight (N.spent line.new) pending.new.items < weight (N.spent line.old) pending.old.items) }
-    ensures same { IfOk result (λ count. count ≡ 0 → pending.new.items ≡ pending.old.items) }
-    ensures tells { N.tells line.old → N.tells line.new }
-    ensures only_reads { N.tells line.old → OnlyReads (N.wire line.old) (N.wire line.new) }
-    ensures marks { N.tells line.old → UnlessFailed result ((N.wire line.new).marks ≡ (N.wire line.old).marks) }
-    ensures mark { N.tells line.old → OnFailed result ((N.wire line.new).marks ≡ (with_mark (N.wire line.old)).marks) }
-    ensures kept { N.tells line.old → pending.new.items ++ (N.wire line.new).rest ≡ pending.old.items ++ (N.wire line.old).rest }
-    ensures at_end { N.tells line.old → IfOk result (λ count. count ≡ 0 → (N.wire line.new).rest ≡ []) }
-{
-    pending.reserve(READ_SIZE)?;
-    let mut piece = [0u8; READ_SIZE];
-    let count = line.read(&mut piece)?;
-    pending.extend_from_slice(&piece[..count]).unwrap();
-    Ok(count)
 }
 
 /// What the end of the connection says of bytes that have no whole head.

@@ -2,14 +2,17 @@
 #![tactic(auto)]
 
 mod advance;
+mod fill;
+mod judge;
 mod laws;
 mod look;
 mod message;
 mod print;
 mod reader;
 mod scan;
+mod take;
 
-pub use laws::{one_front, request_size};
+pub use laws::{one_front, one_spelling, request_size};
 pub use message::{Got, Kind, Message, ReadFault};
 pub use print::{print_memory, print_page};
 pub use reader::Reader;

@@ -1,16 +1,13 @@
-ghost use Rattle.std.specs.Prelude.{◌≡◌, ◌↔◌, [], ◌∷◌, map, length, All, IfOk, IsTrue, position};
+ghost use Rattle.std.specs.Prelude.{◌≡◌, map, length, All, IfOk};
 ghost use Rattle.std.specs.Char.{to_ascii_lowercase};
 ghost use Rattle.httparse.specs.Grammar.{RequestHead};
 ghost use Rattle.httparse.specs.Spans.{IsRequestAt, IsRequestWithin, IsHeaderWithin, IsWithin, span_bytes};
-ghost use Rattle.http_wire.specs.Front.{IsTaken, has_name, message_of, values_of};
+ghost use Rattle.http_wire.specs.Front.{message_of};
 ghost use Rattle.http_wire.specs.Headers.{header_at};
 
 use gate_base::{Bytes, Copying, Failed, List, Memory, Pair};
 use httparse::spans::{HeaderSpan, RequestSpans, Span};
 use std::alloc::{AllocError, Global};
-
-/// The headers of a request, at most.
-const HEADERS: usize = 100;
 
 /// A request: its method and target as they were sent, whether its version is HTTP/1.0, its headers in their order,
 /// with names in lower case and values without the white space around them, and its body (RFC 9112, sections 3 and 5).
@@ -35,11 +32,33 @@ impl Copying for Message {
     }
 }
 
-/// Why a request is refused. `BadHead`: there is no whole head of up to 16,384 bytes and none can come, or the head
-/// has more than 100 headers, a Transfer-Encoding, or not just one Content-Length, whose value is 0.
+/// Why a request is refused. For a whole head the first reason counts, in the order `ManyHeaders`, `Transfer`,
+/// `BadLength`, `NoLength`, `LongBody`, `ShortBody` (RFC 9112, section 6, and this profile).
 #[derive(Clone, Copy, Debug, PartialEq, Eq)]
 pub enum Kind {
+    /// There is no whole head of up to 16,384 bytes, and none can come.
     BadHead,
+
+    /// The first 16,384 bytes have no whole head, though they could go on to one.
+    LongHead,
+
+    /// More than 100 headers.
+    ManyHeaders,
+
+    /// PUT without Content-Length. Any other method without one has an empty body.
+    NoLength,
+
+    /// More than one Content-Length, or one that isn't 1 to 19 digits.
+    BadLength,
+
+    /// A body of more than 16,777,216 bytes.
+    LongBody,
+
+    /// A Transfer-Encoding.
+    Transfer,
+
+    /// The connection ends inside the body.
+    ShortBody,
 }
 
 impl Copying for Kind {
@@ -156,43 +175,4 @@ fn pair_at(alloc: Global, bytes: &[u8], span: &HeaderSpan) -> Result<Pair, Memor
         name: Bytes::from_vec(name),
         value: text_at(alloc, bytes, span.value)?,
     })
-}
-
-/// Whether the request is taken.
-pub(crate) fn is_taken(message: &Message) -> bool
-    ensures { IsTrue result ↔ IsTaken message.now }
-{
-    let headers = message.headers.as_slice();
-    headers.len() <= HEADERS
-        && is_absent(headers, b"transfer-encoding")
-        && is_only(headers, b"content-length", b"0")
-}
-
-/// Whether no header has the name.
-fn is_absent(headers: &[Pair], name: &[u8]) -> bool
-    ensures { IsTrue result ↔ (values_of name.now headers.now ≡ []) }
-{
-    match place_of(headers, name) {
-        Some(_) => false,
-        None => true,
-    }
-}
-
-/// Whether just one header has the name, and this value.
-fn is_only(headers: &[Pair], name: &[u8], value: &[u8]) -> bool
-    ensures { IsTrue result ↔ (values_of name.now headers.now ≡ value.now ∷ []) }
-{
-    match place_of(headers, name) {
-        Some(at) => { headers[at].value.as_slice() == value && is_absent(&headers[at + 1..], name) }
-        None => false,
-    }
-}
-
-/// The place of the first header that has the name.
-fn place_of(headers: &[Pair], name: &[u8]) -> Option<usize>
-    ensures { result ≡ position (has_name name.now) headers.now }
-{
-    headers
-        .iter()
-        .position(|header| header.name.as_slice() == name)
 }

@@ -1,17 +1,14 @@
 ghost use Rattle.std.specs.Prelude.{◌≡◌, ◌≤◌, ◌<◌, ◌++◌, [], true, false, length, drop, IsTrue, IfOk, OnErr};
 ghost use Rattle.gate_base.specs.Causes.{Rose};
 ghost use Rattle.gate_base.specs.Wire.{with_mark};
-ghost use Rattle.httparse.specs.Grammar.{RequestHead};
-ghost use Rattle.httparse.specs.Spans.{IsRequestAt, IsRequestWithin};
-ghost use Rattle.http_wire.specs.Seen.{window};
-ghost use Rattle.http_wire.specs.Taken.{TakenFrom, left_by};
 ghost use Rattle.http_wire.specs.Gives.{Gives, OnFailed, OnlyReads, OnRequest, UnlessFailed, ends, weight};
 
-use crate::advance::{Found, HEAD_LIMIT, READ_SIZE, advance, window};
-use crate::message::{is_taken, message_at};
-use crate::{Got, Kind, Message, ReadFault};
+use crate::advance::{Found, HEAD_LIMIT, advance};
+use crate::fill::READ_SIZE;
+use crate::take::{Taken, take_message};
+use crate::{Got, Kind, ReadFault};
 use gate_base::{Counted, Line, Memory};
-use httparse::spans::{EMPTY_HEADER_SPAN, HeaderSpan, RequestSpans};
+use httparse::spans::{EMPTY_HEADER_SPAN, HeaderSpan};
 use std::alloc::Global;
 use std::marker::Model;
 
@@ -22,21 +19,25 @@ const LINES: usize = 8_192;
 /// bytes given, and whether it has ended.
 #[derive(Debug, Drop)]
 pub struct Reader {
+    /// The buffer: what was read while a head was sought, and not given yet.
     pending: Vec<u8>,
+
+    /// What was read, behind that, of a body that could not be read whole.
+    partial: Vec<u8>,
     lines: Vec<HeaderSpan>,
     given: u64,
     over: bool,
 }
 
 impl Model for Reader {
-    ghost use Rattle.std.specs.Prelude.{◌≤◌, length};
+    ghost use Rattle.std.specs.Prelude.{◌≡◌, ◌≤◌, ◌++◌, [], false, length};
     ghost use Rattle.http_wire.specs.Gives.{Pending};
 
     ghost Value = { Pending };
 
-    ghost view = { λ r. record { bytes = r.pending.items; place = r.given; ended = r.over } };
+    ghost view = { λ r. record { bytes = r.pending.items ++ r.partial.items; place = r.given; ended = r.over } };
 
-    ghost invariant = { λ r. 8192 ≤ length r.lines.items };
+    ghost invariant = { λ r. (8192 ≤ length r.lines.items) × (r.over ≡ false → r.partial.items ≡ []) };
 }
 
 impl Reader {
@@ -46,18 +47,20 @@ impl Reader {
     {
         Ok(Reader {
             pending: Vec::with_capacity(alloc, HEAD_LIMIT + READ_SIZE)?,
+            partial: Vec::new(alloc),
             lines: vec![in alloc; EMPTY_HEADER_SPAN; LINES]?,
             given: 0,
             over: false,
         })
     }
 
-    /// Reads one request: a whole head of at most 16,384 bytes, with at most 100 headers, no Transfer-Encoding and one
-    /// Content-Length, which is 0 (RFC 9112, sections 2, 3, 5 and 6, and this profile). `End` comes where no byte is
-    /// left, `CutShort` where the connection ends inside a head that could still go on or inside its target, and
-    /// `Refused` of kind `BadHead` for all else. Failed comes only where the line failed. After an error, and after
-    /// any answer but a request, the reader answers `End` and leaves the line alone. No byte is lost by an error: what
-    /// was read of the line is still to be given.
+    /// Reads one request: a whole head of at most 16,384 bytes with at most 100 headers and no Transfer-Encoding, and
+    /// the body of at most 16,777,216 bytes whose length its one Content-Length gives; without one the body is empty,
+    /// and for PUT the request is refused (RFC 9112, sections 2, 3, 5 and 6, and this profile). `End` comes where no
+    /// byte is left, `CutShort` where the connection ends inside a head that could still go on or inside its target,
+    /// and `Refused` for all else, by its kind. Failed comes only where the line failed. After an error, and after any
+    /// answer but a request, the reader answers `End` and leaves the line alone. No byte is lost by an error: what was
+    /// read of the line is still to be given.
     pub fn next_request<N: Line<C>, C: Counted>(
         &mut self,
         line: &mut N,
@@ -96,14 +99,21 @@ impl Reader {
         }
         self.over = true;
         match advance(&mut self.pending, &mut self.lines, line, store) {
-            Ok(Found::Head(spans)) => match take_head(&mut self.pending, &self.lines, &spans)? {
-                Taken::Whole(message) => {
-                    self.given = self.given.saturating_add(spans.len as u64);
+            Ok(Found::Head(spans)) => match take_message(
+                &mut self.pending,
+                &mut self.partial,
+                &self.lines,
+                &spans,
+                line,
+                store,
+            )? {
+                Taken::Whole { message, size } => {
+                    self.given = self.given.saturating_add(size as u64);
                     self.over = false;
                     Ok(Got::Request(message))
                 }
-                Taken::Not { head } => Ok(Got::Refused {
-                    kind: Kind::BadHead,
+                Taken::Not { kind, head } => Ok(Got::Refused {
+                    kind,
                     place: self.given,
                     head,
                 }),
@@ -113,49 +123,14 @@ impl Reader {
                 place: self.given,
                 head: false,
             }),
+            Ok(Found::Long) => Ok(Got::Refused {
+                kind: Kind::LongHead,
+                place: self.given,
+                head: false,
+            }),
             Ok(Found::Cut) => Ok(Got::CutShort(self.given)),
             Ok(Found::Nothing) => Ok(Got::End),
             Err(fault) => Err(fault),
         }
     }
-}
-
-/// What a whole head gives.
-#[derive(Debug, Drop)]
-enum Taken {
-    Whole(Message),
-
-    /// The head is not taken. `head` says that its method is HEAD.
-    Not { head: bool },
-}
-
-/// Takes the message of a whole head, and its bytes away, where it is taken.
-fn take_head(
-    pending: &mut Vec<u8>,
-    lines: &[HeaderSpan],
-    spans: &RequestSpans,
-) -> Result<Taken, Memory>
-    requires { IsRequestWithin (window pending.old.items) lines.now spans.now }
-    ensures taken { IfOk result (λ taken. (h : RequestHead) → IsRequestAt (window pending.old.items) lines.now spans.now h → TakenFrom h taken) }
-    ensures left { IfOk result (λ taken. pending.new.items ≡ left_by taken spans.now.len pending.old.items) }
-    ensures err { OnErr result (pending.new.items ≡ pending.old.items) }
-{
-    let alloc = *pending.allocator();
-    let message = message_at(alloc, window(pending), lines, spans)?;
-    if !is_taken(&message) {
-        let head = message.method.as_slice() == b"HEAD".as_slice();
-        return Ok(Taken::Not { head });
-    }
-    drop_front(pending, spans.len);
-    Ok(Taken::Whole(message))
-}
-
-/// Takes the first `count` bytes away.
-fn drop_front(pending: &mut Vec<u8>, count: usize)
-    requires { count ≤ length pending.old.items }
-    ensures { pending.new.items ≡ drop count pending.old.items }
-{
-    let left = pending.len() - count;
-    pending.copy_within(count.., 0);
-    pending.truncate(left);
 }

@@ -1,28 +1,31 @@
 ghost use Rattle.std.specs.Prelude.{◌<◌};
 ghost use Rattle.http_wire.specs.Print.{IsReplyStatus};
 
-use crate::{Got, Message, ReadFault, Reader, print_memory, print_page};
+use crate::{Got, Kind, Message, ReadFault, Reader, print_memory, print_page};
 use gate_base::{Bytes, Line, List, MemLine, Memory, NoCount, Page, Pair};
 use std::alloc::Global;
 
 const MADE: &[u8] = b"PUT /photos HTTP/1.1\r\nContent-Length: 0\r\n\r\n";
 
-/// What an answer is, without its bytes.
+/// What an answer is, without its bytes: of a request how many headers and how many bytes of body it has.
 #[derive(Clone, Copy, Debug, PartialEq, Eq)]
 enum Outcome {
-    Request(usize),
+    Request(usize, usize),
     End,
     CutShort(u64),
-    Refused(u64, bool),
+    Refused(Kind, u64, bool),
     Fault(ReadFault),
 }
 
-fn outcome_of(answer: &Result<Got, ReadFault>) -> Outcome {
+/// The answer, to a connection that begins `before` bytes earlier.
+fn outcome_of(answer: &Result<Got, ReadFault>, before: u64) -> Outcome {
     match answer {
-        Ok(Got::Request(message)) => Outcome::Request(message.headers.len()),
+        Ok(Got::Request(message)) => Outcome::Request(message.headers.len(), message.body.len()),
         Ok(Got::End) => Outcome::End,
-        Ok(Got::CutShort(place)) => Outcome::CutShort(*place),
-        Ok(Got::Refused { place, head, .. }) => Outcome::Refused(*place, *head),
+        Ok(Got::CutShort(place)) => Outcome::CutShort(place.saturating_sub(before)),
+        Ok(Got::Refused { kind, place, head }) => {
+            Outcome::Refused(*kind, place.saturating_sub(before), *head)
+        }
         Err(fault) => Outcome::Fault(*fault),
     }
 }
@@ -37,8 +40,8 @@ fn line_of(alloc: Global, bytes: &[u8], piece: usize, fails: &[u64]) -> Result<M
     MemLine::new(alloc, connections, piece, fails)
 }
 
-/// The first three answers on the first connection.
-fn three<N: Line<NoCount>>(alloc: Global, mut line: N) -> Result<[Outcome; 3], Memory>
+/// The first three answers on the first connection, after the request that its first `before` bytes are, if any.
+fn three<N: Line<NoCount>>(alloc: Global, mut line: N, before: u64) -> Result<[Outcome; 3], Memory>
 where
     N: Drop,
 {
@@ -46,17 +49,16 @@ where
     let Ok(true) = line.next() else {
         return Err(Memory);
     };
+    if 0 < before {
+        let Ok(Got::Request(_)) = reader.next_request(&mut line, &NoCount) else {
+            return Err(Memory);
+        };
+    }
     Ok([
-        outcome_of(&reader.next_request(&mut line, &NoCount)),
-        outcome_of(&reader.next_request(&mut line, &NoCount)),
-        outcome_of(&reader.next_request(&mut line, &NoCount)),
+        outcome_of(&reader.next_request(&mut line, &NoCount), before),
+        outcome_of(&reader.next_request(&mut line, &NoCount), before),
+        outcome_of(&reader.next_request(&mut line, &NoCount), before),
     ])
-}
-
-fn answers(alloc: Global, bytes: &[u8], piece: usize) -> Result<[Outcome; 3], Memory>
-    requires { 0 < piece }
-{
-    three(alloc, line_of(alloc, bytes, piece, &[])?)
 }
 
 /// An answer after which the reader has ended.
@@ -64,81 +66,216 @@ fn last(answer: Outcome) -> [Outcome; 3] {
     [answer, Outcome::End, Outcome::End]
 }
 
-const ROWS: [(&[u8], [Outcome; 3]); 16] = [
-    (b"", [Outcome::End, Outcome::End, Outcome::End]),
-    (MADE, [Outcome::Request(1), Outcome::End, Outcome::End]),
+/// The answers that are the same in pieces of any size, and behind another request.
+fn answers(alloc: Global, bytes: &[u8], pieces: &[usize]) -> Result<Option<[Outcome; 3]>, Memory> {
+    let mut behind = Vec::from_slice(alloc, MADE)?;
+    behind.extend_from_slice(bytes)?;
+    let found = three(alloc, line_of(alloc, bytes, 65_536, &[])?, 0)?;
+    for piece in pieces {
+        if *piece == 0 {
+            return Ok(None);
+        }
+        let alone = three(alloc, line_of(alloc, bytes, *piece, &[])?, 0)?;
+        let later = three(
+            alloc,
+            line_of(alloc, &behind, *piece, &[])?,
+            MADE.len() as u64,
+        )?;
+        if alone != found || later != found {
+            return Ok(None);
+        }
+    }
+    Ok(Some(found))
+}
+
+/// Connections, and their first answer, after which the reader has ended.
+const FRONTS: [(&[u8], Outcome); 41] = [
+    (b"", Outcome::End),
+    (MADE, Outcome::Request(1, 0)),
+    (b"GET / HTTP/1.1\r\n\r\n", Outcome::Request(0, 0)),
     (
-        b"\r\n\nGET / HTTP/1.0\nhost:\ncontent-LENGTH:\t0 \n\nPUT /a HTTP/1.1\r\nContent-Length: 0\r\n\r\n",
-        [Outcome::Request(2), Outcome::Request(1), Outcome::End],
+        b"POST /a HTTP/1.1\r\nhost: h\r\n\r\n",
+        Outcome::Request(1, 0),
     ),
     (
-        b"PUT /a HTTP/1.1\r\nContent-Length: 0\r\n\r\nPUT /a HTTP/1.1\r\nConten",
-        [Outcome::Request(1), Outcome::CutShort(38), Outcome::End],
+        b"\r\n\nGET / HTTP/1.0\nhost:\ncontent-LENGTH:\t0 \n\n",
+        Outcome::Request(2, 0),
     ),
     (
-        b"PUT /a HTTP/1.1\r\nContent-Length: 0\r\n\r\nHEAD /a HTTP/1.1\r\n\r\n",
-        [
-            Outcome::Request(1),
-            Outcome::Refused(38, true),
-            Outcome::End,
-        ],
-    ),
-    (
-        b"\r\n\n\r",
-        [Outcome::CutShort(0), Outcome::End, Outcome::End],
-    ),
-    (
-        b"GET /photos/\x01",
-        [Outcome::CutShort(0), Outcome::End, Outcome::End],
-    ),
-    (
-        b"GET /photos/\x01 ",
-        [Outcome::Refused(0, false), Outcome::End, Outcome::End],
-    ),
-    (
-        b"GET /photos/\xff",
-        [Outcome::CutShort(0), Outcome::End, Outcome::End],
-    ),
-    (
-        b"GET /photos/\xff ",
-        [Outcome::Refused(0, false), Outcome::End, Outcome::End],
-    ),
-    (
-        b"\x01",
-        [Outcome::Refused(0, false), Outcome::End, Outcome::End],
+        b"GET /photos/a%00b HTTP/1.1\r\n\r\n",
+        Outcome::Request(0, 0),
     ),
     (
         b"PUT /a HTTP/1.1\r\nContent-Length: 5\r\n\r\nhello",
-        [Outcome::Refused(0, false), Outcome::End, Outcome::End],
+        Outcome::Request(1, 5),
     ),
     (
-        b"PUT /a HTTP/1.1\r\nHost: h\r\n\r\n",
-        [Outcome::Refused(0, false), Outcome::End, Outcome::End],
-    ),
-    (
-        b"PUT /a HTTP/1.1\r\nContent-Length: 0\r\nContent-Length: 0\r\n\r\n",
-        [Outcome::Refused(0, false), Outcome::End, Outcome::End],
-    ),
-    (
-        b"PUT /a HTTP/1.1\r\nContent-Length: 0\r\nTransfer-Encoding: chunked\r\n\r\n",
-        [Outcome::Refused(0, false), Outcome::End, Outcome::End],
+        b"PUT /a HTTP/1.1\r\nContent-Length: 0000000000000000005\r\n\r\nhello",
+        Outcome::Request(1, 5),
     ),
     (
         b"HEAD /a HTTP/1.1\r\nContent-Length: 00\r\n\r\n",
-        [Outcome::Refused(0, true), Outcome::End, Outcome::End],
+        Outcome::Request(1, 0),
+    ),
+    // no whole head
+    (b"\r\n\n\r", Outcome::CutShort(0)),
+    (b"PUT /a HTTP/1.1\r\nConten", Outcome::CutShort(0)),
+    (b"GET /photos/\x01", Outcome::CutShort(0)),
+    (b"GET /photos/\xff", Outcome::CutShort(0)),
+    (
+        b"GET /photos/\x01 ",
+        Outcome::Refused(Kind::BadHead, 0, false),
+    ),
+    (
+        b"GET /photos/\xff ",
+        Outcome::Refused(Kind::BadHead, 0, false),
+    ),
+    (b"\x00\x01", Outcome::Refused(Kind::BadHead, 0, false)),
+    (
+        b"GET / HTTP/2.0\r\n\r\n",
+        Outcome::Refused(Kind::BadHead, 0, false),
+    ),
+    (
+        b"PRI * HTTP/2.0\r\n\r\nSM\r\n\r\n",
+        Outcome::Refused(Kind::BadHead, 0, false),
+    ),
+    (
+        b"HEAD / HTTP/1.1\r\na: b\r\n c\r\n\r\n",
+        Outcome::Refused(Kind::BadHead, 0, false),
+    ),
+    (
+        b"PUT / HTTP/1.1\r\nContent-Length : 0\r\n\r\n",
+        Outcome::Refused(Kind::BadHead, 0, false),
+    ),
+    (
+        b"GET / HTTP/1.1\r\na: b\rc\r\n\r\n",
+        Outcome::Refused(Kind::BadHead, 0, false),
+    ),
+    (
+        b"GET / HTTP/1.1\r\na\r\n\r\n",
+        Outcome::Refused(Kind::BadHead, 0, false),
+    ),
+    // a length that isn't there, or not one
+    (
+        b"PUT /a HTTP/1.1\r\nHost: h\r\n\r\n",
+        Outcome::Refused(Kind::NoLength, 0, false),
+    ),
+    (
+        b"put /a HTTP/1.1\r\nHost: h\r\n\r\n",
+        Outcome::Request(1, 0),
+    ),
+    (
+        b"PUT /a HTTP/1.1\r\nContent-Length: 5\r\nCONTENT-length: 5\r\n\r\nhello",
+        Outcome::Refused(Kind::BadLength, 0, false),
+    ),
+    (
+        b"HEAD /a HTTP/1.1\r\nContent-Length: 0\r\nContent-Length: 0\r\n\r\n",
+        Outcome::Refused(Kind::BadLength, 0, true),
+    ),
+    (
+        b"PUT /a HTTP/1.1\r\nContent-Length: 00000000000000000005\r\n\r\nhello",
+        Outcome::Refused(Kind::BadLength, 0, false),
+    ),
+    (
+        b"PUT /a HTTP/1.1\r\nContent-Length: +5\r\n\r\nhello",
+        Outcome::Refused(Kind::BadLength, 0, false),
+    ),
+    (
+        b"PUT /a HTTP/1.1\r\nContent-Length: -0\r\n\r\n",
+        Outcome::Refused(Kind::BadLength, 0, false),
+    ),
+    (
+        b"PUT /a HTTP/1.1\r\nContent-Length: 5, 5\r\n\r\nhello",
+        Outcome::Refused(Kind::BadLength, 0, false),
+    ),
+    (
+        b"PUT /a HTTP/1.1\r\nContent-Length: 5 5\r\n\r\nhello",
+        Outcome::Refused(Kind::BadLength, 0, false),
+    ),
+    (
+        b"PUT /a HTTP/1.1\r\nContent-Length:\r\n\r\n",
+        Outcome::Refused(Kind::BadLength, 0, false),
+    ),
+    (
+        b"GET /a HTTP/1.1\r\nContent-Length: 0x5\r\n\r\nhello",
+        Outcome::Refused(Kind::BadLength, 0, false),
+    ),
+    // a body that isn't taken
+    (
+        b"PUT /a HTTP/1.1\r\nContent-Length: 16777217\r\n\r\n",
+        Outcome::Refused(Kind::LongBody, 0, false),
+    ),
+    (
+        b"HEAD /a HTTP/1.1\r\nContent-Length: 9999999999999999999\r\n\r\n",
+        Outcome::Refused(Kind::LongBody, 0, true),
+    ),
+    (
+        b"PUT /a HTTP/1.1\r\nTransfer-Encoding: chunked\r\n\r\n0\r\n\r\n",
+        Outcome::Refused(Kind::Transfer, 0, false),
+    ),
+    (
+        b"PUT /a HTTP/1.1\r\nContent-Length: 0\r\ntransfer-ENCODING:\r\n\r\n",
+        Outcome::Refused(Kind::Transfer, 0, false),
+    ),
+    (
+        b"HEAD /a HTTP/1.1\r\nTransfer-Encoding: chunked\r\nContent-Length: 0\r\nContent-Length: 0\r\n\r\n",
+        Outcome::Refused(Kind::Transfer, 0, true),
+    ),
+    (
+        b"PUT /a HTTP/1.1\r\nContent-Length: 5\r\n\r\nhell",
+        Outcome::Refused(Kind::ShortBody, 0, false),
+    ),
+    (
+        b"HEAD /a HTTP/1.1\r\nContent-Length: 1\r\n\r\n",
+        Outcome::Refused(Kind::ShortBody, 0, true),
+    ),
+    (
+        b"PUT /a HTTP/1.1\r\nContent-Length: 16777216\r\n\r\nhello",
+        Outcome::Refused(Kind::ShortBody, 0, false),
+    ),
+];
+
+/// Connections of several requests, and their first three answers.
+const TALKS: [(&[u8], [Outcome; 3]); 4] = [
+    (
+        b"PUT /a HTTP/1.1\r\nContent-Length: 5\r\n\r\nhelloGET / HTTP/1.1\r\n\r\nDELETE / HTTP/1.1\nContent-Length:2\n\n\r\n",
+        [
+            Outcome::Request(1, 5),
+            Outcome::Request(0, 0),
+            Outcome::Request(1, 2),
+        ],
+    ),
+    (
+        b"PUT /a HTTP/1.1\r\nContent-Length: 4\r\n\r\nhelloGET / HTTP/1.1\r\n\r\n",
+        [Outcome::Request(1, 4), Outcome::Request(0, 0), Outcome::End],
+    ),
+    (
+        b"PUT /a HTTP/1.1\r\nContent-Length: 0\r\n\r\nPUT /a HTTP/1.1\r\nConten",
+        [Outcome::Request(1, 0), Outcome::CutShort(38), Outcome::End],
+    ),
+    (
+        b"PUT /a HTTP/1.1\r\nContent-Length: 5\r\n\r\nhelloHEAD /a HTTP/1.1\r\nContent-Length: 6\r\n\r\nhello",
+        [
+            Outcome::Request(1, 5),
+            Outcome::Refused(Kind::ShortBody, 43, true),
+            Outcome::End,
+        ],
     ),
 ];
 
 #[test]
 fn fronts_are_the_same_in_any_pieces(rt: HostRuntime) -> Result<(), Memory> {
-    for (bytes, want) in ROWS {
-        for piece in [1, 7, 4096] {
-            assert_eq!(rt;
-                answers(rt.alloc(), bytes, piece)?,
-                want,
-                "{bytes:?} by {piece}"
-            );
-        }
+    let alloc = rt.alloc();
+    for (bytes, front) in FRONTS {
+        let want = Some(last(front));
+        assert_eq!(rt; answers(alloc, bytes, &[1, 7, 4096])?, want, "{bytes:?}");
+    }
+    for (bytes, talk) in TALKS {
+        assert_eq!(rt;
+            answers(alloc, bytes, &[1, 7, 4096])?,
+            Some(talk),
+            "{bytes:?}"
+        );
     }
     Ok(())
 }
@@ -146,8 +283,12 @@ fn fronts_are_the_same_in_any_pieces(rt: HostRuntime) -> Result<(), Memory> {
 #[test]
 fn a_head_is_cut_short_at_each_byte(rt: HostRuntime) -> Result<(), Memory> {
     for size in 1..MADE.len() {
-        let want = last(Outcome::CutShort(0));
-        assert_eq!(rt; answers(rt.alloc(), &MADE[..size], 5)?, want, "at {size}");
+        let want = Some(last(Outcome::CutShort(0)));
+        assert_eq!(rt;
+            answers(rt.alloc(), &MADE[..size], &[5])?,
+            want,
+            "at {size}"
+        );
     }
     Ok(())
 }
@@ -161,9 +302,7 @@ fn padded(
     end: &[u8],
 ) -> Result<Vec<u8>, Memory> {
     let mut bytes = Vec::from_slice(alloc, start)?;
-    for _turn in 0..count {
-        bytes.push(byte)?;
-    }
+    bytes.resize(start.len().saturating_add(count), byte)?;
     bytes.extend_from_slice(end)?;
     Ok(bytes)
 }
@@ -171,17 +310,53 @@ fn padded(
 #[test]
 fn a_head_has_16384_bytes_at_most(rt: HostRuntime) -> Result<(), Memory> {
     let alloc = rt.alloc();
-    let end = b" HTTP/1.1\r\nContent-Length: 0\r\n\r\n";
-    let refused = last(Outcome::Refused(0, false));
-    // 12 bytes before and 32 after
-    for (byte, count, end, want) in [
-        (1, 16_371, b"".as_slice(), last(Outcome::CutShort(0))),
-        (1, 16_372, b"".as_slice(), refused),
-        (b'a', 16_340, end.as_slice(), last(Outcome::Request(1))),
-        (b'a', 16_341, end.as_slice(), refused),
+    let target = b"GET /photos/".as_slice();
+    let end = b" HTTP/1.1\r\nContent-Length: 0\r\n\r\n".as_slice();
+    let header = b"HEAD / HTTP/1.1\r\na: ".as_slice();
+    let long = Outcome::Refused(Kind::LongHead, 0, false);
+    // 12 bytes before and 32 after; 20 before and 4 after
+    for (start, byte, count, end, want) in [
+        (target, 1, 16_371, b"".as_slice(), Outcome::CutShort(0)),
+        (target, 1, 16_372, b"".as_slice(), long),
+        (target, b'a', 16_340, end, Outcome::Request(1, 0)),
+        (target, b'a', 16_341, end, long),
+        (
+            header,
+            b' ',
+            16_360,
+            b"\r\n\r\n".as_slice(),
+            Outcome::Request(1, 0),
+        ),
+        (header, b' ', 16_361, b"\r\n\r\n".as_slice(), long),
+        (
+            header,
+            1,
+            16_384,
+            b"".as_slice(),
+            Outcome::Refused(Kind::BadHead, 0, false),
+        ),
     ] {
-        let bytes = padded(alloc, b"GET /photos/", byte, count, end)?;
-        assert_eq!(rt; answers(alloc, &bytes, 1000)?, want, "{byte} {count}");
+        let bytes = padded(alloc, start, byte, count, end)?;
+        assert_eq!(rt;
+            answers(alloc, &bytes, &[1_000])?,
+            Some(last(want)),
+            "{byte} {count}"
+        );
+    }
+    Ok(())
+}
+
+#[test]
+fn a_body_has_16777216_bytes_at_most(rt: HostRuntime) -> Result<(), Memory> {
+    let alloc = rt.alloc();
+    let start = b"PUT /a HTTP/1.1\r\nContent-Length: 16777216\r\n\r\n";
+    for (count, want) in [
+        (16_777_215, Outcome::Refused(Kind::ShortBody, 0, false)),
+        (16_777_216, Outcome::Request(1, 16_777_216)),
+    ] {
+        let bytes = padded(alloc, start, b'\n', count, b"")?;
+        let line = line_of(alloc, &bytes, 100_000, &[])?;
+        assert_eq!(rt; three(alloc, line, 0)?, last(want), "{count}");
     }
     Ok(())
 }
@@ -190,24 +365,36 @@ fn a_head_has_16384_bytes_at_most(rt: HostRuntime) -> Result<(), Memory> {
 fn a_head_has_100_headers_at_most(rt: HostRuntime) -> Result<(), Memory> {
     let alloc = rt.alloc();
     for (count, want) in [
-        (99, Outcome::Request(100)),
-        (100, Outcome::Refused(0, true)),
+        (99, Outcome::Request(100, 0)),
+        (100, Outcome::Refused(Kind::ManyHeaders, 0, true)),
     ] {
         let mut bytes = Vec::from_slice(alloc, b"HEAD / HTTP/1.1\r\nContent-Length: 0\r\n")?;
         for _turn in 0..count {
             bytes.extend_from_slice(b"a:b\r\n")?;
         }
         bytes.extend_from_slice(b"\r\n")?;
-        assert_eq!(rt; answers(alloc, &bytes, 1000)?, last(want), "{count}");
+        assert_eq!(rt;
+            answers(alloc, &bytes, &[1000])?,
+            Some(last(want)),
+            "{count}"
+        );
     }
     Ok(())
 }
 
 #[test]
 fn a_failed_read_ends_the_reader(rt: HostRuntime) -> Result<(), Memory> {
-    let line = line_of(rt.alloc(), MADE, 20, &[3])?;
     let want = last(Outcome::Fault(ReadFault::Failed));
-    assert_eq!(rt; three(rt.alloc(), line)?, want);
+    for (bytes, fails) in [
+        (MADE, 3),
+        (
+            b"PUT /a HTTP/1.1\r\nContent-Length: 9\r\n\r\nhello".as_slice(),
+            4,
+        ),
+    ] {
+        let line = line_of(rt.alloc(), bytes, 20, &[fails])?;
+        assert_eq!(rt; three(rt.alloc(), line, 0)?, want, "{bytes:?}");
+    }
     Ok(())
 }
 
@@ -226,13 +413,14 @@ fn first<N: Line<NoCount>>(alloc: Global, line: &mut N) -> Option<Message> {
 #[test]
 fn a_message_has_what_was_sent(rt: HostRuntime) -> Result<(), Memory> {
     let bytes =
-        b"PUT /a%20?b=c HTTP/1.0\r\nX-Amz-Acl: \t Public Read \r\nContent-Length: 0\r\n\r\n";
+        b"PUT /a%20?b=c HTTP/1.0\r\nX-Amz-Acl: \t Public Read \r\nContent-Length: 7\r\n\r\nh\r\n\r\n\x00oGET";
     let mut line = line_of(rt.alloc(), bytes, 3, &[])?;
     let Some(message) = first(rt.alloc(), &mut line) else {
         return Err(Memory);
     };
     assert!(rt; message.method.as_slice() == b"PUT".as_slice() && message.old);
-    assert!(rt; message.target.as_slice() == b"/a%20?b=c".as_slice() && message.body.is_empty());
+    assert!(rt; message.target.as_slice() == b"/a%20?b=c".as_slice());
+    assert!(rt; message.body.as_slice() == b"h\r\n\r\n\x00o".as_slice());
     let [acl, length] = message.headers.as_slice() else {
         return Err(Memory);
     };

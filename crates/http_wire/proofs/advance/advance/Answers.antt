@@ -6,7 +6,7 @@ use Rattle.http_wire.proofs.advance.advance.Goals as goal
 pub returns-then-len-ge-HEAD_LIMIT-clause-found : goal.returns-then-len-ge-HEAD_LIMIT-clause-found
 returns-then-len-ge-HEAD_LIMIT-clause-found g c =
     found_long c.come.pending.items c.window.result.now c.look.new.headers
-    (c.window.ensures.value ∙ ap window c.deref.ensures.value) c.in-More.ensures.0
+    (c.window.ensures.value ∙ ap window c.deref.ensures.value) c.in-More.ensures.0 c.in-More.ensures.1
     (omega (arith, c.if-len-ge-HEAD_LIMIT.true, c.len.ensures, c.deref.ensures.len, ap length c.deref.ensures.value))
 
 pub returns-then-branch-eq0-clause-found : goal.returns-then-branch-eq0-clause-found

@@ -1,6 +1,6 @@
 use Rattle.std.proofs.Common.{sym, ◌∙◌}
 use Rattle.http_wire.proofs.MessageLemmas.{absent_none, present_some}
-use Rattle.http_wire.proofs.message.is_absent.Goals as goal
+use Rattle.http_wire.proofs.judge.is_absent.Goals as goal
 
 pub returns-in-Some : goal.returns-in-Some
 returns-in-Some c = present_some c.args.name.now c.args.headers.now _ (sym c.place_of.ensures ∙ c.in-Some.is)

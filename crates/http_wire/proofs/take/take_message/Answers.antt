@@ -1,0 +1,6 @@
+use Rattle.std.proofs.Common.{arith, length-take}
+use Rattle.http_wire.proofs.take.take_message.Goals as goal
+
+pub take_body-requires-clause-within : goal.take_body-requires-clause-within
+take_body-requires-clause-within g c =
+    omega (arith, c.requires.within.section.len_fits, length-take 16384 c.args.pending.now.items)

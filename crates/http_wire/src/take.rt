@@ -1,0 +1,203 @@
+//! A whole head with its body.
+ghost use Rattle.std.specs.Prelude.{true, false, ◌≡◌, ◌≤◌, ◌<◌, ◌+◌, ◌++◌, [], length, take, drop, IsTrue, IfOk, OnErr};
+ghost use Rattle.gate_base.specs.Causes.{Rose};
+ghost use Rattle.gate_base.specs.Wire.{with_mark};
+ghost use Rattle.httparse.specs.Grammar.{RequestHead};
+ghost use Rattle.httparse.specs.Spans.{IsRequestAt, IsRequestWithin};
+ghost use Rattle.http_wire.specs.Front.{is_head};
+ghost use Rattle.http_wire.specs.Seen.{window};
+ghost use Rattle.http_wire.specs.Taken.{BodyFrom, OnWhole, TakenFrom};
+ghost use Rattle.http_wire.specs.Gives.{OnFailed, OnlyReads, UnlessFailed};
+
+use crate::advance::window;
+use crate::fill::read_room;
+use crate::judge::judge;
+use crate::message::message_at;
+use crate::{Kind, Message, ReadFault};
+use gate_base::{Bytes, Counted, Line};
+use httparse::spans::{HeaderSpan, RequestSpans};
+use std::alloc::AllocError;
+use std::mem::replace;
+
+/// The bytes that one read asks for while a body is read, at most. Each byte of the room for them is made once.
+const PIECE: usize = 65_536;
+
+/// What a whole head gives.
+#[derive(Debug, Drop)]
+pub(crate) enum Taken {
+    /// A request, and how many bytes it has.
+    Whole { message: Message, size: usize },
+
+    /// It is refused. `head` says that its method is HEAD.
+    Not { kind: Kind, head: bool },
+}
+
+/// Takes the message of a whole head, with its body, and the bytes of both away. Where it is refused, and without an
+/// answer, no byte is lost: what came of the body stays in `partial`, behind what stays in `pending`.
+pub(crate) fn take_message<N: Line<C>, C: Counted>(
+    pending: &mut Vec<u8>,
+    partial: &mut Vec<u8>,
+    lines: &[HeaderSpan],
+    spans: &RequestSpans,
+    line: &mut N,
+    store: &C,
+) -> Result<Taken, ReadFault>
+    requires open { IsTrue (N.is_open line.old) }
+    requires within { IsRequestWithin (window pending.old.items) lines.now spans.now }
+    requires none { partial.old.items ≡ [] }
+    ensures open { N.is_open line.new ≡ true }
+    ensures quiet { UnlessFailed result (N.faults line.new ≡ N.faults line.old) }
+    ensures cause { OnFailed result (Rose (N.faults line.old) (N.faults line.new)) }
+    ensures quiet_next { N.next_faults line.new ≡ N.next_faults line.old }
+    ensures spent { N.spent line.old ≤ N.spent line.new }
+    ensures tells { N.tells line.old → N.tells line.new }
+    ensures only_reads { N.tells line.old → OnlyReads (N.wire line.old) (N.wire line.new) }
+    ensures marks { N.tells line.old → UnlessFailed result ((N.wire line.new).marks ≡ (N.wire line.old).marks) }
+    ensures mark { N.tells line.old → OnFailed result ((N.wire line.new).marks ≡ (with_mark (N.wire line.old)).marks) }
+    ensures none { IfOk result (OnWhole (partial.new.items ≡ [])) }
+    ensures fewer { IfOk result (OnWhole (length pending.new.items + spans.now.len ≤ length pending.old.items)) }
+    ensures told { N.tells line.old → IfOk result (λ taken. (h : RequestHead) → IsRequestAt (window pending.old.items) lines.now spans.now h
+        → TakenFrom (pending.old.items ++ (N.wire line.old).rest) h spans.now.len taken ((pending.new.items ++ partial.new.items) ++ (N.wire line.new).rest)) }
+    ensures told_err { N.tells line.old → OnErr result
+        ((pending.new.items ++ partial.new.items) ++ (N.wire line.new).rest ≡ pending.old.items ++ (N.wire line.old).rest) }
+{
+    let alloc = *pending.allocator();
+    let mut message = message_at(alloc, window(pending), lines, spans)?;
+    let size = match judge(&message) {
+        Ok(size) => size,
+        Err(kind) => {
+            return Ok(Taken::Not {
+                kind,
+                head: is_head(&message),
+            });
+        }
+    };
+    if !take_body(pending, partial, spans.len, size, line, store)? {
+        return Ok(Taken::Not {
+            kind: Kind::ShortBody,
+            head: is_head(&message),
+        });
+    }
+    message.body = Bytes::from_vec(replace(partial, Vec::new(alloc)));
+    Ok(Taken::Whole {
+        message,
+        size: spans.len + size,
+    })
+}
+
+fn is_head(message: &Message) -> bool
+    ensures { result ≡ is_head message.now.method }
+{
+    message.method.as_slice() == b"HEAD".as_slice()
+}
+
+/// Moves the `size` bytes behind the first `start` into `body`, and takes both away: of those that came already, and
+/// else of the line. False where the connection ends before.
+fn take_body<N: Line<C>, C: Counted>(
+    pending: &mut Vec<u8>,
+    body: &mut Vec<u8>,
+    start: usize,
+    size: usize,
+    line: &mut N,
+    store: &C,
+) -> Result<bool, ReadFault>
+    requires open { IsTrue (N.is_open line.old) }
+    requires within { start ≤ length pending.old.items }
+    requires none { body.old.items ≡ [] }
+    ensures open { N.is_open line.new ≡ true }
+    ensures quiet { UnlessFailed result (N.faults line.new ≡ N.faults line.old) }
+    ensures cause { OnFailed result (Rose (N.faults line.old) (N.faults line.new)) }
+    ensures quiet_next { N.next_faults line.new ≡ N.next_faults line.old }
+    ensures spent { N.spent line.old ≤ N.spent line.new }
+    ensures tells { N.tells line.old → N.tells line.new }
+    ensures only_reads { N.tells line.old → OnlyReads (N.wire line.old) (N.wire line.new) }
+    ensures marks { N.tells line.old → UnlessFailed result ((N.wire line.new).marks ≡ (N.wire line.old).marks) }
+    ensures mark { N.tells line.old → OnFailed result ((N.wire line.new).marks ≡ (with_mark (N.wire line.old)).marks) }
+    ensures fewer { IfOk result (λ whole. IsTrue whole → length pending.new.items + start ≤ length pending.old.items) }
+    ensures told { N.tells line.old → IfOk result (λ whole.
+        BodyFrom (pending.old.items ++ (N.wire line.old).rest) start size whole body.new.items pending.new.items (N.wire line.new).rest) }
+    ensures told_err { N.tells line.old → OnErr result
+        ((pending.new.items ++ body.new.items) ++ (N.wire line.new).rest ≡ pending.old.items ++ (N.wire line.old).rest) }
+{
+    if size <= pending.len() - start {
+        body.extend_from_slice(&pending[start..start + size])?;
+        drop_front(pending, start + size);
+        return Ok(true);
+    }
+    begin_body(pending, body, start, size)?;
+    if !finish_body(body, size, line, store)? {
+        return Ok(false);
+    }
+    pending.truncate(0);
+    Ok(true)
+}
+
+/// Makes room for a body of `size` bytes, and moves into it what came of it already, behind the first `start` bytes.
+fn begin_body(
+    pending: &mut Vec<u8>,
+    body: &mut Vec<u8>,
+    start: usize,
+    size: usize,
+) -> Result<(), AllocError>
+    requires within { start ≤ length pending.old.items }
+    requires none { body.old.items ≡ [] }
+    ensures ok { IfOk result (λ _. (pending.new.items ≡ take start pending.old.items) × (body.new.items ≡ drop start pending.old.items)) }
+    ensures err { OnErr result ((pending.new.items ≡ pending.old.items) × (body.new.items ≡ [])) }
+{
+    body.reserve(size)?;
+    body.extend_from_slice(&pending[start..])?;
+    pending.truncate(start);
+    Ok(())
+}
+
+/// Reads until `body` has `size` bytes. False where the connection ends before.
+fn finish_body<N: Line<C>, C: Counted>(
+    body: &mut Vec<u8>,
+    size: usize,
+    line: &mut N,
+    store: &C,
+) -> Result<bool, ReadFault>
+    requires open { IsTrue (N.is_open line.old) }
+    requires short { length body.old.items ≤ size }
+    ensures open { N.is_open line.new ≡ true }
+    ensures quiet { UnlessFailed result (N.faults line.new ≡ N.faults line.old) }
+    ensures cause { OnFailed result (Rose (N.faults line.old) (N.faults line.new)) }
+    ensures quiet_next { N.next_faults line.new ≡ N.next_faults line.old }
+    ensures spent { N.spent line.old ≤ N.spent line.new }
+    ensures tells { N.tells line.old → N.tells line.new }
+    ensures only_reads { N.tells line.old → OnlyReads (N.wire line.old) (N.wire line.new) }
+    ensures marks { N.tells line.old → UnlessFailed result ((N.wire line.new).marks ≡ (N.wire line.old).marks) }
+    ensures mark { N.tells line.old → OnFailed result ((N.wire line.new).marks ≡ (with_mark (N.wire line.old)).marks) }
+    ensures kept { N.tells line.old → body.new.items ++ (N.wire line.new).rest ≡ body.old.items ++ (N.wire line.old).rest }
+    ensures whole { IfOk result (λ whole. IsTrue whole → length body.new.items ≡ size) }
+    ensures short { N.tells line.old → IfOk result (λ whole. whole ≡ false → (length body.new.items < size) × ((N.wire line.new).rest ≡ [])) }
+{
+    let mut came = body.len();
+    'pieces: while came < size {
+        if came == body.len() {
+            body.resize(came + PIECE.min(size - came), 0)?;
+        }
+        match read_room(body, came, line, store) {
+            Ok(0) => {
+                body.truncate(came);
+                return Ok(false);
+            }
+            Ok(count) => came += count,
+            Err(fault) => {
+                body.truncate(came);
+                return Err(fault);
+            }
+        }
+    }
+    Ok(true)
+}
+
+/// Takes the first `count` bytes away.
+fn drop_front(pending: &mut Vec<u8>, count: usize)
+    requires { count ≤ length pending.old.items }
+    ensures { pending.new.items ≡ drop count pending.old.items }
+{
+    let left = pending.len() - count;
+    pending.copy_within(count.., 0);
+    pending.truncate(left);
+}
