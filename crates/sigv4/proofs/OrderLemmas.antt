@@ -1,27 +1,14 @@
 -- The order of pairs, and the place of a pair among others.
-use Rattle.std.proofs.Common.{◌≡◌, ◌+◌, ◌≤◌, suc, Bool, true, false, cond, not, ltb, List, [], ◌∷◌, ◌++◌, length, fold, Some, None, position, unwrap_or, append-nil, refl, ap, sym, ◌∙◌, inl, inr, arith}
+use Rattle.std.proofs.Common.{◌≡◌, ◌+◌, suc, Bool, true, false, cond, not, List, [], ◌∷◌, ◌++◌, fold, append-nil, refl, ap, sym, ◌∙◌, inl, inr, arith}
 use Rattle.std.specs.Prelude.{IsPermutation}
 use Rattle.std.specs.Cmp.Lexicographic.{slice_cmp, nat_list_cmp_total}
 use Rattle.std.specs.Ordering.{nat_cmp, is_lt, ordering_then, ordering_reverse}
 use Rattle.std.specs.declared.cmp.Ordering.{Ordering}
 use Rattle.std.specs.declared.cmp.Ordering.TheVariants.{Less, Equal, Greater}
 use Rattle.std.proofs.lemmas.Bool.{cases_Bool, and_from, and_parts}
-use Rattle.std.proofs.lemmas.Bool.Decides.{nat_tests}
 use Rattle.std.proofs.lemmas.List.Sorted.{IsPermutation-refl, IsPermutation-trans, IsPermutation-middle, IsPermutation-insert, IsPermutation-append_left}
-use Rattle.std.proofs.lemmas.List.Sums.{prefix_len-le-length}
 use Rattle.gate_base.specs.declared.page.Pair.{Pair}
 use Rattle.sigv4.specs.Canonical.{pair_cmp, place_of, placed, ordered, is_ordered}
-
--- the place is in the list or at its end
-pub place_within : (pair : Pair) (pairs : List Pair) → place_of pair pairs ≤ length pairs
-place_within pair pairs = prefix_len-le-length (λ other. not (is_lt (pair_cmp pair other))) pairs
-
-pub place_is : (pair : Pair) (pairs : List Pair) → unwrap_or (position (λ other. is_lt (pair_cmp pair other)) pairs) (length pairs) ≡ place_of pair pairs
-place_is pair pairs = from_test (ltb (place_of pair pairs) (length pairs)) refl
-  where
-    from_test : (b : Bool) → ltb (place_of pair pairs) (length pairs) ≡ b → unwrap_or (cond b (Some (place_of pair pairs)) None) (length pairs) ≡ place_of pair pairs
-    from_test true e = refl
-    from_test false e = let within = place_within pair pairs in grind (arith, nat_tests)
 
 placed_front : (pair q : Pair) (qs : List Pair) → is_lt (pair_cmp pair q) ≡ true → placed (q ∷ qs) pair ≡ pair ∷ q ∷ qs
 placed_front pair q qs e =

@@ -62,7 +62,7 @@ place_of pair pairs = position_or_len (λ other. is_lt (pair_cmp pair other)) pa
 abbrev pub placed : List Pair → Pair → List Pair
 placed pairs pair = insert pairs (place_of pair pairs) pair
 
--- the pairs in order
+-- the pairs in order: by a law of this crate the only list in order with these pairs
 unfoldable pub ordered : List Pair → List Pair
 ordered pairs = fold placed [] pairs
 

@@ -1,9 +1,10 @@
-ghost use Rattle.std.specs.Prelude.{◌≡◌, ◌==◌, position, find, is_some, IfOk};
+ghost use Rattle.std.specs.Prelude.{◌≡◌, find, is_some, IfOk};
 ghost use Rattle.std.specs.Option.{option_copied};
-ghost use Rattle.std.specs.List.{list_all, list_any as any_of, before_first, after_first};
+ghost use Rattle.std.specs.List.{list_all, list_any as any_of};
 ghost use Rattle.sigv4.specs.Keys.{is_newline, is_space, is_letter_or_digit, is_visible, has_word_length, is_key, key_of, keys_of, has_id, are_keys, ReadsKeys, secret_of};
 
-use gate_base::{Bytes, Copying, List, Memory};
+use crate::cut::cut;
+use gate_base::{Bytes, List, Memory};
 use std::alloc::Global;
 use std::marker::Model;
 
@@ -99,23 +100,6 @@ impl Keys {
             .iter()
             .find(|key| key.id.as_slice() == id)
     }
-}
-
-/// The text before the first such byte and the text behind it: all of it and none where there is no such byte.
-fn cut(text: &[u8], separator: u8) -> (&[u8], &[u8])
-    ensures before { result.0.now ≡ before_first (λ byte. byte == separator) text.now }
-    ensures behind { result.1.now ≡ after_first (λ byte. byte == separator) text.now }
-{
-    match first_place(text, separator) {
-        Some(at) => (&text[..at], &text[at + 1..]),
-        None => (text, &text[text.len()..]),
-    }
-}
-
-fn first_place(text: &[u8], byte: u8) -> Option<usize>
-    ensures { result ≡ position (λ item. item == byte) text.now }
-{
-    text.iter().position(|item| *item == byte)
 }
 
 fn read_line(alloc: Global, line: &[u8]) -> Result<AccessKey, Memory>

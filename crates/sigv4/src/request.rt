@@ -1,7 +1,6 @@
-ghost use Rattle.std.specs.Prelude.{◌≡◌, ◌==◌, ◌++◌, ◌≤◌, length, map, flat_map, position, IfOk, OnOk};
-ghost use Rattle.std.specs.Ordering.{is_lt};
+ghost use Rattle.std.specs.Prelude.{◌≡◌, ◌==◌, ◌++◌, map, flat_map, IfOk, OnOk};
 ghost use Rattle.http_wire.specs.Front.{has_name, values_of};
-ghost use Rattle.sigv4.specs.Canonical.{is_blank, skip_blanks, cut_blanks, begins_with_space, single_spaced, clean, canonical_value, canonical_header, canonical_headers, escaped_pair, pair_cmp, place_of, placed, ordered, pair_text, canonical_query, canonical_text};
+ghost use Rattle.sigv4.specs.Canonical.{is_blank, skip_blanks, cut_blanks, begins_with_space, single_spaced, clean, canonical_value, canonical_header, canonical_headers, escaped_pair, pair_cmp, ordered, pair_text, canonical_query, canonical_text};
 
 use crate::join::joined;
 use gate_base::{Bytes, Copying, List, Memory, Pair};
@@ -152,15 +151,22 @@ fn canonical_query(alloc: Global, pairs: &[Pair]) -> Result<Bytes, Memory>
 }
 
 /// The pairs escaped, in the order of what they are escaped to.
-#[tactic(auto, unfolding(crate::specs::Canonical::ordered))]
 fn ordered(alloc: Global, pairs: &[Pair]) -> Result<List<Pair>, Memory>
     ensures { IfOk result (λ sorted. sorted ≡ ordered (map escaped_pair pairs.now)) }
 {
-    let mut sorted = List::new(alloc);
+    let mut escaped = escaped_pairs(alloc, pairs)?.into_vec();
+    escaped.sort_unstable_by(|pair, other| pair_cmp(pair, other));
+    Ok(List::from_vec(escaped))
+}
+
+fn escaped_pairs(alloc: Global, pairs: &[Pair]) -> Result<List<Pair>, Memory>
+    ensures { IfOk result (λ escaped. escaped ≡ map escaped_pair pairs.now) }
+{
+    let mut escaped = List::new(alloc);
     for pair in pairs {
-        place(&mut sorted, escaped_pair(alloc, pair)?)?;
+        escaped.push(escaped_pair(alloc, pair)?)?;
     }
-    Ok(sorted)
+    Ok(escaped)
 }
 
 fn escaped_pair(alloc: Global, pair: &Pair) -> Result<Pair, Memory>
@@ -170,27 +176,6 @@ fn escaped_pair(alloc: Global, pair: &Pair) -> Result<Pair, Memory>
         name: encode_all(alloc, pair.name.as_slice())?,
         value: encode_all(alloc, pair.value.as_slice())?,
     })
-}
-
-fn place(sorted: &mut List<Pair>, pair: Pair) -> Result<(), Memory>
-    ensures { OnOk result (sorted.new ≡ placed sorted.old pair) }
-{
-    let at = place_of(&pair, sorted.as_slice());
-    sorted.insert(at, pair)
-}
-
-#[tactic(auto, using(crate::proofs::OrderLemmas::place_is, crate::proofs::OrderLemmas::place_within))]
-fn place_of(pair: &Pair, pairs: &[Pair]) -> usize
-    ensures place { result ≡ place_of pair.now pairs.now }
-    ensures within { result ≤ length pairs.now }
-{
-    first_behind(pair, pairs).unwrap_or(pairs.len())
-}
-
-fn first_behind(pair: &Pair, pairs: &[Pair]) -> Option<usize>
-    ensures { result ≡ position (λ other. is_lt (pair_cmp pair.now other)) pairs.now }
-{
-    pairs.iter().position(|other| pair_cmp(pair, other).is_lt())
 }
 
 fn pair_cmp(pair: &Pair, other: &Pair) -> Ordering

@@ -81,7 +81,7 @@ fn is_digit(byte: u8) -> bool
 }
 
 /// The date of a time.
-fn date_of(date_time: &[u8]) -> &[u8]
+pub fn date_of(date_time: &[u8]) -> &[u8]
     requires { is_date_time date_time.now ≡ true }
     ensures { result.now ≡ date_of date_time.now }
 {

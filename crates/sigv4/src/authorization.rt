@@ -1,0 +1,265 @@
+ghost use Rattle.std.specs.Prelude.{◌≡◌, length, drop, nat_eq, codes, IfOk};
+ghost use Rattle.std.specs.List.{list_all, starts_with, slice_split};
+ghost use Rattle.sigv4.specs.Authorization.{is_part_byte, is_part, is_name_byte, is_name, stands_before, are_ascending, are_names, is_hex_digit, is_hex, is_formed, is_semicolon, skip_spaces, algorithm_section, credential_section, names_section, signature_section, behind_service, credential_of, is_labelled, parts_of, authorization_of};
+
+use crate::cut::{cut, first_place};
+use gate_base::{Bytes, List, Memory};
+use httparse::is_header_name_token;
+use std::alloc::Global;
+
+/// The digits of a signature or of a hash.
+const DIGITS: usize = 64;
+
+/// What the Authorization header of a signed request says: who signed it, for which day, region and service, which
+/// headers, and the signature, in hexadecimal digits.
+#[derive(Debug, Drop)]
+pub struct Authorization {
+    pub id: Bytes,
+    pub date: Bytes,
+    pub region: Bytes,
+    pub service: Bytes,
+    pub names: List<Bytes>,
+    pub signature: Bytes,
+}
+
+impl Authorization {
+    /// Reads the value of an Authorization header, `AWS4-HMAC-SHA256
+    /// Credential=ID/DATE/REGION/SERVICE/aws4_request,SignedHeaders=NAMES,Signature=HEX`: at least one space behind the
+    /// first word, and any number behind a comma. ID, DATE, REGION and SERVICE are one or more bytes of visible ASCII but
+    /// `/` and `,`; NAMES are tokens without upper-case letters, in strictly ascending order, with `;` between; HEX has
+    /// 64 lower-case digits. None exactly where the text hasn't this form.
+    #[tactic(auto, unfolding(crate::specs::Authorization::authorization_of))]
+    pub fn read(alloc: Global, text: &[u8]) -> Result<Option<Authorization>, Memory>
+        ensures { IfOk result (λ read. read ≡ authorization_of text.now) }
+    {
+        if !is_labelled(text) {
+            return Ok(None);
+        }
+        let parts = parts_of(alloc, text)?;
+        if is_formed(&parts) {
+            Ok(Some(parts))
+        } else {
+            Ok(None)
+        }
+    }
+}
+
+fn is_labelled(text: &[u8]) -> bool
+    ensures { result ≡ is_labelled text.now }
+{
+    algorithm_section(text).starts_with(b"AWS4-HMAC-SHA256 ")
+        && credential_section(text).starts_with(b"Credential=")
+        && names_section(text).starts_with(b"SignedHeaders=")
+        && signature_section(text).starts_with(b"Signature=")
+        && behind_service(credential_of(text)) == b"aws4_request".as_slice()
+}
+
+#[tactic(auto, unfolding(crate::specs::Authorization::parts_of))]
+fn parts_of(alloc: Global, text: &[u8]) -> Result<Authorization, Memory>
+    ensures { IfOk result (λ parts. parts ≡ parts_of text.now) }
+{
+    let (id, behind_id) = cut(credential_of(text), b'/');
+    let (date, behind_date) = cut(behind_id, b'/');
+    let (region, behind_region) = cut(behind_date, b'/');
+    let (service, _) = cut(behind_region, b'/');
+    Ok(Authorization {
+        id: Bytes::from_slice(alloc, id)?,
+        date: Bytes::from_slice(alloc, date)?,
+        region: Bytes::from_slice(alloc, region)?,
+        service: Bytes::from_slice(alloc, service)?,
+        names: names_of(alloc, behind(names_section(text), 14))?,
+        signature: Bytes::from_slice(alloc, behind(signature_section(text), 10))?,
+    })
+}
+
+/// The texts between the semicolons.
+#[tactic(auto, using(crate::proofs::AuthorizationLemmas::names_more, crate::proofs::AuthorizationLemmas::names_end, crate::proofs::AuthorizationLemmas::behind_is_shorter))]
+fn names_of(alloc: Global, text: &[u8]) -> Result<List<Bytes>, Memory>
+    ensures { IfOk result (λ names. names ≡ slice_split is_semicolon text.now) }
+{
+    let mut names = List::new(alloc);
+    let mut rest = text;
+    'names: while let Some(at) = first_place(rest, b';') {
+        names.push(Bytes::from_slice(alloc, &rest[..at])?)?;
+        rest = behind(rest, at + 1);
+    }
+    names.push(Bytes::from_slice(alloc, rest)?)?;
+    Ok(names)
+}
+
+#[tactic(auto, unfolding(crate::specs::Authorization::algorithm_section))]
+fn algorithm_section(text: &[u8]) -> &[u8]
+    ensures { result.now ≡ algorithm_section text.now }
+{
+    let (section, _) = cut(text, b',');
+    section
+}
+
+#[tactic(auto, unfolding(crate::specs::Authorization::credential_section))]
+fn credential_section(text: &[u8]) -> &[u8]
+    ensures { result.now ≡ credential_section text.now }
+{
+    skip_spaces(behind(algorithm_section(text), 17))
+}
+
+#[tactic(auto, unfolding(crate::specs::Authorization::names_section))]
+fn names_section(text: &[u8]) -> &[u8]
+    ensures { result.now ≡ names_section text.now }
+{
+    let (_, behind) = cut(text, b',');
+    let (section, _) = cut(behind, b',');
+    skip_spaces(section)
+}
+
+#[tactic(auto, unfolding(crate::specs::Authorization::signature_section))]
+fn signature_section(text: &[u8]) -> &[u8]
+    ensures { result.now ≡ signature_section text.now }
+{
+    let (_, behind) = cut(text, b',');
+    let (_, section) = cut(behind, b',');
+    skip_spaces(section)
+}
+
+fn credential_of(text: &[u8]) -> &[u8]
+    ensures { result.now ≡ credential_of text.now }
+{
+    behind(credential_section(text), 11)
+}
+
+/// The credential from behind its fourth slash on.
+fn behind_service(credential: &[u8]) -> &[u8]
+    ensures { result.now ≡ behind_service credential.now }
+{
+    let (_, behind_id) = cut(credential, b'/');
+    let (_, behind_date) = cut(behind_id, b'/');
+    let (_, behind_region) = cut(behind_date, b'/');
+    let (_, behind_service) = cut(behind_region, b'/');
+    behind_service
+}
+
+/// The text without its first bytes, none where there are no more.
+fn behind(text: &[u8], count: usize) -> &[u8]
+    ensures { result.now ≡ drop count text.now }
+{
+    if count < text.len() {
+        &text[count..]
+    } else {
+        &text[text.len()..]
+    }
+}
+
+#[tactic(auto, unfolding(crate::specs::Authorization::skip_spaces))]
+fn skip_spaces(text: &[u8]) -> &[u8]
+    ensures { result.now ≡ skip_spaces text.now }
+{
+    let mut rest = text;
+    'bytes: while let [first, behind @ ..] = rest {
+        if *first != b' ' {
+            return rest;
+        }
+        rest = behind;
+    }
+    rest
+}
+
+fn is_formed(parts: &Authorization) -> bool
+    ensures { result ≡ is_formed parts.now }
+{
+    is_part(parts.id.as_slice())
+        && is_part(parts.date.as_slice())
+        && is_part(parts.region.as_slice())
+        && is_part(parts.service.as_slice())
+        && are_names(parts.names.as_slice())
+        && is_hex(parts.signature.as_slice())
+}
+
+fn is_part(part: &[u8]) -> bool
+    ensures { result ≡ is_part part.now }
+{
+    part.len() > 0 && all_part_bytes(part)
+}
+
+fn all_part_bytes(part: &[u8]) -> bool
+    ensures { result ≡ list_all is_part_byte part.now }
+{
+    part.iter().all(|byte| is_part_byte(*byte))
+}
+
+fn is_part_byte(byte: u8) -> bool
+    ensures { result ≡ is_part_byte byte }
+{
+    byte.is_ascii_graphic() && byte != b'/' && byte != b','
+}
+
+fn are_names(names: &[Bytes]) -> bool
+    ensures { result ≡ are_names names.now }
+{
+    names.len() > 0 && all_names(names) && are_ascending(names)
+}
+
+fn all_names(names: &[Bytes]) -> bool
+    ensures { result ≡ list_all is_name names.now }
+{
+    names.iter().all(|name| is_name(name.as_slice()))
+}
+
+fn is_name(name: &[u8]) -> bool
+    ensures { result ≡ is_name name.now }
+{
+    name.len() > 0 && all_name_bytes(name)
+}
+
+fn all_name_bytes(name: &[u8]) -> bool
+    ensures { result ≡ list_all is_name_byte name.now }
+{
+    name.iter().all(|byte| is_name_byte(*byte))
+}
+
+fn is_name_byte(byte: u8) -> bool
+    ensures { result ≡ is_name_byte byte }
+{
+    is_header_name_token(byte) && !byte.is_ascii_uppercase()
+}
+
+#[tactic(auto, unfolding(crate::specs::Authorization::are_ascending))]
+fn are_ascending(names: &[Bytes]) -> bool
+    ensures { result ≡ are_ascending names.now }
+{
+    let mut rest = names;
+    'names: while let [name, behind @ ..] = rest {
+        if !stands_before(name.as_slice(), behind) {
+            return false;
+        }
+        rest = behind;
+    }
+    true
+}
+
+/// Whether the name stands before the first of the others, if there is one.
+fn stands_before(name: &[u8], others: &[Bytes]) -> bool
+    ensures { result ≡ stands_before name.now others.now }
+{
+    match others {
+        [next, ..] => name.cmp(next.as_slice()).is_lt(),
+        [] => true,
+    }
+}
+
+/// Whether a text has the form of a hash or of a signature.
+pub fn is_hex(text: &[u8]) -> bool
+    ensures { result ≡ is_hex text.now }
+{
+    text.len() == DIGITS && all_hex_digits(text)
+}
+
+fn all_hex_digits(text: &[u8]) -> bool
+    ensures { result ≡ list_all is_hex_digit text.now }
+{
+    text.iter().all(|byte| is_hex_digit(*byte))
+}
+
+fn is_hex_digit(byte: u8) -> bool
+    ensures { result ≡ is_hex_digit byte }
+{
+    byte.is_ascii_digit() || (b'a' <= byte && byte <= b'f')
+}

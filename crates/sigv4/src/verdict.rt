@@ -1,0 +1,287 @@
+ghost use Rattle.std.specs.Prelude.{◌≡◌, false, [], count_by, find, unwrap_or, IfOk};
+ghost use Rattle.std.specs.List.{list_any};
+ghost use Rattle.std.specs.Option.{option_copied};
+ghost use Rattle.http_wire.specs.Front.{has_name};
+ghost use Rattle.sigv4.specs.Keys.{secret_of};
+ghost use Rattle.sigv4.specs.Verdict.{has_one, first_value, claim_of, is_unknown, has_wrong_scope, is_among, must_be_signed, is_left_out, leaves_unsigned, time_of, lacks_date, hash_of, announces_pieces, is_streaming, is_unsigned_payload, lacks_payload_hash, expected, signature_differs, payload_differs, first_refusal, reasons, signed, Gives};
+
+use crate::authorization::{Authorization, is_hex};
+use crate::moment::{is_of_day, is_skewed, is_time};
+use crate::request::canonical;
+use crate::signature::{Signed, sign};
+use crate::{Keys, Refusal};
+use gate_base::{Bytes, Caller, Memory, Pair};
+use http_wire::Message;
+use s3_names::Target;
+use sha2::{Digest, Sha256};
+use std::alloc::Global;
+
+const AUTHORIZATION: &[u8] = b"authorization";
+
+const DATE: &[u8] = b"x-amz-date";
+
+const PAYLOAD: &[u8] = b"x-amz-content-sha256";
+
+/// Who sent a request at a moment, in seconds since 1970, by its Authorization header (Amazon S3 API Reference,
+/// "Authenticating requests: using the Authorization header"): without one `Anonymous`, and `Owner` where one of the keys
+/// signed it for this region. Else the first refusal that fits, in the order of `Refusal`; `Memory` may come for any
+/// request.
+#[tactic(auto, unfolding(crate::specs::Verdict::signed))]
+pub fn verify(
+    alloc: Global,
+    keys: &Keys,
+    region: &[u8],
+    message: &Message,
+    target: &Target,
+    moment: u64,
+) -> Result<Caller, Refusal>
+    ensures { Gives result (signed keys.now region.now message.now target.now moment) }
+{
+    if !has_some(AUTHORIZATION, message.headers.as_slice()) {
+        return Ok(Caller::Anonymous);
+    }
+    match claim_of(alloc, message.headers.as_slice())? {
+        Some(claim) => judge(alloc, keys, region, message, target, moment, &claim),
+        None => Err(Refusal::HeaderMalformed),
+    }
+}
+
+/// The answer to what a header says.
+fn judge(
+    alloc: Global,
+    keys: &Keys,
+    region: &[u8],
+    message: &Message,
+    target: &Target,
+    moment: u64,
+    claim: &Authorization,
+) -> Result<Caller, Refusal>
+    ensures { Gives result (first_refusal (reasons keys.now region.now message.now target.now moment claim.now)) }
+{
+    let headers = message.headers.as_slice();
+    if is_unknown(keys, claim) {
+        return Err(Refusal::UnknownKey);
+    }
+    if has_wrong_scope(region, claim) {
+        return Err(Refusal::WrongScope);
+    }
+    if leaves_unsigned(claim, headers) {
+        return Err(Refusal::UnsignedHeader);
+    }
+    if lacks_date(claim, headers) {
+        return Err(Refusal::NoDate);
+    }
+    if is_skewed(time_of(headers), moment) {
+        return Err(Refusal::Skewed);
+    }
+    if is_streaming(headers) {
+        return Err(Refusal::Streaming);
+    }
+    if lacks_payload_hash(headers) {
+        return Err(Refusal::NoPayloadHash);
+    }
+    let due = expected(alloc, keys, region, message, target, claim)?;
+    if signature_differs(alloc, claim, &due)? {
+        return Err(Refusal::SignatureDiffers(due.canonical_hash));
+    }
+    if payload_differs(alloc, message)? {
+        return Err(Refusal::PayloadDiffers);
+    }
+    Ok(Caller::Owner)
+}
+
+fn has_name(name: &[u8], header: &Pair) -> bool
+    ensures { result ≡ has_name name.now header.now }
+{
+    header.name.as_slice() == name
+}
+
+fn has_some(name: &[u8], headers: &[Pair]) -> bool
+    ensures { result ≡ list_any (has_name name.now) headers.now }
+{
+    headers.iter().any(|header| has_name(name, header))
+}
+
+fn has_one(name: &[u8], headers: &[Pair]) -> bool
+    ensures { result ≡ has_one name.now headers.now }
+{
+    count(name, headers) == 1
+}
+
+fn count(name: &[u8], headers: &[Pair]) -> usize
+    ensures { result ≡ count_by (has_name name.now) headers.now }
+{
+    headers
+        .iter()
+        .filter(|header| has_name(name, header))
+        .count()
+}
+
+/// The value of the first header of a name, no byte where there is none.
+fn first_value<'a>(name: &[u8], headers: &'a [Pair]) -> &'a [u8]
+    ensures { result.now ≡ first_value name.now headers.now }
+{
+    match first(name, headers) {
+        Some(header) => header.value.as_slice(),
+        None => b"",
+    }
+}
+
+fn first<'a>(name: &[u8], headers: &'a [Pair]) -> Option<&'a Pair>
+    ensures { option_copied result ≡ find (has_name name.now) headers.now }
+{
+    headers.iter().find(|header| has_name(name, header))
+}
+
+/// What the Authorization header says, where it is the only one and has the form.
+fn claim_of(alloc: Global, headers: &[Pair]) -> Result<Option<Authorization>, Memory>
+    ensures { IfOk result (λ claim. claim ≡ claim_of headers.now) }
+{
+    if has_one(AUTHORIZATION, headers) {
+        Authorization::read(alloc, first_value(AUTHORIZATION, headers))
+    } else {
+        Ok(None)
+    }
+}
+
+fn is_unknown(keys: &Keys, claim: &Authorization) -> bool
+    ensures { result ≡ is_unknown keys.now claim.now }
+{
+    keys.secret(claim.id.as_slice()).is_none()
+}
+
+fn has_wrong_scope(region: &[u8], claim: &Authorization) -> bool
+    ensures { result ≡ has_wrong_scope region.now claim.now }
+{
+    !(claim.region.as_slice() == region && claim.service.as_slice() == b"s3".as_slice())
+}
+
+fn leaves_unsigned(claim: &Authorization, headers: &[Pair]) -> bool
+    ensures { result ≡ leaves_unsigned claim.now headers.now }
+{
+    !has_some(b"host", headers) || leaves_some_out(claim, headers)
+}
+
+fn leaves_some_out(claim: &Authorization, headers: &[Pair]) -> bool
+    ensures { result ≡ list_any (is_left_out claim.now) headers.now }
+{
+    headers.iter().any(|header| is_left_out(claim, header))
+}
+
+fn is_left_out(claim: &Authorization, header: &Pair) -> bool
+    ensures { result ≡ is_left_out claim.now header.now }
+{
+    must_be_signed(header.name.as_slice())
+        && !is_among(header.name.as_slice(), claim.names.as_slice())
+}
+
+fn must_be_signed(name: &[u8]) -> bool
+    ensures { result ≡ must_be_signed name.now }
+{
+    name == b"host".as_slice() || name.starts_with(b"x-amz-")
+}
+
+fn is_among(name: &[u8], names: &[Bytes]) -> bool
+    ensures { result ≡ is_among name.now names.now }
+{
+    names.iter().any(|other| other.as_slice() == name)
+}
+
+fn time_of(headers: &[Pair]) -> &[u8]
+    ensures { result.now ≡ time_of headers.now }
+{
+    first_value(DATE, headers)
+}
+
+fn lacks_date(claim: &Authorization, headers: &[Pair]) -> bool
+    ensures { result ≡ lacks_date claim.now headers.now }
+{
+    let time = time_of(headers);
+    !(has_one(DATE, headers) && is_time(time) && is_of_day(time, claim.date.as_slice()))
+}
+
+fn hash_of(headers: &[Pair]) -> &[u8]
+    ensures { result.now ≡ hash_of headers.now }
+{
+    first_value(PAYLOAD, headers)
+}
+
+fn is_streaming(headers: &[Pair]) -> bool
+    ensures { result ≡ is_streaming headers.now }
+{
+    headers.iter().any(|header| announces_pieces(header))
+}
+
+fn announces_pieces(header: &Pair) -> bool
+    ensures { result ≡ announces_pieces header.now }
+{
+    has_name(PAYLOAD, header) && header.value.as_slice().starts_with(b"STREAMING-")
+}
+
+fn lacks_payload_hash(headers: &[Pair]) -> bool
+    ensures { result ≡ lacks_payload_hash headers.now }
+{
+    let hash = hash_of(headers);
+    !(has_one(PAYLOAD, headers) && (is_hex(hash) || is_unsigned_payload(hash)))
+}
+
+fn is_unsigned_payload(hash: &[u8]) -> bool
+    ensures { result ≡ is_unsigned_payload hash.now }
+{
+    hash == b"UNSIGNED-PAYLOAD".as_slice()
+}
+
+/// What the request signs to by the secret of its key.
+#[tactic(auto, unfolding(crate::specs::Verdict::expected))]
+fn expected(
+    alloc: Global,
+    keys: &Keys,
+    region: &[u8],
+    message: &Message,
+    target: &Target,
+    claim: &Authorization,
+) -> Result<Signed, Memory>
+    requires { lacks_date claim.now message.now.headers ≡ false }
+    ensures { IfOk result (λ due. due ≡ expected keys.now region.now message.now target.now claim.now) }
+{
+    let headers = message.headers.as_slice();
+    let text = canonical(
+        alloc,
+        message,
+        target,
+        claim.names.as_slice(),
+        hash_of(headers),
+    )?;
+    sign(
+        alloc,
+        secret_of(keys, claim),
+        time_of(headers),
+        region,
+        text.as_slice(),
+    )
+}
+
+/// The secret of the key, no byte where there is none.
+fn secret_of<'a>(keys: &'a Keys, claim: &Authorization) -> &'a [u8]
+    ensures { result.now ≡ unwrap_or (secret_of claim.now.id keys.now) [] }
+{
+    match keys.secret(claim.id.as_slice()) {
+        Some(secret) => secret,
+        None => b"",
+    }
+}
+
+fn signature_differs(alloc: Global, claim: &Authorization, due: &Signed) -> Result<bool, Memory>
+    ensures { IfOk result (λ differs. differs ≡ signature_differs claim.now due.now) }
+{
+    let digits = hex::encode(alloc, due.signature)?;
+    Ok(claim.signature.as_slice() != digits.as_bytes())
+}
+
+fn payload_differs(alloc: Global, message: &Message) -> Result<bool, Memory>
+    ensures { IfOk result (λ differs. differs ≡ payload_differs message.now) }
+{
+    let hash = hash_of(message.headers.as_slice());
+    let digits = hex::encode(alloc, Sha256::digest(message.body.as_slice()))?;
+    Ok(!is_unsigned_payload(hash) && hash != digits.as_bytes())
+}
