@@ -1,0 +1,5 @@
+use Rattle.swift_marks.proofs.FieldLaws.{pack_is_small}
+use Rattle.swift_marks.proofs.laws.law_pack_is_small.Goals as goal
+
+pub returns : goal.returns
+returns c = λ entries h. pack_is_small entries h

@@ -1,0 +1,75 @@
+-- The tag of an object: the content type that the store keeps, with the object's own content type, its ETag, the
+-- moment of its putting and the upload that it is of (this profile).
+use Rattle.std.specs.Prelude.{◌≡◌, ⊤, ℕ, ◌-◌, Bool, true, not, ◌&&◌, ◌==◌, nat_le, nat_lt, if◌then◌else◌, List, [], ◌∷◌, ◌++◌, length, take, drop, slice_index, codes, decimal, Option, Some, None, Result, Ok, Err}
+use Rattle.std.specs.List.{list_all, before_first, after_first, before_last, after_last}
+use Rattle.std.specs.Str.{bytes_eq}
+use Rattle.gate_base.specs.Told.{moment_limit}
+use Rattle.swift_marks.specs.Number.{number_of, is_lower_hex, id_text, fits_id, id_of}
+use Rattle.swift_marks.specs.declared.tag.Tag.{Tag}
+use Rattle.swift_marks.specs.declared.fault.MarkFault.{MarkFault}
+use Rattle.swift_marks.specs.declared.fault.MarkFault.TheVariants.{NoTag, BadPack, Memory}
+
+-- visible ASCII or a space
+abbrev pub is_printable : ℕ → Bool
+is_printable byte = nat_le 32 byte && nat_le byte 126
+
+-- 1 to so many bytes of visible ASCII and spaces, no space at either end
+abbrev pub is_field : ℕ → List ℕ → Bool
+is_field most text = nat_le 1 (length text) && nat_le (length text) most && list_all is_printable text && not (slice_index text 0 == 32) && not (slice_index text (length text - 1) == 32)
+
+abbrev pub is_content_type : List ℕ → Bool
+is_content_type text = is_field 256 text
+
+-- a number of parts: 1 to 10000, without leading zeros
+abbrev pub is_part_count : List ℕ → Bool
+is_part_count text = nat_le 1 (number_of text) && nat_le (number_of text) 10000 && bytes_eq text (decimal (number_of text))
+
+-- nothing, or `-` and a number of parts
+abbrev pub is_parts_mark : List ℕ → Bool
+is_parts_mark [] = true
+is_parts_mark (byte ∷ count) = byte == 45 && is_part_count count
+
+-- an ETag: 32 hexadecimal digits in lower case, and for an object of parts `-` and their number
+abbrev pub is_etag : List ℕ → Bool
+is_etag etag = nat_le 32 (length etag) && list_all is_lower_hex (take 32 etag) && is_parts_mark (drop 32 etag)
+
+-- the tags that have a text
+unfoldable pub has_text : Tag → Bool
+has_text tag = is_content_type tag.content_type && is_etag tag.etag && nat_lt tag.moment moment_limit && fits_id tag.id
+
+-- `TYPE;s3=ETAG.SECONDS.ID`
+unfoldable pub tag_text : Tag → List ℕ
+tag_text tag = tag.content_type ++ codes ";s3=" ++ tag.etag ++ codes "." ++ decimal tag.moment ++ codes "." ++ id_text tag.id
+
+abbrev pub is_equals : ℕ → Bool
+is_equals byte = byte == 61
+
+abbrev pub is_semicolon : ℕ → Bool
+is_semicolon byte = byte == 59
+
+abbrev pub is_dot : ℕ → Bool
+is_dot byte = byte == 46
+
+-- what stands in the places of a tag, be it one or not
+unfoldable pub tag_parts : List ℕ → Tag
+tag_parts text =
+    let mark = after_last is_equals text in
+    let numbers = after_first is_dot mark in
+    record {
+      content_type = before_last is_semicolon (before_last is_equals text);
+      etag = before_first is_dot mark;
+      moment = number_of (before_first is_dot numbers);
+      id = id_of (after_first is_dot numbers);
+    }
+
+-- the tag whose text this is
+unfoldable pub read_tag : List ℕ → Option Tag
+read_tag text =
+    if has_text (tag_parts text) && bytes_eq (tag_text (tag_parts text)) text then Some (tag_parts text) else None
+
+-- what reading a tag answers; want of memory may come for any text
+abbrev pub ReadsTag : Option Tag → Result Tag MarkFault → Type 0
+ReadsTag due (Ok tag) = due ≡ Some tag
+ReadsTag due (Err NoTag) = due ≡ None
+ReadsTag due (Err BadPack) = ⊥
+ReadsTag due (Err Memory) = ⊤

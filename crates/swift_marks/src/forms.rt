@@ -1,0 +1,72 @@
+//! The forms of content types and ETags.
+ghost use Rattle.std.specs.Prelude.{◌≡◌, decimal};
+ghost use Rattle.std.specs.List.{list_all};
+ghost use Rattle.std.specs.Str.{bytes_eq};
+ghost use Rattle.swift_marks.specs.Tag.{is_printable, is_content_type, is_part_count, is_parts_mark, is_etag};
+
+use crate::number::{all_lower_hex, number_of};
+use itoa::Buffer;
+
+/// The longest content type, in bytes.
+const LONGEST_TYPE: usize = 256;
+
+/// The most parts of an object.
+const MOST_PARTS: u64 = 10_000;
+
+/// 1 to 256 bytes of visible ASCII and spaces, no space at either end.
+pub(crate) fn is_content_type(text: &[u8]) -> bool
+    ensures { result ≡ is_content_type text.now }
+{
+    let size = text.len();
+    if size < 1 || LONGEST_TYPE < size {
+        return false;
+    }
+    all_printable(text) && text[0] != b' ' && text[size - 1] != b' '
+}
+
+fn all_printable(text: &[u8]) -> bool
+    ensures { result ≡ list_all is_printable text.now }
+{
+    text.iter().all(|byte| is_printable(*byte))
+}
+
+fn is_printable(byte: u8) -> bool
+    ensures { result ≡ is_printable byte }
+{
+    b' ' <= byte && byte <= b'~'
+}
+
+/// 32 hexadecimal digits in lower case, and for an object of parts `-` and their number.
+pub(crate) fn is_etag(etag: &[u8]) -> bool
+    ensures { result ≡ is_etag etag.now }
+{
+    if etag.len() < 32 {
+        return false;
+    }
+    let (digits, mark) = etag.split_at(32);
+    all_lower_hex(digits) && is_parts_mark(mark)
+}
+
+fn is_parts_mark(mark: &[u8]) -> bool
+    ensures { result ≡ is_parts_mark mark.now }
+{
+    match mark {
+        [] => true,
+        [byte, count @ ..] => *byte == b'-' && is_part_count(count),
+    }
+}
+
+fn is_part_count(text: &[u8]) -> bool
+    ensures { result ≡ is_part_count text.now }
+{
+    let count = number_of(text);
+    1 <= count && count <= MOST_PARTS && is_decimal(text, count)
+}
+
+/// The text is the number in decimal, without leading zeros.
+fn is_decimal(text: &[u8], number: u64) -> bool
+    ensures { result ≡ bytes_eq text.now (decimal number) }
+{
+    let mut buffer = Buffer::new();
+    text == buffer.format(number).as_bytes()
+}

@@ -1,0 +1,84 @@
+ghost use Rattle.std.specs.Prelude.{◌≡◌, true, IfOk};
+
+use crate::MarkFault;
+use crate::cut::{cut_first, cut_last};
+use crate::forms::{is_content_type, is_etag};
+use crate::number::{append_decimal, append_id, fits_id, id_of, number_of};
+use gate_base::{Bytes, MOMENT_LIMIT, Memory};
+use std::alloc::Global;
+
+/// What the content type of a stored object tells of the object: its own content type, its ETag in hexadecimal, the
+/// moment in seconds since 1970 at which it was put, and the id of the upload that it is of, where it is of one.
+#[derive(Debug, Drop)]
+pub struct Tag {
+    pub content_type: Bytes,
+    pub etag: Bytes,
+    pub moment: u64,
+    pub id: Option<u128>,
+}
+
+impl Tag {
+    ghost use Rattle.swift_marks.specs.Tag.{has_text, tag_text, tag_parts, read_tag, ReadsTag};
+
+    /// Reads a tag `TYPE;s3=ETAG.SECONDS.ID`, which begins at the last `;s3=`. NoTag exactly where the text is no
+    /// tag's.
+    #[tactic(auto, unfolding(crate::specs::Tag::read_tag))]
+    pub fn read(alloc: Global, text: &[u8]) -> Result<Tag, MarkFault>
+        ensures { ReadsTag (read_tag text.now) result }
+    {
+        let tag = Tag::parts(alloc, text)?;
+        if !tag.has_text() {
+            return Err(MarkFault::NoTag);
+        }
+        if tag.write(alloc)?.as_slice() != text {
+            return Err(MarkFault::NoTag);
+        }
+        Ok(tag)
+    }
+
+    /// What stands in the places of a tag, be it one or not.
+    #[tactic(auto, unfolding(crate::specs::Tag::tag_parts))]
+    fn parts(alloc: Global, text: &[u8]) -> Result<Tag, Memory>
+        ensures { IfOk result (λ tag. tag ≡ tag_parts text.now) }
+    {
+        let (front, mark) = cut_last(text, b'=');
+        let (content_type, _) = cut_last(front, b';');
+        let (etag, numbers) = cut_first(mark, b'.');
+        let (moment, id) = cut_first(numbers, b'.');
+        Ok(Tag {
+            content_type: Bytes::from_slice(alloc, content_type)?,
+            etag: Bytes::from_slice(alloc, etag)?,
+            moment: number_of(moment),
+            id: id_of(id),
+        })
+    }
+
+    /// The text of the tag. It asks for one that has a text, as `has_text` tells.
+    #[tactic(auto, unfolding(crate::specs::Tag::tag_text))]
+    pub fn write(&self, alloc: Global) -> Result<Bytes, Memory>
+        requires { has_text self.now ≡ true }
+        ensures { IfOk result (λ text. text ≡ tag_text self.now) }
+    {
+        let mut text = Bytes::from_slice(alloc, self.content_type.as_slice())?;
+        text.append(b";s3=")?;
+        text.append(self.etag.as_slice())?;
+        text.append(b".")?;
+        append_decimal(&mut text, self.moment)?;
+        text.append(b".")?;
+        append_id(&mut text, self.id)?;
+        Ok(text)
+    }
+
+    /// The tag has a text: its content type has 1 to 256 bytes of visible ASCII and spaces without a space at either
+    /// end; its ETag is 32 hexadecimal digits in lower case, alone or with `-` and a number from 1 to 10000 behind
+    /// them; and its moment is before the year 10000.
+    #[tactic(auto, unfolding(crate::specs::Tag::has_text))]
+    pub fn has_text(&self) -> bool
+        ensures { result ≡ has_text self.now }
+    {
+        is_content_type(self.content_type.as_slice())
+            && is_etag(self.etag.as_slice())
+            && self.moment < MOMENT_LIMIT
+            && fits_id(self.id)
+    }
+}
