@@ -60,9 +60,9 @@ Called at faults p q request (Ok reply) = Replied at faults p q request reply
 Called at faults p q request (Err Failed) = Lost at faults p q request ⊎ ((budget ≤ p) × (q ≡ p))
 Called at faults p q request (Err Memory) = Unread at faults p q request ⊎ (q ≡ p)
 
--- a call failed between p and q: the count of faults rose, or no call was left
+-- a call failed between p and q: the count of faults rose, or no call was left at p
 abbrev pub FailedBetween : (ℕ → ℕ) → ℕ → ℕ → Type 0
-FailedBetween faults p q = Rose (faults p) (faults q) ⊎ (budget ≤ q)
+FailedBetween faults p q = Rose (faults p) (faults q) ⊎ (budget ≤ p)
 
 -- ---- laws
 

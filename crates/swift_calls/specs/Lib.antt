@@ -1,4 +1,7 @@
+pub mod Bodies
 pub mod History
+pub mod Laws
+pub mod Limits
 pub mod Lists
 pub mod MemSwift
 pub mod Replay

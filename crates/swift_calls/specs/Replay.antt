@@ -1,7 +1,7 @@
 -- How the calls of a store in memory go, and what they leave.
 use Rattle.std.specs.Prelude.{◌≡◌, ℕ, Bool, true, false, ◌&&◌, ◌||◌, if◌then◌else◌, ◌==◌, nat_lt, nat_le, List, [], ◌∷◌, ◌++◌, count_by, Option, None, Some, Result, Ok, Err}
-use Rattle.std.specs.List.{list_any}
-use Rattle.swift_calls.specs.Lists.{served}
+use Rattle.std.specs.List.{list_all, list_any}
+use Rattle.swift_calls.specs.Lists.{served, is_small}
 use Rattle.swift_calls.specs.declared.account.Account.{Account}
 use Rattle.swift_calls.specs.declared.calls.SwiftRequest.{SwiftRequest}
 use Rattle.swift_calls.specs.declared.calls.SwiftReply.{SwiftReply}
@@ -33,6 +33,10 @@ reply_by LostAfter reply = None
 unfoldable pub replayed : Account → List Entry → Account
 replayed account [] = account
 replayed account (e ∷ entries) = replayed (left_by e.outcome e.request account) entries
+
+-- each body that these calls put is below 2^63 bytes
+abbrev pub all_small : List Entry → Bool
+all_small entries = list_all (λ e. is_small e.request) entries
 
 abbrev pub is_lost : Outcome → Bool
 is_lost Answered = false

@@ -1,20 +1,25 @@
 -- What each call answers, and the account that it leaves. Source: Object Storage API v1.
-use Rattle.std.specs.Prelude.{◌≡◌, ℕ, ◌<◌, ◌≤◌, List, length, nat_lt, true, ◌&&◌, All, Contains, IsUtf8, Option, None, Some, IfSome}
-use Rattle.std.specs.FinMap.{get, insert}
+use Rattle.std.specs.Prelude.{◌≡◌, ℕ, ◌<◌, ◌≤◌, Bool, true, false, ◌&&◌, nat_eq, nat_lt, List, [], map, length, take, All, Contains, IsUtf8, IsTrue, Option, None, Some, IfSome}
+use Rattle.std.specs.FinMap.{entries, get, insert, len, remove}
 use Rattle.std.proofs.Common.{arith, inl, inr}
 use Rattle.std.proofs.lemmas.Bool.{cases_Bool, ltb-true, ltb-false}
-use Rattle.std.specs.List.{list_all}
+use Rattle.std.specs.List.{list_all, filter, starts_with}
+use Rattle.std.specs.Ordering.{is_gt}
 use Rattle.std.proofs.lemmas.List.{get_or_past}
 use Rattle.std.proofs.lemmas.List.Sums.{AllPass-from_list_all}
 use Rattle.std.proofs.lemmas.Str.{IsUtf8-from_ascii}
-use Rattle.gate_base.specs.Maps.{adjust}
+use Rattle.gate_base.specs.Maps.{adjust, name_cmp}
 use Rattle.gate_base.specs.Named.{first_of_two, second_of_two}
-use Rattle.swift_calls.specs.Tree.{Tree, Folder, with_head, new_folder}
+use Rattle.swift_calls.specs.Tree.{Tree, File, Folder, look, put_file, remove_file, with_head, with_readers, new_folder}
+use Rattle.swift_calls.specs.Bodies.{Look, etag_of, bytes_of, ranged, head_of, item_of}
+use Rattle.swift_calls.specs.Limits.{IsObjectName, IsMark, IsLimit, IsRange, is_content_type, is_meta, most_body}
 use Rattle.swift_calls.specs.declared.account.ReadList.{ReadList}
 use Rattle.swift_calls.specs.declared.calls.SwiftRequest.{SwiftRequest}
-use Rattle.swift_calls.specs.declared.calls.SwiftRequest.TheVariants.{HeadContainer, PutContainer}
+use Rattle.swift_calls.specs.declared.account.Content.TheVariants.{Plain}
+use Rattle.swift_calls.specs.declared.heads.StoredHead.{StoredHead}
+use Rattle.swift_calls.specs.declared.calls.SwiftRequest.TheVariants.{ListContainers, HeadContainer, PutContainer, PostContainer, DeleteContainer, ListNames, PutObject, HeadObject, GetObject, DeleteObject}
 use Rattle.swift_calls.specs.declared.calls.SwiftReply.{SwiftReply}
-use Rattle.swift_calls.specs.declared.calls.SwiftReply.TheVariants.{Made, There, NotFound, Readers}
+use Rattle.swift_calls.specs.declared.calls.SwiftReply.TheVariants.{Made, There, Gone, Stored, NotFound, NotEmpty, Unsatisfiable, Containers, Readers, Names, Head, Bytes}
 
 -- a container's name: 1 to 256 bytes of UTF-8, none of them 0
 pub record IsContainerName (name : List ℕ) : Type 0 where
@@ -47,13 +52,42 @@ IsMoment moment = moment < 253402300800
 
 -- what a store is asked: names and values within their limits
 abbrev pub Fit : SwiftRequest → Type 0
+Fit (ListContainers marker limit) = IsMark marker × IsLimit limit
 Fit (HeadContainer container) = IsContainerName container
 Fit (PutContainer container readers created) = IsContainerName container × IfSome created IsMoment
+Fit (PostContainer container readers) = IsContainerName container
+Fit (DeleteContainer container) = IsContainerName container
+Fit (ListNames container prefix marker limit) = IsContainerName container × IsMark prefix × IsMark marker × IsLimit limit
+Fit (PutObject container name content_type meta body) = IsContainerName container × IsObjectName name × IsTrue (is_content_type content_type) × IsTrue (is_meta meta) × (length body ≤ most_body)
+Fit (HeadObject container name) = IsContainerName container × IsObjectName name
+Fit (GetObject container name range) = IsContainerName container × IsObjectName name × IfSome range IsRange
+Fit (DeleteObject container name) = IsContainerName container × IsObjectName name
 
 -- an answer, and the account after it
 pub record Answer : Type 0 where
   pub reply : SwiftReply
   pub tree : Tree
+
+-- ---- listings
+
+-- a name after the marker that begins with the prefix
+abbrev pub is_listed : List ℕ → List ℕ → List ℕ → Bool
+is_listed prefix marker name = is_gt (name_cmp name marker) && starts_with nat_eq name prefix
+
+-- what f gives of the first things that pass the test, at most so many
+unfoldable pub page : {A B : Type 0} → ℕ → (A → B) → (A → Bool) → List A → List B
+page limit f test things = take limit (map f (filter test things))
+
+-- GET of an account: the names of containers, in byte order
+abbrev pub names_reply : ℕ → List ℕ → Tree → SwiftReply
+names_reply limit marker tree = Containers (page limit (λ e. e.0) (λ e. is_listed [] marker e.0) (entries tree))
+
+-- GET of a container: its objects in byte order of their names
+abbrev pub items_reply : ℕ → List ℕ → List ℕ → Option Folder → SwiftReply
+items_reply limit prefix marker None = NotFound
+items_reply limit prefix marker (Some folder) = Names (page limit (λ e. item_of e.0 e.1) (λ e. is_listed prefix marker e.0) (entries folder.files))
+
+-- ---- containers
 
 -- HEAD of a container: its read list and creation time
 abbrev pub head_container : Option Folder → Tree → Answer
@@ -65,7 +99,77 @@ abbrev pub put_container : Option Folder → List ℕ → ReadList → Option �
 put_container None name readers created tree = record { reply = Made; tree = insert tree name (new_folder readers created) }
 put_container (Some folder) name readers created tree = record { reply = There; tree = adjust name (with_head readers created) tree }
 
+-- POST of a container: its read list written over
+abbrev pub post_container : Option Folder → List ℕ → ReadList → Tree → Answer
+post_container None name readers tree = record { reply = NotFound; tree = tree }
+post_container (Some folder) name readers tree = record { reply = Gone; tree = adjust name (with_readers readers) tree }
+
+-- whether a container has no object
+abbrev pub is_bare : Folder → Bool
+is_bare folder = nat_eq (len folder.files) 0
+
+-- DELETE of a container: only an empty one goes
+abbrev pub delete_by : Bool → List ℕ → Tree → Answer
+delete_by true name tree = record { reply = Gone; tree = remove tree name }
+delete_by false name tree = record { reply = NotEmpty; tree = tree }
+
+abbrev pub delete_container : Option Folder → List ℕ → Tree → Answer
+delete_container None name tree = record { reply = NotFound; tree = tree }
+delete_container (Some folder) name tree = delete_by (is_bare folder) name tree
+
+-- ---- objects
+
+-- PUT of an object: it is new as a whole; its container has to be there
+abbrev pub put_object : Option Folder → List ℕ → List ℕ → File → Tree → Answer
+put_object None container name file tree = record { reply = NotFound; tree = tree }
+put_object (Some folder) container name file tree = record { reply = Stored (etag_of file.content); tree = put_file container name file tree }
+
+abbrev pub head_reply : Option File → SwiftReply
+head_reply None = NotFound
+head_reply (Some file) = Head (head_of file)
+
+abbrev pub part_reply : StoredHead → Option (List ℕ) → SwiftReply
+part_reply head None = Unsatisfiable
+part_reply head (Some bytes) = Bytes head bytes
+
+abbrev pub body_reply : StoredHead → Option (ℕ × ℕ) → Option (List ℕ) → SwiftReply
+body_reply head range None = NotFound
+body_reply head range (Some bytes) = part_reply head (ranged range bytes)
+
+-- GET of an object: that its segments are there is tested before the range
+abbrev pub get_reply : Look → Option (ℕ × ℕ) → Option File → SwiftReply
+get_reply looks range None = NotFound
+get_reply looks range (Some file) = body_reply (head_of file) range (bytes_of looks file.content)
+
+-- DELETE of an object
+abbrev pub delete_object : Option File → List ℕ → List ℕ → Tree → Answer
+delete_object None container name tree = record { reply = NotFound; tree = tree }
+delete_object (Some file) container name tree = record { reply = Gone; tree = remove_file container name tree }
+
+-- ---- the step
+
 -- the answer to a call on an account
 abbrev pub swift_step : SwiftRequest → Tree → Answer
+swift_step (ListContainers marker limit) tree = record { reply = names_reply limit marker tree; tree = tree }
 swift_step (HeadContainer container) tree = head_container (get tree container) tree
 swift_step (PutContainer container readers created) tree = put_container (get tree container) container readers created tree
+swift_step (PostContainer container readers) tree = post_container (get tree container) container readers tree
+swift_step (DeleteContainer container) tree = delete_container (get tree container) container tree
+swift_step (ListNames container prefix marker limit) tree = record { reply = items_reply limit prefix marker (get tree container); tree = tree }
+swift_step (PutObject container name content_type meta body) tree = put_object (get tree container) container name (record { content_type = content_type; meta = meta; content = Plain body }) tree
+swift_step (HeadObject container name) tree = record { reply = head_reply (look tree container name); tree = tree }
+swift_step (GetObject container name range) tree = record { reply = get_reply (look tree) range (look tree container name); tree = tree }
+swift_step (DeleteObject container name) tree = delete_object (look tree container name) container name tree
+
+-- the calls that leave every account as it is
+abbrev pub only_reads : SwiftRequest → Bool
+only_reads (ListContainers marker limit) = true
+only_reads (HeadContainer container) = true
+only_reads (PutContainer container readers created) = false
+only_reads (PostContainer container readers) = false
+only_reads (DeleteContainer container) = false
+only_reads (ListNames container prefix marker limit) = true
+only_reads (PutObject container name content_type meta body) = false
+only_reads (HeadObject container name) = true
+only_reads (GetObject container name range) = true
+only_reads (DeleteObject container name) = false

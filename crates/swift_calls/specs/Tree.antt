@@ -1,7 +1,7 @@
 -- An account as maps by names: its containers, and the objects of each. Source: Object Storage API v1.
 use Rattle.std.specs.Prelude.{ℕ, ◌^◌, Bool, ◌&&◌, List, length, map, sum_by, nat_lt, IsTrue, Option, None, Some}
 use Rattle.std.specs.List.{list_all}
-use Rattle.std.specs.FinMap.{empty, get, insert}
+use Rattle.std.specs.FinMap.{empty, get, insert, remove}
 use Rattle.gate_base.specs.Maps.{Names, adjust}
 use Rattle.gate_base.specs.Named.{map_of, ascends}
 use Rattle.swift_calls.specs.declared.account.ReadList.{ReadList}
@@ -46,6 +46,14 @@ on_files f folder = record folder { files = f folder.files }
 -- an object put into a container that is there
 abbrev pub put_file : List ℕ → List ℕ → File → Tree → Tree
 put_file folder name file tree = adjust folder (on_files (λ fs. insert fs name file)) tree
+
+-- an object taken from a container that is there
+abbrev pub remove_file : List ℕ → List ℕ → Tree → Tree
+remove_file folder name tree = adjust folder (on_files (λ fs. remove fs name)) tree
+
+-- a container with its read list written over
+abbrev pub with_readers : ReadList → Folder → Folder
+with_readers readers folder = record folder { readers = readers }
 
 -- a container with its read list and creation time written over
 abbrev pub with_head : ReadList → Option ℕ → Folder → Folder

@@ -4,28 +4,80 @@ ghost use Rattle.swift_calls.specs.Step.{Fit};
 ghost use Rattle.swift_calls.specs.History.{budget, Counts, CountsFaults, Kept, Called};
 ghost use Rattle.swift_calls.specs.declared.calls.SwiftFault.TheVariants as fault;
 
-use crate::ReadList;
-use gate_base::{Bytes, Copying, Counted, Failed, Memory};
+use crate::{NameItem, ReadList, StoredHead};
+use gate_base::{Bytes, Copying, Counted, Failed, List, Memory};
 use std::alloc::{AllocError, AllocFailed};
 
-/// A call of Object Storage API v1 on one account.
+/// A call of Object Storage API v1 on one account. Names, prefixes and markers are bytes of UTF-8; a range is its
+/// first and its last byte.
 #[derive(Debug, Drop)]
 pub enum SwiftRequest {
-    /// Asks for a container's read list and creation time.
+    /// Asks for the names of the containers after a marker, in byte order, at most so many ("Show account details").
+    ListContainers {
+        marker: Bytes,
+        limit: u32,
+    },
+    /// Asks for a container's read list and creation time ("Show container metadata").
     HeadContainer {
         container: Bytes,
     },
-    /// Makes a container, or writes the read list and the creation time of one that is there over.
+    /// Makes a container, or writes the read list and the creation time of one that is there over ("Create
+    /// container").
     PutContainer {
         container: Bytes,
         readers: ReadList,
         created: Option<u64>,
+    },
+    /// Writes the read list of a container over ("Create, update, or delete container metadata").
+    PostContainer {
+        container: Bytes,
+        readers: ReadList,
+    },
+    /// Takes an empty container away ("Delete container").
+    DeleteContainer {
+        container: Bytes,
+    },
+    /// Asks for a container's objects after a marker whose names begin with a prefix, in byte order, at most so many
+    /// ("Show container details and list objects").
+    ListNames {
+        container: Bytes,
+        prefix: Bytes,
+        marker: Bytes,
+        limit: u32,
+    },
+    /// Puts an object with these bytes, in place of the one that is there ("Create or replace object").
+    PutObject {
+        container: Bytes,
+        name: Bytes,
+        content_type: Bytes,
+        meta: List<Bytes>,
+        body: Bytes,
+    },
+    /// Asks for an object's head ("Show object metadata").
+    HeadObject {
+        container: Bytes,
+        name: Bytes,
+    },
+    /// Asks for an object's head and its bytes, or those of a range ("Get object content and metadata").
+    GetObject {
+        container: Bytes,
+        name: Bytes,
+        range: Option<(u64, u64)>,
+    },
+    /// Takes an object away, and leaves the segments that it lists ("Delete object").
+    DeleteObject {
+        container: Bytes,
+        name: Bytes,
     },
 }
 
 impl Copying for SwiftRequest {
     fn copy(&self) -> Result<SwiftRequest, Memory> {
         match self {
+            SwiftRequest::ListContainers { marker, limit } => Ok(SwiftRequest::ListContainers {
+                marker: marker.copy()?,
+                limit: *limit,
+            }),
             SwiftRequest::HeadContainer { container } => Ok(SwiftRequest::HeadContainer {
                 container: container.copy()?,
             }),
@@ -38,6 +90,54 @@ impl Copying for SwiftRequest {
                 readers: *readers,
                 created: *created,
             }),
+            SwiftRequest::PostContainer { container, readers } => Ok(SwiftRequest::PostContainer {
+                container: container.copy()?,
+                readers: *readers,
+            }),
+            SwiftRequest::DeleteContainer { container } => Ok(SwiftRequest::DeleteContainer {
+                container: container.copy()?,
+            }),
+            SwiftRequest::ListNames {
+                container,
+                prefix,
+                marker,
+                limit,
+            } => Ok(SwiftRequest::ListNames {
+                container: container.copy()?,
+                prefix: prefix.copy()?,
+                marker: marker.copy()?,
+                limit: *limit,
+            }),
+            SwiftRequest::PutObject {
+                container,
+                name,
+                content_type,
+                meta,
+                body,
+            } => Ok(SwiftRequest::PutObject {
+                container: container.copy()?,
+                name: name.copy()?,
+                content_type: content_type.copy()?,
+                meta: meta.copy()?,
+                body: body.copy()?,
+            }),
+            SwiftRequest::HeadObject { container, name } => Ok(SwiftRequest::HeadObject {
+                container: container.copy()?,
+                name: name.copy()?,
+            }),
+            SwiftRequest::GetObject {
+                container,
+                name,
+                range,
+            } => Ok(SwiftRequest::GetObject {
+                container: container.copy()?,
+                name: name.copy()?,
+                range: *range,
+            }),
+            SwiftRequest::DeleteObject { container, name } => Ok(SwiftRequest::DeleteObject {
+                container: container.copy()?,
+                name: name.copy()?,
+            }),
         }
     }
 }
@@ -45,16 +145,37 @@ impl Copying for SwiftRequest {
 /// What a store answers.
 #[derive(Debug, Drop)]
 pub enum SwiftReply {
-    /// 201 Created: what was put is new.
+    /// 201 Created: the container that was put is new.
     Made,
-    /// 202 Accepted: what was put was there.
+    /// 202 Accepted: the container that was put was there.
     There,
+    /// 204 No Content: it is done.
+    Gone,
+    /// 201 Created, with the ETag of the object that was put.
+    Stored {
+        etag: Bytes,
+    },
     /// 404 Not Found.
     NotFound,
+    /// 409 Conflict: the container has objects.
+    NotEmpty,
+    /// 416 Range Not Satisfiable: the range begins past the last byte.
+    Unsatisfiable,
+    /// 200 OK, with the names of containers, in byte order.
+    Containers(List<Bytes>),
     /// 204 No Content, with a container's read list and creation time.
     Readers {
         readers: ReadList,
         created: Option<u64>,
+    },
+    /// 200 OK, with objects of a container, in byte order of their names.
+    Names(List<NameItem>),
+    /// 200 OK, with an object's head.
+    Head(StoredHead),
+    /// 200 OK or 206 Partial Content, with an object's head and bytes.
+    Bytes {
+        head: StoredHead,
+        body: Bytes,
     },
 }
 
@@ -63,10 +184,21 @@ impl Copying for SwiftReply {
         match self {
             SwiftReply::Made => Ok(SwiftReply::Made),
             SwiftReply::There => Ok(SwiftReply::There),
+            SwiftReply::Gone => Ok(SwiftReply::Gone),
+            SwiftReply::Stored { etag } => Ok(SwiftReply::Stored { etag: etag.copy()? }),
             SwiftReply::NotFound => Ok(SwiftReply::NotFound),
+            SwiftReply::NotEmpty => Ok(SwiftReply::NotEmpty),
+            SwiftReply::Unsatisfiable => Ok(SwiftReply::Unsatisfiable),
+            SwiftReply::Containers(names) => Ok(SwiftReply::Containers(names.copy()?)),
             SwiftReply::Readers { readers, created } => Ok(SwiftReply::Readers {
                 readers: *readers,
                 created: *created,
+            }),
+            SwiftReply::Names(items) => Ok(SwiftReply::Names(items.copy()?)),
+            SwiftReply::Head(head) => Ok(SwiftReply::Head(head.copy()?)),
+            SwiftReply::Bytes { head, body } => Ok(SwiftReply::Bytes {
+                head: head.copy()?,
+                body: body.copy()?,
             }),
         }
     }

@@ -4,12 +4,23 @@
 
 mod account;
 mod calls;
+mod fits;
+mod heads;
+mod laws;
+mod listing;
 mod memory;
+mod objects;
 mod replay;
+#[cfg(test)]
+mod rows;
+mod segments;
 mod serve;
 #[cfg(test)]
 mod tests;
 
 pub use account::{Account, Container, Content, ReadList, Stored};
 pub use calls::{Swift, SwiftFault, SwiftReply, SwiftRequest};
+pub use fits::is_fit;
+pub use heads::{NameItem, StoredHead};
+pub use laws::{law_reads_keep, law_reads_leave};
 pub use memory::{MemSwift, Outcome};

@@ -1,7 +1,7 @@
 //! A store in memory: what it keeps.
-ghost use Rattle.std.specs.Prelude.{◌≡◌};
+ghost use Rattle.std.specs.Prelude.{◌≡◌, IsTrue};
 ghost use Rattle.swift_calls.specs.Tree.{IsOrdered, IsSized};
-ghost use Rattle.swift_calls.specs.Replay.{replayed};
+ghost use Rattle.swift_calls.specs.Replay.{replayed, all_small};
 
 use crate::{Account, SwiftRequest};
 use gate_base::List;
@@ -39,4 +39,5 @@ pub struct MemSwift {
     ghost replays: { present ≡ replayed first log.items },
     ghost ordered: { IsOrdered first },
     ghost sized: { IsSized first },
+    ghost small: { IsTrue (all_small log.items) },
 }

@@ -44,7 +44,7 @@ impl MemSwift {
     }
 
     /// The account after all calls.
-    #[tactic(auto, using(crate::proofs::Replaying::ordered_replayed, crate::proofs::Replaying::sized_replayed))]
+    #[tactic(auto, using(crate::proofs::Replaying::ordered_at, crate::proofs::Replaying::sized_at))]
     pub fn account(&self) -> &Account
         ensures exact { result.now ≡ account_after self.now (calls_of self.now) }
         ensures ordered { IsOrdered result.now }
@@ -54,7 +54,7 @@ impl MemSwift {
     }
 
     /// The account after the first `k` calls.
-    #[tactic(auto, using(crate::proofs::Replaying::replayed_none, crate::proofs::Replaying::replayed_next, crate::proofs::Replaying::ordered_replayed, crate::proofs::Replaying::sized_replayed))]
+    #[tactic(auto, using(crate::proofs::Replaying::replayed_none, crate::proofs::Replaying::replayed_next, crate::proofs::Replaying::ordered_at, crate::proofs::Replaying::sized_at_take))]
     pub fn account_at(&self, k: u64) -> Result<Account, Memory>
         requires { k ≤ calls_of self.now }
         ensures exact { IfOk result (λ account. account ≡ account_after self.now k) }
@@ -69,7 +69,7 @@ impl MemSwift {
     }
 
     /// The account after all calls, and nothing else.
-    #[tactic(auto, using(crate::proofs::Replaying::ordered_replayed, crate::proofs::Replaying::sized_replayed))]
+    #[tactic(auto, using(crate::proofs::Replaying::ordered_at, crate::proofs::Replaying::sized_at))]
     pub fn into_account(self) -> Account
         ensures exact { result ≡ account_after self (calls_of self) }
         ensures ordered { IsOrdered result }
@@ -93,8 +93,9 @@ impl MemSwift {
     }
 
     /// Makes a call and records it. For want of memory all is as it was.
-    #[tactic(auto, using(crate::proofs::Replaying::replayed_more))]
+    #[tactic(auto, using(crate::proofs::Replaying::replayed_more, crate::proofs::Replaying::ordered_at, crate::proofs::Replaying::sized_at, crate::proofs::Replaying::small_more, crate::proofs::Replaying::small_fit))]
     fn make(&mut self, request: &SwiftRequest) -> Result<SwiftReply, SwiftFault>
+        requires { Fit request.now }
         ensures plan { SamePlan self.old self.new }
         ensures logs { Logs (planned self.old (calls_of self.old + 1)) request.now result self.old.log.items self.new.log.items }
         ensures reply { IfOk result (λ reply. reply ≡ (swift_step request.now (tree_of self.old.present)).reply) }
@@ -118,6 +119,8 @@ impl Entry {
     /// Makes the call as its outcome says, and gives its reply where it is answered. For want of memory nothing
     /// changes.
     fn go(&self, alloc: Global, account: &mut Account) -> Result<Option<SwiftReply>, Memory>
+        requires ordered { IsOrdered account.old }
+        requires sized { IsSized account.old }
         ensures reply { IfOk result (λ reply. reply ≡ reply_by self.now.outcome (swift_step self.now.request (tree_of account.old)).reply) }
         ensures effect { OnOk result (account.new ≡ left_by self.now.outcome self.now.request account.old) }
         ensures err { OnErr result (account.new ≡ account.old) }
@@ -155,6 +158,7 @@ impl Swift for MemSwift {
     ghost counts_match = { λ m tells left. failures_of_all m };
 
     fn call(&mut self, request: &SwiftRequest) -> Result<SwiftReply, SwiftFault>
+        requires { Fit request.now }
         ensures calls { Counts (calls_of self.old) (calls_of self.new) result }
         ensures faults { CountsFaults (failures self.old.log.items) (failures self.new.log.items) result }
         ensures kept { Kept (calls_of self.old) (tree_after self.old) (tree_after self.new) (faults_after self.old) (faults_after self.new) }

@@ -1,0 +1,169 @@
+//! Whether a call is within the limits of a store.
+ghost use Rattle.std.specs.Prelude.{◌≡◌, ◌↔◌, ◌<◌, ◌≤◌, IsTrue, IfSome, IsUtf8, Contains};
+ghost use Rattle.std.specs.List.{list_all};
+ghost use Rattle.swift_calls.specs.Limits.{IsText, IsObjectName, IsMark, IsLimit, IsRange, is_value_byte, is_value, is_content_type, is_meta};
+ghost use Rattle.swift_calls.specs.Step.{IsContainerName, IsMoment, Fit};
+
+use crate::SwiftRequest;
+use gate_base::Bytes;
+
+/// The greatest body that a call puts, in bytes: 16 MiB.
+const MOST_BODY: usize = 16_777_216;
+
+fn is_utf8(text: &[u8]) -> bool
+    ensures { IsTrue result ↔ IsUtf8 text.now }
+{
+    match str::from_utf8(text) {
+        Ok(_) => true,
+        Err(_) => false,
+    }
+}
+
+fn has_no_zero(text: &[u8]) -> bool
+    ensures { IsTrue result ↔ ¬ (Contains text.now 0) }
+{
+    !text.contains(&0)
+}
+
+#[tactic(auto, using(crate::proofs::Fitting::text_is))]
+fn is_text(most: usize, text: &[u8]) -> bool
+    ensures { IsTrue result ↔ IsText most text.now }
+{
+    text.len() <= most && is_utf8(text) && has_no_zero(text)
+}
+
+#[tactic(auto, using(crate::proofs::Fitting::container_name_is))]
+fn is_container_name(name: &[u8]) -> bool
+    ensures { IsTrue result ↔ IsContainerName name.now }
+{
+    !name.is_empty() && is_text(256, name)
+}
+
+fn is_object_name(name: &[u8]) -> bool
+    ensures { IsTrue result ↔ IsObjectName name.now }
+{
+    !name.is_empty() && is_text(1024, name)
+}
+
+fn is_mark(mark: &[u8]) -> bool
+    ensures { IsTrue result ↔ IsMark mark.now }
+{
+    is_text(1028, mark)
+}
+
+fn is_limit(limit: u32) -> bool
+    ensures { IsTrue result ↔ IsLimit limit }
+{
+    1 <= limit && limit <= 1000
+}
+
+fn is_range(range: Option<(u64, u64)>) -> bool
+    ensures { IsTrue result ↔ IfSome range IsRange }
+{
+    match range {
+        Some((from, to)) => from <= to && to < 9_223_372_036_854_775_808,
+        None => true,
+    }
+}
+
+fn is_moment(moment: Option<u64>) -> bool
+    ensures { IsTrue result ↔ IfSome moment IsMoment }
+{
+    match moment {
+        Some(moment) => moment < 253_402_300_800,
+        None => true,
+    }
+}
+
+fn is_value_byte(byte: u8) -> bool
+    ensures { result ≡ is_value_byte byte }
+{
+    32 <= byte && byte < 127
+}
+
+fn has_value_bytes(text: &[u8]) -> bool
+    ensures { result ≡ list_all is_value_byte text.now }
+{
+    text.iter().all(|byte| is_value_byte(*byte))
+}
+
+fn is_value(most: usize, text: &[u8]) -> bool
+    ensures { result ≡ is_value most text.now }
+{
+    let size = text.len();
+    1 <= size && size <= most && has_value_bytes(text) && text[0] != b' ' && text[size - 1] != b' '
+}
+
+fn has_values(pieces: &[Bytes]) -> bool
+    ensures { result ≡ list_all (is_value 256) pieces.now }
+{
+    pieces.iter().all(|piece| is_value(256, piece.as_slice()))
+}
+
+fn is_meta(pieces: &[Bytes]) -> bool
+    ensures { result ≡ is_meta pieces.now }
+{
+    pieces.len() <= 11 && has_values(pieces)
+}
+
+/// Whether a call is within the limits: names of containers have 1 to 256 bytes, of objects 1 to 1024, prefixes and
+/// markers at most 1028, all of UTF-8 without byte 0; a content type has 1 to 512 bytes, and each of at most 11
+/// pieces of metadata 1 to 256, of visible ASCII and spaces without a space at either end; a body has at most
+/// 16,777,216 bytes; a limit is 1 to 1000; a range ends at or after its first byte, below 2^63; a creation time is
+/// before the year 10000.
+pub fn is_fit(request: &SwiftRequest) -> bool
+    ensures { IsTrue result ↔ Fit request.now }
+{
+    match request {
+        SwiftRequest::ListContainers { marker, limit } => {
+            is_mark(marker.as_slice()) && is_limit(*limit)
+        }
+        SwiftRequest::HeadContainer { container } => is_container_name(container.as_slice()),
+        SwiftRequest::PutContainer {
+            container,
+            created,
+            ..
+        } => is_container_name(container.as_slice()) && is_moment(*created),
+        SwiftRequest::PostContainer { container, .. } => is_container_name(container.as_slice()),
+        SwiftRequest::DeleteContainer { container } => is_container_name(container.as_slice()),
+        SwiftRequest::ListNames {
+            container,
+            prefix,
+            marker,
+            limit,
+        } => {
+            is_container_name(container.as_slice())
+                && is_mark(prefix.as_slice())
+                && is_mark(marker.as_slice())
+                && is_limit(*limit)
+        }
+        SwiftRequest::PutObject {
+            container,
+            name,
+            content_type,
+            meta,
+            body,
+        } => {
+            is_container_name(container.as_slice())
+                && is_object_name(name.as_slice())
+                && is_value(512, content_type.as_slice())
+                && is_meta(meta.as_slice())
+                && body.len() <= MOST_BODY
+        }
+        SwiftRequest::HeadObject { container, name } => {
+            is_container_name(container.as_slice()) && is_object_name(name.as_slice())
+        }
+        SwiftRequest::GetObject {
+            container,
+            name,
+            range,
+        } => {
+            is_container_name(container.as_slice())
+                && is_object_name(name.as_slice())
+                && is_range(*range)
+        }
+        SwiftRequest::DeleteObject { container, name } => {
+            is_container_name(container.as_slice()) && is_object_name(name.as_slice())
+        }
+    }
+}
