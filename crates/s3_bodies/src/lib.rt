@@ -2,6 +2,7 @@
 #![tactic(auto)]
 
 mod codes;
+mod object;
 mod pages;
 #[cfg(test)]
 mod tests;

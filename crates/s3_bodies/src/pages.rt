@@ -1,8 +1,10 @@
 ghost use Rattle.std.specs.Prelude.{◌≡◌, ◌≢◌, ◌<◌, [], ◌∷◌, ◌++◌, IfOk, OnOk};
 ghost use Rattle.gate_base.specs.Told.{moment_limit};
-ghost use Rattle.s3_bodies.specs.Pages.{page_of, common_headers, header, made_page, refused_page};
+ghost use Rattle.s3_machine.specs.Shown.{IsShowable};
+ghost use Rattle.s3_bodies.specs.Pages.{page_of, common_headers, gone_page, header, made_page, refused_page, stored_page};
 ghost use Rattle.s3_bodies.specs.Xml.{error_body};
 
+use crate::object::object;
 use crate::xml::Xml;
 use crate::{codes, texts};
 use gate_base::{Bytes, List, Memory, Page, Pair};
@@ -10,19 +12,30 @@ use s3_machine::{Code, Label, Reply};
 use std::alloc::Global;
 
 /// The page of a reply: its status, its headers in their order, and its body (Amazon S3 API Reference; what that
-/// leaves open is this profile's). `resource` is the raw path of the request's target, and the label's moment, in
-/// seconds since the beginning of 1970, lies before the year 10000. Headers that belong to the message and not to
-/// the reply, as `Content-Length`, are not among these. The reply for want of memory has no page: its bytes are
-/// fixed. The call fails only for want of memory.
+/// leaves open is this profile's). `resource` is the raw path of the request's target. The moments in the label and the
+/// reply, in seconds since the beginning of 1970, lie before the year 10000, and an object's range ends at most at 2^63
+/// and isn't empty where it is partial. The page of an object has `Content-Length` as its last header, also where its
+/// body is empty; other headers that belong to the message and not to the reply are not among these. The reply for want
+/// of memory has no page: its bytes are fixed. The call fails only for want of memory.
 pub fn page(alloc: Global, reply: &Reply, label: &Label, resource: &[u8]) -> Result<Page, Memory>
     requires reply { reply.now ≢ Reply.Memory }
+    requires showable { IsShowable reply.now }
     requires moment { label.now.moment < moment_limit }
     ensures { IfOk result (λ page. page ≡ page_of reply.now label.now resource.now) }
 {
     match reply {
         Reply::Refused(code) => refused(alloc, *code, label, resource),
         Reply::Memory => unreachable!(),
+        Reply::Gone => gone(alloc, label),
         Reply::Made { bucket } => made(alloc, bucket.as_slice(), label),
+        Reply::Stored { etag } => stored(alloc, etag.as_slice(), label),
+        Reply::Object {
+            head,
+            from,
+            length,
+            partial,
+            body,
+        } => object(alloc, head, *from, *length, *partial, body, label),
     }
 }
 
@@ -54,8 +67,33 @@ fn made(alloc: Global, bucket: &[u8], label: &Label) -> Result<Page, Memory>
     })
 }
 
+fn gone(alloc: Global, label: &Label) -> Result<Page, Memory>
+    requires { label.now.moment < moment_limit }
+    ensures { IfOk result (λ page. page ≡ gone_page label.now) }
+{
+    Ok(Page {
+        status: 204,
+        headers: common(alloc, label)?,
+        body: Bytes::new(alloc),
+    })
+}
+
+fn stored(alloc: Global, etag: &[u8], label: &Label) -> Result<Page, Memory>
+    requires { label.now.moment < moment_limit }
+    ensures { IfOk result (λ page. page ≡ stored_page etag.now label.now) }
+{
+    let mut headers = common(alloc, label)?;
+    let quoted = texts::quoted(alloc, etag)?;
+    add_header(alloc, &mut headers, b"ETag", quoted.as_slice())?;
+    Ok(Page {
+        status: 200,
+        headers,
+        body: Bytes::new(alloc),
+    })
+}
+
 /// The headers that every page begins with.
-fn common(alloc: Global, label: &Label) -> Result<List<Pair>, Memory>
+pub(crate) fn common(alloc: Global, label: &Label) -> Result<List<Pair>, Memory>
     requires { label.now.moment < moment_limit }
     ensures { IfOk result (λ headers. headers ≡ common_headers label.now) }
 {
@@ -67,7 +105,8 @@ fn common(alloc: Global, label: &Label) -> Result<List<Pair>, Memory>
     Ok(headers)
 }
 
-fn add_header(
+/// Adds a header at the end.
+pub(crate) fn add_header(
     alloc: Global,
     headers: &mut List<Pair>,
     name: &[u8],

@@ -1,2 +1,4 @@
+pub mod Budget
 pub mod Entries
-pub mod Buckets
+pub mod Rereads
+pub mod Tables

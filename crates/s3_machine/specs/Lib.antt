@@ -1,4 +1,10 @@
+pub mod ETag
+pub mod Laws
+pub mod Limits
 pub mod Native
+pub mod Shown
+pub mod ShownLaws
 pub mod State
 pub mod Step
 pub mod StepLaws
+pub mod Table

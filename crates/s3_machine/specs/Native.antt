@@ -1,16 +1,15 @@
 -- The state that the running form stands for.
-use Rattle.std.specs.Prelude.{ℕ, List, map}
-use Rattle.std.specs.Global.{Vec}
-use Rattle.std.specs.FinMap.{from_entries, empty}
-use Rattle.s3_machine.specs.declared.native.Native.TheInside.{Inside}
-use Rattle.s3_machine.specs.declared.native.NativeBucket.{NativeBucket}
-use Rattle.s3_machine.specs.State.{Bucket, Machine}
+use Rattle.std.specs.FinMap.{empty}
+use Rattle.s3_machine.specs.declared.native.Native.TheInside as native
+use Rattle.s3_machine.specs.declared.native.NativeBucket.TheInside as bucket
+use Rattle.s3_machine.specs.declared.native.NativeObject.TheInside as object
+use Rattle.s3_machine.specs.State.{Object, Bucket, Machine}
 
-abbrev pub bucket_of : NativeBucket → Bucket
-bucket_of b = record { created = b.created; acl = b.acl; objects = empty; uploads = empty; kept = empty }
+abbrev pub object_of : object.Inside → Object
+object_of o = record { bytes = o.bytes; etag = o.etag; content_type = o.content_type; meta = o.meta; modified = o.modified }
 
-abbrev pub entry_of : Vec ℕ × NativeBucket → List ℕ × Bucket
-entry_of e = (e.0.items, bucket_of e.1)
+abbrev pub bucket_of : bucket.Inside → Bucket
+bucket_of b = record { created = b.created; acl = b.acl; objects = b.objects; uploads = empty; kept = empty }
 
-abbrev pub machine_of : Inside → Machine
-machine_of n = record { settings = n.settings; state = from_entries (map entry_of n.buckets.entries) }
+abbrev pub machine_of : native.Inside → Machine
+machine_of n = record { settings = n.settings; state = n.buckets }

@@ -1,19 +1,28 @@
 -- One step of the S3 service: what an operation is answered, and the state after it. The refusals are tried in
 -- the order given, and a refused step leaves the state. Source: Amazon S3 API Reference and this profile.
-use Rattle.std.specs.Prelude.{◌≡◌, ◌<◌, ℕ, List, Option, Some, None, true}
-use Rattle.std.specs.FinMap.{get, insert, empty}
+use Rattle.std.specs.Prelude.{◌≡◌, ◌<◌, ◌≤◌, ℕ, Bool, true, false, not, List, [], length, Option, Some, None}
+use Rattle.std.specs.FinMap.{get, insert, remove, empty}
+use Rattle.gate_base.specs.declared.page.Caller.{Caller}
+use Rattle.gate_base.specs.declared.page.Caller.TheVariants.{Owner, Anonymous}
+use Rattle.gate_base.specs.declared.page.Pair.{Pair}
+use Rattle.gate_base.specs.Maps.{adjust}
 use Rattle.gate_base.specs.Told.{moment_limit}
 use Rattle.s3_names.specs.declared.acl.Acl.{Acl}
+use Rattle.s3_names.specs.declared.acl.Acl.TheVariants.{Private, PublicRead}
 use Rattle.s3_names.specs.Bucket.{is_bucket}
+use Rattle.s3_names.specs.Key.{is_key}
 use Rattle.s3_machine.specs.declared.code.Code.{Code}
-use Rattle.s3_machine.specs.declared.code.Code.TheVariants.{BucketAlreadyOwnedByYou}
+use Rattle.s3_machine.specs.declared.code.Code.TheVariants.{AccessDenied, BucketAlreadyOwnedByYou, NoSuchBucket, NoSuchKey, NotImplemented}
 use Rattle.s3_machine.specs.declared.operation.Label.{Label}
 use Rattle.s3_machine.specs.declared.operation.Settings.{Settings}
 use Rattle.s3_machine.specs.declared.operation.Op.{Op}
-use Rattle.s3_machine.specs.declared.operation.Op.TheVariants.{CreateBucket}
+use Rattle.s3_machine.specs.declared.operation.Op.TheVariants.{CreateBucket, PutObject, GetObject, HeadObject, DeleteObject}
+use Rattle.s3_machine.specs.declared.operation.ObjectHead.{ObjectHead}
 use Rattle.s3_machine.specs.declared.operation.Reply.{Reply}
-use Rattle.s3_machine.specs.declared.operation.Reply.TheVariants.{Refused, Made}
-use Rattle.s3_machine.specs.State.{Bucket, State}
+use Rattle.s3_machine.specs.declared.operation.Reply.TheVariants as reply
+use Rattle.s3_machine.specs.ETag.{body_etag}
+use Rattle.s3_machine.specs.Limits.{is_content_type, is_proper_meta, most_body_bytes}
+use Rattle.s3_machine.specs.State.{Object, Bucket, State}
 
 pub record Outcome : Type 0 where
   pub reply : Reply
@@ -23,7 +32,38 @@ abbrev pub gives : Reply → State → Outcome
 gives reply state = record { reply = reply; state = state }
 
 abbrev pub refuses : Code → State → Outcome
-refuses code state = record { reply = Refused code; state = state }
+refuses code state = gives (reply.Refused code) state
+
+-- a refusal with the code where the test is true, and else the rest
+abbrev pub unless : Bool → Code → State → Outcome → Outcome
+unless true code old rest = refuses code old
+unless false code old rest = rest
+
+-- ---- what is looked up
+
+abbrev pub in_bucket_by : Option Bucket → State → (Bucket → Outcome) → Outcome
+in_bucket_by None old f = refuses NoSuchBucket old
+in_bucket_by (Some b) old f = f b
+
+-- in the bucket of the name
+abbrev pub in_bucket : State → List ℕ → (Bucket → Outcome) → Outcome
+in_bucket old name f = in_bucket_by (get old name) old f
+
+-- an owner reads all, and anybody what is public
+abbrev pub may_read : Caller → Acl → Bool
+may_read Owner acl = true
+may_read Anonymous PublicRead = true
+may_read Anonymous Private = false
+
+abbrev pub in_object_by : Option Object → State → (Object → Outcome) → Outcome
+in_object_by None old f = refuses NoSuchKey old
+in_object_by (Some o) old f = f o
+
+-- the object of the key in a bucket, for one who asks to read it
+abbrev pub in_readable : State → Caller → List ℕ → (Object → Outcome) → Bucket → Outcome
+in_readable old caller key f b = unless (not (may_read caller b.acl)) AccessDenied old (in_object_by (get b.objects key) old f)
+
+-- ---- buckets
 
 -- a bucket as it is made: nothing in it
 abbrev pub new_bucket : ℕ → Acl → Bucket
@@ -32,15 +72,67 @@ new_bucket moment acl = record { created = moment; acl = acl; objects = empty; u
 -- CreateBucket, by what stands under the name: a bucket that is there stays as it is, in every region
 abbrev pub creates : Option Bucket → State → List ℕ → Acl → ℕ → Outcome
 creates (Some b) old name acl moment = refuses BucketAlreadyOwnedByYou old
-creates None old name acl moment = gives (Made name) (insert old name (new_bucket moment acl))
+creates None old name acl moment = gives (reply.Made name) (insert old name (new_bucket moment acl))
+
+-- ---- objects
+
+-- an object as it is put
+abbrev pub new_object : ℕ → List ℕ → List Pair → List ℕ → Object
+new_object moment content_type meta body = record { bytes = body; etag = body_etag body; content_type = content_type; meta = meta; modified = moment }
+
+abbrev pub put_object : List ℕ → Object → Bucket → Bucket
+put_object key o b = record b { objects = insert b.objects key o }
+
+abbrev pub drop_object : List ℕ → Bucket → Bucket
+drop_object key b = record b { objects = remove b.objects key }
+
+-- an access control list other than the bucket's was given
+abbrev pub is_other_acl : Option Acl → Acl → Bool
+is_other_acl None acl = false
+is_other_acl (Some Private) Private = false
+is_other_acl (Some Private) PublicRead = true
+is_other_acl (Some PublicRead) Private = true
+is_other_acl (Some PublicRead) PublicRead = false
+
+-- PutObject in a bucket: the object in place of what stands under the key
+abbrev pub puts : State → List ℕ → List ℕ → Option Acl → Object → Bucket → Outcome
+puts old bucket key acl o b = unless (is_other_acl acl b.acl) NotImplemented old (gives (reply.Stored o.etag) (adjust bucket (put_object key o) old))
+
+abbrev pub head_of : Object → ObjectHead
+head_of o = record { etag = o.etag; modified = o.modified; size = length o.bytes; content_type = o.content_type; meta = o.meta }
+
+-- GetObject of an object: all of its bytes
+abbrev pub whole : Object → Reply
+whole o = reply.Object (head_of o) 0 (length o.bytes) false o.bytes
+
+-- HeadObject of an object: the same without the bytes
+abbrev pub headed : Object → Reply
+headed o = reply.Object (head_of o) 0 (length o.bytes) false []
+
+abbrev pub reads : State → (Object → Reply) → Object → Outcome
+reads old answer o = gives (answer o) old
+
+-- DeleteObject in a bucket, also where nothing stands under the key
+abbrev pub deletes : State → List ℕ → List ℕ → Bucket → Outcome
+deletes old bucket key b = gives reply.Gone (adjust bucket (drop_object key) old)
+
+-- ---- the step
 
 -- the step of each operation, with the id that a new upload gets
 abbrev pub step : Settings → State → Op → Label → ℕ → Outcome
 step settings old (CreateBucket bucket acl) label id = creates (get old bucket) old bucket acl label.moment
+step settings old (PutObject bucket key acl content_type meta body) label id = in_bucket old bucket (puts old bucket key acl (new_object label.moment content_type meta body))
+step settings old (GetObject bucket key) label id = in_bucket old bucket (in_readable old label.caller key (reads old whole))
+step settings old (HeadObject bucket key) label id = in_bucket old bucket (in_readable old label.caller key (reads old headed))
+step settings old (DeleteObject bucket key) label id = in_bucket old bucket (deletes old bucket key)
 
 -- the id that the operation may give to a new upload
 abbrev pub IsFree : State → Op → ℕ → Type 0
 IsFree old (CreateBucket bucket acl) id = Unit {0}
+IsFree old (PutObject bucket key acl content_type meta body) id = Unit {0}
+IsFree old (GetObject bucket key) id = Unit {0}
+IsFree old (HeadObject bucket key) id = Unit {0}
+IsFree old (DeleteObject bucket key) id = Unit {0}
 
 -- the service goes by this operation from the old state to the new one, and answers this
 pub record S3Step (settings : Settings) (old : State) (op : Op) (label : Label) (reply : Reply) (new : State) : Type 0 where
@@ -49,9 +141,26 @@ pub record S3Step (settings : Settings) (old : State) (op : Op) (label : Label) 
   pub replies : reply ≡ (step settings old op label id).reply
   pub goes : new ≡ (step settings old op label id).state
 
+-- ---- the limits of an operation
+
+-- a bucket's name and a key
+pub record IsPlace (bucket key : List ℕ) : Type 0 where
+  pub named : is_bucket bucket ≡ true
+  pub keyed : is_key key ≡ true
+
+-- what an object is put with
+pub record IsProperContent (content_type : List ℕ) (meta : List Pair) (body : List ℕ) : Type 0 where
+  pub typed : is_content_type content_type ≡ true
+  pub described : is_proper_meta meta ≡ true
+  pub sized : length body ≤ most_body_bytes
+
 -- an operation that keeps the limits of this profile, at a moment that a clock can give
 abbrev pub IsProperOp : Op → Type 0
 IsProperOp (CreateBucket bucket acl) = is_bucket bucket ≡ true
+IsProperOp (PutObject bucket key acl content_type meta body) = IsPlace bucket key × IsProperContent content_type meta body
+IsProperOp (GetObject bucket key) = IsPlace bucket key
+IsProperOp (HeadObject bucket key) = IsPlace bucket key
+IsProperOp (DeleteObject bucket key) = IsPlace bucket key
 
 abbrev pub IsProper : Op → Label → Type 0
 IsProper op label = IsProperOp op × (label.moment < moment_limit)

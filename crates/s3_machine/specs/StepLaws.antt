@@ -1,18 +1,28 @@
--- Laws of the step, for the crates above: what CreateBucket does where its bucket is missing and where it is there,
--- and the replies that the machine never gives.
-use Rattle.std.specs.Prelude.{◌≡◌, ◌≢◌, ℕ, true, List, Option, Some, None, is_some}
-use Rattle.std.proofs.Common.{refl, sym, ap, true≢false}
+-- Laws of the step, for the crates above: what each operation does by what is found in the state and in the bucket, and
+-- the replies that the machine never gives.
+use Rattle.std.specs.Prelude.{◌≡◌, ◌≢◌, ℕ, Bool, true, false, not, List, Option, Some, None, is_some}
+use Rattle.std.proofs.Common.{refl, sym, ap, ◌∙◌, true≢false}
 use Rattle.std.specs.FinMap.{get, insert}
+use Rattle.gate_base.specs.Maps.{adjust}
+use Rattle.gate_base.specs.declared.page.Pair.{Pair}
 use Rattle.s3_names.specs.declared.acl.Acl.{Acl}
-use Rattle.s3_machine.specs.declared.code.Code.TheVariants.{BucketAlreadyOwnedByYou, InconsistentStore, ServiceUnavailable}
+use Rattle.s3_machine.specs.declared.code.Code.{Code}
+use Rattle.s3_machine.specs.declared.code.Code.TheVariants.{AccessDenied, BucketAlreadyOwnedByYou, InconsistentStore, NoSuchBucket, NoSuchKey, NotImplemented, ServiceUnavailable}
 use Rattle.s3_machine.specs.declared.operation.Label.{Label}
 use Rattle.s3_machine.specs.declared.operation.Settings.{Settings}
 use Rattle.s3_machine.specs.declared.operation.Op.{Op}
-use Rattle.s3_machine.specs.declared.operation.Op.TheVariants.{CreateBucket}
+use Rattle.s3_machine.specs.declared.operation.Op.TheVariants.{CreateBucket, PutObject, GetObject, HeadObject, DeleteObject}
 use Rattle.s3_machine.specs.declared.operation.Reply.{Reply}
-use Rattle.s3_machine.specs.declared.operation.Reply.TheVariants.{Refused, Made, Memory}
-use Rattle.s3_machine.specs.State.{Bucket, State}
-use Rattle.s3_machine.specs.Step.{Outcome, S3Step, creates, gives, refuses, new_bucket}
+use Rattle.s3_machine.specs.declared.operation.Reply.TheVariants.{Refused, Made, Memory, Stored, Gone}
+use Rattle.s3_machine.specs.ETag.{body_etag}
+use Rattle.s3_machine.specs.State.{Object, Bucket, State}
+use Rattle.s3_machine.specs.Step.{Outcome, S3Step, step, IsFree, creates, gives, refuses, unless, in_bucket_by, in_object_by, in_readable, may_read, is_other_acl, puts, deletes, reads, whole, headed, new_bucket, new_object, put_object, drop_object}
+
+-- a step by what it comes to
+steps : {settings : Settings} {old : State} {op : Op} {label : Label} (reply : Reply) (new : State) (id : ℕ) → IsFree old op id → step settings old op label id ≡ gives reply new → S3Step settings old op label reply new
+steps reply new id free e = record { id = id; free = free; replies = sym (ap (λ (o : Outcome). o.reply) e); goes = sym (ap (λ (o : Outcome). o.state) e) }
+
+-- ---- CreateBucket
 
 module _ (old : State) (name : List ℕ) (acl : Acl) (moment : ℕ) where
   pub creates_none : (v : Option Bucket) → v ≡ None → creates v old name acl moment ≡ gives (Made name) (insert old name (new_bucket moment acl))
@@ -25,16 +35,85 @@ module _ (old : State) (name : List ℕ) (acl : Acl) (moment : ℕ) where
 -- a missing bucket is made
 pub step_made : (settings : Settings) (old : State) (bucket : List ℕ) (acl : Acl) (label : Label) → get old bucket ≡ None
     → S3Step settings old (CreateBucket bucket acl) label (Made bucket) (insert old bucket (new_bucket label.moment acl))
-step_made settings old bucket acl label e =
-    let made = creates_none old bucket acl label.moment (get old bucket) e in
-    record { id = 0; free = tt; replies = sym (ap (λ (o : Outcome). o.reply) made); goes = sym (ap (λ (o : Outcome). o.state) made) }
+step_made settings old bucket acl label e = steps _ _ 0 tt (creates_none old bucket acl label.moment (get old bucket) e)
 
 -- a bucket that is there stays as it is
 pub step_owned : (settings : Settings) (old : State) (bucket : List ℕ) (acl : Acl) (label : Label) → is_some (get old bucket) ≡ true
     → S3Step settings old (CreateBucket bucket acl) label (Refused BucketAlreadyOwnedByYou) old
-step_owned settings old bucket acl label e =
-    let owned = creates_there old bucket acl label.moment (get old bucket) e in
-    record { id = 0; free = tt; replies = sym (ap (λ (o : Outcome). o.reply) owned); goes = sym (ap (λ (o : Outcome). o.state) owned) }
+step_owned settings old bucket acl label e = steps _ _ 0 tt (creates_there old bucket acl label.moment (get old bucket) e)
+
+-- ---- the operations on objects
+
+unless_true : (t : Bool) (code : Code) (old : State) (rest : Outcome) → t ≡ true → unless t code old rest ≡ refuses code old
+unless_true t code old rest e = ap (λ t. unless t code old rest) e
+
+unless_false : (t : Bool) (code : Code) (old : State) (rest : Outcome) → t ≡ false → unless t code old rest ≡ rest
+unless_false t code old rest e = ap (λ t. unless t code old rest) e
+
+module _ (old : State) (label : Label) (key : List ℕ) (f : Object → Outcome) (b : Bucket) where
+  readable_denied : may_read label.caller b.acl ≡ false → in_readable old label.caller key f b ≡ refuses AccessDenied old
+  readable_denied e = unless_true _ _ _ _ (ap not e)
+
+  readable_none : may_read label.caller b.acl ≡ true → get b.objects key ≡ None → in_readable old label.caller key f b ≡ refuses NoSuchKey old
+  readable_none e none = unless_false _ _ _ _ (ap not e) ∙ ap (λ o. in_object_by o old f) none
+
+  readable_there : (o : Object) → may_read label.caller b.acl ≡ true → get b.objects key ≡ Some o → in_readable old label.caller key f b ≡ f o
+  readable_there o e there = unless_false _ _ _ _ (ap not e) ∙ ap (λ o. in_object_by o old f) there
+
+module _ (settings : Settings) (old : State) (bucket key : List ℕ) (label : Label) where
+  -- in no bucket
+  module _ (none : get old bucket ≡ None) where
+    missing : (f : Bucket → Outcome) → in_bucket_by (get old bucket) old f ≡ refuses NoSuchBucket old
+    missing f = ap (λ v. in_bucket_by v old f) none
+
+    pub put_without_bucket : (acl : Option Acl) (content_type : List ℕ) (meta : List Pair) (body : List ℕ) → S3Step settings old (PutObject bucket key acl content_type meta body) label (Refused NoSuchBucket) old
+    put_without_bucket acl content_type meta body = steps _ _ 0 tt (missing (puts old bucket key acl (new_object label.moment content_type meta body)))
+
+    pub get_without_bucket : S3Step settings old (GetObject bucket key) label (Refused NoSuchBucket) old
+    get_without_bucket = steps _ _ 0 tt (missing (in_readable old label.caller key (reads old whole)))
+
+    pub head_without_bucket : S3Step settings old (HeadObject bucket key) label (Refused NoSuchBucket) old
+    head_without_bucket = steps _ _ 0 tt (missing (in_readable old label.caller key (reads old headed)))
+
+    pub delete_without_bucket : S3Step settings old (DeleteObject bucket key) label (Refused NoSuchBucket) old
+    delete_without_bucket = steps _ _ 0 tt (missing (deletes old bucket key))
+
+  -- in a bucket that is there
+  module _ (b : Bucket) (found : get old bucket ≡ Some b) where
+    there : (f : Bucket → Outcome) → in_bucket_by (get old bucket) old f ≡ f b
+    there f = ap (λ v. in_bucket_by v old f) found
+
+    pub put_with_another_acl : (acl : Option Acl) (content_type : List ℕ) (meta : List Pair) (body : List ℕ) → is_other_acl acl b.acl ≡ true
+        → S3Step settings old (PutObject bucket key acl content_type meta body) label (Refused NotImplemented) old
+    put_with_another_acl acl content_type meta body e = steps _ _ 0 tt (there (puts old bucket key acl (new_object label.moment content_type meta body)) ∙ unless_true _ _ _ _ e)
+
+    pub step_stored : (acl : Option Acl) (content_type : List ℕ) (meta : List Pair) (body : List ℕ) → is_other_acl acl b.acl ≡ false
+        → S3Step settings old (PutObject bucket key acl content_type meta body) label (Stored (body_etag body)) (adjust bucket (put_object key (new_object label.moment content_type meta body)) old)
+    step_stored acl content_type meta body e = steps _ _ 0 tt (there (puts old bucket key acl (new_object label.moment content_type meta body)) ∙ unless_false _ _ _ _ e)
+
+    pub get_denied : may_read label.caller b.acl ≡ false → S3Step settings old (GetObject bucket key) label (Refused AccessDenied) old
+    get_denied e = steps _ _ 0 tt (there (in_readable old label.caller key (reads old whole)) ∙ readable_denied old label key (reads old whole) b e)
+
+    pub head_denied : may_read label.caller b.acl ≡ false → S3Step settings old (HeadObject bucket key) label (Refused AccessDenied) old
+    head_denied e = steps _ _ 0 tt (there (in_readable old label.caller key (reads old headed)) ∙ readable_denied old label key (reads old headed) b e)
+
+    pub get_without_key : may_read label.caller b.acl ≡ true → get b.objects key ≡ None → S3Step settings old (GetObject bucket key) label (Refused NoSuchKey) old
+    get_without_key e none = steps _ _ 0 tt (there (in_readable old label.caller key (reads old whole)) ∙ readable_none old label key (reads old whole) b e none)
+
+    pub head_without_key : may_read label.caller b.acl ≡ true → get b.objects key ≡ None → S3Step settings old (HeadObject bucket key) label (Refused NoSuchKey) old
+    head_without_key e none = steps _ _ 0 tt (there (in_readable old label.caller key (reads old headed)) ∙ readable_none old label key (reads old headed) b e none)
+
+    pub step_read : (o : Object) → may_read label.caller b.acl ≡ true → get b.objects key ≡ Some o → S3Step settings old (GetObject bucket key) label (whole o) old
+    step_read o e is = steps _ _ 0 tt (there (in_readable old label.caller key (reads old whole)) ∙ readable_there old label key (reads old whole) b o e is)
+
+    pub step_headed : (o : Object) → may_read label.caller b.acl ≡ true → get b.objects key ≡ Some o → S3Step settings old (HeadObject bucket key) label (headed o) old
+    step_headed o e is = steps _ _ 0 tt (there (in_readable old label.caller key (reads old headed)) ∙ readable_there old label key (reads old headed) b o e is)
+
+    -- also where nothing stands under the key
+    pub step_gone : S3Step settings old (DeleteObject bucket key) label Gone (adjust bucket (drop_object key) old)
+    step_gone = steps _ _ 0 tt (there (deletes old bucket key))
+
+-- ---- the replies of the machine
 
 -- a reply that tells of the machine alone, not of memory or of a store
 abbrev IsMachineReply : Reply → Type 0
@@ -44,7 +123,45 @@ creates_reply : (v : Option Bucket) (old : State) (name : List ℕ) (acl : Acl) 
 creates_reply None old name acl moment reply e = ((λ f. cc), (λ f. cc), (λ f. cc))
 creates_reply (Some b) old name acl moment reply e = ((λ f. cc), (λ f. cc), (λ f. cc))
 
+-- the replies of the operations on objects
+module _ (old : State) (reply : Reply) where
+  puts_reply : (t : Bool) (etag : List ℕ) (new : State) → reply ≡ (unless t NotImplemented old (gives (Stored etag) new)).reply → IsMachineReply reply
+  puts_reply true etag new e = ((λ f. cc), (λ f. cc), (λ f. cc))
+  puts_reply false etag new e = ((λ f. cc), (λ f. cc), (λ f. cc))
+
+  put_reply : (v : Option Bucket) (bucket key : List ℕ) (acl : Option Acl) (o : Object) → reply ≡ (in_bucket_by v old (puts old bucket key acl o)).reply → IsMachineReply reply
+  put_reply None bucket key acl o e = ((λ f. cc), (λ f. cc), (λ f. cc))
+  put_reply (Some b) bucket key acl o e = puts_reply (is_other_acl acl b.acl) _ _ e
+
+  whole_reply : (v : Option Object) → reply ≡ (in_object_by v old (reads old whole)).reply → IsMachineReply reply
+  whole_reply None e = ((λ f. cc), (λ f. cc), (λ f. cc))
+  whole_reply (Some o) e = ((λ f. cc), (λ f. cc), (λ f. cc))
+
+  headed_reply : (v : Option Object) → reply ≡ (in_object_by v old (reads old headed)).reply → IsMachineReply reply
+  headed_reply None e = ((λ f. cc), (λ f. cc), (λ f. cc))
+  headed_reply (Some o) e = ((λ f. cc), (λ f. cc), (λ f. cc))
+
+  readable_reply : (t : Bool) (rest : Outcome) → (reply ≡ rest.reply → IsMachineReply reply) → reply ≡ (unless t AccessDenied old rest).reply → IsMachineReply reply
+  readable_reply true rest own e = ((λ f. cc), (λ f. cc), (λ f. cc))
+  readable_reply false rest own e = own e
+
+  get_reply : (v : Option Bucket) (label : Label) (key : List ℕ) → reply ≡ (in_bucket_by v old (in_readable old label.caller key (reads old whole))).reply → IsMachineReply reply
+  get_reply None label key e = ((λ f. cc), (λ f. cc), (λ f. cc))
+  get_reply (Some b) label key e = readable_reply (not (may_read label.caller b.acl)) _ (whole_reply (get b.objects key)) e
+
+  head_reply : (v : Option Bucket) (label : Label) (key : List ℕ) → reply ≡ (in_bucket_by v old (in_readable old label.caller key (reads old headed))).reply → IsMachineReply reply
+  head_reply None label key e = ((λ f. cc), (λ f. cc), (λ f. cc))
+  head_reply (Some b) label key e = readable_reply (not (may_read label.caller b.acl)) _ (headed_reply (get b.objects key)) e
+
+  delete_reply : (v : Option Bucket) (bucket key : List ℕ) → reply ≡ (in_bucket_by v old (deletes old bucket key)).reply → IsMachineReply reply
+  delete_reply None bucket key e = ((λ f. cc), (λ f. cc), (λ f. cc))
+  delete_reply (Some b) bucket key e = ((λ f. cc), (λ f. cc), (λ f. cc))
+
 -- the machine itself never gives the reply of wanting memory, nor the two codes of the store below it
 pub machine_reply : (settings : Settings) (old : State) (op : Op) (label : Label) (reply : Reply) (new : State) → S3Step settings old op label reply new
     → (reply ≢ Memory) × (reply ≢ Refused ServiceUnavailable) × (reply ≢ Refused InconsistentStore)
 machine_reply settings old (CreateBucket bucket acl) label reply new s = creates_reply (get old bucket) old bucket acl label.moment reply s.replies
+machine_reply settings old (PutObject bucket key acl content_type meta body) label reply new s = put_reply old reply (get old bucket) bucket key acl (new_object label.moment content_type meta body) s.replies
+machine_reply settings old (GetObject bucket key) label reply new s = get_reply old reply (get old bucket) label key s.replies
+machine_reply settings old (HeadObject bucket key) label reply new s = head_reply old reply (get old bucket) label key s.replies
+machine_reply settings old (DeleteObject bucket key) label reply new s = delete_reply old reply (get old bucket) bucket key s.replies

@@ -3,9 +3,16 @@
 #![tactic(auto)]
 
 mod code;
+mod etag;
+mod laws;
+mod limits;
 mod native;
 mod operation;
+mod table;
 
 pub use code::Code;
-pub use native::Native;
-pub use operation::{Label, Listed, Op, Reply, Settings};
+pub use etag::body_etag;
+pub use laws::{law_get_after_delete, law_get_after_put};
+pub use limits::{MOST_BODY_BYTES, is_content_type, is_meta_name, is_meta_value, is_proper_meta};
+pub use native::{Native, is_other_acl, may_read};
+pub use operation::{Label, Listed, ObjectHead, Op, Reply, Settings};

@@ -1,19 +1,192 @@
 //! The machine's running form: plain and slow, for tests.
-ghost use Rattle.std.specs.Prelude.{◌≡◌, is_some, IfOk, OnOk, OnErr};
-ghost use Rattle.std.specs.FinMap.{empty, get, insert};
-ghost use Rattle.s3_machine.specs.Step.{IsProper, S3Step, creates};
+ghost use Rattle.std.specs.Prelude.{◌≡◌, IfOk, OnErr};
+ghost use Rattle.std.specs.FinMap.{empty};
+ghost use Rattle.s3_machine.specs.declared.operation.Op.TheVariants.{CreateBucket, PutObject, GetObject, HeadObject, DeleteObject};
+ghost use Rattle.s3_machine.specs.Step.{IsProper, S3Step, may_read, is_other_acl};
 
-use crate::{Code, Label, Op, Reply, Settings};
-use gate_base::{Bytes, Copying, Memory};
-use s3_names::Acl;
+use crate::table::Table;
+use crate::{Code, Label, ObjectHead, Op, Reply, Settings, body_etag};
+use gate_base::{Bytes, Caller, Copying, Memory};
+use s3_names::{Acl, Meta};
 use std::alloc::Global;
-use std::collections::BTreeMap;
 use std::marker::Model;
 
-#[derive(Debug, Drop)]
-struct NativeBucket {
+/// An object. Contracts see it as one of the state.
+#[derive(Drop)]
+pub(crate) struct NativeObject {
+    bytes: Bytes,
+    etag: Bytes,
+    content_type: Bytes,
+    meta: Meta,
+    modified: u64,
+}
+
+impl Model for NativeObject {
+    ghost use Rattle.s3_machine.specs.State.{Object, object_code};
+
+    ghost Value = { Object };
+
+    ghost coded = { object_code };
+
+    ghost use Rattle.s3_machine.specs.Native.{object_of};
+
+    ghost view = { object_of };
+}
+
+impl NativeObject {
+    ghost use Rattle.std.specs.Prelude.{false, length};
+    ghost use Rattle.s3_machine.specs.declared.operation.Reply.TheVariants as answer;
+    ghost use Rattle.s3_machine.specs.Step.{head_of, headed, new_object, whole};
+
+    fn new(
+        alloc: Global,
+        moment: u64,
+        content_type: &Bytes,
+        meta: &Meta,
+        body: &Bytes,
+    ) -> Result<NativeObject, Memory>
+        ensures { IfOk result (λ made. made ≡ new_object moment content_type.now meta.now body.now) }
+    {
+        Ok(NativeObject {
+            bytes: body.copy()?,
+            etag: Bytes::from_slice(alloc, &body_etag(body.as_slice()))?,
+            content_type: content_type.copy()?,
+            meta: meta.copy()?,
+            modified: moment,
+        })
+    }
+
+    fn head(&self) -> Result<ObjectHead, Memory>
+        ensures { IfOk result (λ head. head ≡ head_of self.now) }
+    {
+        Ok(ObjectHead {
+            etag: self.etag.copy()?,
+            modified: self.modified,
+            size: self.bytes.len() as u64,
+            content_type: self.content_type.copy()?,
+            meta: self.meta.copy()?,
+        })
+    }
+
+    /// The answer with this body: all of the bytes, or none.
+    fn answer(&self, body: Bytes) -> Result<Reply, Memory>
+        ensures { IfOk result (λ reply. reply ≡ answer.Object (head_of self.now) 0 (length self.now.bytes) false body) }
+    {
+        Ok(Reply::Object {
+            head: self.head()?,
+            from: 0,
+            length: self.bytes.len() as u64,
+            partial: false,
+            body,
+        })
+    }
+
+    /// The answer to GetObject.
+    fn whole(&self) -> Result<Reply, Memory>
+        ensures { IfOk result (λ reply. reply ≡ whole self.now) }
+    {
+        self.answer(self.bytes.copy()?)
+    }
+
+    /// The answer to HeadObject.
+    fn headed(&self, alloc: Global) -> Result<Reply, Memory>
+        ensures { IfOk result (λ reply. reply ≡ headed self.now) }
+    {
+        self.answer(Bytes::new(alloc))
+    }
+}
+
+/// A bucket. Contracts see it as one of the state.
+#[derive(Drop)]
+pub(crate) struct NativeBucket {
     created: u64,
     acl: Acl,
+    objects: Table<NativeObject>,
+}
+
+impl Model for NativeBucket {
+    ghost use Rattle.s3_machine.specs.State.{Bucket, bucket_code};
+
+    ghost Value = { Bucket };
+
+    ghost coded = { bucket_code };
+
+    ghost use Rattle.s3_machine.specs.Native.{bucket_of};
+
+    ghost view = { bucket_of };
+}
+
+impl NativeBucket {
+    ghost use Rattle.std.specs.Prelude.{OnOk, option_copied};
+    ghost use Rattle.std.specs.FinMap.{get};
+    ghost use Rattle.s3_machine.specs.Step.{drop_object, new_bucket, put_object};
+
+    fn new(alloc: Global, moment: u64, acl: Acl) -> NativeBucket
+        ensures { result ≡ new_bucket moment acl }
+    {
+        NativeBucket {
+            created: moment,
+            acl,
+            objects: Table::new(alloc),
+        }
+    }
+
+    fn may_be_read(&self, caller: Caller) -> bool
+        ensures { result ≡ may_read caller self.now.acl }
+    {
+        may_read(caller, self.acl)
+    }
+
+    fn has_another_acl(&self, acl: Option<Acl>) -> bool
+        ensures { result ≡ is_other_acl acl self.now.acl }
+    {
+        is_other_acl(acl, self.acl)
+    }
+
+    fn object(&self, key: &[u8]) -> Option<&NativeObject>
+        ensures { option_copied result ≡ get self.now.objects key.now }
+    {
+        self.objects.get(key)
+    }
+
+    fn put(&mut self, key: &[u8], object: NativeObject) -> Result<(), Memory>
+        ensures ok { OnOk result (self.new ≡ put_object key.now object self.old) }
+        ensures err { OnErr result (self.new ≡ self.old) }
+    {
+        self.objects.put(key, object)
+    }
+
+    fn drop_at(&mut self, key: &[u8])
+        ensures { self.new ≡ drop_object key.now self.old }
+    {
+        self.objects.drop_at(key);
+    }
+}
+
+impl Table<NativeBucket> {
+    ghost use Rattle.std.specs.Prelude.{OnOk};
+    ghost use Rattle.gate_base.specs.Maps.{adjust};
+    ghost use Rattle.s3_machine.specs.Step.{drop_object, put_object};
+
+    /// Puts an object into a bucket, in place of what stands under its key. For want of memory all is as before.
+    fn put_object(&mut self, bucket: &[u8], key: &[u8], object: NativeObject) -> Result<(), Memory>
+        ensures ok { OnOk result (self.new ≡ adjust bucket.now (put_object key.now object) self.old) }
+        ensures err { OnErr result (self.new ≡ self.old) }
+    {
+        match self.entries.get_mut(bucket) {
+            Some(found) => found.put(key, object),
+            None => Ok(()),
+        }
+    }
+
+    /// Takes away the object of a key in a bucket, if there is one.
+    fn drop_object(&mut self, bucket: &[u8], key: &[u8])
+        ensures { self.new ≡ adjust bucket.now (drop_object key.now) self.old }
+    {
+        if let Some(found) = self.entries.get_mut(bucket) {
+            found.drop_at(key);
+        }
+    }
 }
 
 /// One S3 service in memory. Contracts see its settings and the state of its buckets.
@@ -21,7 +194,7 @@ struct NativeBucket {
 pub struct Native {
     alloc: Global,
     settings: Settings,
-    buckets: BTreeMap<Vec<u8>, NativeBucket>,
+    buckets: Table<NativeBucket>,
 }
 
 impl Model for Native {
@@ -37,14 +210,12 @@ impl Model for Native {
 }
 
 impl Native {
-    ghost use Rattle.s3_machine.specs.Native.{bucket_of};
-
     /// A service without a bucket.
     pub fn new(alloc: Global, settings: Settings) -> Native
         ensures settings { result.settings ≡ settings }
         ensures state { result.state ≡ empty }
     {
-        let buckets = BTreeMap::new(alloc);
+        let buckets = Table::new(alloc);
         Native {
             alloc,
             settings,
@@ -60,46 +231,130 @@ impl Native {
         ensures err { OnErr result (self.new.state ≡ self.old.state) }
     {
         match op {
-            Op::CreateBucket { bucket, acl } => self.create_bucket(bucket, *acl, label.moment),
+            Op::CreateBucket { bucket, acl } => self.create_bucket(bucket, *acl, label),
+            Op::PutObject {
+                bucket,
+                key,
+                acl,
+                content_type,
+                meta,
+                body,
+            } => self.put_object(bucket, key, *acl, content_type, meta, body, label),
+            Op::GetObject { bucket, key } => self.get_object(bucket, key, label),
+            Op::HeadObject { bucket, key } => self.head_object(bucket, key, label),
+            Op::DeleteObject { bucket, key } => self.delete_object(bucket, key, label),
         }
     }
 
     /// For want of memory the state is as before.
-    fn create_bucket(&mut self, bucket: &Bytes, acl: Acl, moment: u64) -> Result<Reply, Memory>
+    fn create_bucket(&mut self, bucket: &Bytes, acl: Acl, label: &Label) -> Result<Reply, Memory>
         ensures settings { self.new.settings ≡ self.old.settings }
-        ensures reply { IfOk result (λ reply. reply ≡ (creates (get self.old.state bucket.now) self.old.state bucket.now acl moment).reply) }
-        ensures state { OnOk result (self.new.state ≡ (creates (get self.old.state bucket.now) self.old.state bucket.now acl moment).state) }
+        ensures ok { IfOk result (λ reply. S3Step self.old.settings self.old.state (CreateBucket bucket.now acl) label.now reply self.new.state) }
         ensures err { OnErr result (self.new.state ≡ self.old.state) }
     {
-        if self.holds(bucket) {
+        if self.buckets.get(bucket.as_slice()).is_some() {
             return Ok(Reply::Refused(Code::BucketAlreadyOwnedByYou));
         }
         let reply = Reply::Made {
             bucket: bucket.copy()?,
         };
-        let made = NativeBucket {
-            created: moment,
-            acl,
-        };
-        self.put(bucket, made)?;
+        let made = NativeBucket::new(self.alloc, label.moment, acl);
+        self.buckets.put(bucket.as_slice(), made)?;
         Ok(reply)
     }
 
-    fn holds(&self, name: &Bytes) -> bool
-        ensures { result ≡ is_some (get self.now.state name.now) }
-    {
-        self.buckets.contains_key(name.as_slice())
-    }
-
-    /// Puts a bucket under a name, in place of what stands there. For want of memory the state is as before.
-    fn put(&mut self, name: &Bytes, bucket: NativeBucket) -> Result<(), Memory>
+    /// For want of memory the state is as before.
+    fn put_object(
+        &mut self,
+        bucket: &Bytes,
+        key: &Bytes,
+        acl: Option<Acl>,
+        content_type: &Bytes,
+        meta: &Meta,
+        body: &Bytes,
+        label: &Label,
+    ) -> Result<Reply, Memory>
         ensures settings { self.new.settings ≡ self.old.settings }
-        ensures ok { OnOk result (self.new.state ≡ insert self.old.state name.now (bucket_of bucket)) }
+        ensures ok { IfOk result (λ reply.
+            S3Step self.old.settings self.old.state (PutObject bucket.now key.now acl content_type.now meta.now body.now) label.now reply self.new.state) }
         ensures err { OnErr result (self.new.state ≡ self.old.state) }
     {
-        let key = Vec::from_slice(self.alloc, name.as_slice())?;
-        self.buckets.insert(key, bucket)?;
-        Ok(())
+        let Some(found) = self.buckets.get(bucket.as_slice()) else {
+            return Ok(Reply::Refused(Code::NoSuchBucket));
+        };
+        if found.has_another_acl(acl) {
+            return Ok(Reply::Refused(Code::NotImplemented));
+        }
+        let object = NativeObject::new(self.alloc, label.moment, content_type, meta, body)?;
+        let reply = Reply::Stored {
+            etag: object.etag.copy()?,
+        };
+        self.buckets
+            .put_object(bucket.as_slice(), key.as_slice(), object)?;
+        Ok(reply)
+    }
+
+    fn get_object(&self, bucket: &Bytes, key: &Bytes, label: &Label) -> Result<Reply, Memory>
+        ensures { IfOk result (λ reply. S3Step self.now.settings self.now.state (GetObject bucket.now key.now) label.now reply self.now.state) }
+    {
+        let Some(found) = self.buckets.get(bucket.as_slice()) else {
+            return Ok(Reply::Refused(Code::NoSuchBucket));
+        };
+        if !found.may_be_read(label.caller) {
+            return Ok(Reply::Refused(Code::AccessDenied));
+        }
+        let Some(object) = found.object(key.as_slice()) else {
+            return Ok(Reply::Refused(Code::NoSuchKey));
+        };
+        object.whole()
+    }
+
+    fn head_object(&self, bucket: &Bytes, key: &Bytes, label: &Label) -> Result<Reply, Memory>
+        ensures { IfOk result (λ reply. S3Step self.now.settings self.now.state (HeadObject bucket.now key.now) label.now reply self.now.state) }
+    {
+        let Some(found) = self.buckets.get(bucket.as_slice()) else {
+            return Ok(Reply::Refused(Code::NoSuchBucket));
+        };
+        if !found.may_be_read(label.caller) {
+            return Ok(Reply::Refused(Code::AccessDenied));
+        }
+        let Some(object) = found.object(key.as_slice()) else {
+            return Ok(Reply::Refused(Code::NoSuchKey));
+        };
+        object.headed(self.alloc)
+    }
+
+    fn delete_object(&mut self, bucket: &Bytes, key: &Bytes, label: &Label) -> Result<Reply, Memory>
+        ensures settings { self.new.settings ≡ self.old.settings }
+        ensures ok { IfOk result (λ reply. S3Step self.old.settings self.old.state (DeleteObject bucket.now key.now) label.now reply self.new.state) }
+        ensures err { OnErr result (self.new.state ≡ self.old.state) }
+    {
+        if self.buckets.get(bucket.as_slice()).is_none() {
+            return Ok(Reply::Refused(Code::NoSuchBucket));
+        }
+        self.buckets.drop_object(bucket.as_slice(), key.as_slice());
+        Ok(Reply::Gone)
+    }
+}
+
+/// Whether an access control list was given that isn't the bucket's.
+pub fn is_other_acl(given: Option<Acl>, acl: Acl) -> bool
+    ensures { result ≡ is_other_acl given acl }
+{
+    match (given, acl) {
+        (None, _) | (Some(Acl::Private), Acl::Private) => false,
+        (Some(Acl::PublicRead), Acl::PublicRead) => false,
+        (Some(Acl::Private), Acl::PublicRead) | (Some(Acl::PublicRead), Acl::Private) => true,
+    }
+}
+
+/// Whether one who asks may read what stands in a bucket.
+pub fn may_read(caller: Caller, acl: Acl) -> bool
+    ensures { result ≡ may_read caller acl }
+{
+    match (caller, acl) {
+        (Caller::Owner, _) | (Caller::Anonymous, Acl::PublicRead) => true,
+        (Caller::Anonymous, Acl::Private) => false,
     }
 }
 

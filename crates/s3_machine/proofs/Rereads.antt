@@ -1,0 +1,66 @@
+-- A GetObject after a change of the key.
+use Rattle.std.specs.Prelude.{◌≡◌, ℕ, Bool, true, false, List, Option, Some, None}
+use Rattle.std.proofs.Common.{refl, ap, ◌∙◌}
+use Rattle.std.specs.Option.{option_map}
+use Rattle.std.specs.FinMap.{get}
+use Rattle.gate_base.specs.Maps.{adjust, by_name, at_adjust, at_insert, at_remove}
+use Rattle.gate_base.specs.declared.page.Caller.{Caller}
+use Rattle.gate_base.specs.declared.page.Caller.TheVariants.{Owner}
+use Rattle.gate_base.specs.declared.page.Pair.{Pair}
+use Rattle.s3_names.specs.declared.acl.Acl.{Acl}
+use Rattle.s3_machine.specs.declared.code.Code.TheVariants.{NoSuchKey, NotImplemented}
+use Rattle.s3_machine.specs.declared.operation.Label.{Label}
+use Rattle.s3_machine.specs.declared.operation.Settings.{Settings}
+use Rattle.s3_machine.specs.declared.operation.Op.TheVariants.{PutObject, GetObject, DeleteObject}
+use Rattle.s3_machine.specs.declared.operation.Reply.{Reply}
+use Rattle.s3_machine.specs.declared.operation.Reply.TheVariants.{Refused, Stored, Gone}
+use Rattle.s3_machine.specs.State.{Object, Bucket, State}
+use Rattle.s3_machine.specs.Step.{Outcome, S3Step, unless, gives, in_bucket_by, in_object_by, in_readable, is_other_acl, puts, deletes, reads, whole, new_object, put_object, drop_object}
+
+-- a change of a bucket that is there
+changed : (old : State) (bucket : List ℕ) (f : Bucket → Bucket) (b : Bucket) → get old bucket ≡ Some b → get (adjust bucket f old) bucket ≡ Some (f b)
+changed old bucket f b is = at_adjust by_name bucket f old ∙ ap (option_map f) is
+
+stored_in : (old new : State) (bucket key : List ℕ) (acl : Option Acl) (o : Object) (etag : List ℕ) (b : Bucket) (t : Bool)
+    → Stored etag ≡ (unless t NotImplemented old (gives (Stored o.etag) (adjust bucket (put_object key o) old))).reply → new ≡ (unless t NotImplemented old (gives (Stored o.etag) (adjust bucket (put_object key o) old))).state
+    → new ≡ adjust bucket (put_object key o) old
+stored_in old new bucket key acl o etag b true e f = cc
+stored_in old new bucket key acl o etag b false e f = f
+
+-- what a put that was stored leaves in its bucket
+left_by_put : (old new : State) (bucket key : List ℕ) (acl : Option Acl) (o : Object) (etag : List ℕ) (v : Option Bucket) → get old bucket ≡ v
+    → Stored etag ≡ (in_bucket_by v old (puts old bucket key acl o)).reply → new ≡ (in_bucket_by v old (puts old bucket key acl o)).state
+    → (b : Bucket) × (get new bucket ≡ Some b) × (get b.objects key ≡ Some o)
+left_by_put old new bucket key acl o etag None is e f = cc
+left_by_put old new bucket key acl o etag (Some b) is e f =
+    let goes = stored_in old new bucket key acl o etag b (is_other_acl acl b.acl) e f in
+    (put_object key o b, ap (λ s. get s bucket) goes ∙ changed old bucket (put_object key o) b is, at_insert by_name b.objects key o)
+
+left_by_delete : (old new : State) (bucket key : List ℕ) (v : Option Bucket) → get old bucket ≡ v
+    → Gone ≡ (in_bucket_by v old (deletes old bucket key)).reply → new ≡ (in_bucket_by v old (deletes old bucket key)).state
+    → (b : Bucket) × (get new bucket ≡ Some b) × (get b.objects key ≡ None)
+left_by_delete old new bucket key None is e f = cc
+left_by_delete old new bucket key (Some b) is e f = (drop_object key b, ap (λ s. get s bucket) f ∙ changed old bucket (drop_object key) b is, at_remove by_name b.objects key)
+
+-- what an owner is answered
+owner_reads : (old : State) (bucket key : List ℕ) (caller : Caller) (b : Bucket) (v : Option Object) → caller ≡ Owner → get old bucket ≡ Some b → get b.objects key ≡ v
+    → in_bucket_by (get old bucket) old (in_readable old caller key (reads old whole)) ≡ in_object_by v old (reads old whole)
+owner_reads old bucket key caller b v owner found is =
+    ap (λ w. in_bucket_by w old (in_readable old caller key (reads old whole))) found ∙ ap (λ c. in_readable old c key (reads old whole) b) owner ∙ ap (λ w. in_object_by w old (reads old whole)) is
+
+pub get_after_put : (settings : Settings) (old new after : State) (bucket key content_type body etag : List ℕ) (acl : Option Acl) (meta : List Pair) (first second : Label) (reply : Reply)
+    → S3Step settings old (PutObject bucket key acl content_type meta body) first (Stored etag) new
+    → second.caller ≡ Owner → S3Step settings new (GetObject bucket key) second reply after
+    → reply ≡ whole (new_object first.moment content_type meta body)
+get_after_put settings old new after bucket key content_type body etag acl meta first second reply put owner got =
+    let o : Object = new_object first.moment content_type meta body in
+    let left = left_by_put old new bucket key acl o etag (get old bucket) refl put.replies put.goes in
+    got.replies ∙ ap (λ (w : Outcome). w.reply) (owner_reads new bucket key second.caller left.0 (Some o) owner left.1 left.2)
+
+pub get_after_delete : (settings : Settings) (old new after : State) (bucket key : List ℕ) (first second : Label) (reply : Reply)
+    → S3Step settings old (DeleteObject bucket key) first Gone new
+    → second.caller ≡ Owner → S3Step settings new (GetObject bucket key) second reply after
+    → reply ≡ Refused NoSuchKey
+get_after_delete settings old new after bucket key first second reply deleted owner got =
+    let left = left_by_delete old new bucket key (get old bucket) refl deleted.replies deleted.goes in
+    got.replies ∙ ap (λ (w : Outcome). w.reply) (owner_reads new bucket key second.caller left.0 None owner left.1 left.2)

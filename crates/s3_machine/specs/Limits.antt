@@ -1,0 +1,63 @@
+-- The limits of what an object is put with. Source: Amazon S3 User Guide, "Working with object metadata", and RFC 9110,
+-- section 5.6.2, for tokens; the numbers are this profile's.
+use Rattle.std.specs.Prelude.{ℕ, Bool, false, ◌&&◌, ◌||◌, ◌==◌, ◌+◌, ◌-◌, nat_le, if◌then◌else◌, List, length, drop, slice_get, sum_by, codes, bytes_eq}
+use Rattle.std.specs.List.{list_all, list_any}
+use Rattle.std.specs.Option.{option_map_or}
+use Rattle.gate_base.specs.declared.page.Pair.{Pair}
+use Rattle.s3_names.specs.Bucket.{is_letter_or_digit}
+
+-- the most bytes of the body of a request
+abbrev pub most_body_bytes : ℕ
+most_body_bytes = 16777216
+
+-- visible ASCII
+abbrev pub is_visible : ℕ → Bool
+is_visible byte = nat_le 33 byte && nat_le byte 126
+
+-- visible ASCII and the space
+abbrev pub is_printed : ℕ → Bool
+is_printed byte = nat_le 32 byte && nat_le byte 126
+
+-- no space, nor any other byte that isn't visible, at either end
+abbrev pub has_visible_ends : List ℕ → Bool
+has_visible_ends text = option_map_or is_visible (slice_get text 0) false && option_map_or is_visible (slice_get text (length text - 1)) false
+
+-- 1 to 256 bytes of visible ASCII and spaces, without a space at either end
+unfoldable pub is_content_type : List ℕ → Bool
+is_content_type text = nat_le (length text) 256 && list_all is_printed text && has_visible_ends text
+
+-- visible ASCII and spaces, or nothing
+unfoldable pub is_meta_value : List ℕ → Bool
+is_meta_value value = list_all is_printed value
+
+-- the bytes of a token, but for the upper-case letters
+abbrev pub is_lower_token_byte : ℕ → Bool
+is_lower_token_byte byte = is_letter_or_digit byte || list_any (λ mark. mark == byte) (codes "!#$%&'*+-.^_`|~")
+
+-- a name of the user's own begins with `-`
+abbrev pub is_own_name : List ℕ → Bool
+is_own_name name = option_map_or (λ byte. byte == 45) (slice_get name 0) false
+
+-- the headers of HTTP that are kept with an object
+abbrev pub is_kept_header : List ℕ → Bool
+is_kept_header name =
+    bytes_eq name (codes "cache-control") || bytes_eq name (codes "content-disposition") || bytes_eq name (codes "content-encoding")
+    || bytes_eq name (codes "content-language") || bytes_eq name (codes "expires")
+
+-- `-` and the lower-case bytes of a token, of which there may be none; or the name of a kept header
+unfoldable pub is_meta_name : List ℕ → Bool
+is_meta_name name = (is_own_name name && list_all is_lower_token_byte (drop 1 name)) || is_kept_header name
+
+-- the name without the `-` before it
+abbrev pub bare_name : List ℕ → List ℕ
+bare_name name = if is_own_name name then drop 1 name else name
+
+abbrev pub pair_bytes : Pair → ℕ
+pair_bytes pair = length (bare_name pair.name) + length pair.value
+
+abbrev pub is_proper_pair : Pair → Bool
+is_proper_pair pair = is_meta_name pair.name && is_meta_value pair.value
+
+-- at most 64 entries, and at most 2048 bytes of names and values
+unfoldable pub is_proper_meta : List Pair → Bool
+is_proper_meta meta = nat_le (length meta) 64 && list_all is_proper_pair meta && nat_le (sum_by pair_bytes meta) 2048

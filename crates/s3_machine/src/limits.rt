@@ -1,0 +1,265 @@
+//! The limits of what an object is put with.
+ghost use Rattle.std.specs.Prelude.{◌≡◌, ◌&&◌, ◌||◌, ◌==◌, ◌+◌, length, drop, nat_le, sum_by, codes};
+ghost use Rattle.std.specs.List.{list_all, list_any};
+ghost use Rattle.s3_names.specs.Bucket.{is_letter_or_digit};
+ghost use Rattle.s3_machine.specs.Limits.{bare_name, has_visible_ends, is_content_type, is_kept_header, is_lower_token_byte, is_meta_name, is_meta_value, is_own_name, is_printed, is_proper_meta, is_proper_pair, is_visible, pair_bytes};
+
+use gate_base::Pair;
+use s3_names::Meta;
+
+/// The most bytes of the body of a request.
+pub const MOST_BODY_BYTES: u64 = 16_777_216;
+
+/// The most bytes of a content type.
+const MOST_CONTENT_TYPE_BYTES: usize = 256;
+
+/// The most entries of user metadata.
+const MOST_ENTRIES: usize = 64;
+
+/// The most bytes of the names and values of user metadata, without the `-` before a name of the user's own.
+const MOST_META_BYTES: usize = 2048;
+
+/// The marks of a token that are neither letters nor digits (RFC 9110, section 5.6.2).
+const TOKEN_MARKS: &[u8] = b"!#$%&'*+-.^_`|~";
+
+/// Whether these bytes may be an object's content type: 1 to 256 bytes of visible ASCII and spaces, without a space at
+/// either end. It takes no memory.
+#[tactic(auto, unfolding(crate::specs::Limits::is_content_type))]
+pub fn is_content_type(text: &[u8]) -> bool
+    ensures { result ≡ is_content_type text.now }
+{
+    text.len() <= MOST_CONTENT_TYPE_BYTES && all_printed(text) && visible_ends(text)
+}
+
+/// Whether these bytes may be a value of user metadata: visible ASCII and spaces, or nothing. It takes no memory.
+#[tactic(auto, unfolding(crate::specs::Limits::is_meta_value))]
+pub fn is_meta_value(value: &[u8]) -> bool
+    ensures { result ≡ is_meta_value value.now }
+{
+    all_printed(value)
+}
+
+/// Whether these bytes may be a name of user metadata: `-` and the lower-case bytes of a token (RFC 9110, section
+/// 5.6.2), of which there may be none, for a name of the user's own; or `cache-control`, `content-disposition`,
+/// `content-encoding`, `content-language` or `expires`. It takes no memory.
+#[tactic(auto, unfolding(crate::specs::Limits::is_meta_name))]
+pub fn is_meta_name(name: &[u8]) -> bool
+    ensures { result ≡ is_meta_name name.now }
+{
+    token_of_the_user(name) || kept_header(name)
+}
+
+/// Whether an object may be put with this user metadata: at most 64 entries, each with a proper name and value, and at
+/// most 2048 bytes of names and values, where the `-` before a name isn't counted. It takes no memory.
+#[tactic(auto, unfolding(crate::specs::Limits::is_proper_meta))]
+pub fn is_proper_meta(meta: &Meta) -> bool
+    ensures { result ≡ is_proper_meta meta.now }
+{
+    let pairs = meta.pairs();
+    pairs.len() <= MOST_ENTRIES && all_proper(pairs) && fit(pairs)
+}
+
+fn visible(byte: u8) -> bool
+    ensures { result ≡ is_visible byte }
+{
+    33 <= byte && byte <= 126
+}
+
+fn printed(byte: u8) -> bool
+    ensures { result ≡ is_printed byte }
+{
+    32 <= byte && byte <= 126
+}
+
+fn all_printed(text: &[u8]) -> bool
+    ensures { result ≡ list_all is_printed text.now }
+{
+    text.iter().all(|byte| printed(*byte))
+}
+
+fn visible_ends(text: &[u8]) -> bool
+    ensures { result ≡ has_visible_ends text.now }
+{
+    match (text.first(), text.last()) {
+        (Some(first), Some(last)) => visible(*first) && visible(*last),
+        _ => false,
+    }
+}
+
+fn letter_or_digit(byte: u8) -> bool
+    ensures { result ≡ is_letter_or_digit byte }
+{
+    byte.is_ascii_lowercase() || byte.is_ascii_digit()
+}
+
+fn token_mark(byte: u8) -> bool
+    ensures { result ≡ list_any (λ mark. mark == byte) (codes "!#$%&'*+-.^_`|~") }
+{
+    TOKEN_MARKS.contains(&byte)
+}
+
+fn lower_token_byte(byte: u8) -> bool
+    ensures { result ≡ is_lower_token_byte byte }
+{
+    letter_or_digit(byte) || token_mark(byte)
+}
+
+fn all_lower_token_bytes(text: &[u8]) -> bool
+    ensures { result ≡ list_all is_lower_token_byte text.now }
+{
+    text.iter().all(|byte| lower_token_byte(*byte))
+}
+
+fn own_name(name: &[u8]) -> bool
+    ensures { result ≡ is_own_name name.now }
+{
+    match name.first() {
+        Some(byte) => *byte == b'-',
+        None => false,
+    }
+}
+
+/// The name without the `-` before it.
+fn bare(name: &[u8]) -> &[u8]
+    ensures { result.now ≡ bare_name name.now }
+{
+    match name {
+        [b'-', rest @ ..] => rest,
+        _ => name,
+    }
+}
+
+fn token_of_the_user(name: &[u8]) -> bool
+    ensures { result ≡ (is_own_name name.now && list_all is_lower_token_byte (drop 1 name.now)) }
+{
+    match name {
+        [b'-', rest @ ..] => all_lower_token_bytes(rest),
+        _ => false,
+    }
+}
+
+fn kept_header(name: &[u8]) -> bool
+    ensures { result ≡ is_kept_header name.now }
+{
+    name == b"cache-control".as_slice()
+        || name == b"content-disposition".as_slice()
+        || name == b"content-encoding".as_slice()
+        || name == b"content-language".as_slice()
+        || name == b"expires".as_slice()
+}
+
+fn proper_pair(pair: &Pair) -> bool
+    ensures { result ≡ is_proper_pair pair.now }
+{
+    is_meta_name(pair.name.as_slice()) && is_meta_value(pair.value.as_slice())
+}
+
+fn all_proper(pairs: &[Pair]) -> bool
+    ensures { result ≡ list_all is_proper_pair pairs.now }
+{
+    pairs.iter().all(|pair| proper_pair(pair))
+}
+
+/// Whether the names and values have no more bytes than are allowed.
+fn fit(pairs: &[Pair]) -> bool
+    ensures { result ≡ nat_le (sum_by pair_bytes pairs.now) 2048 }
+{
+    let mut left = MOST_META_BYTES;
+    for pair in pairs {
+        let name = bare(pair.name.as_slice()).len();
+        if name > left {
+            return false;
+        }
+        let value = pair.value.len();
+        if value > left - name {
+            return false;
+        }
+        left = left - name - value;
+    }
+    true
+}
+
+#[cfg(test)]
+mod tests {
+    use super::*;
+    use std::alloc::Global;
+    use std::test::Fail;
+
+    /// What a text may be: a content type, a name or a value.
+    fn kinds(text: &str) -> &'static str {
+        let bytes = text.as_bytes();
+        match (
+            is_content_type(bytes),
+            is_meta_name(bytes),
+            is_meta_value(bytes),
+        ) {
+            (true, true, true) => "type name value",
+            (true, false, true) => "type value",
+            (false, false, true) => "value",
+            (false, false, false) => "none",
+            _ => "another",
+        }
+    }
+
+    #[test]
+    fn limits_of_texts(rt: HostRuntime) {
+        for text in ["-", "--", "-a1!#$%&'*+-.^_`|~", "cache-control", "expires"] {
+            assert_eq!(rt; kinds(text), "type name value");
+        }
+        for text in [
+            "-A",
+            "-a b",
+            "-a:",
+            "note",
+            "Expires",
+            "text/plain; charset=utf-8",
+        ] {
+            assert_eq!(rt; kinds(text), "type value");
+        }
+        for text in ["", " text", "text "] {
+            assert_eq!(rt; kinds(text), "value");
+        }
+        for text in ["a\tb", "a\x7f", "ü"] {
+            assert_eq!(rt; kinds(text), "none");
+        }
+        for text in [
+            "content-disposition",
+            "content-encoding",
+            "content-language",
+        ] {
+            assert!(rt; is_meta_name(text.as_bytes()));
+        }
+    }
+
+    /// Whether metadata is proper with this many entries, the first of which has a value of this many bytes.
+    fn is_proper(alloc: Global, entries: u8, first: usize) -> Result<bool, Fail> {
+        let mut meta = Meta::new(alloc);
+        for at in 0..entries {
+            let name = [b'-', b'0' + at / 10 % 10, b'0' + at % 10];
+            let value = vec![in alloc; b'v'; if at == 0 { first } else { 0 }]?;
+            meta.add(&name, &value)?;
+        }
+        Ok(is_proper_meta(&meta))
+    }
+
+    /// A name of the user's own counts without its `-`.
+    #[test]
+    fn limits_of_lengths(rt: HostRuntime) -> Result<(), Fail> {
+        let alloc = rt.alloc();
+        for (entries, first, wanted) in [
+            (0, 0, true),
+            (1, 2046, true),
+            (1, 2047, false),
+            (64, 1920, true),
+            (64, 1921, false),
+            (65, 0, false),
+        ] {
+            assert_eq!(rt; is_proper(alloc, entries, first)?, wanted);
+        }
+        for (length, wanted) in [(1, true), (256, true), (257, false)] {
+            let text = vec![in alloc; b'a'; length]?;
+            assert_eq!(rt; is_content_type(&text), wanted);
+        }
+        Ok(())
+    }
+}
