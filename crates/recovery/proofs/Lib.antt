@@ -1,4 +1,10 @@
+pub mod Causes
+pub mod Dates
+pub mod Etags
 pub mod Faults
+pub mod Files
+pub mod Fits
 pub mod Head
 pub mod Names
+pub mod One
 pub mod Put

@@ -1,15 +1,13 @@
 -- What the calls of an operation amounted to is so in each later history too; and how two stretches are joined.
-use Rattle.std.specs.Prelude.{◌≡◌, ◌⊎◌, ◌≤◌, ℕ, Bool, List, Result, Ok, Err, is_some}
-use Rattle.std.specs.FinMap.{get, insert}
-use Rattle.std.proofs.Common.{sym, ap, subst, ◌∙◌, inl, inr, arith}
+use Rattle.std.specs.Prelude.{◌≡◌, ◌<◌, ◌≤◌, ℕ, Result, Ok, Err}
+use Rattle.std.proofs.Common.{refl, sym, ap, subst, ◌∙◌, inl, inr, arith}
 use Rattle.std.proofs.lemmas.Bool.{cases_lt}
-use Rattle.s3_names.specs.declared.acl.Acl.{Acl}
 use Rattle.s3_machine.specs.declared.operation.Label.{Label}
 use Rattle.s3_machine.specs.declared.operation.Settings.{Settings}
 use Rattle.s3_machine.specs.declared.operation.Op.{Op}
 use Rattle.s3_machine.specs.declared.operation.Reply.{Reply}
 use Rattle.s3_machine.specs.State.{State}
-use Rattle.s3_machine.specs.Step.{S3Step, new_bucket}
+use Rattle.s3_machine.specs.Step.{S3Step}
 use Rattle.swift_calls.specs.Tree.{Tree}
 use Rattle.swift_calls.specs.History.{Kept, failed_agree}
 use Rattle.upload_records.specs.Native.{native}
@@ -17,7 +15,7 @@ use Rattle.upload_records.specs.Sound.{Sound}
 use Rattle.recovery.specs.declared.fault.PlanFault.{PlanFault}
 use Rattle.recovery.specs.declared.fault.PlanFault.TheVariants.{Failed, Memory, Inconsistent}
 use Rattle.recovery.specs.Turns.{Quiet, Turns, OldBefore, LastFailed}
-use Rattle.recovery.specs.Calls.{Looks, Commits, Makes}
+use Rattle.recovery.specs.Calls.{Reads}
 use Rattle.recovery.specs.Answers.{OldOrStepped, AnswersBy, machine, unavailable, memory, Answers}
 
 -- the state and Sound at a number that is kept
@@ -62,43 +60,13 @@ last_failed_agree {p = p} {q = q} kept l =
       failed = failed_agree l.last q before_q kept l.failed;
     }
 
-pub looks_agree : {at at' : ℕ → Tree} {faults faults' : ℕ → ℕ} (p q : ℕ) (bucket : List ℕ) (result : Result Bool PlanFault) → Kept q at at' faults faults' → Looks at faults p q bucket result → Looks at' faults' p q bucket result
-looks_agree p q bucket (Ok there) kept (quiet, same, seen) =
+pub reads_agree : {T : Type 0} {at at' : ℕ → Tree} {faults faults' : ℕ → ℕ} (p q : ℕ) (P : State → T → Type 0) (result : Result T PlanFault) → Kept q at at' faults faults' → Reads at faults p q P result → Reads at' faults' p q P result
+reads_agree p q P (Ok told) kept (quiet, same, is) =
     let ordered = quiet.ordered in
-    (quiet_agree kept quiet, kept.counts q (omega arith) ∙ same ∙ sym (kept.counts p ordered), ap (λ t. is_some (get (native t) bucket)) (kept.accounts p ordered) ∙ seen)
-looks_agree p q bucket (Err Failed) kept (quiet, failed) = (quiet_agree kept quiet, failed_agree p q quiet.ordered kept failed)
-looks_agree p q bucket (Err Memory) kept (quiet, same) = (quiet_agree kept quiet, kept.counts q (omega arith) ∙ same ∙ sym (kept.counts p quiet.ordered))
-looks_agree p q bucket (Err Inconsistent) kept never = never
-
--- a call that commits takes the state at p to what a function of it gives
-pub commits_agree : {at at' : ℕ → Tree} {faults faults' : ℕ → ℕ} {p q : ℕ} (f : State → State) → Kept q at at' faults faults' → Commits at p q (f (native (at p))) → Commits at' p q (f (native (at' p)))
-commits_agree {p = p} {q = q} f kept c =
-    let one = c.one in
-    record {
-      one = one;
-      sound_before = sound_at kept p (omega arith) c.sound_before;
-      sound_after = sound_at kept q (omega arith) c.sound_after;
-      made = ap native (kept.accounts q (omega arith)) ∙ c.made ∙ ap (λ t. f (native t)) (sym (kept.accounts p (omega arith)));
-    }
-
-either_agree : {at at' : ℕ → Tree} {faults faults' : ℕ → ℕ} (p q : ℕ) (f : State → State) → Kept q at at' faults faults' → Quiet at p q ⊎ Commits at p q (f (native (at p))) → Quiet at' p q ⊎ Commits at' p q (f (native (at' p)))
-either_agree p q f kept (inl quiet) = inl (quiet_agree kept quiet)
-either_agree p q f kept (inr done) = inr (commits_agree f kept done)
-
-either_ordered : {at : ℕ → Tree} {p q : ℕ} {new : State} → Quiet at p q ⊎ Commits at p q new → p ≤ q
-either_ordered (inl quiet) = quiet.ordered
-either_ordered (inr done) = let one = done.one in omega arith
-
-pub makes_agree : {at at' : ℕ → Tree} {faults faults' : ℕ → ℕ} (p q : ℕ) (bucket : List ℕ) (acl : Acl) (moment : ℕ) (result : Result (Unit {0}) PlanFault) → Kept q at at' faults faults' → Makes at faults p q bucket acl moment result → Makes at' faults' p q bucket acl moment result
-makes_agree p q bucket acl moment (Ok made) kept (done, same) =
-    let one = done.one in
-    (commits_agree (λ s. insert s bucket (new_bucket moment acl)) kept done, kept.counts q (omega arith) ∙ same ∙ sym (kept.counts p (omega arith)))
-makes_agree p q bucket acl moment (Err Failed) kept (either, failed) =
-    (either_agree p q (λ s. insert s bucket (new_bucket moment acl)) kept either, failed_agree p q (either_ordered either) kept failed)
-makes_agree p q bucket acl moment (Err Memory) kept (either, same) =
-    let ordered = either_ordered either in
-    (either_agree p q (λ s. insert s bucket (new_bucket moment acl)) kept either, kept.counts q (omega arith) ∙ same ∙ sym (kept.counts p ordered))
-makes_agree p q bucket acl moment (Err Inconsistent) kept never = never
+    (quiet_agree kept quiet, kept.counts q (omega arith) ∙ same ∙ sym (kept.counts p ordered), subst (λ t. P (native t) told) (sym (kept.accounts p ordered)) is)
+reads_agree p q P (Err Failed) kept (quiet, failed) = (quiet_agree kept quiet, failed_agree p q quiet.ordered kept failed)
+reads_agree p q P (Err Memory) kept (quiet, same) = (quiet_agree kept quiet, kept.counts q (omega arith) ∙ same ∙ sym (kept.counts p quiet.ordered))
+reads_agree p q P (Err Inconsistent) kept never = never
 
 pub step_agree : {old old' new new' : State} (settings : Settings) (op : Op) (label : Label) (reply : Reply) → old ≡ old' → new ≡ new' → S3Step settings old op label reply new → S3Step settings old' op label reply new'
 step_agree settings op label reply from to step = subst {A = State × State} (λ s. S3Step settings s.0 op label reply s.1) (λ i. (from i, to i)) step
@@ -154,3 +122,46 @@ turns_quiet {q = q} quiet =
       since = λ k from to. quiet.same k from to ∙ sym (quiet.same q ordered (omega arith));
       sound = quiet.sound;
     }
+
+before_after : {at : ℕ → Tree} {p q r : ℕ} → Quiet at p q → ((k : ℕ) → q ≤ k → k < r → native (at k) ≡ native (at q)) → (k : ℕ) → p ≤ k → k < r → native (at k) ≡ native (at p)
+before_after {at = at} {p = p} {q = q} quiet then k from to =
+    let ordered = quiet.ordered in
+    elim (cases_lt k q) as (λ _. native (at k) ≡ native (at p)) [
+      | inl near ↦ quiet.same k from (omega arith)
+      | inr far ↦ then k far to ∙ quiet.same q ordered (omega arith)
+    ]
+
+turns_after : {at : ℕ → Tree} {p q t r : ℕ} → Quiet at p q → Turns at q t r → Turns at p t r
+turns_after {at = at} {p = p} {q = q} {t = t} {r = r} quiet turns =
+    let ordered = quiet.ordered in
+    let first = turns.after_p in
+    record {
+      after_p = omega arith;
+      up_to_q = turns.up_to_q;
+      before = before_after quiet turns.before;
+      since = turns.since;
+      sound = λ k from to. elim (cases_lt k q) as (λ _. Sound (at k)) [
+        | inl near ↦ quiet.sound k from (omega arith)
+        | inr far ↦ turns.sound k far to
+      ];
+    }
+
+failed_after : {faults : ℕ → ℕ} {p q r : ℕ} → p ≤ q → faults q ≡ faults p → LastFailed faults q r → LastFailed faults p r
+failed_after ordered same l = let after_p = l.after_p in record { last = l.last; after_p = omega arith; before_q = l.before_q; one = l.one; quiet = l.quiet ∙ same; failed = l.failed }
+
+by_after : {at : ℕ → Tree} {faults : ℕ → ℕ} {settings : Settings} {p q r : ℕ} {op : Op} {label : Label} {reply : Reply} → p ≤ q → q ≤ r → Quiet at p q → faults q ≡ faults p
+    → AnswersBy settings at faults q r op label reply → AnswersBy settings at faults p r op label reply
+by_after {at = at} {settings = settings} {p = p} {q = q} {r = r} {op = op} {label = label} {reply = reply} ordered further quiet same (machine step) =
+    machine (step_agree settings op label reply (quiet.same q ordered (omega arith)) refl step)
+by_after {at = at} {settings = settings} {p = p} {q = q} {r = r} {op = op} {label = label} ordered further quiet same (unavailable is failed old new) =
+    unavailable is (failed_after ordered same failed) (before_after quiet old) (stepped_agree settings op label (quiet.same q ordered (omega arith)) refl new)
+by_after {at = at} {settings = settings} {p = p} {q = q} {r = r} {op = op} {label = label} ordered further quiet same (memory is old new) =
+    memory is (before_after quiet old) (stepped_agree settings op label (quiet.same q ordered (omega arith)) refl new)
+
+-- quiet calls without a fault, and then those of the whole answer
+pub answers_after : {at : ℕ → Tree} {faults : ℕ → ℕ} {settings : Settings} {p q t r : ℕ} {op : Op} {label : Label} {reply : Reply} → Quiet at p q → faults q ≡ faults p → Answers settings at faults q t r op label reply → Answers settings at faults p t r op label reply
+answers_after {at = at} {faults = faults} {settings = settings} {p = p} {q = q} {t = t} {r = r} {op = op} {label = label} {reply = reply} quiet same answers =
+    let ordered = quiet.ordered in
+    let first = answers.turns.after_p in
+    let last = answers.turns.up_to_q in
+    record { turns = turns_after quiet answers.turns; by = by_after ordered (omega arith) quiet same answers.by }

@@ -5,7 +5,7 @@ use Rattle.s3_machine.specs.declared.code.Code.TheVariants.{ServiceUnavailable}
 use Rattle.s3_machine.specs.declared.operation.Label.{Label}
 use Rattle.s3_machine.specs.declared.operation.Settings.{Settings}
 use Rattle.s3_machine.specs.declared.operation.Op.{Op}
-use Rattle.s3_machine.specs.declared.operation.Op.TheVariants.{CreateBucket}
+use Rattle.s3_machine.specs.declared.operation.Op.TheVariants.{CreateBucket, PutObject, GetObject, HeadObject, DeleteObject}
 use Rattle.s3_machine.specs.declared.operation.Reply.{Reply}
 use Rattle.s3_machine.specs.declared.operation.Reply.TheVariants.{Refused, Memory}
 use Rattle.s3_machine.specs.State.{State}
@@ -32,3 +32,7 @@ pub record Answers (settings : Settings) (at : ℕ → Tree) (faults : ℕ → �
 -- the greatest number of calls of an operation, by the account as it began
 abbrev pub most_calls : Op → Tree → ℕ
 most_calls (CreateBucket bucket acl) tree = 2
+most_calls (PutObject bucket key acl content_type meta body) tree = 2
+most_calls (GetObject bucket key) tree = 3
+most_calls (HeadObject bucket key) tree = 2
+most_calls (DeleteObject bucket key) tree = 2

@@ -3,12 +3,20 @@ use Rattle.std.specs.Prelude.{◌≡◌, ℕ, Result, Ok, Err}
 use Rattle.gate_base.specs.Causes.{Rose}
 use Rattle.swift_calls.specs.declared.calls.SwiftFault.{SwiftFault}
 use Rattle.swift_calls.specs.declared.calls.SwiftFault.TheVariants as swift
+use Rattle.swift_marks.specs.declared.fault.MarkFault.{MarkFault}
+use Rattle.swift_marks.specs.declared.fault.MarkFault.TheVariants as mark
 use Rattle.recovery.specs.declared.fault.PlanFault.{PlanFault}
 use Rattle.recovery.specs.declared.fault.PlanFault.TheVariants.{Failed, Memory, Inconsistent}
 
 abbrev pub plan_fault : SwiftFault → PlanFault
 plan_fault swift.Failed = Failed
 plan_fault swift.Memory = Memory
+
+-- a mark that can't be read
+abbrev pub mark_fault : MarkFault → PlanFault
+mark_fault mark.NoTag = Inconsistent
+mark_fault mark.BadPack = Inconsistent
+mark_fault mark.Memory = Memory
 
 -- the store's count of faults rose where the fault is Failed, and else stayed
 abbrev pub CausesFault : {T : Type 0} → ℕ → ℕ → Result T PlanFault → Type 0

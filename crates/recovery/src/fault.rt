@@ -1,9 +1,10 @@
 ghost use Rattle.std.specs.Prelude.{◌≡◌};
-ghost use Rattle.recovery.specs.Fault.{plan_fault};
+ghost use Rattle.recovery.specs.Fault.{mark_fault, plan_fault};
 ghost use Rattle.recovery.specs.declared.fault.PlanFault.TheVariants as plan;
 
 use gate_base::Memory;
 use swift_calls::SwiftFault;
+use swift_marks::MarkFault;
 
 /// Why a plan ended before its reply was the machine's.
 #[derive(Clone, Copy, Debug, PartialEq, Eq)]
@@ -32,5 +33,16 @@ impl From<Memory> for PlanFault {
 
     fn from(_: Memory) -> PlanFault {
         PlanFault::Memory
+    }
+}
+
+impl From<MarkFault> for PlanFault {
+    ghost from_gives = { λ fault e. e ≡ mark_fault fault };
+
+    fn from(fault: MarkFault) -> PlanFault {
+        match fault {
+            MarkFault::NoTag | MarkFault::BadPack => PlanFault::Inconsistent,
+            MarkFault::Memory => PlanFault::Memory,
+        }
     }
 }

@@ -3,7 +3,12 @@
 #![tactic(auto)]
 
 mod bucket;
+mod due;
 mod fault;
+mod object;
+mod state;
 
-pub use bucket::{is_there, make_bucket};
+pub use bucket::{head_bucket, make_bucket};
 pub use fault::PlanFault;
+pub use object::{delete_object, get_object, head_object, put_object};
+pub use state::{SettleFault, Settled, Unsure};

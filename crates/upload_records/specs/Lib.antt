@@ -1,5 +1,7 @@
+pub mod Apart
 pub mod BucketLaws
 pub mod Laws
 pub mod Marks
 pub mod Native
+pub mod ObjectLaws
 pub mod Sound

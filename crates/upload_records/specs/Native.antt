@@ -2,15 +2,32 @@
 -- upload or a completion isn't there. Source: this profile.
 use Rattle.std.specs.Prelude.{ℕ, List, cond, Option, None, Some}
 use Rattle.std.specs.Option.{unwrap_or}
+use Rattle.std.specs.FinMap.{get}
 use Rattle.gate_base.specs.Maps.{Names, picked}
+use Rattle.gate_base.specs.declared.page.Pair.{Pair}
 use Rattle.s3_names.specs.Bucket.{is_bucket}
 use Rattle.s3_machine.specs.State.{Object, Upload, Completion, Bucket, State}
 use Rattle.swift_calls.specs.Tree.{File, Folder, Tree, files}
+use Rattle.swift_calls.specs.Bodies.{Look, bytes_of}
+use Rattle.swift_marks.specs.declared.tag.Tag.{Tag}
+use Rattle.swift_marks.specs.Tag.{read_tag}
+use Rattle.swift_marks.specs.Pack.{unpacked}
 use Rattle.upload_records.specs.Marks.{uploads_name, segments_name, acl_of}
+
+-- segments are looked up beside the bucket, whatever container they name
+abbrev pub within : Names File → Look
+within segments container name = get segments name
+
+-- an object, by what its tag, its pack and its bytes read as
+abbrev pub object_by : Option Tag → Option (List Pair) → Option (List ℕ) → Option Object
+object_by None meta bytes = None
+object_by (Some tag) None bytes = None
+object_by (Some tag) (Some meta) None = None
+object_by (Some tag) (Some meta) (Some bytes) = Some (record { bytes = bytes; etag = tag.etag; content_type = tag.content_type; meta = meta; modified = tag.moment })
 
 -- the object that a file of a bucket stands for, its parts looked up in the container beside it
 abbrev pub object_of : Names File → List ℕ → File → Option Object
-object_of segments key file = None
+object_of segments key file = object_by (read_tag file.content_type) (unpacked file.meta) (bytes_of (within segments) file.content)
 
 -- the open upload that a record stands for
 abbrev pub upload_of : Names File → List ℕ → File → Option Upload

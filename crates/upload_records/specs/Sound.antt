@@ -1,12 +1,20 @@
 -- What holds of each account that only the gateway writes. Source: this profile.
-use Rattle.std.specs.Prelude.{◌≡◌, ◌⊎◌, ◌<◌, ◌≤◌, ◌^◌, ℕ, List, true, false, length, Contains, IsUtf8, Option, Some}
+use Rattle.std.specs.Prelude.{◌≡◌, ◌⊎◌, ◌<◌, ◌≤◌, ◌^◌, ℕ, List, true, false, length, Contains, IsUtf8, Option, Some, None}
 use Rattle.std.specs.Option.{option_map}
 use Rattle.std.specs.FinMap.{get}
+use Rattle.gate_base.specs.Maps.{Names}
 use Rattle.gate_base.specs.Told.{moment_limit}
+use Rattle.gate_base.specs.declared.page.Pair.{Pair}
 use Rattle.s3_names.specs.Bucket.{is_bucket}
+use Rattle.s3_names.specs.Key.{is_key}
+use Rattle.s3_machine.specs.ETag.{body_etag}
+use Rattle.s3_machine.specs.Limits.{is_proper_meta, most_body_bytes}
+use Rattle.swift_marks.specs.Tag.{read_tag}
+use Rattle.swift_marks.specs.Pack.{unpacked}
 use Rattle.swift_calls.specs.declared.account.ReadList.{ReadList}
 use Rattle.swift_calls.specs.declared.account.ReadList.TheVariants.{Nobody}
-use Rattle.swift_calls.specs.Tree.{File, Folder, Tree, look, size_of}
+use Rattle.swift_calls.specs.declared.account.Content.TheVariants.{Plain}
+use Rattle.swift_calls.specs.Tree.{File, Folder, Tree, files, look, size_of}
 use Rattle.upload_records.specs.Marks.{uploads_name, segments_name, gateway_name}
 
 -- a container, but for its objects
@@ -35,6 +43,35 @@ pub record SoundFolders (at : List ℕ → Option Head) : Type 0 where
   pub hidden : (name : List ℕ) (head : Head) → at name ≡ Some head → is_bucket name ≡ false → head.readers ≡ Nobody
   pub timed : (name : List ℕ) (head : Head) → at name ≡ Some head → is_bucket name ≡ true → (moment : ℕ) × (head.created ≡ Some moment) × (moment < moment_limit)
 
+-- a file that is an object as it was put: its bytes are its own, its type is the tag of the object, with the MD5 of the
+-- bytes and no upload, and its metadata is the pack of the object's
+pub record IsPlainObject (file : File) : Type 0 where
+  pub bytes : List ℕ
+  pub content_type : List ℕ
+  pub meta : List Pair
+  pub moment : ℕ
+  pub own : file.content ≡ Plain bytes
+  pub sized : length bytes ≤ most_body_bytes
+  pub tagged : read_tag file.content_type ≡ Some (record { content_type = content_type; etag = body_etag bytes; moment = moment; id = None })
+  pub packed : unpacked file.meta ≡ Some meta
+  pub described : is_proper_meta meta ≡ true
+
+-- an object of a bucket, beside which stand these segments in the container of that name
+pub record IsObject (segments : Names File) (folder key : List ℕ) (file : File) : Type 0 where
+  pub keyed : is_key key ≡ true
+  pub plain : IsPlainObject file
+
+-- a bucket: its objects, the records and the segments beside it, and the id of a completion that is sealed in it
+pub record SoundBucket (folder : List ℕ) (objects records segments : Names File) (sealed : Option ℕ) : Type 0 where
+  pub of_objects : (key : List ℕ) (file : File) → get objects key ≡ Some file → IsObject segments folder key file
+
+-- no completion is sealed by what is built
+abbrev pub sealed_id : Tree → List ℕ → Option ℕ
+sealed_id tree bucket = None
+
+abbrev pub bucket_sound : Tree → List ℕ → Type 0
+bucket_sound tree bucket = SoundBucket (segments_name bucket) (files tree bucket) (files tree (uploads_name bucket)) (files tree (segments_name bucket)) (sealed_id tree bucket)
+
 -- the name of an object, as a store takes it
 pub record IsFileName (name : List ℕ) : Type 0 where
   pub filled : 0 < length name
@@ -49,4 +86,5 @@ pub record IsStored (name : List ℕ) (file : File) : Type 0 where
 
 pub record Sound (tree : Tree) : Type 0 where
   pub folders : SoundFolders (heads tree)
+  pub buckets : (bucket : List ℕ) → is_bucket bucket ≡ true → bucket_sound tree bucket
   pub stored : (folder name : List ℕ) (file : File) → look tree folder name ≡ Some file → IsStored name file

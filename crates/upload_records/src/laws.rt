@@ -1,6 +1,6 @@
 //! Laws of the definitions, each the contract of a function that does nothing.
 ghost use Rattle.std.specs.Prelude.{◌≡◌};
-ghost use Rattle.upload_records.specs.Laws.{BucketMade, BucketThere, EmptySound};
+ghost use Rattle.upload_records.specs.Laws.{BucketMade, BucketThere, EmptySound, ObjectFound, ObjectGone, ObjectPut};
 
 /// The PUT of the container of a bucket that isn't there makes the bucket, and leaves the account sound.
 pub fn law_bucket_made()
@@ -15,4 +15,19 @@ pub fn law_bucket_there()
 /// The empty account is sound, and stands for the state without a bucket.
 pub fn law_empty_sound()
     ensures { EmptySound }
+{}
+
+/// The PUT of an object's file puts the object, and leaves the account sound.
+pub fn law_object_put()
+    ensures { ObjectPut }
+{}
+
+/// The DELETE of an object's file takes the object away, and leaves the account sound.
+pub fn law_object_gone()
+    ensures { ObjectGone }
+{}
+
+/// Over a sound account an object of a bucket is what the file of its key stands for.
+pub fn law_object_found()
+    ensures { ObjectFound }
 {}

@@ -6,5 +6,8 @@ mod marks;
 #[cfg(test)]
 mod tests;
 
-pub use laws::{law_bucket_made, law_bucket_there, law_empty_sound};
+pub use laws::{
+    law_bucket_made, law_bucket_there, law_empty_sound, law_object_found, law_object_gone,
+    law_object_put,
+};
 pub use marks::{acl, readers};

@@ -1,0 +1,174 @@
+-- What the calls on an object's file tell of the object, and do to it.
+use Rattle.std.proofs.lemmas.Bool.{lt-ltb}
+use Rattle.std.specs.Prelude.{◌≡◌, ◌<◌, ◌≤◌, ◌^◌, ℕ, cond, List, length, true, Option, Some, None, Result, Ok, is_some}
+use Rattle.std.specs.Option.{option_map}
+use Rattle.std.specs.FinMap.{get, insert, remove}
+use Rattle.std.proofs.Common.{refl, sym, ap, subst, ◌∙◌, arith}
+use Rattle.gate_base.specs.Maps.{adjust, by_name, adjust_stays, remove_missing, some_value}
+use Rattle.gate_base.specs.Told.{moment_limit}
+use Rattle.gate_base.specs.declared.page.Pair.{Pair}
+use Rattle.s3_names.specs.Bucket.{is_bucket}
+use Rattle.s3_names.specs.Key.{is_key}
+use Rattle.s3_names.specs.Meta.{names_ascend}
+use Rattle.s3_names.specs.declared.acl.Acl.{Acl}
+use Rattle.s3_machine.specs.declared.operation.ObjectHead.{ObjectHead}
+use Rattle.s3_machine.specs.State.{Object, Bucket, State}
+use Rattle.s3_machine.specs.Step.{IsProperContent, head_of, drop_object}
+use Rattle.swift_calls.specs.declared.account.Content.TheVariants.{Plain}
+use Rattle.swift_calls.specs.Tree.{File, Folder, Tree, look, size_of, put_file, remove_file}
+use Rattle.swift_calls.specs.Bodies.{bytes_of}
+use Rattle.swift_calls.specs.Bodies as bodies
+use Rattle.swift_calls.specs.Step.{Answer, swift_step, head_reply, get_reply, body_reply, delete_object}
+use Rattle.swift_calls.specs.Step as store
+use Rattle.swift_calls.specs.declared.calls.SwiftRequest.{SwiftRequest}
+use Rattle.swift_calls.specs.declared.calls.SwiftRequest.TheVariants.{HeadObject, GetObject, DeleteObject}
+use Rattle.swift_calls.specs.declared.calls.SwiftReply.{SwiftReply}
+use Rattle.swift_marks.specs.Tag.{tag_text}
+use Rattle.swift_marks.specs.Pack.{pack_of}
+use Rattle.swift_marks.proofs.TagLaws.{tag_text_reads}
+use Rattle.swift_marks.proofs.PackLaws.{pack_unpacks}
+use Rattle.upload_records.specs.Native.{native}
+use Rattle.upload_records.specs.Sound.{Sound, IsPlainObject, IsStored}
+use Rattle.upload_records.specs.BucketLaws.{native_there}
+use Rattle.upload_records.specs.ObjectLaws.{FindsObject, object_at, object_in, found, native_put, native_removed, sound_put, sound_removed}
+use Rattle.recovery.specs.Calls.{TellsBucket, TellsObject, TellsBytes, acl_of_bucket, bytes_in, puts_object, drops_object}
+use Rattle.recovery.specs.Due.{known, head_by, head_due, bytes_due, stored_due, gone_due, plain_tag, put_of}
+use Rattle.recovery.proofs.Fits.{has_a_pack, tag_has_text}
+use Rattle.recovery.proofs.Names.{object_name}
+use Rattle.recovery.proofs.One.{Leaves, Changes}
+
+-- ---- HEAD and GET
+
+pub head_leaves : (container name : List ℕ) → Leaves (HeadObject container name)
+head_leaves container name = record { same = λ tree. refl }
+
+pub get_leaves : (container name : List ℕ) → Leaves (GetObject container name None)
+get_leaves container name = record { same = λ tree. refl }
+
+module _ (tree : Tree) (bucket key : List ℕ) where
+  head_told_by : (o : Option File) → FindsObject tree bucket key o → (reply : SwiftReply) → reply ≡ head_reply o
+      → (told : Option ObjectHead) × (head_due reply ≡ Ok told) × TellsObject bucket key (native tree) told
+  head_told_by None none reply e = (None, ap head_due e, ap (option_map head_of) none)
+  head_told_by (Some file) (plain, is) reply e = (
+    Some (head_of (object_in plain)),
+    ap head_due e ∙ (λ i. known (head_by (plain.tagged i) (plain.packed i) (size_of (plain.own i)))) ∙ ap (λ t. known (cond t (Some (head_of (object_in plain))) None)) (lt-ltb (length plain.bytes) (2 ^ 63) (let sized = plain.sized in omega (arith, sized))),
+    ap (option_map head_of) is,
+  )
+
+  bytes_told_by : (o : Option File) → FindsObject tree bucket key o → (reply : SwiftReply) → reply ≡ get_reply (look tree) None o
+      → (told : Option (List ℕ)) × (bytes_due reply ≡ Ok told) × TellsBytes bucket key (native tree) told
+  bytes_told_by None none reply e = (None, ap bytes_due e, ap (option_map bytes_in) none)
+  bytes_told_by (Some file) (plain, is) reply e = (
+    Some plain.bytes,
+    ap bytes_due e ∙ (λ i. bytes_due (body_reply (bodies.head_of file) None (bytes_of (look tree) (plain.own i)))),
+    ap (option_map bytes_in) is,
+  )
+
+module _ (tree : Tree) (container name bucket key : List ℕ) (named : container ≡ bucket) (under : name ≡ key) (is : is_bucket bucket ≡ true) (sound : Sound tree) where
+  same_file : look tree container name ≡ look tree bucket key
+  same_file = λ i. look tree (named i) (under i)
+
+  pub head_tells : (reply : SwiftReply) → reply ≡ (swift_step (HeadObject container name) tree).reply → (told : Option ObjectHead) × (head_due reply ≡ Ok told) × TellsObject bucket key (native tree) told
+  head_tells reply replied = head_told_by tree bucket key (look tree bucket key) (found tree bucket key is sound) reply (replied ∙ ap head_reply same_file)
+
+  pub get_tells : (reply : SwiftReply) → reply ≡ (swift_step (GetObject container name None) tree).reply → (told : Option (List ℕ)) × (bytes_due reply ≡ Ok told) × TellsBytes bucket key (native tree) told
+  get_tells reply replied = bytes_told_by tree bucket key (look tree bucket key) (found tree bucket key is sound) reply (replied ∙ ap (get_reply (look tree) None) same_file)
+
+-- ---- PUT
+
+-- the request, for an object's own name, content, metadata and body
+pub record IsPutOf (request : SwiftRequest) (bucket key content_type : List ℕ) (meta : List Pair) (body : List ℕ) (moment : ℕ) : Type 0 where
+  pub same : request ≡ put_of bucket key content_type meta body moment
+  pub is : is_bucket bucket ≡ true
+  pub keyed : is_key key ≡ true
+  pub content : IsProperContent content_type meta body
+  pub ascend : names_ascend meta ≡ true
+  pub below : moment < moment_limit
+
+-- the file of an object as it is put
+abbrev file_put : List ℕ → List Pair → List ℕ → ℕ → File
+file_put content_type meta body moment = record { content_type = tag_text (plain_tag content_type body moment); meta = pack_of meta; content = Plain body }
+
+is_there : {X Y : Type 0} (f : X → Y) (o : Option X) (y : Y) → option_map f o ≡ Some y → is_some o ≡ true
+is_there f None y e = cc
+is_there f (Some x) y e = refl
+
+-- a bucket that is there has its container
+container_there : (tree : Tree) (bucket : List ℕ) (acl : Acl) → is_bucket bucket ≡ true → TellsBucket bucket (native tree) (Some acl) → (folder : Folder) × (get tree bucket ≡ Some folder)
+container_there tree bucket acl is told = some_value (get tree bucket) (sym (native_there tree bucket is) ∙ is_there acl_of_bucket (get (native tree) bucket) acl told)
+
+module _ (tree : Tree) (request : SwiftRequest) (bucket key content_type : List ℕ) (meta : List Pair) (body : List ℕ) (moment : ℕ)
+    (put : IsPutOf request bucket key content_type meta body moment) (sound : Sound tree) (acl : Acl) (told : TellsBucket bucket (native tree) (Some acl)) where
+  there : (folder : Folder) × (get tree bucket ≡ Some folder)
+  there = container_there tree bucket acl put.is told
+
+  abbrev plain_file : IsPlainObject (file_put content_type meta body moment)
+  plain_file = record {
+    bytes = body;
+    content_type = content_type;
+    meta = meta;
+    moment = moment;
+    own = refl;
+    sized = put.content.sized;
+    tagged = tag_text_reads (plain_tag content_type body moment) (tag_has_text content_type body moment put.content.typed put.below);
+    packed = pack_unpacks meta (has_a_pack meta put.content.described put.ascend);
+    described = put.content.described;
+  }
+
+  stored : IsStored key (file_put content_type meta body moment)
+  stored =
+      let name_is = object_name key put.keyed in
+      let sized = put.content.sized in
+      record {
+        named = record { filled = name_is.0; within = name_is.1.within; text = name_is.1.utf8; no_zero = name_is.1.no_zero };
+        sized = (omega (arith, sized));
+      }
+
+  answered : swift_step request tree ≡ store.put_object (Some there.0) bucket key (file_put content_type meta body moment) tree
+  answered = ap (λ r. swift_step r tree) put.same ∙ ap (λ o. store.put_object o bucket key (file_put content_type meta body moment) tree) there.1
+
+  -- the object is put
+  pub put_changes : Changes tree request (puts_object bucket key content_type meta body moment)
+  put_changes =
+      let new_tree : (swift_step request tree).tree ≡ put_file bucket key (file_put content_type meta body moment) tree = ap (λ (a : Answer). a.tree) answered in
+      record {
+        sound = sound;
+        after = subst Sound (sym new_tree) (sound_put tree bucket key (file_put content_type meta body moment) put.is sound (record { keyed = put.keyed; plain = plain_file }) stored);
+        state = ap native new_tree ∙ native_put tree bucket key (file_put content_type meta body moment) plain_file put.is;
+      }
+
+  -- and the store says so
+  pub put_is_due : (reply : SwiftReply) → reply ≡ (swift_step request tree).reply → stored_due reply ≡ Ok tt
+  put_is_due reply replied = ap stored_due (replied ∙ ap (λ (a : Answer). a.reply) answered)
+
+-- ---- DELETE
+
+-- what stands under no key stays as it is
+none_dropped : (tree : Tree) (bucket key : List ℕ) → object_at (get (native tree) bucket) key ≡ None → native tree ≡ drops_object bucket key (native tree)
+none_dropped tree bucket key none =
+    sym (adjust_stays by_name bucket (drop_object key) (native tree) (λ b is i. record b { objects = remove_missing by_name b.objects key (ap (λ o. object_at o key) (sym is) ∙ none) i }))
+
+deleted_by : (tree : Tree) (bucket key : List ℕ) → is_bucket bucket ≡ true → Sound tree → (o : Option File) → FindsObject tree bucket key o
+    → Sound (delete_object o bucket key tree).tree × (native (delete_object o bucket key tree).tree ≡ drops_object bucket key (native tree))
+deleted_by tree bucket key is sound None none = (sound, none_dropped tree bucket key none)
+deleted_by tree bucket key is sound (Some file) finds = (sound_removed tree bucket key is sound, native_removed tree bucket key is)
+
+gone_by : (tree : Tree) (bucket key : List ℕ) (o : Option File) → gone_due (delete_object o bucket key tree).reply ≡ Ok tt
+gone_by tree bucket key None = refl
+gone_by tree bucket key (Some file) = refl
+
+module _ (tree : Tree) (container name bucket key : List ℕ) (named : container ≡ bucket) (under : name ≡ key) (is : is_bucket bucket ≡ true) (sound : Sound tree) where
+  deleted : swift_step (DeleteObject container name) tree ≡ delete_object (look tree bucket key) bucket key tree
+  deleted = λ i. delete_object (look tree (named i) (under i)) (named i) (under i) tree
+
+  pub delete_changes : Changes tree (DeleteObject container name) (drops_object bucket key)
+  delete_changes =
+      let both = deleted_by tree bucket key is sound (look tree bucket key) (found tree bucket key is sound) in
+      record {
+        sound = sound;
+        after = subst Sound (sym (ap (λ (a : Answer). a.tree) deleted)) both.0;
+        state = ap (λ (a : Answer). native a.tree) deleted ∙ both.1;
+      }
+
+  pub delete_is_due : (reply : SwiftReply) → reply ≡ (swift_step (DeleteObject container name) tree).reply → gone_due reply ≡ Ok tt
+  delete_is_due reply replied = ap gone_due (replied ∙ ap (λ (a : Answer). a.reply) deleted) ∙ gone_by tree bucket key (look tree bucket key)

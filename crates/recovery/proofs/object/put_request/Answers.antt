@@ -1,0 +1,7 @@
+use Rattle.std.proofs.Common.{◌∙◌}
+use Rattle.recovery.proofs.Fits.{put_fits}
+use Rattle.recovery.proofs.object.put_request.Goals as goal
+
+pub returns-clause-fits : goal.returns-clause-fits
+returns-clause-fits c =
+    put_fits _ _ _ _ _ _ _ _ _ _ _ c.requires.name c.requires.key c.requires.content c.requires.moment c.in_ok-copy.ensures c.in_ok-copy-2.ensures (c.text.view_is ∙ c.in_ok-text.ensures) (c.pieces.view_is ∙ c.in_ok-pieces.ensures.pieces) c.in_ok-copy-3.ensures

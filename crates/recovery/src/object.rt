@@ -1,0 +1,195 @@
+//! The calls on the files of a bucket's container, one function a call.
+ghost use Rattle.std.specs.Prelude.{◌≡◌, ◌<◌, true, IfOk, OnOk, Some};
+ghost use Rattle.gate_base.specs.Told.{moment_limit};
+ghost use Rattle.s3_names.specs.Bucket.{is_bucket};
+ghost use Rattle.s3_names.specs.Key.{is_key};
+ghost use Rattle.s3_names.specs.declared.acl.Acl.{Acl};
+ghost use Rattle.s3_machine.specs.Limits.{is_content_type};
+ghost use Rattle.s3_machine.specs.Step.{IsProperContent};
+ghost use Rattle.swift_calls.specs.History.{Kept};
+ghost use Rattle.swift_marks.specs.Tag.{tag_text};
+ghost use Rattle.upload_records.specs.Native.{native};
+ghost use Rattle.upload_records.specs.Sound.{Sound};
+ghost use Rattle.swift_calls.specs.Step.{Fit};
+ghost use Rattle.s3_names.specs.Meta.{names_ascend};
+ghost use Rattle.recovery.specs.Due.{IsShownHead, plain_tag, put_of};
+ghost use Rattle.recovery.specs.Fault.{CausesFault};
+ghost use Rattle.recovery.specs.Calls.{Within, Reads, Writes, TellsBucket, TellsBytes, TellsObject, drops_object, puts_object};
+
+use crate::due::{bytes_in, gone_in, head_in, stored_in};
+use crate::{PlanFault, Settled};
+use gate_base::{Bytes, Copying, Memory};
+use s3_machine::{ObjectHead, body_etag};
+use s3_names::Meta;
+use std::alloc::Global;
+use swift_calls::{Swift, SwiftRequest};
+use swift_marks::{Tag, pack};
+
+/// The head of an object, and `None` where it is missing, by HEAD of its file (Object Storage API v1, "Show object
+/// metadata"). At most one call, and the S3 state stays. Failed comes only where the store's count of faults rose;
+/// Memory where memory was wanted, before the call, to read its answer or to read the marks of the file; Inconsistent
+/// never over a told sound account.
+#[tactic(auto, using(crate::proofs::Names::container_name, crate::proofs::Names::object_name, crate::proofs::Causes::due_cause))]
+pub fn head_object<W: Swift>(
+    alloc: Global,
+    state: &mut Settled<'_, W>,
+    bucket: &Bytes,
+    key: &Bytes,
+) -> Result<Option<ObjectHead>, PlanFault>
+    requires name { is_bucket bucket.now ≡ true }
+    requires key { is_key key.now ≡ true }
+    ensures same { state.new.store.ghost_name ≡ state.old.store.ghost_name }
+    ensures settings { state.new.settings.now ≡ state.old.settings.now }
+    ensures calls { Within 1 (W.called state.old.store.now) (W.called state.new.store.now) }
+    ensures cause { CausesFault (W.faults state.old.store.now) (W.faults state.new.store.now) result }
+    ensures tells { W.tells state.old.store.now → W.tells state.new.store.now }
+    ensures kept { W.tells state.old.store.now → Kept (W.called state.old.store.now) (W.tree_at state.old.store.now) (W.tree_at state.new.store.now) (W.faults_at state.old.store.now) (W.faults_at state.new.store.now) }
+    ensures told { W.tells state.old.store.now → Sound (W.tree_at state.new.store.now (W.called state.old.store.now))
+        → Reads (W.tree_at state.new.store.now) (W.faults_at state.new.store.now) (W.called state.old.store.now) (W.called state.new.store.now) (TellsObject bucket.now key.now) result }
+    ensures shown { IfOk result IsShownHead }
+{
+    let container = bucket.copy()?;
+    let name = key.copy()?;
+    let request = SwiftRequest::HeadObject { container, name };
+    let reply = state.store.call(&request)?;
+    head_in(alloc, &reply)
+}
+
+/// The bytes of an object, and `None` where it is missing, by GET of its file (Object Storage API v1, "Get object content
+/// and metadata"). At most one call, and the S3 state stays. The faults are those of [`head_object`].
+#[tactic(auto, using(crate::proofs::Names::container_name, crate::proofs::Names::object_name, crate::proofs::Causes::due_cause))]
+pub fn get_object<W: Swift>(
+    state: &mut Settled<'_, W>,
+    bucket: &Bytes,
+    key: &Bytes,
+) -> Result<Option<Bytes>, PlanFault>
+    requires name { is_bucket bucket.now ≡ true }
+    requires key { is_key key.now ≡ true }
+    ensures same { state.new.store.ghost_name ≡ state.old.store.ghost_name }
+    ensures settings { state.new.settings.now ≡ state.old.settings.now }
+    ensures calls { Within 1 (W.called state.old.store.now) (W.called state.new.store.now) }
+    ensures cause { CausesFault (W.faults state.old.store.now) (W.faults state.new.store.now) result }
+    ensures tells { W.tells state.old.store.now → W.tells state.new.store.now }
+    ensures kept { W.tells state.old.store.now → Kept (W.called state.old.store.now) (W.tree_at state.old.store.now) (W.tree_at state.new.store.now) (W.faults_at state.old.store.now) (W.faults_at state.new.store.now) }
+    ensures told { W.tells state.old.store.now → Sound (W.tree_at state.new.store.now (W.called state.old.store.now))
+        → Reads (W.tree_at state.new.store.now) (W.faults_at state.new.store.now) (W.called state.old.store.now) (W.called state.new.store.now) (TellsBytes bucket.now key.now) result }
+{
+    let container = bucket.copy()?;
+    let name = key.copy()?;
+    let request = SwiftRequest::GetObject {
+        container,
+        name,
+        range: None,
+    };
+    let reply = state.store.call(&request)?;
+    bytes_in(reply)
+}
+
+/// Puts an object into a bucket that is there, by PUT of its file (Object Storage API v1, "Create or replace object"):
+/// the one call that commits. At most one call. The moment is in seconds since the beginning of 1970, before the year
+/// 10000. After Ok the S3 state has the new object in place of what stood under the key. After Failed, which comes only
+/// where the store's count of faults rose, and after Memory the state is the old one or the new one. Inconsistent never
+/// comes over a told sound account in which the bucket is there.
+#[tactic(auto, using(crate::proofs::Causes::due_cause))]
+pub fn put_object<W: Swift>(
+    alloc: Global,
+    state: &mut Settled<'_, W>,
+    bucket: &Bytes,
+    key: &Bytes,
+    content_type: &Bytes,
+    meta: &Meta,
+    body: &Bytes,
+    moment: u64,
+) -> Result<(), PlanFault>
+    requires name { is_bucket bucket.now ≡ true }
+    requires key { is_key key.now ≡ true }
+    requires content { IsProperContent content_type.now meta.now body.now }
+    requires moment { moment < moment_limit }
+    ensures same { state.new.store.ghost_name ≡ state.old.store.ghost_name }
+    ensures settings { state.new.settings.now ≡ state.old.settings.now }
+    ensures calls { Within 1 (W.called state.old.store.now) (W.called state.new.store.now) }
+    ensures cause { CausesFault (W.faults state.old.store.now) (W.faults state.new.store.now) result }
+    ensures tells { W.tells state.old.store.now → W.tells state.new.store.now }
+    ensures kept { W.tells state.old.store.now → Kept (W.called state.old.store.now) (W.tree_at state.old.store.now) (W.tree_at state.new.store.now) (W.faults_at state.old.store.now) (W.faults_at state.new.store.now) }
+    ensures told { W.tells state.old.store.now → Sound (W.tree_at state.new.store.now (W.called state.old.store.now))
+        → (acl : Acl) → TellsBucket bucket.now (native (W.tree_at state.new.store.now (W.called state.old.store.now))) (Some acl)
+        → Writes (W.tree_at state.new.store.now) (W.faults_at state.new.store.now) (W.called state.old.store.now) (W.called state.new.store.now) (puts_object bucket.now key.now content_type.now meta.now body.now moment) result }
+{
+    let request = put_request(alloc, bucket, key, content_type, meta, body, moment)?;
+    let reply = state.store.call(&request)?;
+    stored_in(&reply)
+}
+
+/// The PUT of an object's file.
+#[tactic(auto, using(crate::proofs::Fits::put_fits))]
+fn put_request(
+    alloc: Global,
+    bucket: &Bytes,
+    key: &Bytes,
+    content_type: &Bytes,
+    meta: &Meta,
+    body: &Bytes,
+    moment: u64,
+) -> Result<SwiftRequest, Memory>
+    requires name { is_bucket bucket.now ≡ true }
+    requires key { is_key key.now ≡ true }
+    requires content { IsProperContent content_type.now meta.now body.now }
+    requires moment { moment < moment_limit }
+    ensures request { IfOk result (λ request. request ≡ put_of bucket.now key.now content_type.now meta.now body.now moment) }
+    ensures fits { IfOk result Fit }
+    ensures ordered { OnOk result (names_ascend meta.now ≡ true) }
+{
+    let text = tag_text(alloc, content_type, body, moment)?;
+    let pieces = pack(alloc, meta)?;
+    Ok(SwiftRequest::PutObject {
+        container: bucket.copy()?,
+        name: key.copy()?,
+        content_type: text,
+        meta: pieces,
+        body: body.copy()?,
+    })
+}
+
+/// The tag of an object that is put in one piece, as its file has it.
+#[tactic(auto, using(crate::proofs::Fits::tag_has_text))]
+fn tag_text(alloc: Global, content_type: &Bytes, body: &Bytes, moment: u64) -> Result<Bytes, Memory>
+    requires content_type { is_content_type content_type.now ≡ true }
+    requires moment { moment < moment_limit }
+    ensures { IfOk result (λ text. text ≡ tag_text (plain_tag content_type.now body.now moment)) }
+{
+    let tag = Tag {
+        content_type: content_type.copy()?,
+        etag: Bytes::from_slice(alloc, &body_etag(body.as_slice()))?,
+        moment,
+        id: None,
+    };
+    tag.write(alloc)
+}
+
+/// Deletes an object of a bucket, by DELETE of its file (Object Storage API v1, "Delete object"): the one call that
+/// commits. At most one call. After Ok the S3 state has no object under the key; also one that wasn't there is gone.
+/// After Failed, which comes only where the store's count of faults rose, and after Memory the state is the old one or
+/// the new one. Inconsistent never comes over a told sound account.
+#[tactic(auto, using(crate::proofs::Names::container_name, crate::proofs::Names::object_name, crate::proofs::Causes::due_cause))]
+pub fn delete_object<W: Swift>(
+    state: &mut Settled<'_, W>,
+    bucket: &Bytes,
+    key: &Bytes,
+) -> Result<(), PlanFault>
+    requires name { is_bucket bucket.now ≡ true }
+    requires key { is_key key.now ≡ true }
+    ensures same { state.new.store.ghost_name ≡ state.old.store.ghost_name }
+    ensures settings { state.new.settings.now ≡ state.old.settings.now }
+    ensures calls { Within 1 (W.called state.old.store.now) (W.called state.new.store.now) }
+    ensures cause { CausesFault (W.faults state.old.store.now) (W.faults state.new.store.now) result }
+    ensures tells { W.tells state.old.store.now → W.tells state.new.store.now }
+    ensures kept { W.tells state.old.store.now → Kept (W.called state.old.store.now) (W.tree_at state.old.store.now) (W.tree_at state.new.store.now) (W.faults_at state.old.store.now) (W.faults_at state.new.store.now) }
+    ensures told { W.tells state.old.store.now → Sound (W.tree_at state.new.store.now (W.called state.old.store.now))
+        → Writes (W.tree_at state.new.store.now) (W.faults_at state.new.store.now) (W.called state.old.store.now) (W.called state.new.store.now) (drops_object bucket.now key.now) result }
+{
+    let container = bucket.copy()?;
+    let name = key.copy()?;
+    let request = SwiftRequest::DeleteObject { container, name };
+    let reply = state.store.call(&request)?;
+    gone_in(&reply)
+}

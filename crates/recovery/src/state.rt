@@ -1,0 +1,109 @@
+//! The store as an operation finds it: a completion may be sealed on it, or none is.
+ghost use Rattle.std.specs.Prelude.{◌≡◌, Ok};
+
+use s3_machine::Settings;
+use swift_calls::Swift;
+
+/// A store of which it isn't known whether a completion is sealed on it. It has no call that answers an operation.
+#[derive(Drop)]
+pub struct Unsure<'a, W: Swift> {
+    store: &'a mut W,
+    settings: &'a Settings,
+}
+
+/// A store that is settled: on its account no completion is sealed. Operations are answered over it alone.
+#[derive(Drop)]
+pub struct Settled<'a, W: Swift> {
+    pub(crate) store: &'a mut W,
+    pub(crate) settings: &'a Settings,
+}
+
+/// Why a store could not be settled.
+#[derive(Clone, Copy, Debug, PartialEq, Eq)]
+pub enum SettleFault {
+    /// The last call of the store failed: its count of faults rose.
+    Failed,
+    /// Memory was wanted and not there.
+    Memory,
+    /// A mark or a record on the store can't be read.
+    Inconsistent,
+}
+
+impl<'a, W: Swift> Unsure<'a, W> {
+    /// A store as it is found when a run begins. It takes no memory.
+    pub fn open(store: &'a mut W, settings: &'a Settings) -> Unsure<'a, W>
+        ensures same { result.store.ghost_name ≡ store.entry.ghost_name }
+        ensures store { result.store.now ≡ store.old }
+        ensures settings { result.settings.now ≡ settings.now }
+    {
+        Unsure { store, settings }
+    }
+
+    /// Settles the store, so that it can be held as [`Settled`]. No completion is ever sealed by what is built, so it
+    /// makes no call and is always Ok.
+    pub fn settle(&mut self) -> Result<(), SettleFault>
+        ensures same { self.new.store.ghost_name ≡ self.old.store.ghost_name }
+        ensures store { self.new.store.now ≡ self.old.store.now }
+        ensures settings { self.new.settings.now ≡ self.old.settings.now }
+        ensures always { result ≡ Ok tt }
+    {
+        Ok(())
+    }
+
+    /// The store.
+    pub fn store(&self) -> &W
+        ensures { result.now ≡ self.now.store.now }
+    {
+        self.store
+    }
+
+    /// The settings of the run.
+    pub fn settings(&self) -> &Settings
+        ensures { result.now ≡ self.now.settings.now }
+    {
+        self.settings
+    }
+
+    /// The store, given back.
+    pub fn release(self) -> &'a mut W
+        ensures same { result.ghost_name ≡ self.entry.store.ghost_name }
+        ensures store { result.now ≡ self.entry.store.now }
+    {
+        let Unsure { store, .. } = self;
+        store
+    }
+}
+
+impl<'a, W: Swift> Settled<'a, W> {
+    /// A store that was settled. It takes no memory.
+    pub fn hold(store: &'a mut W, settings: &'a Settings) -> Settled<'a, W>
+        ensures same { result.store.ghost_name ≡ store.entry.ghost_name }
+        ensures store { result.store.now ≡ store.old }
+        ensures settings { result.settings.now ≡ settings.now }
+    {
+        Settled { store, settings }
+    }
+
+    /// The store.
+    pub fn store(&self) -> &W
+        ensures { result.now ≡ self.now.store.now }
+    {
+        self.store
+    }
+
+    /// The settings of the run.
+    pub fn settings(&self) -> &Settings
+        ensures { result.now ≡ self.now.settings.now }
+    {
+        self.settings
+    }
+
+    /// The store, given back.
+    pub fn release(self) -> &'a mut W
+        ensures same { result.ghost_name ≡ self.entry.store.ghost_name }
+        ensures store { result.now ≡ self.entry.store.now }
+    {
+        let Settled { store, .. } = self;
+        store
+    }
+}

@@ -1,0 +1,5 @@
+use Rattle.upload_records.specs.ObjectLaws.{found}
+use Rattle.upload_records.proofs.laws.law_object_found.Goals as goal
+
+pub returns : goal.returns
+returns c = found
