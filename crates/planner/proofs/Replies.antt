@@ -8,14 +8,15 @@ use Rattle.s3_machine.specs.declared.operation.Reply.TheVariants.{Refused, Made}
 use Rattle.recovery.specs.Fault.{CausesFault}
 use Rattle.recovery.specs.declared.fault.PlanFault.{PlanFault}
 use Rattle.recovery.specs.declared.fault.PlanFault.TheVariants.{Failed, Memory, Inconsistent}
+use Rattle.s3_machine.specs.Shown.{IsShowable}
 use Rattle.planner.specs.Plan.{reply_of, IsOwnReply}
 
 -- the replies of CreateBucket that are its own
 pub owned_is_own : IsOwnReply (Refused BucketAlreadyOwnedByYou)
-owned_is_own = record { no_memory = λ e. cc; no_failure = λ e. cc; no_inconsistency = λ e. cc }
+owned_is_own = record { showable = tt; no_memory = λ e. cc; no_failure = λ e. cc; no_inconsistency = λ e. cc }
 
 pub made_is_own : (bucket : List ℕ) → IsOwnReply (Made bucket)
-made_is_own bucket = record { no_memory = λ e. cc; no_failure = λ e. cc; no_inconsistency = λ e. cc }
+made_is_own bucket = record { showable = tt; no_memory = λ e. cc; no_failure = λ e. cc; no_inconsistency = λ e. cc }
 
 pub rose_of : (before now : ℕ) (end : Result Reply PlanFault) → IfOk end IsOwnReply → CausesFault before now end → reply_of end ≡ Refused ServiceUnavailable → Rose before now
 rose_of before now (Ok reply) own cause is = absurd (own.no_failure is)
@@ -34,3 +35,10 @@ consistent_of (Ok reply) own not = own.no_inconsistency
 consistent_of (Err Failed) own not = λ e. cc
 consistent_of (Err Memory) own not = λ e. cc
 consistent_of (Err Inconsistent) own not = absurd (not refl)
+
+-- and what it is has a page
+pub showable_of : (end : Result Reply PlanFault) → IfOk end IsOwnReply → IsShowable (reply_of end)
+showable_of (Ok reply) own = own.showable
+showable_of (Err Failed) own = tt
+showable_of (Err Memory) own = tt
+showable_of (Err Inconsistent) own = tt

@@ -3,6 +3,8 @@
 #![tactic(auto)]
 
 mod buckets;
+mod end;
+mod objects;
 mod operation;
 #[cfg(test)]
 mod tests;

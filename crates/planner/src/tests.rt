@@ -6,6 +6,7 @@ ghost use Rattle.swift_calls.specs.Tree.{IsOrdered, IsSized};
 
 use crate::answer;
 use gate_base::{Bytes, Caller, Counted, List, Memory};
+use recovery::Settled;
 use s3_machine::{Code, Label, Op, Reply, Settings};
 use s3_names::Acl;
 use std::alloc::Global;
@@ -24,6 +25,9 @@ fn reply_text(alloc: Global, reply: &Reply) -> Result<String, Fail> {
         Reply::Made { bucket } => format!(in alloc; "made {}", str::from_utf8(bucket.as_slice())?)?,
         Reply::Refused(code) => format!(in alloc; "{code:?}")?,
         Reply::Memory => format!(in alloc; "memory")?,
+        Reply::Gone | Reply::Stored { .. } | Reply::Object { .. } => {
+            format!(in alloc; "another reply")?
+        }
     })
 }
 
@@ -152,7 +156,8 @@ fn create(alloc: Global, bucket: Bytes, acl: Acl, store: &mut MemSwift) -> Resul
     requires { is_bucket bucket ≡ true }
 {
     let op = Op::CreateBucket { bucket, acl };
-    let reply = answer(store, &settings(alloc)?, &op, &label());
+    let settings = settings(alloc)?;
+    let reply = answer(alloc, &mut Settled::hold(store, &settings), &op, &label());
     let account = account_text(alloc, store.account())?;
     Ok(format!(in alloc;
         "{} {} {account}",
@@ -219,7 +224,13 @@ fn an_odd_store_is_inconsistent(rt: HostRuntime) -> Result<(), Fail> {
         bucket,
         acl: Acl::Private,
     };
-    let reply = answer(&mut store, &settings(alloc)?, &op, &label());
+    let settings = settings(alloc)?;
+    let reply = answer(
+        alloc,
+        &mut Settled::hold(&mut store, &settings),
+        &op,
+        &label(),
+    );
     assert_eq!(rt; reply_text(alloc, &reply)?.as_str(), "InconsistentStore");
     assert_eq!(rt; store.calls(), 1);
     Ok(())

@@ -1,24 +1,18 @@
-use Rattle.planner.proofs.CreateBucket.{told_looked, told_there, told_copy, told_put, told_made}
+use Rattle.std.specs.Prelude.{None, Some}
+use Rattle.recovery.specs.Calls.{TellsBucket}
+use Rattle.planner.proofs.Ends.{not_read, is_read, goes_on}
+use Rattle.planner.proofs.CreateBucket.{steps_owned}
 use Rattle.planner.proofs.buckets.create_bucket.Goals as goal
 
-pub returns-in_err-is_there-clause-told : goal.returns-in_err-is_there-clause-told
-returns-in_err-is_there-clause-told g c = λ tells sound.
-    told_looked _ _ _ _ _ _ _ _ _ _ c.from_residual.ensures.1 c.is_there.ensures.calls (c.in_err-is_there.ensures.told tells sound)
+pub returns-in-Ok-None-clause-told : goal.returns-in-Ok-None-clause-told
+returns-in-Ok-None-clause-told g c = λ tells sound.
+    let told = c.head_bucket.ensures.tells tells in
+    goes_on (TellsBucket c.args.bucket.now) None c.in-Ok-None.field-0-is c.head_bucket.ensures.settings (c.make_missing.ensures.kept told) c.head_bucket.ensures.calls sound (c.in-Ok-None.ensures.told tells) (λ sound same told_none. c.make_missing.ensures.told told sound told_none)
 
-pub returns-then-branch-clause-told : goal.returns-then-branch-clause-told
-returns-then-branch-clause-told g c = λ tells sound. told_there _ _ _ _ _ _ _ _ _ c.if-branch.true (c.in_ok-is_there.ensures.told tells sound)
+pub returns-in-Err-clause-told : goal.returns-in-Err-clause-told
+returns-in-Err-clause-told g c = λ tells sound.
+    not_read _ _ _ _ _ _ _ (TellsBucket c.args.bucket.now) _ c.head_bucket.ensures.calls (c.in-Err.ensures.told tells sound)
 
-pub returns-in_err-copy-clause-told : goal.returns-in_err-copy-clause-told
-returns-in_err-copy-clause-told g c = λ tells sound. told_copy _ _ _ _ _ _ _ _ _ _ c.from_residual-in_err-copy.ensures.1 (c.in_ok-is_there.ensures.told tells sound)
-
-pub returns-in_err-make_bucket-clause-told : goal.returns-in_err-make_bucket-clause-told
-returns-in_err-make_bucket-clause-told g c = λ tells sound.
-    let told = c.is_there.ensures.tells tells in
-    told_put _ _ _ _ _ _ _ _ _ _ _ (c.make_bucket.ensures.kept told) c.is_there.ensures.calls _ c.if-branch.false (c.in_ok-is_there.ensures.told tells) sound
-    _ _ c.from_residual-in_err-make_bucket.ensures.1 c.make_bucket.ensures.calls (c.in_err-make_bucket.ensures.told told)
-
-pub returns-clause-told : goal.returns-clause-told
-returns-clause-told g c = λ tells sound.
-    let told = c.is_there.ensures.tells tells in
-    told_made _ _ _ _ _ _ _ _ _ _ _ (c.make_bucket.ensures.kept told) c.is_there.ensures.calls _ c.if-branch.false (c.in_ok-is_there.ensures.told tells) sound
-    _ c.in_ok-copy.ensures (c.in_ok-make_bucket.ensures.told told)
+pub returns-in-Ok-Some-clause-told : goal.returns-in-Ok-Some-clause-told
+returns-in-Ok-Some-clause-told g c = λ tells sound.
+    is_read _ _ _ _ _ _ _ (TellsBucket c.args.bucket.now) (Some c.in-Ok-Some.field-0-0) c.in-Ok-Some.field-0-is _ (c.in-Ok-Some.ensures.told tells sound) (λ told. steps_owned _ _ _ _ _ _ told)

@@ -1,0 +1,338 @@
+//! The plans of the operations on objects.
+ghost use Rattle.std.specs.Prelude.{◌≡◌, ◌≢◌, ◌<◌, Some, IfOk, Err};
+ghost use Rattle.gate_base.specs.Told.{moment_limit};
+ghost use Rattle.s3_machine.specs.Step.{IsPlace, IsProperContent};
+ghost use Rattle.s3_machine.specs.declared.operation.Op.TheVariants.{PutObject, GetObject, HeadObject, DeleteObject};
+ghost use Rattle.swift_calls.specs.History.{Kept};
+ghost use Rattle.upload_records.specs.Native.{native};
+ghost use Rattle.upload_records.specs.Sound.{Sound};
+ghost use Rattle.recovery.specs.Due.{IsShownHead};
+ghost use Rattle.recovery.specs.Fault.{CausesFault};
+ghost use Rattle.recovery.specs.declared.fault.PlanFault.TheVariants.{Failed};
+ghost use Rattle.recovery.specs.Calls.{Within, TellsBucket};
+ghost use Rattle.planner.specs.Plan.{Ends, IsOwnReply};
+ghost use Rattle.planner.specs.Objects.{TellsReadable, headed_reply, whole_end};
+
+use crate::end::reply_after;
+use gate_base::Bytes;
+use recovery::{PlanFault, Settled, head_bucket};
+use s3_machine::{Code, Label, ObjectHead, Reply, body_etag, is_other_acl, may_read};
+use s3_names::{Acl, Meta};
+use std::alloc::Global;
+use swift_calls::Swift;
+
+/// PutObject: HEAD of the bucket's container, then PUT of the object's file, which commits. At most two calls. The
+/// reply is made before the PUT, so that no memory is wanted after it. The faults are those of the two calls.
+pub(crate) fn put_object<W: Swift>(
+    alloc: Global,
+    state: &mut Settled<'_, W>,
+    bucket: &Bytes,
+    key: &Bytes,
+    acl: Option<Acl>,
+    content_type: &Bytes,
+    meta: &Meta,
+    body: &Bytes,
+    label: &Label,
+) -> Result<Reply, PlanFault>
+    requires place { IsPlace bucket.now key.now }
+    requires content { IsProperContent content_type.now meta.now body.now }
+    requires moment { label.now.moment < moment_limit }
+    ensures same { state.new.store.ghost_name ≡ state.old.store.ghost_name }
+    ensures calls { Within 2 (W.called state.old.store.now) (W.called state.new.store.now) }
+    ensures cause { CausesFault (W.faults state.old.store.now) (W.faults state.new.store.now) result }
+    ensures own { IfOk result IsOwnReply }
+    ensures tells { W.tells state.old.store.now → W.tells state.new.store.now }
+    ensures kept { W.tells state.old.store.now → Kept (W.called state.old.store.now) (W.tree_at state.old.store.now) (W.tree_at state.new.store.now) (W.faults_at state.old.store.now) (W.faults_at state.new.store.now) }
+    ensures told { W.tells state.old.store.now → Sound (W.tree_at state.new.store.now (W.called state.old.store.now))
+        → Ends state.old.settings.now (W.tree_at state.new.store.now) (W.faults_at state.new.store.now) (W.called state.old.store.now) (W.called state.new.store.now) (PutObject bucket.now key.now acl content_type.now meta.now body.now) label.now result }
+{
+    match head_bucket(state, bucket) {
+        Ok(None) => Ok(Reply::Refused(Code::NoSuchBucket)),
+        Ok(Some(list)) => {
+            put_into(
+                alloc,
+                state,
+                bucket,
+                key,
+                acl,
+                list,
+                content_type,
+                meta,
+                body,
+                label,
+            )
+        }
+        Err(fault) => Err(fault),
+    }
+}
+
+/// The rest of PutObject, in a bucket that has this access control list.
+fn put_into<W: Swift>(
+    alloc: Global,
+    state: &mut Settled<'_, W>,
+    bucket: &Bytes,
+    key: &Bytes,
+    acl: Option<Acl>,
+    list: Acl,
+    content_type: &Bytes,
+    meta: &Meta,
+    body: &Bytes,
+    label: &Label,
+) -> Result<Reply, PlanFault>
+    requires place { IsPlace bucket.now key.now }
+    requires content { IsProperContent content_type.now meta.now body.now }
+    requires moment { label.now.moment < moment_limit }
+    ensures same { state.new.store.ghost_name ≡ state.old.store.ghost_name }
+    ensures calls { Within 1 (W.called state.old.store.now) (W.called state.new.store.now) }
+    ensures cause { CausesFault (W.faults state.old.store.now) (W.faults state.new.store.now) result }
+    ensures own { IfOk result IsOwnReply }
+    ensures tells { W.tells state.old.store.now → W.tells state.new.store.now }
+    ensures kept { W.tells state.old.store.now → Kept (W.called state.old.store.now) (W.tree_at state.old.store.now) (W.tree_at state.new.store.now) (W.faults_at state.old.store.now) (W.faults_at state.new.store.now) }
+    ensures told { W.tells state.old.store.now → Sound (W.tree_at state.new.store.now (W.called state.old.store.now))
+        → TellsBucket bucket.now (native (W.tree_at state.new.store.now (W.called state.old.store.now))) (Some list)
+        → Ends state.old.settings.now (W.tree_at state.new.store.now) (W.faults_at state.new.store.now) (W.called state.old.store.now) (W.called state.new.store.now) (PutObject bucket.now key.now acl content_type.now meta.now body.now) label.now result }
+{
+    if is_other_acl(acl, list) {
+        return Ok(Reply::Refused(Code::NotImplemented));
+    }
+    let reply = Reply::Stored {
+        etag: Bytes::from_slice(alloc, &body_etag(body.as_slice()))?,
+    };
+    reply_after(
+        recovery::put_object(
+            alloc,
+            state,
+            bucket,
+            key,
+            content_type,
+            meta,
+            body,
+            label.moment,
+        ),
+        reply,
+    )
+}
+
+/// GetObject: HEAD of the bucket's container, HEAD of the object's file, then its GET. At most three calls, none of
+/// which commits. The faults are those of the calls.
+pub(crate) fn get_object<W: Swift>(
+    alloc: Global,
+    state: &mut Settled<'_, W>,
+    bucket: &Bytes,
+    key: &Bytes,
+    label: &Label,
+) -> Result<Reply, PlanFault>
+    requires place { IsPlace bucket.now key.now }
+    ensures same { state.new.store.ghost_name ≡ state.old.store.ghost_name }
+    ensures calls { Within 3 (W.called state.old.store.now) (W.called state.new.store.now) }
+    ensures cause { CausesFault (W.faults state.old.store.now) (W.faults state.new.store.now) result }
+    ensures own { IfOk result IsOwnReply }
+    ensures tells { W.tells state.old.store.now → W.tells state.new.store.now }
+    ensures kept { W.tells state.old.store.now → Kept (W.called state.old.store.now) (W.tree_at state.old.store.now) (W.tree_at state.new.store.now) (W.faults_at state.old.store.now) (W.faults_at state.new.store.now) }
+    ensures told { W.tells state.old.store.now → Sound (W.tree_at state.new.store.now (W.called state.old.store.now))
+        → Ends state.old.settings.now (W.tree_at state.new.store.now) (W.faults_at state.new.store.now) (W.called state.old.store.now) (W.called state.new.store.now) (GetObject bucket.now key.now) label.now result }
+{
+    match head_bucket(state, bucket) {
+        Ok(None) => Ok(Reply::Refused(Code::NoSuchBucket)),
+        Ok(Some(list)) => get_within(alloc, state, bucket, key, list, label),
+        Err(fault) => Err(fault),
+    }
+}
+
+/// The rest of GetObject, in a bucket that has this access control list.
+fn get_within<W: Swift>(
+    alloc: Global,
+    state: &mut Settled<'_, W>,
+    bucket: &Bytes,
+    key: &Bytes,
+    list: Acl,
+    label: &Label,
+) -> Result<Reply, PlanFault>
+    requires place { IsPlace bucket.now key.now }
+    ensures same { state.new.store.ghost_name ≡ state.old.store.ghost_name }
+    ensures calls { Within 2 (W.called state.old.store.now) (W.called state.new.store.now) }
+    ensures cause { CausesFault (W.faults state.old.store.now) (W.faults state.new.store.now) result }
+    ensures own { IfOk result IsOwnReply }
+    ensures tells { W.tells state.old.store.now → W.tells state.new.store.now }
+    ensures kept { W.tells state.old.store.now → Kept (W.called state.old.store.now) (W.tree_at state.old.store.now) (W.tree_at state.new.store.now) (W.faults_at state.old.store.now) (W.faults_at state.new.store.now) }
+    ensures told { W.tells state.old.store.now → Sound (W.tree_at state.new.store.now (W.called state.old.store.now))
+        → TellsBucket bucket.now (native (W.tree_at state.new.store.now (W.called state.old.store.now))) (Some list)
+        → Ends state.old.settings.now (W.tree_at state.new.store.now) (W.faults_at state.new.store.now) (W.called state.old.store.now) (W.called state.new.store.now) (GetObject bucket.now key.now) label.now result }
+{
+    if !may_read(label.caller, list) {
+        return Ok(Reply::Refused(Code::AccessDenied));
+    }
+    match recovery::head_object(alloc, state, bucket, key) {
+        Ok(None) => Ok(Reply::Refused(Code::NoSuchKey)),
+        Ok(Some(head)) => get_bytes(state, bucket, key, list, head, label),
+        Err(fault) => Err(fault),
+    }
+}
+
+/// The rest of GetObject, for an object that is there and may be read.
+#[tactic(auto, using(recovery::proofs::Causes::due_cause))]
+fn get_bytes<W: Swift>(
+    state: &mut Settled<'_, W>,
+    bucket: &Bytes,
+    key: &Bytes,
+    list: Acl,
+    head: ObjectHead,
+    label: &Label,
+) -> Result<Reply, PlanFault>
+    requires place { IsPlace bucket.now key.now }
+    requires shown { IsShownHead (Some head) }
+    ensures same { state.new.store.ghost_name ≡ state.old.store.ghost_name }
+    ensures calls { Within 1 (W.called state.old.store.now) (W.called state.new.store.now) }
+    ensures cause { CausesFault (W.faults state.old.store.now) (W.faults state.new.store.now) result }
+    ensures own { IfOk result IsOwnReply }
+    ensures tells { W.tells state.old.store.now → W.tells state.new.store.now }
+    ensures kept { W.tells state.old.store.now → Kept (W.called state.old.store.now) (W.tree_at state.old.store.now) (W.tree_at state.new.store.now) (W.faults_at state.old.store.now) (W.faults_at state.new.store.now) }
+    ensures told { W.tells state.old.store.now → Sound (W.tree_at state.new.store.now (W.called state.old.store.now))
+        → TellsReadable bucket.now key.now label.now.caller list head (native (W.tree_at state.new.store.now (W.called state.old.store.now)))
+        → Ends state.old.settings.now (W.tree_at state.new.store.now) (W.faults_at state.new.store.now) (W.called state.old.store.now) (W.called state.new.store.now) (GetObject bucket.now key.now) label.now result }
+{
+    match recovery::get_object(state, bucket, key) {
+        Ok(Some(body)) => whole(head, body),
+        Ok(None) => Err(PlanFault::Inconsistent),
+        Err(fault) => Err(fault),
+    }
+}
+
+/// The reply to GetObject. A store whose GET gives another number of bytes than its HEAD said is inconsistent.
+fn whole(head: ObjectHead, body: Bytes) -> Result<Reply, PlanFault>
+    requires shown { IsShownHead (Some head) }
+    ensures own { IfOk result IsOwnReply }
+    ensures no_failure { result ≢ Err Failed }
+    ensures end { result ≡ whole_end head body }
+{
+    let length = head.size;
+    if body.len() as u64 != length {
+        return Err(PlanFault::Inconsistent);
+    }
+    Ok(Reply::Object {
+        head,
+        from: 0,
+        length,
+        partial: false,
+        body,
+    })
+}
+
+/// HeadObject: HEAD of the bucket's container, then HEAD of the object's file. At most two calls, none of which commits.
+/// The faults are those of the calls.
+pub(crate) fn head_object<W: Swift>(
+    alloc: Global,
+    state: &mut Settled<'_, W>,
+    bucket: &Bytes,
+    key: &Bytes,
+    label: &Label,
+) -> Result<Reply, PlanFault>
+    requires place { IsPlace bucket.now key.now }
+    ensures same { state.new.store.ghost_name ≡ state.old.store.ghost_name }
+    ensures calls { Within 2 (W.called state.old.store.now) (W.called state.new.store.now) }
+    ensures cause { CausesFault (W.faults state.old.store.now) (W.faults state.new.store.now) result }
+    ensures own { IfOk result IsOwnReply }
+    ensures tells { W.tells state.old.store.now → W.tells state.new.store.now }
+    ensures kept { W.tells state.old.store.now → Kept (W.called state.old.store.now) (W.tree_at state.old.store.now) (W.tree_at state.new.store.now) (W.faults_at state.old.store.now) (W.faults_at state.new.store.now) }
+    ensures told { W.tells state.old.store.now → Sound (W.tree_at state.new.store.now (W.called state.old.store.now))
+        → Ends state.old.settings.now (W.tree_at state.new.store.now) (W.faults_at state.new.store.now) (W.called state.old.store.now) (W.called state.new.store.now) (HeadObject bucket.now key.now) label.now result }
+{
+    match head_bucket(state, bucket) {
+        Ok(None) => Ok(Reply::Refused(Code::NoSuchBucket)),
+        Ok(Some(list)) => head_within(alloc, state, bucket, key, list, label),
+        Err(fault) => Err(fault),
+    }
+}
+
+/// The rest of HeadObject, in a bucket that has this access control list.
+fn head_within<W: Swift>(
+    alloc: Global,
+    state: &mut Settled<'_, W>,
+    bucket: &Bytes,
+    key: &Bytes,
+    list: Acl,
+    label: &Label,
+) -> Result<Reply, PlanFault>
+    requires place { IsPlace bucket.now key.now }
+    ensures same { state.new.store.ghost_name ≡ state.old.store.ghost_name }
+    ensures calls { Within 1 (W.called state.old.store.now) (W.called state.new.store.now) }
+    ensures cause { CausesFault (W.faults state.old.store.now) (W.faults state.new.store.now) result }
+    ensures own { IfOk result IsOwnReply }
+    ensures tells { W.tells state.old.store.now → W.tells state.new.store.now }
+    ensures kept { W.tells state.old.store.now → Kept (W.called state.old.store.now) (W.tree_at state.old.store.now) (W.tree_at state.new.store.now) (W.faults_at state.old.store.now) (W.faults_at state.new.store.now) }
+    ensures told { W.tells state.old.store.now → Sound (W.tree_at state.new.store.now (W.called state.old.store.now))
+        → TellsBucket bucket.now (native (W.tree_at state.new.store.now (W.called state.old.store.now))) (Some list)
+        → Ends state.old.settings.now (W.tree_at state.new.store.now) (W.faults_at state.new.store.now) (W.called state.old.store.now) (W.called state.new.store.now) (HeadObject bucket.now key.now) label.now result }
+{
+    if !may_read(label.caller, list) {
+        return Ok(Reply::Refused(Code::AccessDenied));
+    }
+    match recovery::head_object(alloc, state, bucket, key) {
+        Ok(None) => Ok(Reply::Refused(Code::NoSuchKey)),
+        Ok(Some(head)) => Ok(headed(alloc, head)),
+        Err(fault) => Err(fault),
+    }
+}
+
+/// The reply to HeadObject for an object with this head: what GetObject is answered, without the bytes.
+fn headed(alloc: Global, head: ObjectHead) -> Reply
+    requires shown { IsShownHead (Some head) }
+    ensures own { IsOwnReply result }
+    ensures reply { result ≡ headed_reply head }
+{
+    let length = head.size;
+    Reply::Object {
+        head,
+        from: 0,
+        length,
+        partial: false,
+        body: Bytes::new(alloc),
+    }
+}
+
+/// DeleteObject: HEAD of the bucket's container, then DELETE of the object's file, which commits. At most two calls.
+/// The faults are those of the two calls.
+pub(crate) fn delete_object<W: Swift>(
+    state: &mut Settled<'_, W>,
+    bucket: &Bytes,
+    key: &Bytes,
+    label: &Label,
+) -> Result<Reply, PlanFault>
+    requires place { IsPlace bucket.now key.now }
+    ensures same { state.new.store.ghost_name ≡ state.old.store.ghost_name }
+    ensures calls { Within 2 (W.called state.old.store.now) (W.called state.new.store.now) }
+    ensures cause { CausesFault (W.faults state.old.store.now) (W.faults state.new.store.now) result }
+    ensures own { IfOk result IsOwnReply }
+    ensures tells { W.tells state.old.store.now → W.tells state.new.store.now }
+    ensures kept { W.tells state.old.store.now → Kept (W.called state.old.store.now) (W.tree_at state.old.store.now) (W.tree_at state.new.store.now) (W.faults_at state.old.store.now) (W.faults_at state.new.store.now) }
+    ensures told { W.tells state.old.store.now → Sound (W.tree_at state.new.store.now (W.called state.old.store.now))
+        → Ends state.old.settings.now (W.tree_at state.new.store.now) (W.faults_at state.new.store.now) (W.called state.old.store.now) (W.called state.new.store.now) (DeleteObject bucket.now key.now) label.now result }
+{
+    match head_bucket(state, bucket) {
+        Ok(None) => Ok(Reply::Refused(Code::NoSuchBucket)),
+        Ok(Some(list)) => delete_from(state, bucket, key, list, label),
+        Err(fault) => Err(fault),
+    }
+}
+
+/// The rest of DeleteObject, in a bucket that is there.
+fn delete_from<W: Swift>(
+    state: &mut Settled<'_, W>,
+    bucket: &Bytes,
+    key: &Bytes,
+    list: Acl,
+    label: &Label,
+) -> Result<Reply, PlanFault>
+    requires place { IsPlace bucket.now key.now }
+    ensures same { state.new.store.ghost_name ≡ state.old.store.ghost_name }
+    ensures calls { Within 1 (W.called state.old.store.now) (W.called state.new.store.now) }
+    ensures cause { CausesFault (W.faults state.old.store.now) (W.faults state.new.store.now) result }
+    ensures own { IfOk result IsOwnReply }
+    ensures tells { W.tells state.old.store.now → W.tells state.new.store.now }
+    ensures kept { W.tells state.old.store.now → Kept (W.called state.old.store.now) (W.tree_at state.old.store.now) (W.tree_at state.new.store.now) (W.faults_at state.old.store.now) (W.faults_at state.new.store.now) }
+    ensures told { W.tells state.old.store.now → Sound (W.tree_at state.new.store.now (W.called state.old.store.now))
+        → TellsBucket bucket.now (native (W.tree_at state.new.store.now (W.called state.old.store.now))) (Some list)
+        → Ends state.old.settings.now (W.tree_at state.new.store.now) (W.faults_at state.new.store.now) (W.called state.old.store.now) (W.called state.new.store.now) (DeleteObject bucket.now key.now) label.now result }
+{
+    reply_after(recovery::delete_object(state, bucket, key), Reply::Gone)
+}
