@@ -1,37 +1,47 @@
 -- A message as it is heard.
-use Rattle.std.proofs.Common.{◌≡◌, ◌≢◌, ℕ, Bool, true, false, cond, [], Some, codes, refl}
-use Rattle.s3_machine.specs.declared.code.Code.TheVariants.{ServiceUnavailable}
+use Rattle.std.proofs.Common.{◌≡◌, ◌≢◌, ℕ, Bool, true, false, cond, [], Some, Result, Ok, Err, codes, refl}
+use Rattle.gate_base.specs.declared.page.Caller.TheVariants.{Owner}
+use Rattle.s3_machine.specs.declared.operation.Settings.{Settings}
+use Rattle.s3_names.specs.declared.fault.NameFault.{NameFault}
+use Rattle.s3_names.specs.declared.target.Target.{Target}
+use Rattle.s3_names.specs.Target.{target_of}
 use Rattle.http_wire.specs.declared.message.Message.{Message}
 use Rattle.http_wire.specs.declared.message.Kind.{Kind}
-use Rattle.http_wire.specs.declared.message.Kind.TheVariants.{BadHead}
+use Rattle.http_wire.specs.declared.message.Kind.TheVariants.{BadHead, LongHead, ManyHeaders, NoLength, BadLength, LongBody, Transfer, ShortBody}
 use Rattle.gateway.specs.declared.ended.Ended.TheVariants as ended
 use Rattle.gateway.specs.declared.heard.Heard.{Heard}
-use Rattle.gateway.specs.declared.meant.Meant.{Meant}
 use Rattle.gateway.specs.declared.meant.Meant.TheVariants.{Refused, Memory}
-use Rattle.gateway.specs.Meaning.{meaning_of, is_creation}
-use Rattle.gateway.specs.Request.{raw_path, request_of, refused_request, code_of}
-use Rattle.gateway.specs.Heard.{Is, end_after}
+use Rattle.gateway.specs.Request.{raw_path, end_after, understood, request_of, refused_request, code_of}
+use Rattle.gateway.specs.Heard.{Is, IsProperCode}
+use Rattle.gateway.proofs.Proper.{is_store_fault, proper_code, meaning_known}
 
-chosen : (b : Bool) (x y : Meant) → x ≢ Memory → y ≢ Memory → cond b x y ≢ Memory
-chosen true x y a b = a
-chosen false x y a b = b
+understood_known : (settings : Settings) (message : Message) (read : Result Target NameFault) → understood settings message read ≢ Memory
+understood_known settings message (Ok target) = meaning_known settings message target Owner
+understood_known settings message (Err fault) = λ e. cc
 
--- a message always means something
-pub meaning_known : (message : Message) → meaning_of message ≢ Memory
-meaning_known message = chosen (is_creation message) _ _ (λ e. cc) (λ e. cc)
-
-pub message_is : (heard : Heard) (message : Message) → heard.method.now ≡ message.method → heard.resource.now ≡ raw_path message.target
-    → (heard.means ≢ Memory → heard.means ≡ meaning_of message) → Is heard (end_after message) (request_of message)
-message_is heard message method resource means = record {
+pub message_is : (heard : Heard) (settings : Settings) (message : Message) → heard.method.now ≡ message.method → heard.resource.now ≡ raw_path message.target
+    → (heard.means ≢ Memory → heard.means ≡ understood settings message (target_of message.target)) → Is heard (end_after message) (request_of settings message)
+message_is heard settings message method resource means = record {
   caller = refl;
   method = method;
   resource = resource;
-  understands = record { meant = meaning_known message; same = means };
+  understands = record { meant = understood_known settings message (target_of message.target); same = means };
   end = refl;
 }
 
-pub code_is_proper : (kind : Kind) → code_of kind ≢ ServiceUnavailable
-code_is_proper BadHead e = cc
+-- no code of a request that was refused before is one for a store that failed
+own_code : (kind : Kind) → is_store_fault (code_of kind) ≡ false
+own_code BadHead = refl
+own_code LongHead = refl
+own_code ManyHeaders = refl
+own_code NoLength = refl
+own_code BadLength = refl
+own_code LongBody = refl
+own_code Transfer = refl
+own_code ShortBody = refl
+
+pub code_is_proper : (kind : Kind) → IsProperCode (code_of kind)
+code_is_proper kind = proper_code (code_of kind) (own_code kind)
 
 -- a request that was refused before it was understood
 pub refused_is : (heard : Heard) (kind : Kind) (place : ℕ) (head : Bool) → heard.method.now ≡ cond head (codes "HEAD") [] → heard.resource.now ≡ codes "/"

@@ -1,6 +1,8 @@
 pub mod Hearing
+pub mod JoinLemmas
 pub mod Looping
 pub mod Pieces
+pub mod Proper
 pub mod Replying
 pub mod Serving
 pub mod Statuses

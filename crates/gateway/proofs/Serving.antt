@@ -27,7 +27,7 @@ module _ (settings : Settings) (at : ℕ → Tree) (faults : ℕ → ℕ) (conne
   turn_breaks old new request turn = inr (refl, turn.0, turn.1, turn.2, turn.3)
 
   -- a request that was heard was answered
-  pub next_of : (old new : Point) (request : Request) (ended : Option Ended) → Hears old request new.rest new.place
+  pub next_of : (old new : Point) (request : Request) (ended : Option Ended) → Hears settings old request new.rest new.place
       → TurnEnds settings at faults connection old.tally new.tally request ended → NextOne settings at faults connection old ended new
   next_of old new request None hears turn = (turn.0, record { request = request; label = turn.1; hears = hears; labels = turn.2; exchange = turn.3 })
   next_of old new request (Some ended) hears (inl turn) =
@@ -39,12 +39,12 @@ module _ (settings : Settings) (at : ℕ → Tree) (faults : ℕ → ℕ) (numbe
   -- what was read is a message
   pub next_request : (wire : Wire) (message : Message) (left : List ℕ) (new : Tally) (ended : Option Ended) → Gives pending all (got.Request message) pending' left
       → wire.begun ≡ begun → wire.sent ≡ sent → rest ≡ left
-      → TurnEnds settings at faults wire.begun (tally number moments draws wire.sent) new (request_of message) ended
+      → TurnEnds settings at faults wire.begun (tally number moments draws wire.sent) new (request_of settings message) ended
       → NextOne settings at faults begun (point all pending.place (tally number moments draws sent)) ended (point rest pending'.place new)
   next_request wire message left new ended gives b s r turn =
-      let P : (ℕ × List Piece) → Type 0 = λ x. TurnEnds settings at faults x.0 (tally number moments draws x.1) new (request_of message) ended in
+      let P : (ℕ × List Piece) → Type 0 = λ x. TurnEnds settings at faults x.0 (tally number moments draws x.1) new (request_of settings message) ended in
       let own : P (begun, sent) = subst P (λ i. (b i, s i)) turn in
-      next_of settings at faults begun (point all pending.place (tally number moments draws sent)) (point rest pending'.place new) (request_of message) ended
+      next_of settings at faults begun (point all pending.place (tally number moments draws sent)) (point rest pending'.place new) (request_of settings message) ended
       (read message gives.0 gives.2 refl (r ∙ gives.3) gives.4) own
 
   -- what was read is refused

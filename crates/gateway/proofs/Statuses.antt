@@ -1,23 +1,58 @@
 -- The statuses of the pages of replies.
-use Rattle.std.proofs.Common.{ℕ, List, refl}
+use Rattle.std.proofs.Common.{ℕ, Bool, true, false, List, refl}
 use Rattle.s3_machine.specs.declared.code.Code.{Code}
-use Rattle.s3_machine.specs.declared.code.Code.TheVariants.{BucketAlreadyOwnedByYou, InconsistentStore, InvalidRequest, NotImplemented, ServiceUnavailable}
+use Rattle.s3_machine.specs.declared.code.Code.TheVariants.{AccessDenied, AuthorizationHeaderMalformed, BadDigest, BucketAlreadyOwnedByYou, BucketNotEmpty, EntityTooLarge, EntityTooSmall, IncompleteBody, InconsistentStore, InvalidAccessKeyId, InvalidArgument, InvalidBucketName, InvalidDigest, InvalidPart, InvalidPartOrder, InvalidRange, InvalidRequest, InvalidStorageClass, InvalidURI, KeyTooLongError, MalformedXML, MetadataTooLarge, MethodNotAllowed, MissingContentLength, NoSuchBucket, NoSuchKey, NoSuchUpload, NotImplemented, PreconditionFailed, RequestTimeTooSkewed, ServiceUnavailable, SignatureDoesNotMatch, XAmzContentSHA256Mismatch}
 use Rattle.s3_machine.specs.declared.operation.Label.{Label}
 use Rattle.s3_machine.specs.declared.operation.Reply.{Reply}
-use Rattle.s3_machine.specs.declared.operation.Reply.TheVariants.{Refused, Memory, Made}
+use Rattle.s3_machine.specs.declared.operation.Reply.TheVariants.{Refused, Memory, Gone, Made, Stored, Object}
 use Rattle.http_wire.specs.Print.{IsReplyStatus}
-use Rattle.s3_bodies.specs.Pages.{page_of}
+use Rattle.s3_bodies.specs.Pages.{page_of, read_status}
 use Rattle.s3_bodies.specs.Codes.{status_of}
 
 code_status : (code : Code) → IsReplyStatus (status_of code)
+code_status AccessDenied = refl
+code_status AuthorizationHeaderMalformed = refl
+code_status BadDigest = refl
 code_status BucketAlreadyOwnedByYou = refl
+code_status BucketNotEmpty = refl
+code_status EntityTooLarge = refl
+code_status EntityTooSmall = refl
+code_status IncompleteBody = refl
 code_status InconsistentStore = refl
+code_status InvalidAccessKeyId = refl
+code_status InvalidArgument = refl
+code_status InvalidBucketName = refl
+code_status InvalidDigest = refl
+code_status InvalidPart = refl
+code_status InvalidPartOrder = refl
+code_status InvalidRange = refl
 code_status InvalidRequest = refl
+code_status InvalidStorageClass = refl
+code_status InvalidURI = refl
+code_status KeyTooLongError = refl
+code_status MalformedXML = refl
+code_status MetadataTooLarge = refl
+code_status MethodNotAllowed = refl
+code_status MissingContentLength = refl
+code_status NoSuchBucket = refl
+code_status NoSuchKey = refl
+code_status NoSuchUpload = refl
 code_status NotImplemented = refl
+code_status PreconditionFailed = refl
+code_status RequestTimeTooSkewed = refl
 code_status ServiceUnavailable = refl
+code_status SignatureDoesNotMatch = refl
+code_status XAmzContentSHA256Mismatch = refl
+
+object_status : (partial : Bool) → IsReplyStatus (read_status partial)
+object_status true = refl
+object_status false = refl
 
 -- each is one that a reply may have
 pub reply_status : (reply : Reply) (label : Label) (resource : List ℕ) → IsReplyStatus (page_of reply label resource).status
 reply_status (Refused code) label resource = code_status code
 reply_status Memory label resource = refl
+reply_status Gone label resource = refl
 reply_status (Made bucket) label resource = refl
+reply_status (Stored etag) label resource = refl
+reply_status (Object head from length partial body) label resource = object_status partial

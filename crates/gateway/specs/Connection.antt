@@ -45,9 +45,9 @@ abbrev pub point : List ℕ → ℕ → Tally → Point
 point rest place tallied = record { rest = rest; place = place; tally = tallied }
 
 -- the request that stands first, and what is left behind it
-pub data Hears (old : Point) (request : Request) (rest : List ℕ) (place : ℕ) : Type 0 where
-  read : (message : Message) (size : ℕ) → IsFront old.rest (asks message size) → request ≡ request_of message → rest ≡ drop size old.rest → place ≡ place_after old.place size → Hears old request rest place
-  rejected : (kind : Kind) (head : Bool) → IsFront old.rest (refused kind head) → request ≡ refused_request kind old.place head → rest ≡ old.rest → place ≡ old.place → Hears old request rest place
+pub data Hears (settings : Settings) (old : Point) (request : Request) (rest : List ℕ) (place : ℕ) : Type 0 where
+  read : (message : Message) (size : ℕ) → IsFront old.rest (asks message size) → request ≡ request_of settings message → rest ≡ drop size old.rest → place ≡ place_after old.place size → Hears settings old request rest place
+  rejected : (kind : Kind) (head : Bool) → IsFront old.rest (refused kind head) → request ≡ refused_request kind old.place head → rest ≡ old.rest → place ≡ old.place → Hears settings old request rest place
 
 -- the label of a request: its caller, the next moment, and the next two draws as its id and its word of chance
 pub record LabelGiven (moments draws moments' draws' : List ℕ) (from : Caller) (label : Label) : Type 0 where
@@ -64,7 +64,7 @@ Labels old new from label = LabelGiven old.moments old.draws new.moments new.dra
 pub record Serves (settings : Settings) (at : ℕ → Tree) (faults : ℕ → ℕ) (connection : ℕ) (end : Option Ended) (old : Point) (t : ℕ) (new : Point) : Type 0 where
   pub request : Request
   pub label : Label
-  pub hears : Hears old request new.rest new.place
+  pub hears : Hears settings old request new.rest new.place
   pub labels : Labels old.tally new.tally request.caller label
   pub exchange : Exchange settings at faults connection (turn_of old.tally t new.tally) request label end old.tally.sent new.tally.sent
 
@@ -80,7 +80,7 @@ pub record Breaks (settings : Settings) (at : ℕ → Tree) (faults : ℕ → �
   pub label : Label
   pub rest : List ℕ
   pub place : ℕ
-  pub hears : Hears old request rest place
+  pub hears : Hears settings old request rest place
   pub labels : Labels old.tally new request.caller label
   pub exchange : CutExchange settings at faults connection (turn_of old.tally t new) request label old.tally.sent new.sent
 

@@ -1,6 +1,7 @@
 -- A request as the code holds it, and the request that it is.
 use Rattle.std.specs.Prelude.{◌≡◌, ◌≢◌, ℕ, Option}
-use Rattle.s3_machine.specs.declared.code.Code.TheVariants.{ServiceUnavailable}
+use Rattle.s3_machine.specs.declared.code.Code.{Code}
+use Rattle.s3_machine.specs.declared.code.Code.TheVariants.{ServiceUnavailable, InconsistentStore}
 use Rattle.s3_machine.specs.Step.{IsProperOp}
 use Rattle.swift_calls.specs.Tree.{Tree}
 use Rattle.recovery.specs.Answers.{most_calls}
@@ -9,13 +10,17 @@ use Rattle.gateway.specs.declared.ended.Ended.{Ended}
 use Rattle.gateway.specs.declared.heard.Heard.{Heard}
 use Rattle.gateway.specs.declared.meant.Meant.{Meant}
 use Rattle.gateway.specs.declared.meant.Meant.TheVariants.{Op, Refused, Memory}
-use Rattle.http_wire.specs.declared.message.Message.{Message}
-use Rattle.gateway.specs.Request.{Request, request_of}
+use Rattle.gateway.specs.Request.{Request}
 
--- an operation that is meant keeps the limits, and a code is not the one for a store that failed
+-- a code by which a request is refused is none for a store that failed
+pub record IsProperCode (code : Code) : Type 0 where
+  pub available : code ≢ ServiceUnavailable
+  pub consistent : code ≢ InconsistentStore
+
+-- an operation that is meant keeps the limits, and a code is none for a store that failed
 abbrev pub IsProperMeant : Meant → Type 0
 IsProperMeant (Op op) = IsProperOp op
-IsProperMeant (Refused code) = code ≢ ServiceUnavailable
+IsProperMeant (Refused code) = IsProperCode code
 IsProperMeant Memory = Unit {0}
 
 -- the greatest number of calls that it takes
@@ -36,7 +41,3 @@ pub record Is (heard : Heard) (ending : Option Ended) (request : Request) : Type
   pub resource : heard.resource.now ≡ request.resource
   pub understands : Understands heard.means request
   pub end : ending ≡ request.end
-
--- how the connection ends after the reply to a message, if it does
-abbrev pub end_after : Message → Option Ended
-end_after message = (request_of message).end

@@ -1,10 +1,14 @@
 pub mod Agree
 pub mod Closing
 pub mod Connection
+pub mod Content
 pub mod Exchange
+pub mod Headers
 pub mod Heard
 pub mod Meaning
+pub mod Query
 pub mod Request
+pub mod Rows
 pub mod Serving
 pub mod Stands
 pub mod StandsLaws

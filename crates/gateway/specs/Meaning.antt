@@ -1,24 +1,129 @@
--- What a request means: an operation, or the code by which it is refused. Source: Amazon S3 API Reference,
--- restated by this profile; what isn't built is NotImplemented.
-use Rattle.std.specs.Prelude.{ℕ, Bool, false, not, ◌&&◌, ◌==◌, cond, List, [], ◌∷◌, drop, codes, bytes_eq}
-use Rattle.std.specs.List.{list_any}
+-- What a request means: an operation, or the first reason to refuse it. Source: Amazon S3 API Reference, restated by
+-- this profile; the order of the refusals is this profile's, and what isn't built is NotImplemented.
+use Rattle.std.specs.Prelude.{ℕ, Bool, true, false, not, ◌&&◌, ◌==◌, nat_lt, if◌then◌else◌, List, [], ◌∷◌, length, Option, Some, None}
+use Rattle.gate_base.specs.declared.page.Caller.{Caller}
+use Rattle.gate_base.specs.declared.page.Caller.TheVariants.{Owner, Anonymous}
 use Rattle.s3_names.specs.declared.acl.Acl.TheVariants.{Private}
+use Rattle.s3_names.specs.declared.target.Target.{Target}
 use Rattle.s3_names.specs.Bucket.{is_bucket}
-use Rattle.s3_machine.specs.declared.code.Code.TheVariants.{NotImplemented}
-use Rattle.s3_machine.specs.declared.operation.Op.TheVariants.{CreateBucket}
+use Rattle.s3_names.specs.Key.{is_key}
+use Rattle.s3_machine.specs.declared.code.Code.{Code}
+use Rattle.s3_machine.specs.declared.code.Code.TheVariants.{AccessDenied, BadDigest, EntityTooLarge, InvalidArgument, InvalidBucketName, InvalidDigest, InvalidStorageClass, InvalidURI, KeyTooLongError, MetadataTooLarge, MethodNotAllowed, NotImplemented}
+use Rattle.s3_machine.specs.declared.operation.Op.TheVariants as op
+use Rattle.s3_machine.specs.declared.operation.Settings.{Settings}
+use Rattle.s3_machine.specs.Limits.{is_content_type, is_proper_meta}
 use Rattle.http_wire.specs.declared.message.Message.{Message}
-use Rattle.http_wire.specs.Front.{has_name}
 use Rattle.gateway.specs.declared.meant.Meant.{Meant}
 use Rattle.gateway.specs.declared.meant.Meant.TheVariants.{Op, Refused}
+use Rattle.gateway.specs.declared.rows.Level.TheVariants.{Service, Key}
+use Rattle.gateway.specs.declared.rows.Row.{Row}
+use Rattle.gateway.specs.declared.rows.Row.TheVariants.{CreateBucket, HeadBucket, ListObjects, ListObjectsV2, PutObject, GetObject, HeadObject, DeleteObject}
+use Rattle.gateway.specs.Rows.{shape_of, is_method, level_of, is_same_level, row_for}
+use Rattle.gateway.specs.Query.{has_unknown_name, has_foreign_name, has_name_twice}
+use Rattle.gateway.specs.Headers.{has_unsupported, is_chunked, is_conditional_write, is_conditional_read, names_acl, has_other_class}
+use Rattle.gateway.specs.Content.{has_bad_digest, is_other_body, taken_type, taken_meta, has_bad_entry, is_long_body, has_unread_body}
 
--- `/` and a bucket's name
-abbrev pub names_bucket : List ℕ → Bool
-names_bucket [] = false
-names_bucket (byte ∷ name) = byte == 47 && is_bucket name
+-- a reason to refuse, and whether it holds
+pub record Reason : Type 0 where
+  pub holds : Bool
+  pub code : Code
 
--- PUT of a bucket without an access control list
-abbrev pub is_creation : Message → Bool
-is_creation message = bytes_eq message.method (codes "PUT") && names_bucket message.target && not (list_any (has_name (codes "x-amz-acl")) message.headers)
+abbrev pub reason : Bool → Code → Reason
+reason holds code = record { holds = holds; code = code }
 
-abbrev pub meaning_of : Message → Meant
-meaning_of message = cond (is_creation message) (Op (CreateBucket (drop 1 message.target) Private)) (Refused NotImplemented)
+-- the code of the first reason that holds, and without one the rest
+abbrev pub first_refusal : List Reason → Meant → Meant
+first_refusal [] rest = rest
+first_refusal (reason ∷ reasons) rest = if reason.holds then Refused reason.code else first_refusal reasons rest
+
+-- a target of a bucket or a key whose bucket is no bucket name
+abbrev pub has_bad_bucket : Target → Bool
+has_bad_bucket target = not (is_same_level (level_of target.bucket target.key) Service) && not (is_bucket target.bucket)
+
+-- a key above 1024 bytes
+abbrev pub has_long_key : Target → Bool
+has_long_key target = nat_lt 1024 (length target.key)
+
+-- a key that is none although it isn't long, as no target has one that was read
+abbrev pub has_bad_key : Target → Bool
+has_bad_key target = is_same_level (level_of target.bucket target.key) Key && not (is_key target.key)
+
+-- the operations that anybody may ask for
+abbrev pub is_open : Row → Bool
+is_open HeadBucket = true
+is_open ListObjects = true
+is_open ListObjectsV2 = true
+is_open GetObject = true
+is_open HeadObject = true
+is_open _ = false
+
+-- another operation, of nobody in particular
+abbrev pub is_denied : Row → Caller → Bool
+is_denied row Owner = false
+is_denied row Anonymous = not (is_open row)
+
+-- ---- the reasons, in the order in which they are tried
+
+abbrev pub target_reasons : Message → Target → List Reason
+target_reasons message target =
+    reason (not (is_method message.method)) MethodNotAllowed
+    ∷ reason (has_bad_bucket target) InvalidBucketName
+    ∷ reason (has_long_key target) KeyTooLongError
+    ∷ reason (has_bad_key target) InvalidURI
+    ∷ reason (has_unknown_name target.query) NotImplemented
+    ∷ []
+
+abbrev pub caller_reasons : Row → Caller → List Reason
+caller_reasons row caller = reason (is_denied row caller) AccessDenied ∷ []
+
+abbrev pub content_reasons : Row → Message → Caller → List Reason
+content_reasons row message caller =
+    reason (has_bad_digest message.headers) InvalidDigest
+    ∷ reason (is_other_body message.headers message.body) BadDigest
+    ∷ reason (not (is_content_type (taken_type row message.headers))) InvalidArgument
+    ∷ reason (has_bad_entry (taken_meta row message.headers)) InvalidArgument
+    ∷ reason (not (is_proper_meta (taken_meta row message.headers))) MetadataTooLarge
+    ∷ reason (is_long_body message.body) EntityTooLarge
+    ∷ caller_reasons row caller
+
+abbrev pub header_reasons : Row → Message → Target → Caller → List Reason
+header_reasons row message target caller =
+    reason (has_unsupported message.headers) NotImplemented
+    ∷ reason (is_chunked message.headers) NotImplemented
+    ∷ reason (is_conditional_write message.method message.headers) NotImplemented
+    ∷ reason (is_conditional_read message.method (level_of target.bucket target.key) message.headers) NotImplemented
+    ∷ reason (names_acl message.headers) NotImplemented
+    ∷ reason (has_unread_body row message.body) NotImplemented
+    ∷ reason (has_other_class message.headers) InvalidStorageClass
+    ∷ content_reasons row message caller
+
+abbrev pub reasons : Row → Message → Target → Caller → List Reason
+reasons row message target caller =
+    reason (not (shape_of row).built) NotImplemented
+    ∷ reason (has_foreign_name row target.query) NotImplemented
+    ∷ reason (has_name_twice target.query) InvalidArgument
+    ∷ header_reasons row message target caller
+
+-- ---- the meaning
+
+-- the row of a request, if there is one
+abbrev pub row_of : Message → Target → Option Row
+row_of message target = row_for message.method (level_of target.bucket target.key) target.query
+
+-- the operation that a row asks for
+abbrev pub op_of : Row → Message → Target → Meant
+op_of CreateBucket message target = Op (op.CreateBucket target.bucket Private)
+op_of PutObject message target = Op (op.PutObject target.bucket target.key None (taken_type PutObject message.headers) (taken_meta PutObject message.headers) message.body)
+op_of GetObject message target = Op (op.GetObject target.bucket target.key)
+op_of HeadObject message target = Op (op.HeadObject target.bucket target.key)
+op_of DeleteObject message target = Op (op.DeleteObject target.bucket target.key)
+op_of _ message target = Refused NotImplemented
+
+-- a request without a row is refused
+abbrev pub judged : Option Row → Message → Target → Caller → Meant
+judged None message target caller = Refused MethodNotAllowed
+judged (Some row) message target caller = first_refusal (reasons row message target caller) (op_of row message target)
+
+-- what a request means whose target was read
+unfoldable pub meaning_of : Settings → Message → Target → Caller → Meant
+meaning_of settings message target caller = first_refusal (target_reasons message target) (judged (row_of message target) message target caller)

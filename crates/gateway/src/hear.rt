@@ -1,25 +1,46 @@
 //! How a request is heard: a message that was read, or one that was refused before it was understood.
-ghost use Rattle.std.specs.Prelude.{◌≡◌, ℕ, cond, codes, [], Some, position, IfSome, ◌<◌, length};
-ghost use Rattle.gateway.specs.Heard.{Is, IsProperMeant, end_after};
-ghost use Rattle.gateway.specs.Request.{raw_path, request_of, refused_request, code_of, is_question_mark};
+ghost use Rattle.std.specs.Prelude.{◌≡◌, ◌≢◌, ℕ, cond, codes, [], Some, position, IfSome, ◌<◌, length};
+ghost use Rattle.s3_names.specs.Target.{target_of};
+ghost use Rattle.gateway.specs.Heard.{Is, IsProperMeant};
+ghost use Rattle.gateway.specs.Request.{raw_path, end_after, understood, request_of, refused_request, code_of, is_question_mark};
 ghost use Rattle.gateway.specs.declared.ended.Ended.TheVariants as ended;
+ghost use Rattle.gateway.specs.declared.meant.Meant.TheVariants as variant;
 
 use crate::closing::closing;
 use crate::{Ended, Heard, Meant, meaning};
+use gate_base::Caller;
 use http_wire::{Kind, Message};
-use s3_machine::Code;
+use s3_machine::{Code, Settings};
+use s3_names::{NameFault, Target};
 use std::alloc::Global;
 
 /// A message that was read, as it is answered.
-#[tactic(auto, using(crate::proofs::Hearing::message_is))]
-pub fn hear<'a>(alloc: Global, message: &'a Message) -> Heard<'a>
+pub fn hear<'a>(alloc: Global, settings: &Settings, message: &'a Message) -> Heard<'a>
     ensures proper { IsProperMeant result.means }
-    ensures is { Is result (end_after message.now) (request_of message.now) }
+    ensures is { Is result (end_after message.now) (request_of settings.now message.now) }
 {
     Heard {
         method: message.method.as_slice(),
         resource: path_of(message.target.as_slice()),
-        means: meaning(alloc, message),
+        means: understand(alloc, settings, message),
+    }
+}
+
+/// The target is read, and then the meaning is found. Every request counts as the owner's.
+fn understand(alloc: Global, settings: &Settings, message: &Message) -> Meant
+    ensures proper { IsProperMeant result }
+    ensures value { result ≢ variant.Memory → result ≡ understood settings.now message.now (target_of message.now.target) }
+{
+    match Target::read(alloc, message.target.as_slice()) {
+        Ok(target) => meaning(alloc, message, &target, &Caller::Owner, settings),
+        Err(NameFault::Memory) => Meant::Memory,
+        Err(
+            NameFault::BadBucket
+            | NameFault::EmptyKey
+            | NameFault::LongKey
+            | NameFault::NotUtf8
+            | NameFault::BadEscape,
+        ) => Meant::Refused(Code::InvalidURI),
     }
 }
 
@@ -34,7 +55,7 @@ pub fn end_of(message: &Message) -> Option<Ended>
     }
 }
 
-/// A request that was refused before it was understood, as it is answered: with InvalidRequest, on `/`.
+/// A request that was refused before it was understood, as it is answered: with the code of its kind, on `/`.
 #[tactic(auto, using(crate::proofs::Hearing::refused_is, crate::proofs::Hearing::code_is_proper))]
 pub fn hear_refused(kind: Kind, head: bool) -> Heard<'static>
     ensures proper { IsProperMeant result.means }
@@ -57,7 +78,13 @@ fn code(kind: Kind) -> Code
     ensures { result ≡ code_of kind }
 {
     match kind {
-        Kind::BadHead => Code::InvalidRequest,
+        Kind::BadHead | Kind::LongHead | Kind::ManyHeaders | Kind::BadLength => {
+            Code::InvalidRequest
+        }
+        Kind::NoLength => Code::MissingContentLength,
+        Kind::LongBody => Code::EntityTooLarge,
+        Kind::Transfer => Code::NotImplemented,
+        Kind::ShortBody => Code::IncompleteBody,
     }
 }
 

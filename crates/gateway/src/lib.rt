@@ -2,12 +2,17 @@
 #![tactic(auto)]
 
 mod closing;
+mod content;
 mod ended;
+mod headers;
 mod hear;
 mod heard;
+mod join;
 mod label;
 mod meant;
+mod query;
 mod reply;
+mod rows;
 mod serve;
 mod turn;
 mod write;
@@ -16,3 +21,7 @@ pub use ended::Ended;
 pub use heard::Heard;
 pub use meant::{Meant, meaning};
 pub use serve::serve_connection;
+pub use write::print_reply;
+
+#[cfg(test)]
+mod meaning_tests;

@@ -1,15 +1,30 @@
-ghost use Rattle.std.specs.Prelude.{◌≡◌, ◌≢◌, ◌⊎◌, ◌&&◌, not, drop, codes, bytes_eq};
-ghost use Rattle.std.specs.List.{list_any};
-ghost use Rattle.http_wire.specs.Front.{has_name};
+//! What a request means.
+ghost use Rattle.std.specs.Prelude.{◌≡◌, ◌≢◌, ◌&&◌, ◌||◌, not, nat_lt, length, IfOk};
 ghost use Rattle.gateway.specs.Heard.{IsProperMeant};
-ghost use Rattle.gateway.specs.Meaning.{meaning_of, is_creation, names_bucket};
+ghost use Rattle.gateway.specs.Meaning.{first_refusal, target_reasons, judged, reasons, header_reasons, content_reasons, caller_reasons, meaning_of, op_of, is_denied, is_open, has_bad_bucket, row_of};
 ghost use Rattle.gateway.specs.declared.meant.Meant.TheVariants as variant;
+ghost use Rattle.gateway.specs.Rows.{level_of};
+ghost use Rattle.gateway.specs.Meaning.{has_long_key, has_bad_key};
+ghost use Rattle.gateway.specs.Content.{taken_type, taken_meta};
 
-use gate_base::{Bytes, Pair};
+use crate::content::{
+    has_bad_digest, has_bad_entry, has_unread_body, is_long_body, is_other_body, taken_meta,
+    taken_type,
+};
+use crate::headers::{
+    has_other_class, has_unsupported, is_chunked, is_conditional_read, is_conditional_write,
+    names_acl,
+};
+use crate::query::{has_foreign_name, has_name_twice, has_unknown_name};
+use crate::rows::{Level, Row, is_built, is_method, is_same_level, level_of, row_for};
+use gate_base::{Bytes, Caller, Copying, Memory};
 use http_wire::Message;
-use s3_machine::{Code, Op};
-use s3_names::{Acl, is_bucket};
+use s3_machine::{Code, Op, Settings, is_content_type, is_proper_meta};
+use s3_names::{Acl, Meta, Target, is_bucket, is_key};
 use std::alloc::Global;
+
+/// The most bytes of a key (Amazon S3 User Guide, "Naming Amazon S3 objects").
+const MOST_KEY_BYTES: usize = 1024;
 
 /// What a request means.
 #[derive(Debug, Drop)]
@@ -22,49 +37,274 @@ pub enum Meant {
     Memory,
 }
 
-/// What a request means (Amazon S3 API Reference, restated by this profile): PUT of `/` and a bucket's name without
-/// `x-amz-acl` is CreateBucket, and all else NotImplemented.
-pub fn meaning(alloc: Global, message: &Message) -> Meant
-    ensures value { result ≢ variant.Memory → result ≡ meaning_of message.now }
+/// What a request means whose target was read (Amazon S3 API Reference, restated by this profile): the operation that it
+/// asks for, or the code of the first reason to refuse it.
+pub fn meaning(
+    alloc: Global,
+    message: &Message,
+    target: &Target,
+    caller: &Caller,
+    settings: &Settings,
+) -> Meant
+    ensures value { result ≢ variant.Memory → result ≡ meaning_of settings.now message.now target.now caller.now }
     ensures proper { IsProperMeant result }
 {
-    if !creation(message) {
-        return Meant::Refused(Code::NotImplemented);
-    }
-    match Bytes::from_slice(alloc, &message.target.as_slice()[1..]) {
-        Ok(bucket) => Meant::Op(Op::CreateBucket {
-            bucket,
-            acl: Acl::Private,
-        }),
+    match by_target(alloc, settings, message, target, caller) {
+        Ok(meant) => meant,
         Err(_) => Meant::Memory,
     }
 }
 
-fn creation(message: &Message) -> bool
-    ensures { result ≡ is_creation message.now }
+/// The reasons against the target, and then those of its row.
+#[tactic(auto, unfolding(crate::specs::Meaning::meaning_of))]
+fn by_target(
+    alloc: Global,
+    settings: &Settings,
+    message: &Message,
+    target: &Target,
+    caller: &Caller,
+) -> Result<Meant, Memory>
+    ensures { IfOk result (λ meant. meant ≡ meaning_of settings.now message.now target.now caller.now) }
 {
-    message.method.as_slice() == b"PUT".as_slice()
-        && bucket_target(message.target.as_slice())
-        && !names_acl(message.headers.as_slice())
-}
-
-fn bucket_target(target: &[u8]) -> bool
-    ensures { result ≡ names_bucket target.now }
-{
-    match target {
-        [byte, name @ ..] => *byte == b'/' && is_bucket(name),
-        [] => false,
+    if !is_method(message.method.as_slice()) {
+        return Ok(Meant::Refused(Code::MethodNotAllowed));
+    }
+    if has_bad_bucket(target) {
+        return Ok(Meant::Refused(Code::InvalidBucketName));
+    }
+    if has_long_key(target) {
+        return Ok(Meant::Refused(Code::KeyTooLongError));
+    }
+    if has_bad_key(target) {
+        return Ok(Meant::Refused(Code::InvalidURI));
+    }
+    if has_unknown_name(target.query.pairs()) {
+        return Ok(Meant::Refused(Code::NotImplemented));
+    }
+    match row_of(message, target) {
+        Some(row) => by_row(alloc, row, message, target, caller),
+        None => Ok(Meant::Refused(Code::MethodNotAllowed)),
     }
 }
 
-fn names_acl(headers: &[Pair]) -> bool
-    ensures { result ≡ list_any (has_name (codes "x-amz-acl")) headers.now }
+/// The reasons against the names of the query, and then those against the headers.
+fn by_row(
+    alloc: Global,
+    row: Row,
+    message: &Message,
+    target: &Target,
+    caller: &Caller,
+) -> Result<Meant, Memory>
+    ensures { IfOk result (λ meant. meant ≡ first_refusal (reasons row message.now target.now caller.now) (op_of row message.now target.now)) }
 {
-    headers.iter().any(|header| is_acl(header))
+    if !is_built(row) {
+        return Ok(Meant::Refused(Code::NotImplemented));
+    }
+    if has_foreign_name(row, target.query.pairs()) {
+        return Ok(Meant::Refused(Code::NotImplemented));
+    }
+    if has_name_twice(target.query.pairs()) {
+        return Ok(Meant::Refused(Code::InvalidArgument));
+    }
+    by_headers(alloc, row, message, target, caller)
 }
 
-fn is_acl(header: &Pair) -> bool
-    ensures { result ≡ has_name (codes "x-amz-acl") header.now }
+/// The reasons against the headers, and then those against the content.
+fn by_headers(
+    alloc: Global,
+    row: Row,
+    message: &Message,
+    target: &Target,
+    caller: &Caller,
+) -> Result<Meant, Memory>
+    ensures { IfOk result (λ meant. meant ≡ first_refusal (header_reasons row message.now target.now caller.now) (op_of row message.now target.now)) }
 {
-    header.name.as_slice() == b"x-amz-acl".as_slice()
+    let method = message.method.as_slice();
+    let headers = message.headers.as_slice();
+    if has_unsupported(headers) {
+        return Ok(Meant::Refused(Code::NotImplemented));
+    }
+    if is_chunked(alloc, headers)? {
+        return Ok(Meant::Refused(Code::NotImplemented));
+    }
+    if is_conditional_write(method, headers) {
+        return Ok(Meant::Refused(Code::NotImplemented));
+    }
+    if is_conditional_read(method, level_of_target(target), headers) {
+        return Ok(Meant::Refused(Code::NotImplemented));
+    }
+    if names_acl(headers) {
+        return Ok(Meant::Refused(Code::NotImplemented));
+    }
+    if has_unread_body(row, message.body.as_slice()) {
+        return Ok(Meant::Refused(Code::NotImplemented));
+    }
+    if has_other_class(alloc, headers)? {
+        return Ok(Meant::Refused(Code::InvalidStorageClass));
+    }
+    by_content(alloc, row, message, target, caller)
+}
+
+/// The reasons against the content and the caller, and then the operation.
+fn by_content(
+    alloc: Global,
+    row: Row,
+    message: &Message,
+    target: &Target,
+    caller: &Caller,
+) -> Result<Meant, Memory>
+    ensures { IfOk result (λ meant. meant ≡ first_refusal (content_reasons row message.now caller.now) (op_of row message.now target.now)) }
+{
+    let headers = message.headers.as_slice();
+    if has_bad_digest(alloc, headers)? {
+        return Ok(Meant::Refused(Code::InvalidDigest));
+    }
+    if is_other_body(alloc, headers, message.body.as_slice())? {
+        return Ok(Meant::Refused(Code::BadDigest));
+    }
+    let content_type = taken_type(alloc, row, headers)?;
+    if !is_content_type(content_type.as_slice()) {
+        return Ok(Meant::Refused(Code::InvalidArgument));
+    }
+    let meta = taken_meta(alloc, row, headers)?;
+    if has_bad_entry(&meta) {
+        return Ok(Meant::Refused(Code::InvalidArgument));
+    }
+    if !is_proper_meta(&meta) {
+        return Ok(Meant::Refused(Code::MetadataTooLarge));
+    }
+    if is_long_body(message.body.as_slice()) {
+        return Ok(Meant::Refused(Code::EntityTooLarge));
+    }
+    if is_denied(row, *caller) {
+        return Ok(Meant::Refused(Code::AccessDenied));
+    }
+    op_of(row, message, target, content_type, meta)
+}
+
+/// The operation of a row, with the content type and the metadata that it takes.
+fn op_of(
+    row: Row,
+    message: &Message,
+    target: &Target,
+    content_type: Bytes,
+    meta: Meta,
+) -> Result<Meant, Memory>
+    requires content_type { content_type ≡ taken_type row message.now.headers }
+    requires meta { meta ≡ taken_meta row message.now.headers }
+    ensures { IfOk result (λ meant. meant ≡ op_of row message.now target.now) }
+{
+    let op = match row {
+        Row::CreateBucket => Op::CreateBucket {
+            bucket: target.bucket.copy()?,
+            acl: Acl::Private,
+        },
+        Row::PutObject => Op::PutObject {
+            bucket: target.bucket.copy()?,
+            key: target.key.copy()?,
+            acl: None,
+            content_type,
+            meta,
+            body: message.body.copy()?,
+        },
+        Row::GetObject => Op::GetObject {
+            bucket: target.bucket.copy()?,
+            key: target.key.copy()?,
+        },
+        Row::HeadObject => Op::HeadObject {
+            bucket: target.bucket.copy()?,
+            key: target.key.copy()?,
+        },
+        Row::DeleteObject => Op::DeleteObject {
+            bucket: target.bucket.copy()?,
+            key: target.key.copy()?,
+        },
+        Row::ListBuckets
+        | Row::PutBucketAcl
+        | Row::DeleteBucket
+        | Row::HeadBucket
+        | Row::GetLocation
+        | Row::GetBucketAcl
+        | Row::ListObjects
+        | Row::ListObjectsV2
+        | Row::ListUploads
+        | Row::GetObjectAcl
+        | Row::CreateUpload
+        | Row::UploadPart
+        | Row::ListParts
+        | Row::CompleteUpload
+        | Row::AbortUpload => return Ok(Meant::Refused(Code::NotImplemented)),
+    };
+    Ok(Meant::Op(op))
+}
+
+fn level_of_target(target: &Target) -> Level
+    ensures { result ≡ level_of target.now.bucket target.now.key }
+{
+    level_of(target.bucket.as_slice(), target.key.as_slice())
+}
+
+fn row_of(message: &Message, target: &Target) -> Option<Row>
+    ensures { result ≡ row_of message.now target.now }
+{
+    row_for(
+        message.method.as_slice(),
+        level_of_target(target),
+        target.query.pairs(),
+    )
+}
+
+fn has_bad_bucket(target: &Target) -> bool
+    ensures { result ≡ has_bad_bucket target.now }
+{
+    !is_same_level(level_of_target(target), Level::Service) && !is_bucket(target.bucket.as_slice())
+}
+
+fn has_long_key(target: &Target) -> bool
+    ensures { result ≡ has_long_key target.now }
+{
+    MOST_KEY_BYTES < target.key.len()
+}
+
+fn has_bad_key(target: &Target) -> bool
+    ensures { result ≡ has_bad_key target.now }
+{
+    is_same_level(level_of_target(target), Level::Key) && !is_key(target.key.as_slice())
+}
+
+/// Whether anybody may ask for the operation.
+fn is_open(row: Row) -> bool
+    ensures { result ≡ is_open row }
+{
+    match row {
+        Row::HeadBucket
+        | Row::ListObjects
+        | Row::ListObjectsV2
+        | Row::GetObject
+        | Row::HeadObject => true,
+        Row::ListBuckets
+        | Row::CreateBucket
+        | Row::PutBucketAcl
+        | Row::DeleteBucket
+        | Row::GetLocation
+        | Row::GetBucketAcl
+        | Row::ListUploads
+        | Row::PutObject
+        | Row::DeleteObject
+        | Row::GetObjectAcl
+        | Row::CreateUpload
+        | Row::UploadPart
+        | Row::ListParts
+        | Row::CompleteUpload
+        | Row::AbortUpload => false,
+    }
+}
+
+fn is_denied(row: Row, caller: Caller) -> bool
+    ensures { result ≡ is_denied row caller }
+{
+    match caller {
+        Caller::Owner => false,
+        Caller::Anonymous => !is_open(row),
+    }
 }

@@ -112,7 +112,7 @@ fn serve_next<N: Line<W>, W: Swift, C: Clock, D: Draws>(
             line,
             clock,
             draws,
-            &hear(alloc, &message),
+            &hear(alloc, settings, &message),
             end_of(&message),
         ),
         Ok(Got::Refused { kind, place, head }) => answer(

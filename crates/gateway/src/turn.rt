@@ -69,7 +69,7 @@ pub fn take_turn<N: Line<W>, W: Swift, C: Clock, D: Draws>(
         request result }
 {
     let label = next_label(clock, draws);
-    let reply = reply_to(store, settings, &heard.means, &label);
+    let reply = reply_to(alloc, store, settings, &heard.means, &label);
     match write_reply(
         alloc,
         line,

@@ -5,6 +5,7 @@ ghost use Rattle.gate_base.specs.Told.{moment_limit};
 ghost use Rattle.gate_base.specs.Wire.{with_piece, SendsPrefix};
 ghost use Rattle.http_wire.specs.Print.{memory_reply};
 ghost use Rattle.s3_machine.specs.declared.operation.Reply.TheVariants as answer;
+ghost use Rattle.s3_machine.specs.Shown.{IsShowable};
 ghost use Rattle.gateway.specs.declared.write.Written.TheVariants as written;
 ghost use Rattle.gateway.specs.Request.{reply_text};
 ghost use Rattle.gateway.specs.Write.{Writes};
@@ -39,6 +40,7 @@ pub fn write_reply<N: Line<W>, W: Swift>(
     closing: bool,
 ) -> Written
     requires open { IsTrue (N.is_open line.old) }
+    requires showable { IsShowable reply.now }
     requires moment { label.now.moment < moment_limit }
     ensures open { N.is_open line.new ≡ true }
     ensures quiet { result ≢ written.Failed → N.faults line.new ≡ N.faults line.old }
@@ -48,7 +50,7 @@ pub fn write_reply<N: Line<W>, W: Swift>(
     ensures tells { N.tells line.old → N.tells line.new }
     ensures told { N.tells line.old → Writes (N.wire line.old) (W.called store.now) reply.now label.now method.now resource.now closing result (N.wire line.new) }
 {
-    match print(alloc, reply, label, method, resource, closing) {
+    match print_reply(alloc, reply, label, method, resource, closing) {
         Ok(text) => match line.write(store, text.as_slice()) {
             Ok(()) => Written::Whole,
             Err(_) => Written::Failed,
@@ -76,9 +78,13 @@ pub fn write_memory<N: Line<W>, W: Swift>(line: &mut N, store: &W, head: bool) -
     }
 }
 
-// The text of a reply. The word that memory was wanted has none.
+/// The bytes of a reply to a request of that method, whose target has the raw path `resource`; `closing` says that the
+/// connection ends after it. The moments in the label and the reply, in seconds since the beginning of 1970, lie before
+/// the year 10000, and an object's range ends at most at 2^63 and isn't empty where it is partial.
+/// The call fails for want of memory, and for the reply that says so, whose bytes are fixed and need none
+/// ([`http_wire::print_memory`]).
 #[tactic(auto, using(crate::proofs::Statuses::reply_status), unfolding(crate::specs::Request::reply_text))]
-fn print(
+pub fn print_reply(
     alloc: Global,
     reply: &Reply,
     label: &Label,
@@ -86,7 +92,8 @@ fn print(
     resource: &[u8],
     closing: bool,
 ) -> Result<Bytes, Memory>
-    requires { label.now.moment < moment_limit }
+    requires showable { IsShowable reply.now }
+    requires moment { label.now.moment < moment_limit }
     ensures text { IfOk result (λ text. text ≡ reply_text reply.now label.now method.now resource.now closing) }
     ensures known { OnOk result (reply.now ≢ answer.Memory) }
 {

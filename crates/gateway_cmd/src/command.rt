@@ -1,5 +1,6 @@
 ghost use Rattle.std.specs.Prelude.{◌≡◌, ◌≢◌, ◌≤◌, ◌↔◌, ◌++◌, ℕ, true, false, List, []};
 ghost use Rattle.gate_base.specs.Causes.{Rose};
+ghost use Rattle.swift_calls.specs.History.{Kept};
 ghost use Rattle.upload_records.specs.Sound.{Sound};
 ghost use Rattle.gateway.specs.Exchange.{Turn};
 ghost use Rattle.gateway.specs.Connection.{tally};
@@ -43,12 +44,18 @@ pub fn run<N: Line<W>, R: Sink, W: Swift, C: Clock, D: Draws>(
     ensures report { R.tells report.old → (Rose (R.faults report.old) (R.faults report.new) → ⊥)
         → (ended : status) × (result ≡ code_of ended) × (R.put_bytes report.new ≡ R.put_bytes report.old ++ line_of ended) }
 
+    // What tells goes on to, and what the store told of its calls before the run stays.
+    ensures tells_line { N.tells line.old → N.tells line.new }
+    ensures tells_store { W.tells store.old → W.tells store.new }
+    ensures tells_clock { C.tells clock.old → C.tells clock.new }
+    ensures tells_draws { D.tells draws.old → D.tells draws.new }
     ensures ordered { W.called store.old ≤ W.called store.new }
+    ensures kept { W.tells store.old → Kept (W.called store.old) (W.tree_at store.old) (W.tree_at store.new) (W.faults_at store.old) (W.faults_at store.new) }
 
     // Where line, store, clock and draws tell, and the account is sound at entry, the run is a talk: the requests of
     // its connections in order, each with its turn; and at each number of calls the account is sound, and it is that at
     // the entry or stands for the state before or after the one request that has the number.
-    ensures told { N.tells line.old → W.tells store.old → C.tells clock.old → D.tells draws.old → Sound (W.tree_at store.new (W.called store.old))
+    ensures told { N.tells line.old → W.tells store.old → C.tells clock.old → D.tells draws.old → Sound (W.tree_at store.old (W.called store.old))
         → (turns : List Turn)
         × Talk default_settings (W.tree_at store.new) (W.faults_at store.new)
         (place_of (N.wire line.old) (tally (W.called store.old) (C.moments clock.old) (D.draws draws.old) (N.wire line.old).sent))
@@ -76,7 +83,12 @@ fn attempt<N: Line<W>, W: Swift, C: Clock, D: Draws>(
     ensures quiet { result ≢ variant.Line → N.next_faults line.new ≡ N.next_faults line.old }
     ensures done { N.tells line.old → result ≡ variant.Done → (N.wire line.new).waiting ≡ [] }
     ensures idle { is_accepted words.now ≡ false → (line.new ≡ line.old) × (store.new ≡ store.old) × (clock.new ≡ clock.old) × (draws.new ≡ draws.old) }
+    ensures tells_line { N.tells line.old → N.tells line.new }
+    ensures tells_store { W.tells store.old → W.tells store.new }
+    ensures tells_clock { C.tells clock.old → C.tells clock.new }
+    ensures tells_draws { D.tells draws.old → D.tells draws.new }
     ensures ordered { W.called store.old ≤ W.called store.new }
+    ensures kept { W.tells store.old → Kept (W.called store.old) (W.tree_at store.old) (W.tree_at store.new) (W.faults_at store.old) (W.faults_at store.new) }
     ensures told { N.tells line.old → W.tells store.old → C.tells clock.old → D.tells draws.old → Sound (W.tree_at store.new (W.called store.old))
         → (turns : List Turn)
         × Talk default_settings (W.tree_at store.new) (W.faults_at store.new)

@@ -10,4 +10,6 @@ pub use command::run;
 pub use laws::{law_talk_stands, law_turns_follow};
 
 #[cfg(test)]
+mod object_tests;
+#[cfg(test)]
 mod tests;

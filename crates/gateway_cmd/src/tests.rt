@@ -1,9 +1,12 @@
-ghost use Rattle.std.specs.Prelude.{◌≡◌, ◌<◌, ◌≤◌, IfOk};
+ghost use Rattle.std.specs.Prelude.{◌≡◌, ◌<◌, ◌≤◌, IfOk, IsTrue};
 ghost use Rattle.swift_calls.specs.Tree.{IsOrdered, IsSized};
+ghost use Rattle.s3_machine.specs.Shown.{IsShowable};
+ghost use Rattle.s3_machine.specs.Step.{IsProperOp};
 
 use crate::run;
 use gate_base::{Bytes, Caller, Counted, List, ListClock, ListDraws, MemLine, MemSink, Memory};
-use s3_machine::{Label, Native, Op, Reply, Settings};
+use gateway::print_reply;
+use s3_machine::{Code, Label, Native, Op, Reply, Settings};
 use s3_names::{Acl, is_bucket};
 use std::alloc::Global;
 use std::fmt::Write;
@@ -27,6 +30,9 @@ const MADE: &str =
 const OWNED: &str =
     "HTTP/1.1 409 Conflict\r\nDate: Fri, 24 May 2013 00:00:00 GMT\r\nx-amz-request-id: 00000000000000000000000000000003\r\nContent-Type: application/xml\r\nContent-Length: 220\r\n\r\n<?xml version=\"1.0\" encoding=\"UTF-8\"?>\n<Error><Code>BucketAlreadyOwnedByYou</Code><Message>You own this bucket already.</Message><Resource>/photos</Resource><RequestId>00000000000000000000000000000003</RequestId></Error>";
 
+/// The account with the bucket.
+const PHOTOS: &str = "photos nobody 1369353600 0";
+
 /// A reply that is due: on which connection, after how many calls of the store, its code or `Made`, its id, what it
 /// names, whether it closes the connection, and whether it answers HEAD.
 type Due = (u64, u64, &'static str, u64, &'static str, bool, bool);
@@ -36,7 +42,12 @@ fn of_code(code: &str) -> (&'static str, &'static str) {
     match code {
         "Made" => ("200 OK", ""),
         "BucketAlreadyOwnedByYou" => ("409 Conflict", "You own this bucket already."),
+        "EntityTooLarge" => ("400 Bad Request", "The body is too large."),
+        "IncompleteBody" => ("400 Bad Request", "The body is incomplete."),
         "InvalidRequest" => ("400 Bad Request", "The request is invalid."),
+        "InvalidBucketName" => ("400 Bad Request", "The bucket name is invalid."),
+        "MethodNotAllowed" => ("405 Method Not Allowed", "The method is not allowed here."),
+        "MissingContentLength" => ("411 Length Required", "Content-Length is missing."),
         "NotImplemented" => ("501 Not Implemented", "This is not implemented."),
         _ => ("503 Service Unavailable", "The store is unavailable."),
     }
@@ -89,6 +100,91 @@ fn sent_text(alloc: Global, line: &MemLine) -> Result<String, Fail> {
     Ok(text)
 }
 
+/// The code that a request is refused with before the machine is asked.
+fn refusal(code: &str) -> Option<Code> {
+    match code {
+        "EntityTooLarge" => Some(Code::EntityTooLarge),
+        "IncompleteBody" => Some(Code::IncompleteBody),
+        "InvalidRequest" => Some(Code::InvalidRequest),
+        "InvalidBucketName" => Some(Code::InvalidBucketName),
+        "MethodNotAllowed" => Some(Code::MethodNotAllowed),
+        "MissingContentLength" => Some(Code::MissingContentLength),
+        "NotImplemented" => Some(Code::NotImplemented),
+        _ => None,
+    }
+}
+
+/// The same pieces by the machine, which is asked each request in turn that isn't refused before, and by the plain
+/// printing of its replies.
+fn machine_text(alloc: Global, dues: &[Due]) -> Result<String, Fail> {
+    let mut machine = Native::new(alloc, settings(alloc)?);
+    let mut text = String::new(alloc);
+    for (connection, at, code, id, resource, closing, head) in dues {
+        let label = label(*id);
+        let reply = match refusal(code) {
+            Some(code) => Reply::Refused(code),
+            None => machine.step(&create(alloc, resource)?, &label)?,
+        };
+        if !is_of_bucket(&reply) {
+            return Err(Fail::from("another reply"));
+        }
+        let method: &str = if *head { "HEAD" } else { "PUT" };
+        let bytes = print_reply(
+            alloc,
+            &reply,
+            &label,
+            method.as_bytes(),
+            resource.as_bytes(),
+            *closing,
+        )?;
+        let bytes = str::from_utf8(bytes.as_slice())?;
+        write!(text, "[{connection} {at}]{bytes}")?;
+    }
+    Ok(text)
+}
+
+/// Whether the reply is one to CreateBucket.
+fn is_of_bucket(reply: &Reply) -> bool
+    ensures { IsTrue result → IsShowable reply.now }
+{
+    match reply {
+        Reply::Refused(_) | Reply::Made { .. } => true,
+        Reply::Memory | Reply::Gone | Reply::Stored { .. } | Reply::Object { .. } => false,
+    }
+}
+
+fn settings(alloc: Global) -> Result<Settings, Memory> {
+    Ok(Settings {
+        region: Bytes::from_slice(alloc, b"us-east-1")?,
+        least_part: 1,
+    })
+}
+
+fn label(id: u64) -> Label
+    ensures { result.moment ≡ 1369353600 }
+{
+    Label {
+        caller: Caller::Owner,
+        moment: MOMENT,
+        request_id: u128::from(id),
+        draw: u128::from(id),
+    }
+}
+
+/// The operation that makes the bucket of a path, private.
+fn create(alloc: Global, path: &str) -> Result<Op, Fail>
+    ensures { IfOk result IsProperOp }
+{
+    let bucket = Bytes::from_slice(alloc, path.as_bytes().strip_prefix(b"/").ok_or("a path")?)?;
+    if !is_bucket(bucket.as_slice()) {
+        return Err(Fail::from("a bucket"));
+    }
+    Ok(Op::CreateBucket {
+        bucket,
+        acl: Acl::Private,
+    })
+}
+
 /// Each container with its read list, its moment and the number of its objects.
 fn account_text(alloc: Global, account: &Account) -> Result<String, Fail> {
     let mut text = String::new(alloc);
@@ -105,13 +201,13 @@ fn account_text(alloc: Global, account: &Account) -> Result<String, Fail> {
     Ok(text)
 }
 
-fn numbers(alloc: Global, numbers: &[u64]) -> Result<List<u64>, Memory>
+pub(crate) fn numbers(alloc: Global, numbers: &[u64]) -> Result<List<u64>, Memory>
     ensures { IfOk result (λ list. list ≡ numbers.now) }
 {
     Ok(List::from_vec(Vec::from_slice(alloc, numbers)?))
 }
 
-fn empty_account(alloc: Global) -> Account
+pub(crate) fn empty_account(alloc: Global) -> Account
     ensures ordered { IsOrdered result }
     ensures sized { IsSized result }
 {
@@ -131,15 +227,15 @@ fn store_of(alloc: Global, account: Account) -> Result<MemSwift, Memory>
 /// What a run is given but for its store: its words, the bytes of each connection, how many a read gives at most, and
 /// the calls of the line that fail.
 #[derive(Clone, Copy)]
-struct Given {
-    words: &'static [&'static str],
-    connections: &'static [&'static str],
-    piece: usize,
-    fails: &'static [u64],
+pub(crate) struct Given {
+    pub(crate) words: &'static [&'static str],
+    pub(crate) connections: &'static [&'static str],
+    pub(crate) piece: usize,
+    pub(crate) fails: &'static [u64],
 }
 
 /// `status S`, the report and the pieces that were sent.
-fn run_text(alloc: Global, given: Given, store: &mut MemSwift) -> Result<String, Fail>
+pub(crate) fn run_text(alloc: Global, given: Given, store: &mut MemSwift) -> Result<String, Fail>
     requires { 0 < given.piece }
 {
     let mut words = Vec::new(alloc);
@@ -174,30 +270,45 @@ fn run_text(alloc: Global, given: Given, store: &mut MemSwift) -> Result<String,
     Ok(format!(in alloc; "status {status}\n{reported}{sent}")?)
 }
 
-/// What each run gives that meets no fault.
-const TALKS: [(&[&str], &[Due]); 11] = [
-    (&[PUT], &[(1, 2, "Made", 1, "/photos", false, false)]),
+/// What each run gives that meets no fault, and the account after it.
+const TALKS: [(&[&str], &[Due], &str); 12] = [
+    (
+        &[PUT],
+        &[(1, 2, "Made", 1, "/photos", false, false)],
+        PHOTOS,
+    ),
     (
         &[PUT_TWICE],
         &[
             (1, 2, "Made", 1, "/photos", false, false),
             (1, 3, "BucketAlreadyOwnedByYou", 3, "/photos", false, false),
         ],
+        PHOTOS,
     ),
     // without the last byte
-    (&["PUT /photos HTTP/1.1\r\nContent-Length: 0\r\n\r"], &[]),
-    (&["", PUT], &[(2, 2, "Made", 1, "/photos", false, false)]),
+    (
+        &["PUT /photos HTTP/1.1\r\nContent-Length: 0\r\n\r"],
+        &[],
+        "",
+    ),
+    (
+        &["", PUT],
+        &[(2, 2, "Made", 1, "/photos", false, false)],
+        PHOTOS,
+    ),
     (
         &[
-            "PUT /photos HTTP/1.1\r\nContent-Length: 0\r\nConnection: keep-alive, Close\r\n\r\nPUT /photos HTTP/1.1\r\nContent-Length: 0\r\n\r\n",
+            "PUT /photos HTTP/1.1\r\nContent-Length: 0\r\nConnection: Keep-Alive, CLOSE\r\n\r\nPUT /photos HTTP/1.1\r\nContent-Length: 0\r\n\r\n",
         ],
         &[(1, 2, "Made", 1, "/photos", true, false)],
+        PHOTOS,
     ),
     (
         &[
             "PUT /photos HTTP/1.0\r\nContent-Length: 0\r\n\r\nPUT /photos HTTP/1.1\r\nContent-Length: 0\r\n\r\n",
         ],
         &[(1, 2, "Made", 1, "/photos", true, false)],
+        PHOTOS,
     ),
     (
         &[
@@ -205,17 +316,45 @@ const TALKS: [(&[&str], &[Due]); 11] = [
         ],
         &[
             (1, 0, "NotImplemented", 1, "/photos", false, true),
-            (1, 0, "NotImplemented", 3, "/", false, false),
-            (1, 0, "NotImplemented", 5, "/ab", false, false),
+            (1, 0, "MethodNotAllowed", 3, "/", false, false),
+            (1, 0, "InvalidBucketName", 5, "/ab", false, false),
         ],
+        "",
     ),
     (
         &["PUT /photos HTTP/1.1\r\nContent-Length: 0\r\nX-Amz-Acl: private\r\n\r\n"],
         &[(1, 0, "NotImplemented", 1, "/photos", false, false)],
+        "",
     ),
     (
-        &["PUT /photos HTTP/1.1\r\nContent-Length: 5\r\n\r\nhello"],
-        &[(1, 0, "InvalidRequest", 1, "/", true, false)],
+        &[
+            "PUT /photos HTTP/1.1\r\nContent-Length: 5\r\n\r\nhelloPUT /photos HTTP/1.1\r\nContent-Length: 0\r\n\r\nGET /photos HTTP/1.1\r\n\r\nPUT /photos HTTP/1.1\r\n\r\n",
+        ],
+        &[
+            (1, 0, "NotImplemented", 1, "/photos", false, false),
+            (1, 2, "Made", 3, "/photos", false, false),
+            (1, 2, "NotImplemented", 5, "/photos", false, false),
+            (1, 2, "MissingContentLength", 7, "/", true, false),
+        ],
+        PHOTOS,
+    ),
+    // refused fronts
+    (
+        &[
+            "PUT /photos HTTP/1.1\r\nContent-Length: 5\r\nContent-Length: 5\r\n\r\nhelloPUT /photos HTTP/1.1\r\nContent-Length: 0\r\n\r\n",
+            "PUT /photos HTTP/1.1\r\nContent-Length: 16777217\r\n\r\n",
+            "PUT /photos HTTP/1.1\r\nTransfer-Encoding: chunked\r\nContent-Length: 0\r\nContent-Length: 0\r\n\r\n0\r\n\r\n",
+            "PUT /photos HTTP/1.1\r\nContent-Length: 5\r\n\r\nhell",
+            "HEAD /photos HTTP/1.1\r\nContent-Length: 00000000000000000005\r\n\r\nhello",
+        ],
+        &[
+            (1, 0, "InvalidRequest", 1, "/", true, false),
+            (2, 0, "EntityTooLarge", 3, "/", true, false),
+            (3, 0, "NotImplemented", 5, "/", true, false),
+            (4, 0, "IncompleteBody", 7, "/", true, false),
+            (5, 0, "InvalidRequest", 9, "/", true, true),
+        ],
+        "",
     ),
     (
         &[PUT, PUT],
@@ -223,6 +362,7 @@ const TALKS: [(&[&str], &[Due]); 11] = [
             (1, 2, "Made", 1, "/photos", false, false),
             (2, 3, "BucketAlreadyOwnedByYou", 3, "/photos", false, false),
         ],
+        PHOTOS,
     ),
     (
         &[PUT, "\u{1}", PUT],
@@ -231,14 +371,20 @@ const TALKS: [(&[&str], &[Due]); 11] = [
             (2, 2, "InvalidRequest", 3, "/", true, false),
             (3, 3, "BucketAlreadyOwnedByYou", 5, "/photos", false, false),
         ],
+        PHOTOS,
     ),
 ];
 
 #[test]
 fn talks_are_the_same_in_any_pieces(rt: HostRuntime) -> Result<(), Fail> {
     let alloc = rt.alloc();
-    for (connections, dues) in TALKS {
+    for (connections, dues, account) in TALKS {
         let due = due_text(alloc, dues)?;
+        assert_eq!(rt;
+            machine_text(alloc, dues)?.as_str(),
+            due.as_str(),
+            "{connections:?}"
+        );
         let want = format!(in alloc; "status 0\n{due}")?;
         for piece in [1, 2, 3, 7, 1024] {
             let given = Given {
@@ -250,6 +396,11 @@ fn talks_are_the_same_in_any_pieces(rt: HostRuntime) -> Result<(), Fail> {
             let mut store = store_of(alloc, empty_account(alloc))?;
             let got = run_text(alloc, given, &mut store)?;
             assert_eq!(rt; got.as_str(), want.as_str(), "{connections:?} by {piece}");
+            assert_eq!(rt;
+                account_text(alloc, store.account())?.as_str(),
+                account,
+                "{connections:?} by {piece}"
+            );
         }
     }
     let exact = format!(in alloc; "[1 2]{MADE}[1 3]{OWNED}")?;
@@ -265,7 +416,7 @@ const RUNS: [(&[&str], &[u64], u8, &str, &str); 6] = [
     (&["session", "x"], &[], 2, USAGE, ""),
     (&["session"], &[1], 3, "s3gate: line\n", ""),
     (&["session"], &[2], 0, "", ""),
-    (&["session"], &[3], 0, "", "photos nobody 1369353600 0"),
+    (&["session"], &[3], 0, "", PHOTOS),
 ];
 
 #[test]
@@ -358,32 +509,16 @@ const FAULTS: [(&[u64], &[u64], u64, &[Due], u64); 6] = [
 
 /// What the machine answers to CreateBucket of `photos`, where it was asked once before or not.
 fn machine_answer(alloc: Global, made: bool) -> Result<&'static str, Fail> {
-    let settings = Settings {
-        region: Bytes::from_slice(alloc, b"us-east-1")?,
-        least_part: 1,
-    };
-    let mut machine = Native::new(alloc, settings);
-    let label = Label {
-        caller: Caller::Owner,
-        moment: MOMENT,
-        request_id: 1,
-        draw: 2,
-    };
-    let bucket = Bytes::from_slice(alloc, b"photos")?;
-    if !is_bucket(bucket.as_slice()) {
-        return Ok("no bucket");
-    }
-    let op = Op::CreateBucket {
-        bucket,
-        acl: Acl::Private,
-    };
+    let mut machine = Native::new(alloc, settings(alloc)?);
+    let op = create(alloc, "/photos")?;
     if made {
-        let _first = machine.step(&op, &label)?;
+        let _first = machine.step(&op, &label(1))?;
     }
-    match machine.step(&op, &label)? {
+    match machine.step(&op, &label(1))? {
         Reply::Made { .. } => Ok("Made"),
         Reply::Refused(_) => Ok("BucketAlreadyOwnedByYou"),
         Reply::Memory => Ok("memory"),
+        Reply::Gone | Reply::Stored { .. } | Reply::Object { .. } => Ok("another reply"),
     }
 }
 
@@ -392,11 +527,7 @@ fn runs_again(rt: &impl Abort, alloc: Global, store: &MemSwift, commit: u64) -> 
     for k in 0..=store.calls() {
         let account = store.account_at(k)?;
         let made = 0 < commit && commit <= k;
-        let text = if made {
-            "photos nobody 1369353600 0"
-        } else {
-            ""
-        };
+        let text = if made { PHOTOS } else { "" };
         assert_eq!(rt; account_text(alloc, &account)?.as_str(), text, "at {k}");
         let given = Given {
             words: &["session"],

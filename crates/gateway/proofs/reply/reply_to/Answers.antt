@@ -8,16 +8,16 @@ use Rattle.gateway.proofs.reply.reply_to.Goals as goal
 pub returns-in-Op-clause-told : goal.returns-in-Op-clause-told
 returns-in-Op-clause-told g c = λ tells sound request understands.
     let p = g.W.Counted.called c.args.store.now in
-    let q = g.W.Counted.called c.answer.new.store in
-    let same = (c.answer.ensures.kept tells).accounts p (omega arith) in
-    let bound = subst (λ tree. q ≤ p + most_calls c.in-Op.op tree) (sym same) c.answer.ensures.calls.most in
-    replies_op _ _ _ p q request _ _ c.in-Op.op _ c.in-Op.is understands (c.answer.ensures.told tells sound) bound
+    let q = g.W.Counted.called c.operate.new.store in
+    let same = (c.operate.ensures.kept tells).accounts p (omega arith) in
+    let bound = subst (λ tree. q ≤ p + most_calls c.in-Op.op tree) (sym same) c.operate.ensures.calls.most in
+    replies_op _ _ _ p q request _ _ c.in-Op.op _ c.in-Op.is understands (c.operate.ensures.told tells sound) bound
 
 -- a code that is meant is not the one for a store that failed
 pub returns-in-Refused-clause-unavailable : goal.returns-in-Refused-clause-unavailable
 returns-in-Refused-clause-unavailable g c = λ e.
     let proper = subst IsProperMeant c.in-Refused.is c.requires.proper in
-    absurd (proper (let same : c.in-Refused.code ≡ ServiceUnavailable = cc in same))
+    absurd (proper.available (let same : c.in-Refused.code ≡ ServiceUnavailable = cc in same))
 
 pub returns-in-Refused-clause-told : goal.returns-in-Refused-clause-told
 returns-in-Refused-clause-told g c = λ tells sound request understands. replies_refused _ _ _ _ request _ _ c.in-Refused.code c.in-Refused.is understands sound

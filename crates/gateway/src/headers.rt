@@ -1,0 +1,146 @@
+//! What the headers of a request say, and which of them no row takes.
+ghost use Rattle.std.specs.Prelude.{◌≡◌, ◌&&◌, ◌||◌, not, nat_eq, ◌==◌, [], ◌∷◌, length, codes, bytes_eq, IfOk, take, map, filter};
+ghost use Rattle.std.specs.List.{list_any, starts_with, join_with_byte};
+ghost use Rattle.http_wire.specs.Front.{has_name, value_of, values_of};
+ghost use Rattle.gateway.specs.declared.rows.Level.{Level};
+ghost use Rattle.gateway.specs.declared.rows.Level.TheVariants.{Key};
+ghost use Rattle.gateway.specs.Rows.{is_same_level};
+ghost use Rattle.gateway.specs.Headers.{has_header, text_of, is_unsupported_name, is_unsupported_kind, is_unsupported, has_unsupported, has_part, is_chunked, is_read, is_conditional_write, is_conditional, is_conditional_read, names_acl, has_other_class};
+
+use crate::join::joined;
+use crate::rows::{Level, is_same_level};
+use gate_base::{Bytes, Copying, List, Memory, Pair};
+use std::alloc::Global;
+
+fn has_name(name: &[u8], header: &Pair) -> bool
+    ensures { result ≡ has_name name.now header.now }
+{
+    header.name.as_slice() == name
+}
+
+/// Whether there is a header of the name.
+pub fn has_header(headers: &[Pair], name: &[u8]) -> bool
+    ensures { result ≡ has_header headers.now name.now }
+{
+    headers.iter().any(|header| has_name(name, header))
+}
+
+fn values_of(alloc: Global, headers: &[Pair], name: &[u8]) -> Result<List<Bytes>, Memory>
+    ensures { IfOk result (λ values. values ≡ values_of name.now headers.now) }
+{
+    let mut values = List::new(alloc);
+    for header in headers {
+        if has_name(name, header) {
+            values.push(header.value.copy()?)?;
+        }
+    }
+    Ok(values)
+}
+
+/// The values of the headers of a name in their order, with `,` between each two (RFC 9110, section 5.3); no byte where
+/// there is none.
+pub fn text_of(alloc: Global, headers: &[Pair], name: &[u8]) -> Result<Bytes, Memory>
+    ensures { IfOk result (λ text. text ≡ text_of headers.now name.now) }
+{
+    let values = values_of(alloc, headers, name)?;
+    joined(alloc, b',', values.as_slice())
+}
+
+fn is_unsupported_name(name: &[u8]) -> bool
+    ensures { result ≡ is_unsupported_name name.now }
+{
+    name == b"x-amz-copy-source".as_slice()
+        || name == b"x-amz-tagging".as_slice()
+        || name == b"x-amz-website-redirect-location".as_slice()
+        || name == b"x-amz-security-token".as_slice()
+}
+
+fn is_unsupported_kind(name: &[u8]) -> bool
+    ensures { result ≡ is_unsupported_kind name.now }
+{
+    name.starts_with(b"x-amz-server-side-encryption")
+        || name.starts_with(b"x-amz-object-lock")
+        || name.starts_with(b"x-amz-bucket-object-lock")
+        || name.starts_with(b"x-amz-grant-")
+}
+
+fn is_unsupported(header: &Pair) -> bool
+    ensures { result ≡ is_unsupported header.now }
+{
+    is_unsupported_name(header.name.as_slice()) || is_unsupported_kind(header.name.as_slice())
+}
+
+/// Whether there is a header that asks for what this profile doesn't have.
+pub fn has_unsupported(headers: &[Pair]) -> bool
+    ensures { result ≡ has_unsupported headers.now }
+{
+    headers.iter().any(|header| is_unsupported(header))
+}
+
+/// Whether the word stands somewhere in the text.
+#[tactic(auto, unfolding(crate::specs::Headers::has_part))]
+fn has_part(word: &[u8], text: &[u8]) -> bool
+    ensures { result ≡ has_part word.now text.now }
+{
+    let mut rest = text;
+    'bytes: while let [_, behind @ ..] = rest {
+        if rest.starts_with(word) {
+            return true;
+        }
+        rest = behind;
+    }
+    false
+}
+
+/// Whether the body would come in the chunks of Signature Version 4.
+pub fn is_chunked(alloc: Global, headers: &[Pair]) -> Result<bool, Memory>
+    ensures { IfOk result (λ chunked. chunked ≡ is_chunked headers.now) }
+{
+    let encoding = text_of(alloc, headers, b"content-encoding")?;
+    Ok(has_part(b"aws-chunked", encoding.as_slice()))
+}
+
+fn is_read(method: &[u8]) -> bool
+    ensures { result ≡ is_read method.now }
+{
+    method == b"GET".as_slice() || method == b"HEAD".as_slice()
+}
+
+/// Whether a request that isn't a GET or HEAD has a condition on the ETag.
+pub fn is_conditional_write(method: &[u8], headers: &[Pair]) -> bool
+    ensures { result ≡ is_conditional_write method.now headers.now }
+{
+    !is_read(method) && (has_header(headers, b"if-match") || has_header(headers, b"if-none-match"))
+}
+
+fn is_conditional(headers: &[Pair]) -> bool
+    ensures { result ≡ is_conditional headers.now }
+{
+    has_header(headers, b"range")
+        || has_header(headers, b"if-match")
+        || has_header(headers, b"if-none-match")
+        || has_header(headers, b"if-modified-since")
+        || has_header(headers, b"if-unmodified-since")
+}
+
+/// Whether a GET or HEAD of a key has a range or a condition, which aren't built.
+pub fn is_conditional_read(method: &[u8], level: Level, headers: &[Pair]) -> bool
+    ensures { result ≡ is_conditional_read method.now level headers.now }
+{
+    is_read(method) && is_same_level(level, Level::Key) && is_conditional(headers)
+}
+
+/// Whether an access control list is named, which isn't built.
+pub fn names_acl(headers: &[Pair]) -> bool
+    ensures { result ≡ names_acl headers.now }
+{
+    has_header(headers, b"x-amz-acl")
+}
+
+/// Whether a storage class other than `STANDARD` is asked for.
+pub fn has_other_class(alloc: Global, headers: &[Pair]) -> Result<bool, Memory>
+    ensures { IfOk result (λ other. other ≡ has_other_class headers.now) }
+{
+    let class = text_of(alloc, headers, b"x-amz-storage-class")?;
+    Ok(has_header(headers, b"x-amz-storage-class") && class.as_slice() != b"STANDARD".as_slice())
+}

@@ -1,0 +1,322 @@
+//! The table of requests: which method, at which level, with which names in the query asks for which operation.
+ghost use Rattle.std.specs.Prelude.{◌≡◌, Bool, true, false, not, ◌&&◌, find, codes};
+ghost use Rattle.std.specs.List.{list_any};
+ghost use Rattle.std.specs.Option.{option_copied};
+ghost use Rattle.gateway.specs.Rows.{rows, shape_of, level_of, is_same_level, is_same, is_asked, is_among, is_name_of, agrees, is_same_set, fits, is_method};
+
+use crate::query::is_asked;
+use gate_base::Pair;
+
+/// How far a target goes.
+#[derive(Clone, Copy, Debug, PartialEq, Eq)]
+pub enum Level {
+    Service,
+    Bucket,
+    Key,
+}
+
+/// The rows of the table, by the operation that each asks for (Amazon S3 API Reference, "Actions").
+#[derive(Clone, Copy, Debug, PartialEq, Eq)]
+pub enum Row {
+    ListBuckets,
+    CreateBucket,
+    PutBucketAcl,
+    DeleteBucket,
+    HeadBucket,
+    GetLocation,
+    GetBucketAcl,
+    ListObjects,
+    ListObjectsV2,
+    ListUploads,
+    PutObject,
+    GetObject,
+    HeadObject,
+    DeleteObject,
+    GetObjectAcl,
+    CreateUpload,
+    UploadPart,
+    ListParts,
+    CompleteUpload,
+    AbortUpload,
+}
+
+const ROWS: [Row; 20] = [
+    Row::ListBuckets,
+    Row::CreateBucket,
+    Row::PutBucketAcl,
+    Row::DeleteBucket,
+    Row::HeadBucket,
+    Row::GetLocation,
+    Row::GetBucketAcl,
+    Row::ListObjects,
+    Row::ListObjectsV2,
+    Row::ListUploads,
+    Row::PutObject,
+    Row::GetObject,
+    Row::HeadObject,
+    Row::DeleteObject,
+    Row::GetObjectAcl,
+    Row::CreateUpload,
+    Row::UploadPart,
+    Row::ListParts,
+    Row::CompleteUpload,
+    Row::AbortUpload,
+];
+
+#[tactic(auto, unfolding(crate::specs::Rows::rows))]
+fn table() -> &'static [Row]
+    ensures { result.now ≡ rows }
+{
+    &ROWS
+}
+
+/// The row that a request fits, by its method, its level and the selectors in its query.
+pub fn row_for(method: &[u8], level: Level, query: &[Pair]) -> Option<Row>
+    ensures { result ≡ find (fits method.now level query.now) rows }
+{
+    match first_fit(method, level, query) {
+        Some(row) => Some(*row),
+        None => None,
+    }
+}
+
+fn first_fit(method: &[u8], level: Level, query: &[Pair]) -> Option<&'static Row>
+    ensures { option_copied result ≡ find (fits method.now level query.now) rows }
+{
+    table().iter().find(|row| fits(method, level, query, **row))
+}
+
+/// Whether a row has the name.
+pub fn is_known(name: &[u8]) -> bool
+    ensures { result ≡ list_any (is_name_of name.now) rows }
+{
+    table().iter().any(|row| is_name_of(name, *row))
+}
+
+/// Whether the method is one of the table.
+pub fn is_method(method: &[u8]) -> bool
+    ensures { result ≡ is_method method.now }
+{
+    method == b"GET".as_slice()
+        || method == b"HEAD".as_slice()
+        || method == b"PUT".as_slice()
+        || method == b"POST".as_slice()
+        || method == b"DELETE".as_slice()
+}
+
+pub fn level_of(bucket: &[u8], key: &[u8]) -> Level
+    ensures { result ≡ level_of bucket.now key.now }
+{
+    if key.len() == 0 {
+        if bucket.len() == 0 {
+            Level::Service
+        } else {
+            Level::Bucket
+        }
+    } else {
+        Level::Key
+    }
+}
+
+pub fn is_same_level(level: Level, other: Level) -> bool
+    ensures { result ≡ is_same_level level other }
+{
+    match level {
+        Level::Service => match other {
+            Level::Service => true,
+            Level::Bucket => false,
+            Level::Key => false,
+        },
+        Level::Bucket => match other {
+            Level::Service => false,
+            Level::Bucket => true,
+            Level::Key => false,
+        },
+        Level::Key => match other {
+            Level::Service => false,
+            Level::Bucket => false,
+            Level::Key => true,
+        },
+    }
+}
+
+fn is_same(a: bool, b: bool) -> bool
+    ensures { result ≡ is_same a b }
+{
+    if a { b } else { !b }
+}
+
+fn method_of(row: Row) -> &'static [u8]
+    ensures { result.now ≡ (shape_of row).method }
+{
+    match row {
+        Row::ListBuckets
+        | Row::GetLocation
+        | Row::GetBucketAcl
+        | Row::ListObjects
+        | Row::ListObjectsV2
+        | Row::ListUploads
+        | Row::GetObject
+        | Row::GetObjectAcl
+        | Row::ListParts => b"GET",
+        Row::HeadBucket | Row::HeadObject => b"HEAD",
+        Row::CreateBucket | Row::PutBucketAcl | Row::PutObject | Row::UploadPart => b"PUT",
+        Row::CreateUpload | Row::CompleteUpload => b"POST",
+        Row::DeleteBucket | Row::DeleteObject | Row::AbortUpload => b"DELETE",
+    }
+}
+
+fn level_of_row(row: Row) -> Level
+    ensures { result ≡ (shape_of row).level }
+{
+    match row {
+        Row::ListBuckets => Level::Service,
+        Row::CreateBucket
+        | Row::PutBucketAcl
+        | Row::DeleteBucket
+        | Row::HeadBucket
+        | Row::GetLocation
+        | Row::GetBucketAcl
+        | Row::ListObjects
+        | Row::ListObjectsV2
+        | Row::ListUploads => Level::Bucket,
+        Row::PutObject
+        | Row::GetObject
+        | Row::HeadObject
+        | Row::DeleteObject
+        | Row::GetObjectAcl
+        | Row::CreateUpload
+        | Row::UploadPart
+        | Row::ListParts
+        | Row::CompleteUpload
+        | Row::AbortUpload => Level::Key,
+    }
+}
+
+/// Whether the row is one that is built.
+pub fn is_built(row: Row) -> bool
+    ensures { result ≡ (shape_of row).built }
+{
+    match row {
+        Row::CreateBucket | Row::PutObject | Row::GetObject | Row::HeadObject | Row::DeleteObject =>
+            true,
+        Row::ListBuckets
+        | Row::PutBucketAcl
+        | Row::DeleteBucket
+        | Row::HeadBucket
+        | Row::GetLocation
+        | Row::GetBucketAcl
+        | Row::ListObjects
+        | Row::ListObjectsV2
+        | Row::ListUploads
+        | Row::GetObjectAcl
+        | Row::CreateUpload
+        | Row::UploadPart
+        | Row::ListParts
+        | Row::CompleteUpload
+        | Row::AbortUpload => false,
+    }
+}
+
+/// Whether the name is one of the selectors of the row.
+fn selects(name: &[u8], row: Row) -> bool
+    ensures { result ≡ is_among name.now (shape_of row).selectors }
+{
+    match row {
+        Row::ListBuckets
+        | Row::CreateBucket
+        | Row::DeleteBucket
+        | Row::HeadBucket
+        | Row::ListObjects
+        | Row::PutObject
+        | Row::GetObject
+        | Row::HeadObject
+        | Row::DeleteObject => false,
+        Row::PutBucketAcl | Row::GetBucketAcl | Row::GetObjectAcl => name == b"acl".as_slice(),
+        Row::GetLocation => name == b"location".as_slice(),
+        Row::ListObjectsV2 => name == b"list-type".as_slice(),
+        Row::ListUploads | Row::CreateUpload => name == b"uploads".as_slice(),
+        Row::ListParts | Row::CompleteUpload | Row::AbortUpload => name == b"uploadId".as_slice(),
+        Row::UploadPart => name == b"partNumber".as_slice() || name == b"uploadId".as_slice(),
+    }
+}
+
+/// Whether the name is one of those that the row has beside its selectors.
+fn goes_on(name: &[u8], row: Row) -> bool
+    ensures { result ≡ is_among name.now (shape_of row).further }
+{
+    match row {
+        Row::ListBuckets
+        | Row::CreateBucket
+        | Row::PutBucketAcl
+        | Row::DeleteBucket
+        | Row::HeadBucket
+        | Row::GetLocation
+        | Row::GetBucketAcl
+        | Row::PutObject
+        | Row::GetObject
+        | Row::HeadObject
+        | Row::DeleteObject
+        | Row::GetObjectAcl
+        | Row::CreateUpload
+        | Row::UploadPart
+        | Row::CompleteUpload
+        | Row::AbortUpload => false,
+        Row::ListObjects => {
+            name == b"prefix".as_slice()
+                || name == b"delimiter".as_slice()
+                || name == b"marker".as_slice()
+                || name == b"max-keys".as_slice()
+                || name == b"encoding-type".as_slice()
+        }
+        Row::ListObjectsV2 => {
+            name == b"prefix".as_slice()
+                || name == b"delimiter".as_slice()
+                || name == b"start-after".as_slice()
+                || name == b"continuation-token".as_slice()
+                || name == b"max-keys".as_slice()
+                || name == b"encoding-type".as_slice()
+                || name == b"fetch-owner".as_slice()
+        }
+        Row::ListUploads => {
+            name == b"prefix".as_slice()
+                || name == b"key-marker".as_slice()
+                || name == b"upload-id-marker".as_slice()
+                || name == b"max-uploads".as_slice()
+        }
+        Row::ListParts => {
+            name == b"max-parts".as_slice() || name == b"part-number-marker".as_slice()
+        }
+    }
+}
+
+/// Whether the row has the name.
+pub fn is_name_of(name: &[u8], row: Row) -> bool
+    ensures { result ≡ is_name_of name.now row }
+{
+    selects(name, row) || goes_on(name, row)
+}
+
+/// Whether the query has the selector exactly where the row has it.
+fn agrees(query: &[Pair], row: Row, name: &[u8]) -> bool
+    ensures { result ≡ agrees query.now (shape_of row).selectors name.now }
+{
+    is_same(is_asked(query, name), selects(name, row))
+}
+
+fn is_same_set(query: &[Pair], row: Row) -> bool
+    ensures { result ≡ is_same_set query.now (shape_of row).selectors }
+{
+    agrees(query, row, b"acl")
+        && agrees(query, row, b"location")
+        && agrees(query, row, b"uploads")
+        && agrees(query, row, b"uploadId")
+        && agrees(query, row, b"partNumber")
+        && agrees(query, row, b"list-type")
+}
+
+fn fits(method: &[u8], level: Level, query: &[Pair], row: Row) -> bool
+    ensures { result ≡ fits method.now level query.now row }
+{
+    method == method_of(row) && is_same_level(level, level_of_row(row)) && is_same_set(query, row)
+}
