@@ -1,4 +1,4 @@
--- What a count of calls or of faults says of a call.
+-- What a count of calls or of faults says of a call. Source: this profile.
 use Rattle.std.specs.Prelude.{◌≡◌, ◌<◌, ◌≤◌, ℕ, ◌+◌, ◌-◌, ◌^◌, min, max, Bool, true, false, if◌then◌else◌}
 
 -- the count of faults rose: it is greater, or it is kept by a `u64` that has come to its greatest value

@@ -1,4 +1,4 @@
--- The calls of an object in memory are numbered from 1, and it is given the numbers of those that fail.
+-- The calls of an object in memory are numbered from 1, and it is given the numbers of those that fail. Source: this profile.
 use Rattle.std.specs.Prelude.{◌≡◌, ℕ, zero, suc, ◌+◌, ◌-◌, ◌^◌, ◌==◌, nat_lt, Bool, ◌&&◌, List, if◌then◌else◌, refl}
 use Rattle.std.specs.List.{list_any}
 use Rattle.std.proofs.Common.{add-one}

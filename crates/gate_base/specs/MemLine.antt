@@ -1,5 +1,5 @@
 -- What a line in memory shows of itself.
-use Rattle.std.specs.Prelude.{◌≡◌, ℕ, ◌+◌, ◌^◌, Bool, not, ◌&&◌, nat_le, nat_lt, List, length}
+use Rattle.std.specs.Prelude.{◌≡◌, ℕ, ◌+◌, ◌^◌, ◌≤◌, Bool, not, ◌&&◌, nat_le, nat_lt, List, length}
 use Rattle.std.proofs.Common.{sym}
 use Rattle.gate_base.specs.Wire.{Wire}
 use Rattle.gate_base.specs.MemWire.{told_by}
@@ -58,3 +58,7 @@ reads_past line = not (is_to_fail line) && nat_lt 0 (length (wire_of line).rest)
 -- each connection that has begun has its mark
 pub marks_begun : (line : MemLine) → length (wire_of line).marks ≡ (wire_of line).begun
 marks_begun line = sym line.wire.marks.ok.0
+
+-- the faults of `next` are among the faults
+pub counts_next : (line : MemLine) → next_faults_of line ≤ faults_of line
+counts_next line = line.next_within

@@ -55,7 +55,7 @@ by_order Less a b c = a
 by_order Equal a b c = b
 by_order Greater a b c = c
 
--- over the thing of its name, or else before the first with a greater name
+-- in a list in order of names over the thing of its name, or else before the first with a greater name
 unfoldable pub placed : {A : Type 0} → (A → List ℕ) → A → List A → List A
 placed name a [] = a ∷ []
 placed name a (b ∷ rest) = by_order (name_cmp (name a) (name b)) (a ∷ b ∷ rest) (a ∷ rest) (b ∷ placed name a rest)

@@ -1,4 +1,4 @@
--- What a telling line tells, and what each call does to it.
+-- What a telling line tells, and what each call does to it. Source: this profile.
 use Rattle.std.specs.Prelude.{◌≡◌, ◌⊎◌, ℕ, ◌+◌, ◌-◌, Bool, true, false, List, [], ◌∷◌, ◌++◌, take, slice_set}
 use Rattle.gate_base.specs.declared.outside.Piece.{Piece}
 

@@ -1,8 +1,9 @@
-ghost use Rattle.std.specs.Prelude.{◌≡◌, ◌<◌, ◌≤◌, true, false, not, ◌&&◌, ◌||◌, IsTrue, IsErr, is_err, IfOk, OnOk, OnErr};
+ghost use Rattle.std.specs.Prelude.{◌≡◌, ◌<◌, ◌≤◌, ◌+◌, true, false, not, ◌&&◌, ◌||◌, IsTrue, IsErr, is_err, IfOk, OnOk, OnErr};
 ghost use Rattle.std.specs.Prelude.{[], length, take, min};
 ghost use Rattle.gate_base.specs.Causes.{Rose, Spends, SpendsIf, one_more, one_more_if};
 ghost use Rattle.gate_base.specs.Wire.{empty, Begins, Takes, with_piece, with_mark, SendsPrefix};
 ghost use Rattle.gate_base.specs.MemWire.{told_by};
+ghost use Rattle.gate_base.specs.Listed.{listed};
 
 use crate::numbered::Numbered;
 use crate::wire_memory::MemWire;
@@ -25,6 +26,7 @@ pub struct MemLine {
     next_faults: u64,
     ghost some_piece: { 0 < piece },
     ghost begun: { IsTrue connected → 0 < (told_by wire).begun },
+    ghost next_within: { next_faults ≤ listed calls.fails calls.made + past + wanted },
 }
 
 impl MemLine {
@@ -81,7 +83,7 @@ impl MemLine {
 
 impl<C: Counted> Line<C> for MemLine {
     ghost use Rattle.gate_base.specs.MemLine.{is_open_of, wire_of, piece_of, fails_of, made_of, spent_of, past_of};
-    ghost use Rattle.gate_base.specs.MemLine.{wanted_of, faults_of, next_faults_of, is_to_fail, begins_past, reads_past, marks_begun};
+    ghost use Rattle.gate_base.specs.MemLine.{wanted_of, faults_of, next_faults_of, is_to_fail, begins_past, reads_past, marks_begun, counts_next};
 
     ghost is_open = { is_open_of };
 
@@ -96,6 +98,8 @@ impl<C: Counted> Line<C> for MemLine {
     ghost wire = { wire_of };
 
     ghost marked = { λ line tells. marks_begun line };
+
+    ghost next_within = { counts_next };
 
     /// Failed exactly where the number of the call was given, or where a connection waits and no call is left.
     fn next(&mut self) -> Result<bool, Failed>
@@ -115,6 +119,7 @@ impl<C: Counted> Line<C> for MemLine {
         ensures fails { fails_of self.new ≡ fails_of self.old }
         ensures made { made_of self.new ≡ one_more (made_of self.old) }
         ensures past { past_of self.new ≡ one_more_if (begins_past self.old) (past_of self.old) }
+        ensures next_counted { next_faults_of self.new ≡ one_more_if (is_err result) (next_faults_of self.old) }
         ensures wanted { wanted_of self.new ≡ wanted_of self.old }
     {
         self.connected = false;

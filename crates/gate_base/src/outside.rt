@@ -136,6 +136,9 @@ pub trait Line<C: Counted> {
 
     /// Each connection that has begun has its mark.
     ghost marked: { (line : Self) → tells line → length (wire line).marks ≡ (wire line).begun };
+
+    /// The faults of `next` are among the faults.
+    ghost next_within: { (line : Self) → next_faults line ≤ faults line };
 }
 
 /// Where a program's report goes.

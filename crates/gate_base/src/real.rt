@@ -1,6 +1,7 @@
 //! Thin adapters over the real thing. They tell nothing of contents, and count each Failed that they answer in a
 //! `u64` that stays at its greatest value. Only the `main` of a program and tests make them.
 ghost use Rattle.std.specs.Prelude.{◌≡◌, false, []};
+ghost use Rattle.std.proofs.Common.{zero-le};
 ghost use Rattle.gate_base.specs.Causes.{Rose};
 ghost use Rattle.gate_base.specs.Wire.{empty};
 
@@ -66,6 +67,8 @@ impl<R: Input + Print + Drop, C: Counted> Line<C> for StdLine<R> {
     ghost wire = { λ _. empty };
 
     ghost marked = { λ line tells. absurd tells };
+
+    ghost next_within = { λ _. zero-le };
 
     /// True once, and false from then on.
     fn next(&mut self) -> Result<bool, Failed> {
