@@ -1,6 +1,6 @@
 ghost use Rattle.std.specs.Prelude.{◌≡◌};
 
-use gate_base::Memory;
+use gate_base::{Copying, Memory};
 
 /// The most segments that one manifest lists.
 pub const MOST_SEGMENTS: usize = 1000;
@@ -28,6 +28,14 @@ pub enum ManifestFault {
     TooManySegments,
     /// Memory was wanted and not there.
     Memory,
+}
+
+impl Copying for ManifestFault {
+    fn copy(&self) -> Result<ManifestFault, Memory>
+        ensures { result ≡ Ok self.now }
+    {
+        Ok(*self)
+    }
 }
 
 impl From<Memory> for ManifestFault {

@@ -4,7 +4,7 @@ use crate::MarkFault;
 use crate::cut::{cut_first, cut_last};
 use crate::forms::{is_content_type, is_etag};
 use crate::number::{append_decimal, append_id, fits_id, id_of, number_of};
-use gate_base::{Bytes, MOMENT_LIMIT, Memory};
+use gate_base::{Bytes, Copying, MOMENT_LIMIT, Memory};
 use std::alloc::Global;
 
 /// What the content type of a stored object tells of the object: its own content type, its ETag in hexadecimal, the
@@ -15,6 +15,17 @@ pub struct Tag {
     pub etag: Bytes,
     pub moment: u64,
     pub id: Option<u128>,
+}
+
+impl Copying for Tag {
+    fn copy(&self) -> Result<Tag, Memory> {
+        Ok(Tag {
+            content_type: self.content_type.copy()?,
+            etag: self.etag.copy()?,
+            moment: self.moment,
+            id: self.id,
+        })
+    }
 }
 
 impl Tag {
