@@ -1,4 +1,4 @@
--- Just one thing stands first in a list of bytes; a request has a byte, and no more than there are; and what spells a message.
+-- At most one thing stands first in a list of bytes; a request has a byte, and no more than there are; and what spells a message.
 use Rattle.std.proofs.Common.{◌≡◌, ℕ, ◌+◌, ◌<◌, ◌≤◌, Bool, true, false, cond, List, [], ◌++◌, length, take, drop, Ok, Err, refl, sym, ap, ap₂, subst, ◌∙◌, length-append, length-take, take-append-drop, arith}
 use Rattle.std.specs.Prelude.{Result, nat_le}
 use Rattle.std.proofs.lemmas.Bool.{cond-true, cond-false}

@@ -16,7 +16,7 @@ pub data Front : Type 0 where
   asks : Message → ℕ → Front
   -- no byte is left
   nothing : Front
-  -- the bytes end inside a head that could still go on
+  -- the bytes end inside a head that could still go on, or inside its target
   cut_short : Front
   -- anything else, by its kind, and whether it is a whole head whose method is HEAD
   refused : Kind → Bool → Front
@@ -134,7 +134,7 @@ abbrev pub EndsInBody : List ℕ → Bool → Type 0
 EndsInBody bytes head =
     (h : RequestHead) × (n m : ℕ) × HasHead bytes h n × (judge (message_of h) ≡ Ok m) × (length bytes < n + m) × (head ≡ is_head h.method)
 
--- no whole head, and none that could still come
+-- no whole head, and a prefix of which none can come and that doesn't end inside a target
 abbrev pub IsDeadHead : List ℕ → Bool → Type 0
 IsDeadHead bytes head = HasNoHead bytes × HasDeadPrefix bytes × (head ≡ false)
 

@@ -1,4 +1,4 @@
--- What a call of the reader gives, and what it does to the bytes that are left and to the line.
+-- What a call of the reader gives, and what it does to the bytes that are left and to the line. Source: this profile.
 use Rattle.std.specs.Prelude.{◌≡◌, ◌⊎◌, ℕ, ◌+◌, ◌-◌, ◌*◌, ◌^◌, min, Bool, true, false, List, length, drop, Result, Ok, Err, ⊤}
 use Rattle.gate_base.specs.Wire.{Wire}
 use Rattle.http_wire.specs.declared.message.Got.{Got}

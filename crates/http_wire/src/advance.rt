@@ -19,13 +19,13 @@ pub(crate) enum Found {
     /// A whole head, by its spans.
     Head(RequestSpans),
 
-    /// No whole head of `HEAD_LIMIT` bytes, and none can come.
+    /// No whole head of `HEAD_LIMIT` bytes: no head can come of them, and they don't end inside a target.
     Bad,
 
-    /// `HEAD_LIMIT` bytes, with no whole head, though they could go on to one.
+    /// `HEAD_LIMIT` bytes hold no head, and one could still come or they end inside a target.
     Long,
 
-    /// The connection's end inside a head.
+    /// The connection's end inside a head that could still go on, or inside its target.
     Cut,
 
     /// The connection's end and no byte.

@@ -3,7 +3,7 @@ ghost use Rattle.std.specs.Prelude.{◌≡◌, ◌<◌, ◌≤◌, List, length,
 ghost use Rattle.http_wire.specs.declared.message.Message.{Message};
 ghost use Rattle.http_wire.specs.Front.{Front, IsFront, Spells, asks};
 
-/// Just one thing stands first in a list of bytes.
+/// At most one thing stands first in a list of bytes.
 pub fn one_front()
     ensures { (bytes : List ℕ) (a b : Front) → IsFront bytes a → IsFront bytes b → a ≡ b }
 {}

@@ -14,7 +14,7 @@ pub(crate) enum Verdict {
     /// No head yet, and no prefix is dead.
     More,
 
-    /// No head ever.
+    /// No head can come of the bytes, and they don't end inside a target.
     Dead,
 }
 

@@ -36,10 +36,10 @@ impl Copying for Message {
 /// `BadLength`, `NoLength`, `LongBody`, `ShortBody` (RFC 9112, section 6, and this profile).
 #[derive(Clone, Copy, Debug, PartialEq, Eq)]
 pub enum Kind {
-    /// There is no whole head of up to 16,384 bytes, and none can come.
+    /// There is no whole head of up to 16,384 bytes: no head can come of them, and they don't end inside a target.
     BadHead,
 
-    /// The first 16,384 bytes have no whole head, though they could go on to one.
+    /// 16,384 bytes hold no head, and one could still come or they end inside a target.
     LongHead,
 
     /// More than 100 headers.
@@ -77,12 +77,27 @@ pub enum Got {
     /// No byte is left.
     End,
 
-    /// The connection ends inside a head that could still go on, after so many bytes of requests.
+    /// The bytes end inside a head that could still go on, or inside its target, after so many bytes of requests.
     CutShort(u64),
 
     /// A request that isn't read, after so many bytes of requests. `head` says that its head is whole and that its
     /// method is HEAD, so that a reply to it has no body (RFC 9110, section 9.3.2).
     Refused { kind: Kind, place: u64, head: bool },
+}
+
+impl Copying for Got {
+    fn copy(&self) -> Result<Got, Memory> {
+        match self {
+            Got::Request(message) => Ok(Got::Request(message.copy()?)),
+            Got::End => Ok(Got::End),
+            Got::CutShort(place) => Ok(Got::CutShort(*place)),
+            Got::Refused { kind, place, head } => Ok(Got::Refused {
+                kind: *kind,
+                place: *place,
+                head: *head,
+            }),
+        }
+    }
 }
 
 /// Why no answer came: the line failed, or memory was wanted.

@@ -60,7 +60,7 @@ impl Reader {
     /// byte is left, `CutShort` where the connection ends inside a head that could still go on or inside its target,
     /// and `Refused` for all else, by its kind. Failed comes only where the line failed. After an error, and after any
     /// answer but a request, the reader answers `End` and leaves the line alone. No byte is lost by an error: what was
-    /// read of the line is still to be given.
+    /// read of the line stays with the reader, where the line tells.
     pub fn next_request<N: Line<C>, C: Counted>(
         &mut self,
         line: &mut N,

@@ -316,10 +316,16 @@ fn a_head_has_16384_bytes_at_most(rt: HostRuntime) -> Result<(), Memory> {
     let long = Outcome::Refused(Kind::LongHead, 0, false);
     // 12 bytes before and 32 after; 20 before and 4 after
     for (start, byte, count, end, want) in [
-        (target, 1, 16_371, b"".as_slice(), Outcome::CutShort(0)),
-        (target, 1, 16_372, b"".as_slice(), long),
         (target, b'a', 16_340, end, Outcome::Request(1, 0)),
         (target, b'a', 16_341, end, long),
+    ] {
+        let bytes = padded(alloc, start, byte, count, end)?;
+        let want = Some(last(want));
+        assert_eq!(rt; answers(alloc, &bytes, &[1])?, want, "{count}");
+    }
+    for (start, byte, count, end, want) in [
+        (target, 1, 16_371, b"".as_slice(), Outcome::CutShort(0)),
+        (target, 1, 16_372, b"".as_slice(), long),
         (
             header,
             b' ',
@@ -355,8 +361,11 @@ fn a_body_has_16777216_bytes_at_most(rt: HostRuntime) -> Result<(), Memory> {
         (16_777_216, Outcome::Request(1, 16_777_216)),
     ] {
         let bytes = padded(alloc, start, b'\n', count, b"")?;
-        let line = line_of(alloc, &bytes, 100_000, &[])?;
-        assert_eq!(rt; three(alloc, line, 0)?, last(want), "{count}");
+        assert_eq!(rt;
+            answers(alloc, &bytes, &[1, 100_000])?,
+            Some(last(want)),
+            "{count}"
+        );
     }
     Ok(())
 }
@@ -374,7 +383,7 @@ fn a_head_has_100_headers_at_most(rt: HostRuntime) -> Result<(), Memory> {
         }
         bytes.extend_from_slice(b"\r\n")?;
         assert_eq!(rt;
-            answers(alloc, &bytes, &[1000])?,
+            answers(alloc, &bytes, &[1, 1_000])?,
             Some(last(want)),
             "{count}"
         );
