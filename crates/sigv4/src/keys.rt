@@ -4,7 +4,7 @@ ghost use Rattle.std.specs.List.{list_all, list_any as any_of};
 ghost use Rattle.sigv4.specs.Keys.{is_newline, is_space, is_letter_or_digit, is_visible, has_word_length, is_key, key_of, keys_of, has_id, are_keys, ReadsKeys, secret_of};
 
 use crate::cut::cut;
-use gate_base::{Bytes, List, Memory};
+use gate_base::{Bytes, Copying, List, Memory};
 use std::alloc::Global;
 use std::marker::Model;
 
@@ -18,6 +18,15 @@ pub struct AccessKey {
     pub secret: Bytes,
 }
 
+impl Copying for AccessKey {
+    fn copy(&self) -> Result<AccessKey, Memory> {
+        Ok(AccessKey {
+            id: self.id.copy()?,
+            secret: self.secret.copy()?,
+        })
+    }
+}
+
 /// Why a text of keys isn't read. `BadLine`: the first line, counted from 0, that isn't an id of 1 to 128 letters and
 /// digits, a space and a secret of 1 to 128 bytes of visible ASCII. `Twice`: the first line whose id an earlier line
 /// has. The lines before it are good. `Memory`: memory was wanted.
@@ -26,6 +35,14 @@ pub enum KeysFault {
     BadLine(u64),
     Twice(u64),
     Memory,
+}
+
+impl Copying for KeysFault {
+    fn copy(&self) -> Result<KeysFault, Memory>
+        ensures { result ≡ Ok self.now }
+    {
+        Ok(*self)
+    }
 }
 
 impl From<Memory> for KeysFault {
@@ -55,6 +72,14 @@ impl Model for Keys {
     ghost view = { λ keys. keys.entries };
 
     ghost invariant = { λ keys. are_keys keys.entries ≡ true };
+}
+
+impl Copying for Keys {
+    fn copy(&self) -> Result<Keys, Memory> {
+        Ok(Keys {
+            entries: self.entries.copy()?,
+        })
+    }
 }
 
 impl Keys {

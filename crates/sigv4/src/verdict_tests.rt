@@ -46,13 +46,14 @@ fn add_field(alloc: Global, message: &mut Message, name: &str, value: &str) -> R
     message.headers.push(Pair { name, value })
 }
 
-// The request whose fields have another mark than this one.
-fn marked(alloc: Global, text: &str, left_out: &str) -> Result<Message, Memory> {
+// The request of the fields with this mark and of those in both, but for the field of the name `but`.
+fn marked(alloc: Global, text: &str, kept: &str, but: &str) -> Result<Message, Memory> {
     let mut message = no_message(alloc);
     for line in text.split('\n') {
         if let Some((mark, field)) = line.split_once(' ')
-            && mark != left_out
+            && (mark == kept || mark == "=")
             && let Some((name, value)) = field.split_once(':')
+            && name != but
         {
             add_field(alloc, &mut message, name, value)?;
         }
@@ -123,24 +124,37 @@ fn name_of(answer: Result<Caller, Refusal>) -> &'static str {
 #[test]
 fn takes_what_botocore_signs(rt: HostRuntime) -> Result<(), Fail> {
     let mut count = 0usize;
+    let mut changes = 0usize;
     for text in REQUESTS.split("\n\n") {
-        let signed = marked(rt.alloc(), text, "+")?;
-        assert_eq!(rt;
-            name_of(answer_to(rt.alloc(), &signed, MOMENT)?),
-            "Owner",
-            "{}",
-            text
-        );
-        let changed = marked(rt.alloc(), text, "-")?;
-        assert_eq!(rt;
-            name_of(answer_to(rt.alloc(), &changed, MOMENT)?),
-            "SignatureDiffers",
-            "{}",
-            text
-        );
+        for (mark, wanted) in [("-", "Owner"), ("+", "SignatureDiffers")] {
+            let message = marked(rt.alloc(), text, mark, "")?;
+            assert_eq!(rt;
+                name_of(answer_to(rt.alloc(), &message, MOMENT)?),
+                wanted,
+                "{}",
+                text
+            );
+        }
+        for line in text.split('\n') {
+            if let Some((wanted, field)) = line.split_once(' ')
+                && wanted.len() > 1
+                && let Some((name, value)) = field.split_once(':')
+            {
+                let mut message = marked(rt.alloc(), text, "-", name)?;
+                add_field(rt.alloc(), &mut message, name, value)?;
+                assert_eq!(rt;
+                    name_of(answer_to(rt.alloc(), &message, MOMENT)?),
+                    wanted,
+                    "{}",
+                    line
+                );
+                changes = changes.saturating_add(1);
+            }
+        }
         count = count.saturating_add(1);
     }
-    assert_eq!(rt; count, 50);
+    assert_eq!(rt; count, 51);
+    assert_eq!(rt; changes, 52);
     Ok(())
 }
 
