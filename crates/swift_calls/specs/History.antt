@@ -1,5 +1,5 @@
 -- The history of a store: the account and the count of faults after each of its calls, as functions of the
--- number of calls. Each definition takes these first, and then the numbers p and q of calls before and after.
+-- number of calls. Each definition takes these first, and then the numbers p and q of calls before and after. Source: this profile.
 use Rattle.std.specs.Prelude.{◌≡◌, ◌⊎◌, ℕ, ◌+◌, ◌<◌, ◌≤◌, ◌^◌, Result, Ok, Err}
 use Rattle.std.proofs.Common.{refl, sym, ap, subst, ◌∙◌, inl, inr, arith}
 use Rattle.gate_base.specs.Causes.{Rose}
@@ -63,6 +63,10 @@ Called at faults p q request (Err Memory) = Unread at faults p q request ⊎ (q 
 -- a call failed between p and q: the count of faults rose, or no call was left at p
 abbrev pub FailedBetween : (ℕ → ℕ) → ℕ → ℕ → Type 0
 FailedBetween faults p q = Rose (faults p) (faults q) ⊎ (budget ≤ p)
+
+-- no call failed between p and q
+abbrev pub NoneFails : (ℕ → ℕ) → ℕ → ℕ → Type 0
+NoneFails faults p q = (j k : ℕ) → p ≤ j → j ≤ k → k ≤ q → FailedBetween faults j k → ⊥
 
 -- ---- laws
 
@@ -130,3 +134,11 @@ called_agree {at = at} {at' = at'} {faults = faults} {faults' = faults'} p q req
 pub failed_agree : {at at' : ℕ → Tree} {faults faults' : ℕ → ℕ} (p q : ℕ) → p ≤ q → Kept q at at' faults faults' → FailedBetween faults p q → FailedBetween faults' p q
 failed_agree {faults = faults} {faults' = faults'} p q near kept (inl rose) = inl (rose_agree faults faults' p q (kept.counts p near) (kept.counts q (omega arith)) rose)
 failed_agree {faults = faults} {faults' = faults'} p q near kept (inr spent) = inr spent
+
+-- where counts never fall, calls are left at q, and the count at q did not rise from that at p, no call failed between them
+pub none_fails : (faults : ℕ → ℕ) (p q : ℕ) → ((j k : ℕ) → j ≤ k → k ≤ q → faults j ≤ faults k) → q < budget → (Rose (faults p) (faults q) → ⊥) → NoneFails faults p q
+none_fails faults p q rise left still j k from order to (inl rose) =
+    let before = rise p j from (omega arith) in
+    let after = rise k q to (omega arith) in
+    still (omega arith)
+none_fails faults p q rise left still j k from order to (inr spent) = omega arith

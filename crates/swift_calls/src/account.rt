@@ -3,7 +3,7 @@ ghost use Rattle.std.specs.Prelude.{◌≡◌};
 use gate_base::{Bytes, Copying, List, Memory, Named};
 use slo_manifest::Segment;
 
-/// Who may read the objects of a container: nobody but its owner, or everybody (`X-Container-Read: .r:*`).
+/// Who may read the objects of a container: nobody but its owner, or everybody (`X-Container-Read: .r:*,.rlistings`).
 #[derive(Clone, Copy, Debug, PartialEq, Eq)]
 pub enum ReadList {
     Nobody,

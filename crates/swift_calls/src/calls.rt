@@ -1,4 +1,4 @@
-ghost use Rattle.std.specs.Prelude.{◌≡◌, ◌<◌, ℕ};
+ghost use Rattle.std.specs.Prelude.{◌≡◌, ◌<◌, ◌≤◌, ℕ};
 ghost use Rattle.swift_calls.specs.Tree.{Tree};
 ghost use Rattle.swift_calls.specs.Step.{Fit};
 ghost use Rattle.swift_calls.specs.History.{budget, Counts, CountsFaults, Kept, Called};
@@ -280,6 +280,9 @@ pub trait Swift: Counted {
 
     /// While calls are left, the count after the calls made is the count of faults itself.
     ghost counts_match: { (store : Self) → tells store → Self.called store < budget → faults_at store (Self.called store) ≡ faults store };
+
+    /// From call to call the count of faults never falls.
+    ghost faults_rise: { (store : Self) → tells store → (j k : ℕ) → j ≤ k → k ≤ Self.called store → faults_at store j ≤ faults_at store k };
 }
 
 impl<W: Swift> Swift for &mut W {
@@ -292,6 +295,8 @@ impl<W: Swift> Swift for &mut W {
     ghost faults_at = { λ s. W.faults_at s.now };
 
     ghost counts_match = { λ store tells left. W.counts_match store.now tells left };
+
+    ghost faults_rise = { λ store tells j k order within. W.faults_rise store.now tells j k order within };
 
     fn call(&mut self, request: &SwiftRequest) -> Result<SwiftReply, SwiftFault> {
         (**self).call(request)

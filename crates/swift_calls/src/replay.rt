@@ -5,7 +5,7 @@ ghost use Rattle.swift_calls.specs.Step.{Fit, swift_step};
 ghost use Rattle.swift_calls.specs.History.{Counts, CountsFaults, Kept, Called};
 ghost use Rattle.swift_calls.specs.Lists.{served};
 ghost use Rattle.swift_calls.specs.Replay.{outcome_at, left_by, reply_by, replayed, failures, Goes, Logs};
-ghost use Rattle.swift_calls.specs.MemSwift.{calls_of, account_after, tree_after, faults_after, planned, SamePlan, failures_of_all};
+ghost use Rattle.swift_calls.specs.MemSwift.{calls_of, account_after, tree_after, faults_after, planned, SamePlan, failures_of_all, failures_rise};
 
 use crate::memory::Entry;
 use crate::serve::serve;
@@ -156,6 +156,8 @@ impl Swift for MemSwift {
     ghost faults_at = { faults_after };
 
     ghost counts_match = { λ m tells left. failures_of_all m };
+
+    ghost faults_rise = { λ m tells j k order within. failures_rise m j k order };
 
     fn call(&mut self, request: &SwiftRequest) -> Result<SwiftReply, SwiftFault>
         requires { Fit request.now }

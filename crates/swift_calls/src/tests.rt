@@ -355,13 +355,13 @@ fn head_photos<W: Swift>(store: &mut W, alloc: Global) -> Result<SwiftReply, Swi
 #[test]
 fn calls_go_as_they_are_told(rt: HostRuntime) -> Result<(), Fail> {
     let alloc = rt.alloc();
-    let before = List::from_vec(vec![in alloc; 49u64, 51]?);
-    let after = List::from_vec(vec![in alloc; 50u64, 51, 54]?);
-    let mut store = MemSwift::new(alloc, first_account(alloc)?, before, after, 53)?;
+    let before = List::from_vec(vec![in alloc; 71u64, 73]?);
+    let after = List::from_vec(vec![in alloc; 72u64, 73, 76]?);
+    let mut store = MemSwift::new(alloc, first_account(alloc)?, before, after, 75)?;
     for row in &ROWS {
         makes_call(&rt, alloc, &mut store, row)?;
     }
-    assert_eq!(rt; store.calls(), 54);
+    assert_eq!(rt; store.calls(), 76);
     let told = account_text(alloc, &store.account_at(7)?)?;
     assert!(rt; told.as_slice() == ROWS[6][7].as_bytes());
     let answer = head_photos(&mut &mut store, alloc);
