@@ -1,4 +1,4 @@
--- Texts of ids.
+-- Texts of ids. Source: this profile.
 use Rattle.std.specs.Prelude.{ℕ, List}
 use Rattle.std.specs.Int.{w128, to_be_bytes}
 use Rattle.hex.specs.Hex.{encode_lower}

@@ -1,4 +1,4 @@
--- What is asked of a reply, so that it has a page.
+-- What is asked of a reply, so that it has a page. Source: this profile.
 use Rattle.std.specs.Prelude.{◌<◌, ◌≤◌, ◌+◌, ◌^◌, ℕ, Bool, IsTrue}
 use Rattle.gate_base.specs.Told.{moment_limit}
 use Rattle.s3_machine.specs.declared.operation.ObjectHead.{ObjectHead}
