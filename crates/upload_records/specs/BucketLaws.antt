@@ -14,6 +14,7 @@ use Rattle.s3_machine.specs.Step.{new_bucket}
 use Rattle.swift_calls.specs.declared.account.ReadList.{ReadList}
 use Rattle.swift_calls.specs.declared.account.ReadList.TheVariants.{Nobody}
 use Rattle.swift_calls.specs.Tree.{File, Folder, Tree, files, files_of, look, new_folder}
+use Rattle.swift_calls.specs.Step.{put_container}
 use Rattle.upload_records.specs.Marks.{uploads_name, segments_name, readers_of, acl_of}
 use Rattle.upload_records.specs.Native.{object_of, upload_of, kept_of, bucket_from, bucket_of, plain, native}
 use Rattle.upload_records.specs.Apart.{uploads_apart, segments_apart}
@@ -121,6 +122,10 @@ native_made tree b acl moment is =
     let folder : Folder = new_folder (readers_of acl) (Some moment) in
     native_by_old tree (insert tree b folder) b is (off_insert by_name tree b folder)
     ∙ picked_insert by_name (bucket_of tree) tree b folder (new_bucket moment acl) (made_of tree b acl moment is)
+
+-- what the PUT of a container that is missing leaves
+pub put_leaves : (o : Option Folder) (name : List ℕ) (readers : ReadList) (created : Option ℕ) (tree : Tree) → o ≡ None → (put_container o name readers created tree).tree ≡ insert tree name (new_folder readers created)
+put_leaves o name readers created tree none = ap (λ v. (put_container v name readers created tree).tree) none
 
 -- what a container is after one was put
 head_at : (tree : Tree) (b : List ℕ) (folder : Folder) (n : List ℕ) (head : Head) (P : List ℕ → Head → Type 0)

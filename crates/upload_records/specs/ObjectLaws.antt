@@ -5,7 +5,7 @@ use Rattle.std.specs.Option.{option_map, option_and_then}
 use Rattle.std.specs.Ordering.{eq_by_cmp}
 use Rattle.std.specs.FinMap.{get, insert, remove, empty}
 use Rattle.std.proofs.Common.{refl, sym, ap, subst, ◌∙◌, inl, inr, arith}
-use Rattle.gate_base.specs.Maps.{Names, name_cmp, by_name, adjust, picked, get-picked, get_empty, picked_insert, picked_remove, same_key, at_adjust, off_adjust, insert_is, remove_is}
+use Rattle.gate_base.specs.Maps.{Names, name_cmp, by_name, adjust, picked, get-picked, get_empty, picked_insert, picked_remove, same_key, at_adjust, off_adjust, adjust_stays, adjust_missing, insert_is, remove_is, remove_missing}
 use Rattle.gate_base.specs.declared.page.Pair.{Pair}
 use Rattle.s3_names.specs.Bucket.{is_bucket}
 use Rattle.s3_machine.specs.ETag.{body_etag}
@@ -15,6 +15,7 @@ use Rattle.swift_calls.specs.declared.account.Content.{Content}
 use Rattle.swift_calls.specs.declared.account.Content.TheVariants.{Plain}
 use Rattle.swift_calls.specs.Tree.{File, Folder, Tree, files, files_of, look, on_files, put_file, remove_file}
 use Rattle.swift_calls.specs.Bodies.{bytes_of}
+use Rattle.swift_calls.specs.Step as store
 use Rattle.swift_marks.specs.Tag.{read_tag}
 use Rattle.swift_marks.specs.Pack.{unpacked}
 use Rattle.upload_records.specs.Marks.{uploads_name, segments_name}
@@ -90,6 +91,17 @@ native_removed tree b key is =
     (λ folder found i. record (bucket_from (files tree (uploads_name b)) (files tree (segments_name b)) folder) {
       objects = picked_remove by_name (object_of (files tree (segments_name b))) folder.files key i;
     })
+
+-- what the PUT of a file leaves, also where the container is missing
+pub put_leaves : (o : Option Folder) (b key : List ℕ) (file : File) (tree : Tree) → get tree b ≡ o → (store.put_object o b key file tree).tree ≡ put_file b key file tree
+put_leaves None b key file tree none = sym (adjust_missing by_name b _ tree none)
+put_leaves (Some folder) b key file tree there = refl
+
+-- what the DELETE of a file leaves, also where the file is missing
+pub delete_leaves : (o : Option File) (b key : List ℕ) (tree : Tree) → look tree b key ≡ o → (store.delete_object o b key tree).tree ≡ remove_file b key tree
+delete_leaves None b key tree none =
+    sym (adjust_stays by_name b _ tree (λ folder is i. record folder { files = remove_missing by_name folder.files key (ap (λ v. get (files_of v) key) (sym is) ∙ none) i }))
+delete_leaves (Some file) b key tree there = refl
 
 -- ---- Sound is kept
 

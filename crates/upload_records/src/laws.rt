@@ -1,6 +1,6 @@
 //! Laws of the definitions, each the contract of a function that does nothing.
 ghost use Rattle.std.specs.Prelude.{◌≡◌};
-ghost use Rattle.upload_records.specs.Laws.{BucketMade, BucketThere, EmptySound, ObjectFound, ObjectGone, ObjectPut};
+ghost use Rattle.upload_records.specs.Laws.{BucketMade, BucketThere, EmptySound, ObjectFound, ObjectGone, ObjectPut, ReadsAreQuiet};
 
 /// The PUT of the container of a bucket that isn't there makes the bucket, and leaves the account sound.
 pub fn law_bucket_made()
@@ -17,7 +17,7 @@ pub fn law_empty_sound()
     ensures { EmptySound }
 {}
 
-/// The PUT of an object's file puts the object, and leaves the account sound.
+/// The PUT of an object's file into a bucket puts the object, and leaves the account sound.
 pub fn law_object_put()
     ensures { ObjectPut }
 {}
@@ -30,4 +30,9 @@ pub fn law_object_gone()
 /// Over a sound account an object of a bucket is what the file of its key stands for.
 pub fn law_object_found()
     ensures { ObjectFound }
+{}
+
+/// A call that only reads leaves the account sound, and standing for the same state.
+pub fn law_reads_are_quiet()
+    ensures { ReadsAreQuiet }
 {}

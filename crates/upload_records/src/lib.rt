@@ -8,6 +8,6 @@ mod tests;
 
 pub use laws::{
     law_bucket_made, law_bucket_there, law_empty_sound, law_object_found, law_object_gone,
-    law_object_put,
+    law_object_put, law_reads_are_quiet,
 };
 pub use marks::{acl, readers};
