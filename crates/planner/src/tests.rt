@@ -5,7 +5,7 @@ ghost use Rattle.std.specs.FinMap.{empty};
 ghost use Rattle.swift_calls.specs.Tree.{IsOrdered, IsSized};
 
 use crate::answer;
-use gate_base::{Bytes, Caller, Counted, List, Memory};
+use gate_base::{Bytes, Caller, Copying, Counted, List, Memory};
 use recovery::Settled;
 use s3_machine::{Code, Label, Op, Reply, Settings};
 use s3_names::Acl;
@@ -183,6 +183,7 @@ fn create_bucket_answers_at_each_fault(rt: HostRuntime) -> Result<(), Fail> {
 #[derive(Drop)]
 struct OddStore {
     calls: u64,
+    reply: SwiftReply,
 }
 
 impl Counted for OddStore {
@@ -204,34 +205,42 @@ impl Swift for OddStore {
 
     ghost counts_match = { λ store tells left. absurd tells };
 
+    ghost faults_rise = { λ store tells j k order within. absurd tells };
+
     fn call(&mut self, _request: &SwiftRequest) -> Result<SwiftReply, SwiftFault> {
         if self.calls >= 1000 {
             return Err(SwiftFault::Memory);
         }
         self.calls += 1;
-        Ok(SwiftReply::There)
+        Ok(self.reply.copy()?)
     }
 }
 
-/// HEAD of a container is never answered 202 Accepted.
+/// HEAD of a container is never answered 202 Accepted, and a bucket's is never without its creation time.
 #[test]
 fn an_odd_store_is_inconsistent(rt: HostRuntime) -> Result<(), Fail> {
     let alloc = rt.alloc();
-    let mut store = OddStore { calls: 0 };
-    let bucket = name_of(alloc, "music")?;
-    assert!(rt; s3_names::is_bucket(bucket.as_slice()));
-    let op = Op::CreateBucket {
-        bucket,
-        acl: Acl::Private,
+    let untimed = SwiftReply::Readers {
+        readers: ReadList::Nobody,
+        created: None,
     };
-    let settings = settings(alloc)?;
-    let reply = answer(
-        alloc,
-        &mut Settled::hold(&mut store, &settings),
-        &op,
-        &label(),
-    );
-    assert_eq!(rt; reply_text(alloc, &reply)?.as_str(), "InconsistentStore");
-    assert_eq!(rt; store.calls(), 1);
+    for reply in [SwiftReply::There, untimed] {
+        let mut store = OddStore { calls: 0, reply };
+        let bucket = name_of(alloc, "music")?;
+        assert!(rt; s3_names::is_bucket(bucket.as_slice()));
+        let op = Op::CreateBucket {
+            bucket,
+            acl: Acl::Private,
+        };
+        let settings = settings(alloc)?;
+        let reply = answer(
+            alloc,
+            &mut Settled::hold(&mut store, &settings),
+            &op,
+            &label(),
+        );
+        assert_eq!(rt; reply_text(alloc, &reply)?.as_str(), "InconsistentStore");
+        assert_eq!(rt; store.calls(), 1);
+    }
     Ok(())
 }

@@ -1,10 +1,11 @@
--- The ETag of a body is one that a tag can have.
+-- The ETag of a body is one that a tag can have, and the one that a store gives of the body.
 use Rattle.std.proofs.Common.{◌≡◌, ℕ, zero, suc, ◌<◌, ◌+◌, ◌*◌, ◌/◌, ◌%◌, Bool, true, ◌&&◌, List, [], ◌∷◌, ◌++◌, length, get_or, nat_lt, refl, sym, ap, ◌∙◌, arith}
 use Rattle.std.specs.Int.{w32, to_le_bytes, bytes_low_first, byte_at}
 use Rattle.std.specs.List.{list_all}
 use Rattle.std.proofs.lemmas.Bool.{and_from, and_parts, ltb-true}
 use Rattle.std.proofs.lemmas.Bool.Decides.{nat_tests}
-use Rattle.std.specs.Prelude.{slice_index}
+use Rattle.std.specs.Prelude.{slice_index, bytes_eq}
+use Rattle.std.proofs.lemmas.Slice.Eq.{bytes_eq-Decides}
 use Rattle.std.proofs.lemmas.List.{length-append}
 use Rattle.std.proofs.lemmas.List.Folds.{list_all-append}
 use Rattle.std.proofs.lemmas.List.Sums.{AllPass-from_list_all}
@@ -12,6 +13,7 @@ use Rattle.md5.specs.Md5.{md5, digest_bytes, hash_after, padded_message}
 use Rattle.hex.specs.Hex.{lower_digits, encode_with, encode_lower}
 use Rattle.hex.proofs.HexLemmas.{length-encode_with}
 use Rattle.s3_machine.specs.ETag.{body_etag}
+use Rattle.swift_calls.specs.Bodies.{etag_text}
 use Rattle.swift_marks.specs.Number.{is_lower_hex}
 use Rattle.swift_marks.specs.Tag.{is_etag}
 use Rattle.swift_marks.proofs.FieldLaws.{etag_of_one}
@@ -57,3 +59,10 @@ unfolding body_etag md5
 etag_is_etag body =
     let h = hash_after (padded_message body) (length (padded_message body) / 64) in
     etag_of_one (encode_lower (digest_bytes h 4)) (length-encode_with lower_digits (digest_bytes h 4) ∙ ap (λ n. 2 * n) (digest_length h 4)) (digits_of (digest_bytes h 4) (digest_is_bytes h 4))
+
+same_etag : (body : List ℕ) → etag_text body ≡ body_etag body
+unfolding etag_text body_etag
+same_etag body = refl
+
+pub etag_agrees : (body : List ℕ) → bytes_eq (etag_text body) (body_etag body) ≡ true
+etag_agrees body = (bytes_eq-Decides (etag_text body) (body_etag body)).1 (same_etag body)

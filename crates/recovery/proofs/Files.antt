@@ -1,6 +1,6 @@
 -- What the calls on an object's file tell of the object, and do to it.
-use Rattle.std.proofs.lemmas.Bool.{lt-ltb}
-use Rattle.std.specs.Prelude.{◌≡◌, ◌<◌, ◌≤◌, ◌^◌, ℕ, cond, List, length, true, Option, Some, None, Result, Ok, is_some}
+use Rattle.std.proofs.lemmas.Bool.{and_from, le-leb}
+use Rattle.std.specs.Prelude.{◌≡◌, ◌<◌, ◌≤◌, ℕ, ◌&&◌, cond, nat_le, List, length, bytes_eq, true, Option, Some, None, Result, Ok, Err, is_some}
 use Rattle.std.specs.Option.{option_map}
 use Rattle.std.specs.FinMap.{get, insert, remove}
 use Rattle.std.proofs.Common.{refl, sym, ap, subst, ◌∙◌, arith}
@@ -12,11 +12,13 @@ use Rattle.s3_names.specs.Key.{is_key}
 use Rattle.s3_names.specs.Meta.{names_ascend}
 use Rattle.s3_names.specs.declared.acl.Acl.{Acl}
 use Rattle.s3_machine.specs.declared.operation.ObjectHead.{ObjectHead}
+use Rattle.s3_machine.specs.ETag.{body_etag}
+use Rattle.s3_machine.specs.Limits.{most_body_bytes}
 use Rattle.s3_machine.specs.State.{Object, Bucket, State}
 use Rattle.s3_machine.specs.Step.{IsProperContent, head_of, drop_object}
 use Rattle.swift_calls.specs.declared.account.Content.TheVariants.{Plain}
-use Rattle.swift_calls.specs.Tree.{File, Folder, Tree, look, size_of, put_file, remove_file}
-use Rattle.swift_calls.specs.Bodies.{bytes_of}
+use Rattle.swift_calls.specs.Tree.{File, Folder, Tree, look, put_file, remove_file}
+use Rattle.swift_calls.specs.Bodies.{bytes_of, etag_text}
 use Rattle.swift_calls.specs.Bodies as bodies
 use Rattle.swift_calls.specs.Step.{Answer, swift_step, head_reply, get_reply, body_reply, delete_object}
 use Rattle.swift_calls.specs.Step as store
@@ -32,12 +34,18 @@ use Rattle.upload_records.specs.Sound.{Sound, IsPlainObject, IsStored}
 use Rattle.upload_records.specs.BucketLaws.{native_there}
 use Rattle.upload_records.specs.ObjectLaws.{FindsObject, object_at, object_in, found, native_put, native_removed, sound_put, sound_removed}
 use Rattle.recovery.specs.Calls.{TellsBucket, TellsObject, TellsBytes, acl_of_bucket, bytes_in, puts_object, drops_object}
+use Rattle.recovery.specs.declared.fault.PlanFault.TheVariants.{Inconsistent}
 use Rattle.recovery.specs.Due.{known, head_by, head_due, bytes_due, stored_due, gone_due, plain_tag, put_of}
+use Rattle.recovery.proofs.Etags.{etag_agrees}
 use Rattle.recovery.proofs.Fits.{has_a_pack, tag_has_text}
 use Rattle.recovery.proofs.Names.{object_name}
 use Rattle.recovery.proofs.One.{Leaves, Changes}
 
 -- ---- HEAD and GET
+
+-- bytes that are no more than a body may have agree with their own tag
+plain_agrees : (body : List ℕ) → length body ≤ most_body_bytes → bytes_eq (etag_text body) (body_etag body) && nat_le (length body) most_body_bytes ≡ true
+plain_agrees body sized = and_from _ _ (etag_agrees body) (le-leb (length body) most_body_bytes sized)
 
 pub head_leaves : (container name : List ℕ) → Leaves (HeadObject container name)
 head_leaves container name = record { same = λ tree. refl }
@@ -51,7 +59,9 @@ module _ (tree : Tree) (bucket key : List ℕ) where
   head_told_by None none reply e = (None, ap head_due e, ap (option_map head_of) none)
   head_told_by (Some file) (plain, is) reply e = (
     Some (head_of (object_in plain)),
-    ap head_due e ∙ (λ i. known (head_by (plain.tagged i) (plain.packed i) (size_of (plain.own i)))) ∙ ap (λ t. known (cond t (Some (head_of (object_in plain))) None)) (lt-ltb (length plain.bytes) (2 ^ 63) (let sized = plain.sized in omega (arith, sized))),
+    ap head_due e
+        ∙ (λ i. known (head_by (bodies.head_of (record { content_type = file.content_type; meta = file.meta; content = plain.own i })) (plain.tagged i) (plain.packed i)))
+        ∙ ap (λ t. known (cond t (Some (head_of (object_in plain))) None)) (plain_agrees plain.bytes plain.sized),
     ap (option_map head_of) is,
   )
 
@@ -87,7 +97,7 @@ pub record IsPutOf (request : SwiftRequest) (bucket key content_type : List ℕ)
 
 -- the file of an object as it is put
 abbrev file_put : List ℕ → List Pair → List ℕ → ℕ → File
-file_put content_type meta body moment = record { content_type = tag_text (plain_tag content_type body moment); meta = pack_of meta; content = Plain body }
+file_put content_type meta body moment = record { content_type = tag_text (plain_tag content_type (body_etag body) moment); meta = pack_of meta; content = Plain body }
 
 is_there : {X Y : Type 0} (f : X → Y) (o : Option X) (y : Y) → option_map f o ≡ Some y → is_some o ≡ true
 is_there f None y e = cc
@@ -110,7 +120,7 @@ module _ (tree : Tree) (request : SwiftRequest) (bucket key content_type : List 
     moment = moment;
     own = refl;
     sized = put.content.sized;
-    tagged = tag_text_reads (plain_tag content_type body moment) (tag_has_text content_type body moment put.content.typed put.below);
+    tagged = tag_text_reads (plain_tag content_type (body_etag body) moment) (tag_has_text content_type (body_etag body) body moment put.content.typed refl put.below);
     packed = pack_unpacks meta (has_a_pack meta put.content.described put.ascend);
     described = put.content.described;
   }
@@ -138,8 +148,8 @@ module _ (tree : Tree) (request : SwiftRequest) (bucket key content_type : List 
       }
 
   -- and the store says so
-  pub put_is_due : (reply : SwiftReply) → reply ≡ (swift_step request tree).reply → stored_due reply ≡ Ok tt
-  put_is_due reply replied = ap stored_due (replied ∙ ap (λ (a : Answer). a.reply) answered)
+  pub put_is_due : (reply : SwiftReply) → reply ≡ (swift_step request tree).reply → stored_due (body_etag body) reply ≡ Ok tt
+  put_is_due reply replied = ap (stored_due (body_etag body)) (replied ∙ ap (λ (a : Answer). a.reply) answered) ∙ ap (λ t. cond t (Ok tt) (Err Inconsistent)) (etag_agrees body)
 
 -- ---- DELETE
 

@@ -21,7 +21,7 @@ use Rattle.swift_calls.specs.Limits as store
 use Rattle.swift_calls.specs.Step.{IsContainerName, Fit}
 use Rattle.swift_calls.specs.declared.calls.SwiftRequest.TheVariants.{PutObject}
 use Rattle.swift_marks.specs.Limits.{is_kept_metadata, is_printable_entry, counted_name, counted_size}
-use Rattle.swift_marks.specs.Tag.{is_printable, is_field, is_content_type, has_text, tag_text}
+use Rattle.swift_marks.specs.Tag.{is_printable, is_field, is_content_type, is_etag, has_text, tag_text}
 use Rattle.swift_marks.specs.Pack.{is_short, has_pack, pack_of}
 use Rattle.swift_marks.proofs.TagLaws.{weaken}
 use Rattle.swift_marks.proofs.FieldLaws.{tag_is_field, pack_is_small}
@@ -159,9 +159,10 @@ has_a_pack meta e ascend =
     let within = leb-true (sum_by limits.pair_bytes meta) 2048 (meta_parts meta e).2 in
     and_from _ _ ascend (shorts meta (subst (λ n. n ≤ 2048) (sizes meta) within))
 
-pub tag_has_text : (content_type body : List ℕ) (moment : ℕ) → limits.is_content_type content_type ≡ true → moment < moment_limit → has_text (plain_tag content_type body moment) ≡ true
+pub tag_has_text : (content_type etag body : List ℕ) (moment : ℕ) → limits.is_content_type content_type ≡ true → etag ≡ body_etag body → moment < moment_limit → has_text (plain_tag content_type etag moment) ≡ true
 unfolding has_text
-tag_has_text content_type body moment is below = and_from _ _ (and_from _ _ (and_from _ _ (typed content_type is) (etag_is_etag body)) (lt-ltb moment moment_limit below)) refl
+tag_has_text content_type etag body moment is of_body below =
+    and_from _ _ (and_from _ _ (and_from _ _ (typed content_type is) (subst (λ e. is_etag e ≡ true) (sym of_body) (etag_is_etag body))) (lt-ltb moment moment_limit below)) refl
 
 -- ---- what a store takes
 
@@ -182,14 +183,14 @@ all_taken most (piece ∷ pieces) e = let parts = and_parts (is_field most piece
 -- the PUT of an object's file is one that a store takes
 pub put_fits : (bucket key content_type body : List ℕ) (meta : List Pair) (moment : ℕ) (container name text copied : List ℕ) (pieces : List (List ℕ))
     → is_bucket bucket ≡ true → is_key key ≡ true → IsProperContent content_type meta body → moment < moment_limit
-    → container ≡ bucket → name ≡ key → text ≡ tag_text (plain_tag content_type body moment) → pieces ≡ pack_of meta → copied ≡ body
+    → container ≡ bucket → name ≡ key → text ≡ tag_text (plain_tag content_type (body_etag body) moment) → pieces ≡ pack_of meta → copied ≡ body
     → Fit (PutObject container name text pieces copied)
 put_fits bucket key content_type body meta moment container name text copied pieces is keyed content below named under written packed same =
     let small = pack_is_small meta (described meta content.described) in
     let sized = content.sized in (
       subst IsContainerName (sym named) (container_name bucket is),
       subst store.IsObjectName (sym under) (object_name key keyed),
-      subst (λ t. IsTrue (store.is_content_type t)) (sym written) (taken 512 (tag_text (plain_tag content_type body moment)) (tag_is_field (plain_tag content_type body moment) (tag_has_text content_type body moment content.typed below))),
+      subst (λ t. IsTrue (store.is_content_type t)) (sym written) (taken 512 (tag_text (plain_tag content_type (body_etag body) moment)) (tag_is_field (plain_tag content_type (body_etag body) moment) (tag_has_text content_type (body_etag body) body moment content.typed refl below))),
       subst (λ p. IsTrue (store.is_meta p)) (sym packed) (and_from _ _ (le-leb (length (pack_of meta)) 11 small.0) (all_taken 256 (pack_of meta) small.1)),
       subst (λ b. length b ≤ store.most_body) (sym same) sized,
     )

@@ -9,7 +9,9 @@ use Rattle.swift_calls.specs.Tree.{Folder, Tree}
 use Rattle.swift_calls.specs.Step.{head_container, swift_step}
 use Rattle.swift_calls.specs.declared.calls.SwiftRequest.TheVariants.{HeadContainer}
 use Rattle.swift_calls.specs.declared.calls.SwiftReply.{SwiftReply}
+use Rattle.swift_calls.specs.declared.calls.SwiftReply.TheVariants.{Readers}
 use Rattle.upload_records.specs.Native.{native}
+use Rattle.upload_records.specs.Sound.{Sound, head_of}
 use Rattle.upload_records.specs.BucketLaws.{acl_of_folder, native_acl}
 use Rattle.recovery.specs.Calls.{TellsBucket}
 use Rattle.recovery.specs.Due.{bucket_due}
@@ -22,14 +24,23 @@ leaves_by (Some folder) tree = refl
 pub head_leaves : (name : List ℕ) → Leaves (HeadContainer name)
 head_leaves name = record { same = λ tree. leaves_by (get tree name) tree }
 
-due_by : (o : Option Folder) (tree : Tree) (reply : SwiftReply) → reply ≡ (head_container o tree).reply → bucket_due reply ≡ Ok (option_map acl_of_folder o)
-due_by None tree reply e = ap bucket_due e
-due_by (Some folder) tree reply e = ap bucket_due e
+-- a container that is there has a moment
+abbrev IsTimed : Option Folder → Type 0
+IsTimed None = Unit {0}
+IsTimed (Some folder) = (moment : ℕ) × (folder.created ≡ Some moment)
 
-pub head_tells : (tree : Tree) (name bucket : List ℕ) → name ≡ bucket → is_bucket bucket ≡ true → (reply : SwiftReply) → reply ≡ (swift_step (HeadContainer name) tree).reply
+timed_by : (tree : Tree) (bucket : List ℕ) → is_bucket bucket ≡ true → Sound tree → (o : Option Folder) → get tree bucket ≡ o → IsTimed o
+timed_by tree bucket is sound None found = tt
+timed_by tree bucket is sound (Some folder) found = let timed = sound.folders.timed bucket (head_of folder) (ap (option_map head_of) found) is in (timed.0, timed.1)
+
+due_by : (o : Option Folder) (tree : Tree) (reply : SwiftReply) → IsTimed o → reply ≡ (head_container o tree).reply → bucket_due reply ≡ Ok (option_map acl_of_folder o)
+due_by None tree reply timed e = ap bucket_due e
+due_by (Some folder) tree reply timed e = ap bucket_due e ∙ ap (λ created. bucket_due (Readers folder.readers created)) timed.1
+
+pub head_tells : (tree : Tree) (name bucket : List ℕ) → name ≡ bucket → is_bucket bucket ≡ true → Sound tree → (reply : SwiftReply) → reply ≡ (swift_step (HeadContainer name) tree).reply
     → (told : Option Acl) × (bucket_due reply ≡ Ok told) × TellsBucket bucket (native tree) told
-head_tells tree name bucket named is reply replied = (
+head_tells tree name bucket named is sound reply replied = (
   option_map acl_of_folder (get tree name),
-  due_by (get tree name) tree reply replied,
+  due_by (get tree name) tree reply (timed_by tree bucket is sound (get tree name) (ap (get tree) (sym named))) replied,
   native_acl tree bucket is ∙ ap (λ n. option_map acl_of_folder (get tree n)) (sym named),
 )

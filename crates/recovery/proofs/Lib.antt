@@ -8,3 +8,4 @@ pub mod Head
 pub mod Names
 pub mod One
 pub mod Put
+pub mod Undisturbed

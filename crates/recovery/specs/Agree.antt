@@ -1,4 +1,5 @@
--- What the calls of an operation amounted to is so in each later history too; and how two stretches are joined.
+-- What the calls of an operation amounted to is so in each later history too, and where no call failed, over `never`;
+-- and how two stretches are joined.
 use Rattle.std.specs.Prelude.{◌≡◌, ◌<◌, ◌≤◌, ℕ, Result, Ok, Err}
 use Rattle.std.proofs.Common.{refl, sym, ap, subst, ◌∙◌, inl, inr, arith}
 use Rattle.std.proofs.lemmas.Bool.{cases_lt}
@@ -9,12 +10,12 @@ use Rattle.s3_machine.specs.declared.operation.Reply.{Reply}
 use Rattle.s3_machine.specs.State.{State}
 use Rattle.s3_machine.specs.Step.{S3Step}
 use Rattle.swift_calls.specs.Tree.{Tree}
-use Rattle.swift_calls.specs.History.{Kept, failed_agree}
+use Rattle.swift_calls.specs.History.{Kept, NoneFails, failed_agree}
 use Rattle.upload_records.specs.Native.{native}
 use Rattle.upload_records.specs.Sound.{Sound}
 use Rattle.recovery.specs.declared.fault.PlanFault.{PlanFault}
 use Rattle.recovery.specs.declared.fault.PlanFault.TheVariants.{Failed, Memory, Inconsistent}
-use Rattle.recovery.specs.Turns.{Quiet, Turns, OldBefore, LastFailed}
+use Rattle.recovery.specs.Turns.{Quiet, Turns, OldBefore, never, LastFailed}
 use Rattle.recovery.specs.Calls.{Reads}
 use Rattle.recovery.specs.Answers.{OldOrStepped, AnswersBy, machine, unavailable, memory, Answers}
 
@@ -88,6 +89,20 @@ answers_agree kept answers =
     let first = answers.turns.after_p in
     let last = answers.turns.up_to_q in
     record { turns = turns_agree kept answers.turns; by = answers_by_agree (omega arith) kept answers.by }
+
+-- ---- histories in which no call failed
+
+pub answers_by_calm : {settings : Settings} {at : ℕ → Tree} {faults : ℕ → ℕ} {b c p q : ℕ} {op : Op} {label : Label} {reply : Reply} → NoneFails faults b c → b ≤ p → q ≤ c
+    → AnswersBy settings at faults p q op label reply → AnswersBy settings at never p q op label reply
+answers_by_calm calm from to (machine step) = machine step
+answers_by_calm {q = q} calm from to (unavailable is failed old stepped) =
+    let first = failed.after_p in
+    absurd (calm failed.last q (omega arith) failed.before_q to failed.failed)
+answers_by_calm calm from to (memory is old stepped) = memory is old stepped
+
+pub answers_calm : {settings : Settings} {at : ℕ → Tree} {faults : ℕ → ℕ} {b c p t q : ℕ} {op : Op} {label : Label} {reply : Reply} → NoneFails faults b c → b ≤ p → q ≤ c
+    → Answers settings at faults p t q op label reply → Answers settings at never p t q op label reply
+answers_calm calm from to answers = record { turns = answers.turns; by = answers_by_calm calm from to answers.by }
 
 -- ---- laws
 

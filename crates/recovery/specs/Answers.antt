@@ -1,6 +1,6 @@
 -- What the calls of one operation may amount to. It stands between two numbers of calls, over an account that is
 -- sound at the first. Source: this profile.
-use Rattle.std.specs.Prelude.{◌≡◌, ◌⊎◌, ℕ}
+use Rattle.std.specs.Prelude.{◌≡◌, ◌<◌, ◌⊎◌, ℕ}
 use Rattle.s3_machine.specs.declared.code.Code.TheVariants.{ServiceUnavailable}
 use Rattle.s3_machine.specs.declared.operation.Label.{Label}
 use Rattle.s3_machine.specs.declared.operation.Settings.{Settings}
@@ -11,8 +11,9 @@ use Rattle.s3_machine.specs.declared.operation.Reply.TheVariants.{Refused, Memor
 use Rattle.s3_machine.specs.State.{State}
 use Rattle.s3_machine.specs.Step.{S3Step}
 use Rattle.swift_calls.specs.Tree.{Tree}
+use Rattle.swift_calls.specs.History.{budget, NoneFails}
 use Rattle.upload_records.specs.Native.{native}
-use Rattle.recovery.specs.Turns.{Turns, OldBefore, LastFailed}
+use Rattle.recovery.specs.Turns.{Turns, OldBefore, never, LastFailed}
 
 -- the new state is the old one, or the one that the service's step gives
 abbrev pub OldOrStepped : Settings → State → Op → Label → State → Type 0
@@ -23,6 +24,16 @@ pub data AnswersBy (settings : Settings) (at : ℕ → Tree) (faults : ℕ → �
   machine : S3Step settings (native (at p)) op label reply (native (at q)) → AnswersBy settings at faults p q op label reply
   unavailable : reply ≡ Refused ServiceUnavailable → LastFailed faults p q → OldBefore at p q → OldOrStepped settings (native (at p)) op label (native (at q)) → AnswersBy settings at faults p q op label reply
   memory : reply ≡ Memory → OldBefore at p q → OldOrStepped settings (native (at p)) op label (native (at q)) → AnswersBy settings at faults p q op label reply
+
+-- where no call failed, it is the service's own answer, or the word that memory was wanted
+abbrev pub AnsweredUndisturbed : Type 0
+AnsweredUndisturbed = (settings : Settings) (at : ℕ → Tree) (faults : ℕ → ℕ) (p q : ℕ) (op : Op) (label : Label) (reply : Reply) → NoneFails faults p q → AnswersBy settings at faults p q op label reply
+    → S3Step settings (native (at p)) op label reply (native (at q)) ⊎ (reply ≡ Memory)
+
+-- over a history in which no call failed, with calls left, no operation is answered ServiceUnavailable
+abbrev pub NeverUnavailable : Type 0
+NeverUnavailable = (settings : Settings) (at : ℕ → Tree) (p q : ℕ) (op : Op) (label : Label) (reply : Reply) → q < budget → AnswersBy settings at never p q op label reply
+    → S3Step settings (native (at p)) op label reply (native (at q)) ⊎ (reply ≡ Memory)
 
 -- and the account turns once, from the old state to the new one, sound at each number
 pub record Answers (settings : Settings) (at : ℕ → Tree) (faults : ℕ → ℕ) (p t q : ℕ) (op : Op) (label : Label) (reply : Reply) : Type 0 where

@@ -1,4 +1,4 @@
--- What the calls of an operation mean for the S3 state: some tell of it and leave it, and one changes it.
+-- What the calls of an operation mean for the S3 state: some tell of it and leave it, and one changes it. Source: this profile.
 use Rattle.std.specs.Prelude.{◌≡◌, ◌⊎◌, ◌≤◌, ℕ, ◌+◌, List, Option, Result, Ok, Err}
 use Rattle.std.specs.Option.{option_map}
 use Rattle.std.specs.FinMap.{get, insert}

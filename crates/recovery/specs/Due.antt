@@ -1,11 +1,12 @@
 -- What an answer of the store comes to, by the call that it answers. Over a sound account no other answer comes than
 -- one that tells of the state. Source: Object Storage API v1 and this profile.
-use Rattle.std.specs.Prelude.{◌≡◌, ◌⊎◌, ◌<◌, ◌^◌, ℕ, cond, nat_lt, List, Option, None, Some, Result, Ok, Err}
+use Rattle.std.specs.Prelude.{◌≡◌, ◌⊎◌, ◌<◌, ◌^◌, ℕ, Bool, cond, not, ◌&&◌, nat_le, List, bytes_eq, Option, None, Some, is_none, Result, Ok, Err}
 use Rattle.gate_base.specs.Told.{moment_limit}
 use Rattle.gate_base.specs.declared.page.Pair.{Pair}
 use Rattle.s3_names.specs.declared.acl.Acl.{Acl}
 use Rattle.s3_machine.specs.declared.operation.ObjectHead.{ObjectHead}
 use Rattle.s3_machine.specs.ETag.{body_etag}
+use Rattle.s3_machine.specs.Limits.{most_body_bytes}
 use Rattle.swift_calls.specs.declared.calls.SwiftRequest.{SwiftRequest}
 use Rattle.swift_calls.specs.declared.calls.SwiftRequest.TheVariants.{PutObject}
 use Rattle.swift_calls.specs.declared.calls.SwiftReply.{SwiftReply}
@@ -22,9 +23,10 @@ use Rattle.recovery.specs.declared.fault.PlanFault.TheVariants as fault
 abbrev pub Gives : {T : Type 0} → Result T PlanFault → Result T PlanFault → Type 0
 Gives result due = (result ≡ Err fault.Memory) ⊎ (result ≡ due)
 
--- HEAD of a bucket's container: who may read the bucket
+-- HEAD of a bucket's container: who may read the bucket, which has the moment at which it was made
 abbrev pub bucket_due : SwiftReply → Result (Option Acl) PlanFault
-bucket_due (Readers readers created) = Ok (Some (acl_of readers))
+bucket_due (Readers readers (Some created)) = Ok (Some (acl_of readers))
+bucket_due (Readers readers None) = Err fault.Inconsistent
 bucket_due NotFound = Ok None
 bucket_due Made = Err fault.Inconsistent
 bucket_due There = Err fault.Inconsistent
@@ -37,16 +39,21 @@ bucket_due (Names items) = Err fault.Inconsistent
 bucket_due (Head head) = Err fault.Inconsistent
 bucket_due (Bytes head body) = Err fault.Inconsistent
 
--- the head of an object, by what its tag and its pack read as; its size is below 2^63
-abbrev pub head_by : Option Tag → Option (List Pair) → ℕ → Option ObjectHead
-head_by None meta size = None
-head_by (Some tag) None size = None
-head_by (Some tag) (Some meta) size =
-    cond (nat_lt size (2 ^ 63)) (Some (record { etag = tag.etag; modified = tag.moment; size = size; content_type = tag.content_type; meta = meta })) None
+-- whether a file is what its tag says that was put in one piece: of no upload, with bytes of its own, as many as a body
+-- may have, and with their ETag
+abbrev pub agrees : StoredHead → Tag → Bool
+agrees head tag = is_none tag.id && not head.manifest && bytes_eq head.etag tag.etag && nat_le head.size most_body_bytes
+
+-- the head of an object, by what its tag and its pack read as
+abbrev pub head_by : StoredHead → Option Tag → Option (List Pair) → Option ObjectHead
+head_by head None meta = None
+head_by head (Some tag) None = None
+head_by head (Some tag) (Some meta) =
+    cond (agrees head tag) (Some (record { etag = tag.etag; modified = tag.moment; size = head.size; content_type = tag.content_type; meta = meta })) None
 
 -- what the head of a file says of the object
 abbrev pub head_from : StoredHead → Option ObjectHead
-head_from head = head_by (read_tag head.content_type) (unpacked head.meta) head.size
+head_from head = head_by head (read_tag head.content_type) (unpacked head.meta)
 
 -- a head that a page can give: its moment has a date, and numbers hold its size
 abbrev pub IsShownHead : Option ObjectHead → Type 0
@@ -87,20 +94,20 @@ bytes_due (Readers readers created) = Err fault.Inconsistent
 bytes_due (Names items) = Err fault.Inconsistent
 bytes_due (Head head) = Err fault.Inconsistent
 
--- PUT of an object's file
-abbrev pub stored_due : SwiftReply → Result (Unit {0}) PlanFault
-stored_due (Stored etag) = Ok tt
-stored_due Made = Err fault.Inconsistent
-stored_due There = Err fault.Inconsistent
-stored_due Gone = Err fault.Inconsistent
-stored_due NotFound = Err fault.Inconsistent
-stored_due NotEmpty = Err fault.Inconsistent
-stored_due Unsatisfiable = Err fault.Inconsistent
-stored_due (Containers names) = Err fault.Inconsistent
-stored_due (Readers readers created) = Err fault.Inconsistent
-stored_due (Names items) = Err fault.Inconsistent
-stored_due (Head head) = Err fault.Inconsistent
-stored_due (Bytes head body) = Err fault.Inconsistent
+-- PUT of an object's file whose bytes have this ETag: the store has them with the same
+abbrev pub stored_due : List ℕ → SwiftReply → Result (Unit {0}) PlanFault
+stored_due etag (Stored stored) = cond (bytes_eq stored etag) (Ok tt) (Err fault.Inconsistent)
+stored_due etag Made = Err fault.Inconsistent
+stored_due etag There = Err fault.Inconsistent
+stored_due etag Gone = Err fault.Inconsistent
+stored_due etag NotFound = Err fault.Inconsistent
+stored_due etag NotEmpty = Err fault.Inconsistent
+stored_due etag Unsatisfiable = Err fault.Inconsistent
+stored_due etag (Containers names) = Err fault.Inconsistent
+stored_due etag (Readers readers created) = Err fault.Inconsistent
+stored_due etag (Names items) = Err fault.Inconsistent
+stored_due etag (Head head) = Err fault.Inconsistent
+stored_due etag (Bytes head body) = Err fault.Inconsistent
 
 -- DELETE of an object's file: also one that isn't there is gone
 abbrev pub gone_due : SwiftReply → Result (Unit {0}) PlanFault
@@ -134,10 +141,10 @@ made_due (Bytes head body) = Err fault.Inconsistent
 
 -- ---- what is put
 
--- the tag of an object that is put in one piece
+-- the tag of an object that is put in one piece, with the ETag of its bytes
 abbrev pub plain_tag : List ℕ → List ℕ → ℕ → Tag
-plain_tag content_type body moment = record { content_type = content_type; etag = body_etag body; moment = moment; id = None }
+plain_tag content_type etag moment = record { content_type = content_type; etag = etag; moment = moment; id = None }
 
 -- the PUT of an object's file
 abbrev pub put_of : List ℕ → List ℕ → List ℕ → List Pair → List ℕ → ℕ → SwiftRequest
-put_of bucket key content_type meta body moment = PutObject bucket key (tag_text (plain_tag content_type body moment)) (pack_of meta) body
+put_of bucket key content_type meta body moment = PutObject bucket key (tag_text (plain_tag content_type (body_etag body) moment)) (pack_of meta) body

@@ -1,4 +1,4 @@
--- The faults of a plan, and their causes over every store.
+-- The faults of a plan, and their causes over every store. Source: this profile.
 use Rattle.std.specs.Prelude.{◌≡◌, ℕ, Result, Ok, Err}
 use Rattle.gate_base.specs.Causes.{Rose}
 use Rattle.swift_calls.specs.declared.calls.SwiftFault.{SwiftFault}

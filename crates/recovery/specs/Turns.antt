@@ -1,5 +1,5 @@
 -- What the calls between two numbers do to the S3 state: nothing, or one turn from the old state to the new one.
--- Each definition takes the history first: the account after each number of calls.
+-- Each definition takes the history first: the account after each number of calls. Source: this profile.
 use Rattle.std.specs.Prelude.{◌≡◌, ◌<◌, ◌≤◌, ℕ, ◌+◌}
 use Rattle.swift_calls.specs.Tree.{Tree}
 use Rattle.swift_calls.specs.History.{FailedBetween}
@@ -23,6 +23,10 @@ pub record Turns (at : ℕ → Tree) (p t q : ℕ) : Type 0 where
 -- at each number from p on and before q the account stands for the state at p
 abbrev pub OldBefore : (ℕ → Tree) → ℕ → ℕ → Type 0
 OldBefore at p q = (k : ℕ) → p ≤ k → k < q → native (at k) ≡ native (at p)
+
+-- a history in which no call failed
+abbrev pub never : ℕ → ℕ
+never k = 0
 
 -- between p and q the last call failed, and no earlier one did
 pub record LastFailed (faults : ℕ → ℕ) (p q : ℕ) : Type 0 where

@@ -1,29 +1,30 @@
 //! What an answer of the store comes to.
 ghost use Rattle.std.specs.Prelude.{◌≡◌, ◌≢◌, Err, IfOk};
-ghost use Rattle.recovery.specs.Due.{Gives, bucket_due, bytes_due, gone_due, head_due, head_from, known, IsShownHead, made_due, stored_due};
+ghost use Rattle.recovery.specs.Due.{Gives, agrees, bucket_due, bytes_due, gone_due, head_due, head_from, known, IsShownHead, made_due, stored_due};
 ghost use Rattle.recovery.specs.declared.fault.PlanFault.TheVariants as fault;
 
 use crate::PlanFault;
 use gate_base::Bytes;
-use s3_machine::ObjectHead;
+use s3_machine::{MOST_BODY_BYTES, ObjectHead};
 use s3_names::Acl;
 use std::alloc::Global;
 use swift_calls::{StoredHead, SwiftReply};
 use swift_marks::{Tag, unpack};
 use upload_records::acl;
 
-/// The bytes of an object are fewer.
-const SIZE_LIMIT: u64 = 9_223_372_036_854_775_808;
-
-/// The answer to HEAD of a bucket's container.
+/// The answer to HEAD of a bucket's container, which has the moment at which the bucket was made.
 pub(crate) fn bucket_in(reply: &SwiftReply) -> Result<Option<Acl>, PlanFault>
     ensures due { result ≡ bucket_due reply.now }
     ensures own { result ≢ Err fault.Failed }
 {
     match reply {
-        SwiftReply::Readers { readers, .. } => Ok(Some(acl(*readers))),
+        SwiftReply::Readers {
+            readers,
+            created: Some(_),
+        } => Ok(Some(acl(*readers))),
         SwiftReply::NotFound => Ok(None),
-        SwiftReply::Made
+        SwiftReply::Readers { created: None, .. }
+        | SwiftReply::Made
         | SwiftReply::There
         | SwiftReply::Gone
         | SwiftReply::Stored { .. }
@@ -58,8 +59,8 @@ pub(crate) fn head_in(alloc: Global, reply: &SwiftReply) -> Result<Option<Object
     }
 }
 
-/// What the head of a file says of the object: its type is the object's tag, and its metadata the object's pack. A size
-/// of 2^63 bytes or more is none that an object can have.
+/// What the head of a file says of the object: its type is the object's tag, with which the file agrees, and its
+/// metadata the object's pack.
 #[tactic(auto, using(crate::proofs::Dates::tag_is_dated))]
 fn read_head(alloc: Global, head: &StoredHead) -> Result<Option<ObjectHead>, PlanFault>
     ensures due { Gives result (known (head_from head.now)) }
@@ -68,7 +69,7 @@ fn read_head(alloc: Global, head: &StoredHead) -> Result<Option<ObjectHead>, Pla
 {
     let tag = Tag::read(alloc, head.content_type.as_slice())?;
     let meta = unpack(alloc, head.meta.as_slice())?;
-    if head.size >= SIZE_LIMIT {
+    if !agrees(head, &tag) {
         return Err(PlanFault::Inconsistent);
     }
     Ok(Some(ObjectHead {
@@ -78,6 +79,17 @@ fn read_head(alloc: Global, head: &StoredHead) -> Result<Option<ObjectHead>, Pla
         content_type: tag.content_type,
         meta,
     }))
+}
+
+/// The file is what its tag says that was put in one piece: of no upload, with bytes of its own, as many as a body may
+/// have, and with their ETag.
+fn agrees(head: &StoredHead, tag: &Tag) -> bool
+    ensures { result ≡ agrees head.now tag.now }
+{
+    tag.id.is_none()
+        && !head.manifest
+        && head.etag.as_slice() == tag.etag.as_slice()
+        && head.size <= MOST_BODY_BYTES
 }
 
 /// The answer to GET of an object's file.
@@ -101,14 +113,15 @@ pub(crate) fn bytes_in(reply: SwiftReply) -> Result<Option<Bytes>, PlanFault>
     }
 }
 
-/// The answer to PUT of an object's file.
-pub(crate) fn stored_in(reply: &SwiftReply) -> Result<(), PlanFault>
-    ensures due { result ≡ stored_due reply.now }
+/// The answer to PUT of an object's file whose bytes have this ETag: the store has them with the same.
+pub(crate) fn stored_in(reply: &SwiftReply, etag: &[u8]) -> Result<(), PlanFault>
+    ensures due { result ≡ stored_due etag.now reply.now }
     ensures own { result ≢ Err fault.Failed }
 {
     match reply {
-        SwiftReply::Stored { .. } => Ok(()),
-        SwiftReply::Made
+        SwiftReply::Stored { etag: stored } if stored.as_slice() == etag => Ok(()),
+        SwiftReply::Stored { .. }
+        | SwiftReply::Made
         | SwiftReply::There
         | SwiftReply::Gone
         | SwiftReply::NotFound

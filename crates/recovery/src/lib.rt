@@ -5,10 +5,12 @@
 mod bucket;
 mod due;
 mod fault;
+mod laws;
 mod object;
 mod state;
 
 pub use bucket::{head_bucket, make_bucket};
 pub use fault::PlanFault;
+pub use laws::{law_answered_undisturbed, law_never_unavailable};
 pub use object::{delete_object, get_object, head_object, put_object};
 pub use state::{SettleFault, Settled, Unsure};

@@ -4,10 +4,10 @@ ghost use Rattle.gate_base.specs.Told.{moment_limit};
 ghost use Rattle.s3_names.specs.Bucket.{is_bucket};
 ghost use Rattle.s3_names.specs.Key.{is_key};
 ghost use Rattle.s3_names.specs.declared.acl.Acl.{Acl};
-ghost use Rattle.s3_machine.specs.Limits.{is_content_type};
+ghost use Rattle.s3_machine.specs.ETag.{body_etag};
 ghost use Rattle.s3_machine.specs.Step.{IsProperContent};
 ghost use Rattle.swift_calls.specs.History.{Kept};
-ghost use Rattle.swift_marks.specs.Tag.{tag_text};
+ghost use Rattle.swift_marks.specs.Tag.{has_text, tag_text};
 ghost use Rattle.upload_records.specs.Native.{native};
 ghost use Rattle.upload_records.specs.Sound.{Sound};
 ghost use Rattle.swift_calls.specs.Step.{Fit};
@@ -115,13 +115,14 @@ pub fn put_object<W: Swift>(
         → (acl : Acl) → TellsBucket bucket.now (native (W.tree_at state.new.store.now (W.called state.old.store.now))) (Some acl)
         → Writes (W.tree_at state.new.store.now) (W.faults_at state.new.store.now) (W.called state.old.store.now) (W.called state.new.store.now) (puts_object bucket.now key.now content_type.now meta.now body.now moment) result }
 {
-    let request = put_request(alloc, bucket, key, content_type, meta, body, moment)?;
+    let etag = body_etag(body.as_slice());
+    let request = put_request(alloc, bucket, key, content_type, meta, body, &etag, moment)?;
     let reply = state.store.call(&request)?;
-    stored_in(&reply)
+    stored_in(&reply, &etag)
 }
 
-/// The PUT of an object's file.
-#[tactic(auto, using(crate::proofs::Fits::put_fits))]
+/// The PUT of an object's file, whose body has this ETag.
+#[tactic(auto, using(crate::proofs::Fits::put_fits, crate::proofs::Fits::tag_has_text))]
 fn put_request(
     alloc: Global,
     bucket: &Bytes,
@@ -129,17 +130,19 @@ fn put_request(
     content_type: &Bytes,
     meta: &Meta,
     body: &Bytes,
+    etag: &[u8],
     moment: u64,
 ) -> Result<SwiftRequest, Memory>
     requires name { is_bucket bucket.now ≡ true }
     requires key { is_key key.now ≡ true }
     requires content { IsProperContent content_type.now meta.now body.now }
+    requires etag { etag.now ≡ body_etag body.now }
     requires moment { moment < moment_limit }
     ensures request { IfOk result (λ request. request ≡ put_of bucket.now key.now content_type.now meta.now body.now moment) }
     ensures fits { IfOk result Fit }
     ensures ordered { OnOk result (names_ascend meta.now ≡ true) }
 {
-    let text = tag_text(alloc, content_type, body, moment)?;
+    let text = tag_text(alloc, content_type, etag, moment)?;
     let pieces = pack(alloc, meta)?;
     Ok(SwiftRequest::PutObject {
         container: bucket.copy()?,
@@ -150,16 +153,14 @@ fn put_request(
     })
 }
 
-/// The tag of an object that is put in one piece, as its file has it.
-#[tactic(auto, using(crate::proofs::Fits::tag_has_text))]
-fn tag_text(alloc: Global, content_type: &Bytes, body: &Bytes, moment: u64) -> Result<Bytes, Memory>
-    requires content_type { is_content_type content_type.now ≡ true }
-    requires moment { moment < moment_limit }
-    ensures { IfOk result (λ text. text ≡ tag_text (plain_tag content_type.now body.now moment)) }
+/// The tag of an object that is put in one piece, with the ETag of its bytes, as its file has it.
+fn tag_text(alloc: Global, content_type: &Bytes, etag: &[u8], moment: u64) -> Result<Bytes, Memory>
+    requires { has_text (plain_tag content_type.now etag.now moment) ≡ true }
+    ensures { IfOk result (λ text. text ≡ tag_text (plain_tag content_type.now etag.now moment)) }
 {
     let tag = Tag {
         content_type: content_type.copy()?,
-        etag: Bytes::from_slice(alloc, &body_etag(body.as_slice()))?,
+        etag: Bytes::from_slice(alloc, etag)?,
         moment,
         id: None,
     };

@@ -13,4 +13,4 @@ returns-in_err-reply-clause-told g c = λ tells sound.
 pub returns-clause-told : goal.returns-clause-told
 returns-clause-told g c = λ tells sound.
     told_by {T = Option Acl} _ _ _ _ _ (head_leaves _) (TellsBucket c.args.bucket.now) sound _ _ _ (c.in_ok-reply.ensures.told tells)
-    (head_tells _ _ _ c.in_ok-copy.ensures c.requires _ (c.in_ok-reply.ensures.told tells).reply) (inr c.bucket_in.ensures.due)
+    (head_tells _ _ _ c.in_ok-copy.ensures c.requires sound _ (c.in_ok-reply.ensures.told tells).reply) (inr c.bucket_in.ensures.due)

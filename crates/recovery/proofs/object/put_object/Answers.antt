@@ -1,6 +1,8 @@
 use Rattle.recovery.proofs.Files.{put_changes, put_is_due}
-use Rattle.std.proofs.Common.{refl}
+use Rattle.std.proofs.Common.{refl, ap, ◌∙◌}
+use Rattle.s3_machine.specs.ETag.{body_etag}
 use Rattle.recovery.specs.Calls.{puts_object}
+use Rattle.recovery.specs.Due.{stored_due}
 use Rattle.recovery.proofs.One.{unanswered, done_by, not_sent}
 use Rattle.recovery.proofs.object.put_object.Goals as goal
 
@@ -35,7 +37,7 @@ returns-clause-told g c = λ tells sound acl there.
       ascend = c.in_ok-request.ensures.ordered;
       below = c.requires.moment;
     }) sound acl there _ (c.in_ok-reply.ensures.told tells).reply)
-    c.stored_in.ensures.due
+    (c.stored_in.ensures.due ∙ ap (λ etag. stored_due etag c.in_ok-reply.reply) (c.body_etag-etag.ensures ∙ ap body_etag c.as_slice.ensures))
 
 pub returns-in_err-request-clause-told : goal.returns-in_err-request-clause-told
 returns-in_err-request-clause-told g c = λ tells sound acl there.
