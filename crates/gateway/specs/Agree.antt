@@ -1,4 +1,5 @@
--- What a connection was in a history, it is in each later one; its numbers rise, and it leaves the account sound.
+-- What a connection was in a history, it is in each later one, and where no call failed, over `never`; its numbers
+-- rise, and it leaves the account sound.
 use Rattle.std.specs.Prelude.{◌≡◌, ◌≤◌, ℕ, ◌+◌, List, Option}
 use Rattle.std.proofs.Common.{sym, ap, subst, arith}
 use Rattle.gate_base.specs.declared.outside.Piece.{Piece}
@@ -6,12 +7,12 @@ use Rattle.s3_machine.specs.declared.operation.Label.{Label}
 use Rattle.s3_machine.specs.declared.operation.Settings.{Settings}
 use Rattle.s3_machine.specs.declared.operation.Reply.{Reply}
 use Rattle.swift_calls.specs.Tree.{Tree}
-use Rattle.swift_calls.specs.History.{Kept, kept_before}
+use Rattle.swift_calls.specs.History.{Kept, NoneFails, kept_before}
 use Rattle.upload_records.specs.Native.{native}
 use Rattle.upload_records.specs.Sound.{Sound}
-use Rattle.recovery.specs.Turns.{Turns}
+use Rattle.recovery.specs.Turns.{Turns, never}
 use Rattle.recovery.specs.Answers.{most_calls}
-use Rattle.recovery.specs.Agree.{answers_agree}
+use Rattle.recovery.specs.Agree.{answers_agree, answers_calm}
 use Rattle.gateway.specs.declared.ended.Ended.{Ended}
 use Rattle.gateway.specs.Request.{Request}
 use Rattle.gateway.specs.Exchange.{Turn, Replies, refused, answered, Exchange, CutExchange}
@@ -178,5 +179,87 @@ talk_one_agree kept talk near =
       after = talk.after;
       exchanges = exchanges_agree kept talk.exchanges (omega arith);
       ends = ends_agree kept talk.ends near;
+      all = talk.all;
+    }
+
+-- ---- histories in which no call failed
+
+pub replies_calm : {settings : Settings} {at : ℕ → Tree} {faults : ℕ → ℕ} {b c p t q : ℕ} {request : Request} {label : Label} {due : Reply} → NoneFails faults b c → b ≤ p → q ≤ c
+    → Replies settings at faults p t q request label due → Replies settings at never p t q request label due
+replies_calm calm from to (refused code means is sound turned one) = refused code means is sound turned one
+replies_calm calm from to (answered op means answers bound) = answered op means (answers_calm calm from to answers) bound
+
+pub exchange_calm : {settings : Settings} {at : ℕ → Tree} {faults : ℕ → ℕ} {connection b c : ℕ} {turn : Turn} {request : Request} {label : Label} {end : Option Ended} {old new : List Piece} → NoneFails faults b c
+    → Exchange settings at faults connection turn request label end old new → b ≤ turn.from → turn.to ≤ c → Exchange settings at never connection turn request label end old new
+exchange_calm calm exchange from to = record {
+  reply = exchange.reply;
+  bytes = exchange.bytes;
+  replies = replies_calm calm from to exchange.replies;
+  due = exchange.due;
+  sends = exchange.sends;
+}
+
+pub cut_exchange_calm : {settings : Settings} {at : ℕ → Tree} {faults : ℕ → ℕ} {connection b c : ℕ} {turn : Turn} {request : Request} {label : Label} {old new : List Piece} → NoneFails faults b c
+    → CutExchange settings at faults connection turn request label old new → b ≤ turn.from → turn.to ≤ c → CutExchange settings at never connection turn request label old new
+cut_exchange_calm calm exchange from to = record {
+  reply = exchange.reply;
+  end = exchange.end;
+  bytes = exchange.bytes;
+  replies = replies_calm calm from to exchange.replies;
+  due = exchange.due;
+  sends = exchange.sends;
+}
+
+pub serves_calm : {settings : Settings} {at : ℕ → Tree} {faults : ℕ → ℕ} {connection b c t : ℕ} {end : Option Ended} {old new : Point} → NoneFails faults b c
+    → Serves settings at faults connection end old t new → b ≤ old.tally.number → new.tally.number ≤ c → Serves settings at never connection end old t new
+serves_calm calm serves from to = record {
+  request = serves.request;
+  label = serves.label;
+  hears = serves.hears;
+  labels = serves.labels;
+  exchange = exchange_calm calm serves.exchange from to;
+}
+
+pub breaks_calm : {settings : Settings} {at : ℕ → Tree} {faults : ℕ → ℕ} {connection b c t : ℕ} {old : Point} {new : Tally} → NoneFails faults b c
+    → Breaks settings at faults connection old t new → b ≤ old.tally.number → new.number ≤ c → Breaks settings at never connection old t new
+breaks_calm calm breaks from to = record {
+  request = breaks.request;
+  label = breaks.label;
+  rest = breaks.rest;
+  place = breaks.place;
+  hears = breaks.hears;
+  labels = breaks.labels;
+  exchange = cut_exchange_calm calm breaks.exchange from to;
+}
+
+pub exchanges_calm : {settings : Settings} {at : ℕ → Tree} {faults : ℕ → ℕ} {connection b c : ℕ} {old new : Point} {turns : List Turn} → NoneFails faults b c
+    → Exchanges settings at faults connection old turns new → b ≤ old.tally.number → new.tally.number ≤ c → Exchanges settings at never connection old turns new
+exchanges_calm calm (none point) from to = none point
+exchanges_calm calm (more old middle new turns t exchanges serves) from to =
+    let first = exchanges_order exchanges in
+    let last = serves_order serves in
+    more old middle new turns t (exchanges_calm calm exchanges from (omega arith)) (serves_calm calm serves (omega arith) to)
+
+pub ends_calm : {settings : Settings} {at : ℕ → Tree} {faults : ℕ → ℕ} {connection b c : ℕ} {ended : Ended} {last : Point} {new : Tally} {turns : List Turn} → NoneFails faults b c
+    → Ends settings at faults connection ended last new turns → b ≤ last.tally.number → new.number ≤ c → Ends settings at never connection ended last new turns
+ends_calm calm (over is front same) from to = over is front same
+ends_calm calm (cut is front same) from to = cut is front same
+ends_calm calm (served point t serves same) from to = let e = ap (λ t. t.number) same in served point t (serves_calm calm serves from (omega arith)) same
+ends_calm calm (unread is only sends) from to = unread is only sends
+ends_calm calm (unheard is same) from to = unheard is same
+ends_calm calm (untold is only sends) from to = untold is only sends
+ends_calm calm (broken t is breaks) from to = broken t is (breaks_calm calm breaks from to)
+
+pub talk_one_calm : {settings : Settings} {at : ℕ → Tree} {faults : ℕ → ℕ} {connection b c : ℕ} {ended : Ended} {old : Point} {turns : List Turn} {new : Tally} → NoneFails faults b c
+    → TalkOne settings at faults connection ended old turns new → b ≤ old.tally.number → new.number ≤ c → TalkOne settings at never connection ended old turns new
+talk_one_calm calm talk from to =
+    let first = exchanges_order talk.exchanges in
+    let last = ends_order talk.ends in
+    record {
+      last = talk.last;
+      before = talk.before;
+      after = talk.after;
+      exchanges = exchanges_calm calm talk.exchanges from (omega arith);
+      ends = ends_calm calm talk.ends (omega arith) to;
       all = talk.all;
     }

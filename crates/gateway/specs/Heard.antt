@@ -1,4 +1,4 @@
--- A request as the code holds it, and the request that it is.
+-- A request as the code holds it, and the request that it is. Source: this profile.
 use Rattle.std.specs.Prelude.{◌≡◌, ◌≢◌, ℕ, Option}
 use Rattle.s3_machine.specs.declared.code.Code.{Code}
 use Rattle.s3_machine.specs.declared.code.Code.TheVariants.{ServiceUnavailable, InconsistentStore}

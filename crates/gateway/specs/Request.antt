@@ -1,4 +1,4 @@
--- A request as it is answered, whether it was read as a message or refused before.
+-- A request as it is answered, whether it was read as a message or refused before. Source: this profile.
 use Rattle.std.specs.Prelude.{ℕ, Bool, cond, is_some, ◌==◌, List, [], Option, None, Some, Result, Ok, Err, codes}
 use Rattle.std.specs.List.{before_first}
 use Rattle.gate_base.specs.declared.page.Caller.{Caller}

@@ -1,4 +1,4 @@
--- One step of a connection: a request that was answered, or its end.
+-- One step of a connection: a request that was answered, or its end. Source: this profile.
 use Rattle.std.specs.Prelude.{◌≡◌, ℕ, Bool, false, List, if◌then◌else◌, Option, None, Some}
 use Rattle.gate_base.specs.Wire.{Wire, with_mark}
 use Rattle.s3_machine.specs.declared.operation.Settings.{Settings}

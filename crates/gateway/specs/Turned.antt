@@ -1,4 +1,4 @@
--- What becomes of one request, between two tallies.
+-- What becomes of one request, between two tallies. Source: this profile.
 use Rattle.std.specs.Prelude.{◌≡◌, ◌⊎◌, ℕ, Option, None, Some}
 use Rattle.gate_base.specs.Wire.{Wire}
 use Rattle.s3_machine.specs.declared.operation.Label.{Label}

@@ -7,7 +7,7 @@ pub enum Ended {
     End,
     /// A request was answered that ends the connection.
     Closed,
-    /// The connection ended inside a head that could still go on, after so many bytes of requests.
+    /// The connection ended inside a head that could still go on, or inside a target, after so many bytes of requests.
     CutShort(u64),
     /// A request was refused before it was understood, after so many bytes of requests.
     Refused { kind: Kind, place: u64 },

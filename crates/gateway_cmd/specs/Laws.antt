@@ -2,7 +2,9 @@
 use Rattle.std.specs.Prelude.{ℕ, List}
 use Rattle.s3_machine.specs.declared.operation.Settings.{Settings}
 use Rattle.swift_calls.specs.Tree.{Tree}
+use Rattle.swift_calls.specs.History.{NoneFails}
 use Rattle.upload_records.specs.Sound.{Sound}
+use Rattle.recovery.specs.Turns.{never}
 use Rattle.gateway.specs.Exchange.{Turn}
 use Rattle.gateway.specs.Stands.{StandsThroughout, Follows}
 use Rattle.gateway_cmd.specs.Run.{Place, Talk}
@@ -16,3 +18,8 @@ TalkStands = (settings : Settings) (at : ℕ → Tree) (faults : ℕ → ℕ) (o
 abbrev pub TurnsFollow : Type 0
 TurnsFollow = (settings : Settings) (at : ℕ → Tree) (faults : ℕ → ℕ) (old : Place) (turns : List Turn) (new : Place) → Talk settings at faults old turns new
     → Follows old.tally.number turns new.tally.number
+
+-- where no call failed, the talk is one over a history in which none did: no request is answered ServiceUnavailable
+abbrev pub TalkUndisturbed : Type 0
+TalkUndisturbed = (settings : Settings) (at : ℕ → Tree) (faults : ℕ → ℕ) (old : Place) (turns : List Turn) (new : Place) → Talk settings at faults old turns new → NoneFails faults old.tally.number new.tally.number
+    → Talk settings at never old turns new

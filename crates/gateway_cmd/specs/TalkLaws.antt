@@ -1,15 +1,16 @@
--- What the connections were in a history, they are in each later one; through them the account is sound, and stands
--- for the state before or after one request; and their turns follow one another.
+-- What the connections were in a history, they are in each later one, and where no call failed, over `never`; through
+-- them the account is sound, and stands for the state before or after one request; and their turns follow one another.
 use Rattle.std.specs.Prelude.{◌≡◌, ◌≤◌, ℕ, ◌+◌, ◌-◌, Bool, true, false, List, [], ◌∷◌, ◌++◌, length, slice_set, if◌then◌else◌}
 use Rattle.std.proofs.Common.{refl, ap, ◌∙◌, arith}
 use Rattle.std.proofs.lemmas.List.{length-set, length-append}
 use Rattle.s3_machine.specs.declared.operation.Settings.{Settings}
 use Rattle.swift_calls.specs.Tree.{Tree}
-use Rattle.swift_calls.specs.History.{Kept}
+use Rattle.swift_calls.specs.History.{Kept, NoneFails}
 use Rattle.upload_records.specs.Sound.{Sound}
+use Rattle.recovery.specs.Turns.{never}
 use Rattle.gateway.specs.Exchange.{Turn}
 use Rattle.gateway.specs.Connection.{has_failed}
-use Rattle.gateway.specs.Agree.{talk_one_agree, talk_one_order, talk_one_sound}
+use Rattle.gateway.specs.Agree.{talk_one_agree, talk_one_calm, talk_one_order, talk_one_sound}
 use Rattle.gateway.specs.Stands.{StandsThroughout, Follows}
 use Rattle.gateway.specs.StandsLaws.{stands_none, stands_append, talk_one_stands, follows_none, follows_append, talk_one_follow}
 use Rattle.gateway_cmd.specs.Run.{Place, ServesNext, Talk, none, more}
@@ -55,6 +56,27 @@ talk_agree kept (none place) near = none place
 talk_agree kept (more old middle new turns next talk serves) near =
     let last = serves_next_order serves in
     more old middle new turns next (talk_agree kept talk (omega arith)) (serves_next_agree kept serves near)
+
+-- ---- histories in which no call failed
+
+pub serves_next_calm : {settings : Settings} {at : ℕ → Tree} {faults : ℕ → ℕ} {b c : ℕ} {old new : Place} {turns : List Turn} → NoneFails faults b c
+    → ServesNext settings at faults old turns new → b ≤ old.tally.number → new.tally.number ≤ c → ServesNext settings at never old turns new
+serves_next_calm calm serves from to = record {
+  bytes = serves.bytes;
+  ended = serves.ended;
+  waiting = serves.waiting;
+  begun = serves.begun;
+  marks = serves.marks;
+  talk = talk_one_calm calm serves.talk from to;
+}
+
+pub talk_calm : {settings : Settings} {at : ℕ → Tree} {faults : ℕ → ℕ} {b c : ℕ} {old new : Place} {turns : List Turn} → NoneFails faults b c
+    → Talk settings at faults old turns new → b ≤ old.tally.number → new.tally.number ≤ c → Talk settings at never old turns new
+talk_calm calm (none place) from to = none place
+talk_calm calm (more old middle new turns next talk serves) from to =
+    let first = talk_order talk in
+    let last = serves_next_order serves in
+    more old middle new turns next (talk_calm calm talk from (omega arith)) (serves_next_calm calm serves (omega arith) to)
 
 -- ---- marks
 

@@ -1,7 +1,8 @@
-ghost use Rattle.std.specs.Prelude.{◌≡◌, ◌≢◌, ◌≤◌, ◌↔◌, ◌++◌, ℕ, true, false, List, []};
+ghost use Rattle.std.specs.Prelude.{◌≡◌, ◌≢◌, ◌<◌, ◌≤◌, ◌↔◌, ◌++◌, ℕ, true, false, List, []};
 ghost use Rattle.gate_base.specs.Causes.{Rose};
-ghost use Rattle.swift_calls.specs.History.{Kept};
+ghost use Rattle.swift_calls.specs.History.{budget, Kept, NoneFails};
 ghost use Rattle.upload_records.specs.Sound.{Sound};
+ghost use Rattle.recovery.specs.Turns.{never};
 ghost use Rattle.gateway.specs.Exchange.{Turn};
 ghost use Rattle.gateway.specs.Connection.{tally};
 ghost use Rattle.gateway.specs.Stands.{StandsThroughout, Follows};
@@ -9,7 +10,7 @@ ghost use Rattle.gateway_cmd.specs.Report.{is_accepted, IsStatus, code_of, line_
 ghost use Rattle.gateway_cmd.specs.declared.status.Status.{Status as status};
 ghost use Rattle.gateway_cmd.specs.declared.status.Status.TheVariants as variant;
 ghost use Rattle.gateway_cmd.specs.Run.{place_of, Talk};
-ghost use Rattle.gateway_cmd.specs.Session.{default_settings};
+ghost use Rattle.gateway_cmd.specs.Session.{default_settings, Unmarked};
 
 use crate::session::session;
 use crate::status::Status;
@@ -52,6 +53,12 @@ pub fn run<N: Line<W>, R: Sink, W: Swift, C: Clock, D: Draws>(
     ensures ordered { W.called store.old ≤ W.called store.new }
     ensures kept { W.tells store.old → Kept (W.called store.old) (W.tree_at store.old) (W.tree_at store.new) (W.faults_at store.old) (W.faults_at store.new) }
 
+    // Where the store's count of faults did not rise and calls are left, no call failed; where the line's did not, no
+    // connection failed.
+    ensures undisturbed { W.tells store.old → W.called store.new < budget → (Rose (W.faults store.old) (W.faults store.new) → ⊥)
+        → NoneFails (W.faults_at store.new) (W.called store.old) (W.called store.new) }
+    ensures unmarked { N.tells line.old → (Rose (N.faults line.old) (N.faults line.new) → ⊥) → Unmarked (N.wire line.old) (N.wire line.new) }
+
     // Where line, store, clock and draws tell, and the account is sound at entry, the run is a talk: the requests of
     // its connections in order, each with its turn; and at each number of calls the account is sound, and it is that at
     // the entry or stands for the state before or after the one request that has the number.
@@ -63,6 +70,16 @@ pub fn run<N: Line<W>, R: Sink, W: Swift, C: Clock, D: Draws>(
         (place_of (N.wire line.new) (tally (W.called store.new) (C.moments clock.new) (D.draws draws.new) (N.wire line.new).sent))
         × StandsThroughout (W.tree_at store.new) turns (W.called store.old) (W.called store.new)
         × Follows (W.called store.old) turns (W.called store.new) }
+
+    // Where no call failed besides, the talk is one over a history in which none did: no request is answered
+    // ServiceUnavailable.
+    ensures told_undisturbed { N.tells line.old → W.tells store.old → C.tells clock.old → D.tells draws.old → Sound (W.tree_at store.old (W.called store.old))
+        → W.called store.new < budget → (Rose (W.faults store.old) (W.faults store.new) → ⊥)
+        → (turns : List Turn)
+        × Talk default_settings (W.tree_at store.new) never
+        (place_of (N.wire line.old) (tally (W.called store.old) (C.moments clock.old) (D.draws draws.old) (N.wire line.old).sent))
+        turns
+        (place_of (N.wire line.new) (tally (W.called store.new) (C.moments clock.new) (D.draws draws.new) (N.wire line.new).sent)) }
 {
     let ended = attempt(alloc, words, line, store, clock, draws);
     let _ = report.put(ended.line());
@@ -82,6 +99,7 @@ fn attempt<N: Line<W>, W: Swift, C: Clock, D: Draws>(
     ensures line { result ≡ variant.Line → Rose (N.next_faults line.old) (N.next_faults line.new) }
     ensures quiet { result ≢ variant.Line → N.next_faults line.new ≡ N.next_faults line.old }
     ensures done { N.tells line.old → result ≡ variant.Done → (N.wire line.new).waiting ≡ [] }
+    ensures unmarked { N.tells line.old → (Rose (N.faults line.old) (N.faults line.new) → ⊥) → Unmarked (N.wire line.old) (N.wire line.new) }
     ensures idle { is_accepted words.now ≡ false → (line.new ≡ line.old) × (store.new ≡ store.old) × (clock.new ≡ clock.old) × (draws.new ≡ draws.old) }
     ensures tells_line { N.tells line.old → N.tells line.new }
     ensures tells_store { W.tells store.old → W.tells store.new }

@@ -7,9 +7,13 @@ mod session;
 mod status;
 
 pub use command::run;
-pub use laws::{law_talk_stands, law_turns_follow};
+pub use laws::{law_talk_stands, law_talk_undisturbed, law_turns_follow};
 
 #[cfg(test)]
 mod object_tests;
+#[cfg(test)]
+mod requests;
+#[cfg(test)]
+mod service_tests;
 #[cfg(test)]
 mod tests;

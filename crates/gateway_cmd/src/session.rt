@@ -7,7 +7,7 @@ ghost use Rattle.gateway.specs.Exchange.{Turn};
 ghost use Rattle.gateway.specs.Connection.{tally};
 ghost use Rattle.gateway_cmd.specs.declared.status.Status.TheVariants as status;
 ghost use Rattle.gateway_cmd.specs.Run.{place_of, Talk};
-ghost use Rattle.gateway_cmd.specs.Session.{default_settings, NextPlace};
+ghost use Rattle.gateway_cmd.specs.Session.{default_settings, NextPlace, Unmarked};
 
 use crate::status::Status;
 use gate_base::{Bytes, Clock, Draws, Line, Memory};
@@ -31,6 +31,7 @@ pub fn session<N: Line<W>, W: Swift, C: Clock, D: Draws>(
     ensures cause { result ≡ status.Line → Rose (N.next_faults line.old) (N.next_faults line.new) }
     ensures quiet { result ≢ status.Line → N.next_faults line.new ≡ N.next_faults line.old }
     ensures done { N.tells line.old → result ≡ status.Done → (N.wire line.new).waiting ≡ [] }
+    ensures unmarked { N.tells line.old → (Rose (N.faults line.old) (N.faults line.new) → ⊥) → Unmarked (N.wire line.old) (N.wire line.new) }
 
     ensures tells_line { N.tells line.old → N.tells line.new }
     ensures tells_store { W.tells store.old → W.tells store.new }
@@ -70,6 +71,8 @@ fn serve_another<N: Line<W>, W: Swift, C: Clock, D: Draws>(
     ensures falls { result ≡ None → 2 ^ 63 - N.spent line.new < 2 ^ 63 - N.spent line.old }
     ensures cause { result ≡ Some status.Line → Rose (N.next_faults line.old) (N.next_faults line.new) }
     ensures quiet { result ≢ Some status.Line → N.next_faults line.new ≡ N.next_faults line.old }
+    ensures line_faults { N.faults line.old ≤ N.faults line.new }
+    ensures unmarked { N.tells line.old → (Rose (N.faults line.old) (N.faults line.new) → ⊥) → Unmarked (N.wire line.old) (N.wire line.new) }
 
     ensures tells_line { N.tells line.old → N.tells line.new }
     ensures tells_store { W.tells store.old → W.tells store.new }

@@ -35,7 +35,7 @@ const PHOTOS: &str = "photos nobody 1369353600 0";
 
 /// A reply that is due: on which connection, after how many calls of the store, its code or `Made`, its id, what it
 /// names, whether it closes the connection, and whether it answers HEAD.
-type Due = (u64, u64, &'static str, u64, &'static str, bool, bool);
+pub(crate) type Due = (u64, u64, &'static str, u64, &'static str, bool, bool);
 
 /// The status line and the message of a code.
 fn of_code(code: &str) -> (&'static str, &'static str) {
@@ -54,7 +54,7 @@ fn of_code(code: &str) -> (&'static str, &'static str) {
 }
 
 /// Each piece as it is due, with its connection and the number of calls before it.
-fn due_text(alloc: Global, dues: &[Due]) -> Result<String, Fail> {
+pub(crate) fn due_text(alloc: Global, dues: &[Due]) -> Result<String, Fail> {
     let mut text = String::new(alloc);
     for (connection, at, code, id, resource, closing, head) in dues {
         let (status, message) = of_code(code);
@@ -89,7 +89,7 @@ fn due_text(alloc: Global, dues: &[Due]) -> Result<String, Fail> {
     Ok(text)
 }
 
-fn sent_text(alloc: Global, line: &MemLine) -> Result<String, Fail> {
+pub(crate) fn sent_text(alloc: Global, line: &MemLine) -> Result<String, Fail> {
     let mut text = String::new(alloc);
     for piece in line.pieces() {
         let connection = piece.connection;
@@ -271,7 +271,7 @@ pub(crate) fn run_text(alloc: Global, given: Given, store: &mut MemSwift) -> Res
 }
 
 /// What each run gives that meets no fault, and the account after it.
-const TALKS: [(&[&str], &[Due], &str); 12] = [
+const TALKS: [(&[&str], &[Due], &str); 15] = [
     (
         &[PUT],
         &[(1, 2, "Made", 1, "/photos", false, false)],
@@ -361,6 +361,43 @@ const TALKS: [(&[&str], &[Due], &str); 12] = [
         &[
             (1, 2, "Made", 1, "/photos", false, false),
             (2, 3, "BucketAlreadyOwnedByYou", 3, "/photos", false, false),
+        ],
+        PHOTOS,
+    ),
+    // bucket names
+    (
+        &[
+            "PUT /ab HTTP/1.1\r\nContent-Length: 0\r\n\r\nPUT /192.168.0.1 HTTP/1.1\r\nContent-Length: 0\r\n\r\nPUT /a..b HTTP/1.1\r\nContent-Length: 0\r\n\r\nPUT /abc HTTP/1.1\r\nContent-Length: 0\r\n\r\n",
+        ],
+        &[
+            (1, 0, "InvalidBucketName", 1, "/ab", false, false),
+            (1, 0, "InvalidBucketName", 3, "/192.168.0.1", false, false),
+            (1, 0, "InvalidBucketName", 5, "/a..b", false, false),
+            (1, 2, "Made", 7, "/abc", false, false),
+        ],
+        "abc nobody 1369353600 0",
+    ),
+    // a body without its last byte
+    (
+        &[
+            "PUT /photos HTTP/1.1\r\nContent-Length: 0\r\n\r\nPUT /photos/a%20b/%C3%BC%25 HTTP/1.1\r\nContent-Length: 5\r\n\r\nhell",
+        ],
+        &[
+            (1, 2, "Made", 1, "/photos", false, false),
+            (1, 2, "IncompleteBody", 3, "/", true, false),
+        ],
+        PHOTOS,
+    ),
+    // no head at all, and a reply that closes behind others
+    (
+        &[
+            "\u{0}\u{1}",
+            "PUT /photos HTTP/1.1\r\nContent-Length: 0\r\n\r\nPUT /photos HTTP/1.1\r\nContent-Length: 0\r\nConnection: Keep-Alive, CLOSE\r\n\r\nPUT /photos HTTP/1.1\r\nContent-Length: 0\r\n\r\n",
+        ],
+        &[
+            (1, 0, "InvalidRequest", 1, "/", true, false),
+            (2, 2, "Made", 3, "/photos", false, false),
+            (2, 3, "BucketAlreadyOwnedByYou", 5, "/photos", true, false),
         ],
         PHOTOS,
     ),

@@ -1,14 +1,17 @@
 use Rattle.std.proofs.Common.{◌≡◌, ◌≤◌, ◌-◌, ◌^◌}
+use Rattle.gate_base.specs.Causes.{Rose}
 use Rattle.swift_calls.specs.History.{Kept}
 use Rattle.gateway.specs.Connection.{tally}
 use Rattle.gateway_cmd.specs.Run.{place_of}
-use Rattle.gateway_cmd.specs.Session.{default_settings}
+use Rattle.gateway_cmd.specs.Session.{default_settings, Unmarked}
 use Rattle.gateway_cmd.proofs.Sessions.{Served}
 use Rattle.gateway_cmd.proofs.session.session.Given as goal
 
 abbrev pub invariant-connections : goal.invariant-connections
 invariant-connections g l = record {
   quiet : g.N.Line.next_faults l.line ≡ g.N.Line.next_faults l.initial.line;
+  line_faults : g.N.Line.faults l.initial.line ≤ g.N.Line.faults l.line;
+  unmarked : g.N.Line.tells l.initial.line → (Rose (g.N.Line.faults l.initial.line) (g.N.Line.faults l.line) → ⊥) → Unmarked (g.N.Line.wire l.initial.line) (g.N.Line.wire l.line);
   tells_line : g.N.Line.tells l.initial.line → g.N.Line.tells l.line;
   tells_store : g.W.Swift.tells l.initial.store → g.W.Swift.tells l.store;
   tells_clock : g.C.Clock.tells l.initial.clock → g.C.Clock.tells l.clock;
