@@ -19,7 +19,7 @@ input="$(mktemp)"
 output="$(mktemp)"
 trap 'rm -f "$input" "$output"' EXIT
 for _ in $(seq "$requests"); do
-  printf 'POST /photos HTTP/1.1\r\nContent-Length: 16777216\r\n\r\n'
+  printf 'PUT /photos HTTP/1.1\r\nContent-Length: 16777216\r\n\r\n'
   head -c 16777216 /dev/zero
 done >"$input"
 
