@@ -1,0 +1,28 @@
+-- The words of the program as `clap` is told of them (this profile).
+use Rattle.std.specs.Prelude.{true, Some, codes}
+use Rattle.clap.specs.Walk.{Rule}
+use Rattle.clap.specs.Simple.{App, Shape, new_app, new_rule, on_top, with_rule, with_subcommand}
+use Rattle.clap.specs.declared.builder.action.ArgAction.TheVariants.{Set}
+
+-- the option `--region R`
+abbrev pub region_rule : Rule
+region_rule = record (new_rule (codes "region")) { long = Some (codes "region"); action = Some Set }
+
+-- the option `--key ID`, which must be given
+abbrev pub key_rule : Rule
+key_rule = record (new_rule (codes "key")) { long = Some (codes "key"); action = Some Set; required = true }
+
+-- `session`, with a region
+abbrev pub session_app : App
+session_app = with_rule (new_app (codes "session")) region_rule
+
+-- `sign`, with a key and a region
+abbrev pub sign_app : App
+sign_app = with_rule (with_rule (new_app (codes "sign")) key_rule) region_rule
+
+-- the words begin behind the program's name, and one of the commands must be named
+abbrev pub with_settings : Shape → Shape
+with_settings s = record s { no_binary_name = true; subcommand_required = true }
+
+unfoldable pub gate_app : App
+gate_app = with_subcommand (with_subcommand (on_top with_settings (new_app (codes "s3gate"))) session_app.top) sign_app.top

@@ -1,0 +1,4 @@
+pub mod AnswerLemmas
+pub mod NamesLemmas
+pub mod OnceLemmas
+pub mod SigningLemmas
