@@ -1,6 +1,8 @@
 -- A message as it is heard.
-use Rattle.std.proofs.Common.{◌≡◌, ◌≢◌, ℕ, Bool, true, false, cond, [], Some, Result, Ok, Err, codes, refl}
-use Rattle.gate_base.specs.declared.page.Caller.TheVariants.{Owner}
+use Rattle.std.proofs.Common.{◌≡◌, ◌≢◌, ℕ, Bool, true, false, cond, List, [], Option, None, Some, Result, Ok, Err, codes, refl, sym, ap}
+use Rattle.gate_base.specs.declared.page.Caller.{Caller}
+use Rattle.gate_base.specs.declared.page.Caller.TheVariants.{Owner, Anonymous}
+use Rattle.s3_machine.specs.declared.code.Code.TheVariants.{AccessDenied, AuthorizationHeaderMalformed, InvalidAccessKeyId, InvalidRequest, NotImplemented, RequestTimeTooSkewed, SignatureDoesNotMatch, XAmzContentSHA256Mismatch}
 use Rattle.s3_machine.specs.declared.operation.Settings.{Settings}
 use Rattle.s3_names.specs.declared.fault.NameFault.{NameFault}
 use Rattle.s3_names.specs.declared.target.Target.{Target}
@@ -8,25 +10,118 @@ use Rattle.s3_names.specs.Target.{target_of}
 use Rattle.http_wire.specs.declared.message.Message.{Message}
 use Rattle.http_wire.specs.declared.message.Kind.{Kind}
 use Rattle.http_wire.specs.declared.message.Kind.TheVariants.{BadHead, LongHead, ManyHeaders, NoLength, BadLength, LongBody, Transfer, ShortBody}
+use Rattle.sigv4.specs.declared.authorization.Authorization.{Authorization}
+use Rattle.sigv4.specs.declared.keys.AccessKey.{AccessKey}
+use Rattle.sigv4.specs.declared.refusal.Refusal.{Refusal}
+use Rattle.sigv4.specs.declared.refusal.Refusal.TheVariants as signature
+use Rattle.sigv4.specs.Verdict.{is_unknown, has_wrong_scope, leaves_unsigned, lacks_date, time_of, is_streaming, lacks_payload_hash, signature_differs, expected, payload_differs, claim_of, judged, signed, Gives}
+use Rattle.sigv4.specs.Moment.{is_skewed}
 use Rattle.gateway.specs.declared.ended.Ended.TheVariants as ended
 use Rattle.gateway.specs.declared.heard.Heard.{Heard}
 use Rattle.gateway.specs.declared.meant.Meant.TheVariants.{Refused, Memory}
-use Rattle.gateway.specs.Request.{raw_path, end_after, understood, request_of, refused_request, code_of}
-use Rattle.gateway.specs.Heard.{Is, IsProperCode}
+use Rattle.gateway.specs.declared.service.Service.{Service}
+use Rattle.gateway.specs.Request.{raw_path, end_after, refused_by, admitted, sender_of, sender, signed_at, understood, request_of, refused_request, code_of}
+use Rattle.gateway.specs.Heard.{Is, IsProperCode, IsProperMeant}
 use Rattle.gateway.proofs.Proper.{is_store_fault, proper_code, meaning_known}
 
-understood_known : (settings : Settings) (message : Message) (read : Result Target NameFault) → understood settings message read ≢ Memory
-understood_known settings message (Ok target) = meaning_known settings message target Owner
-understood_known settings message (Err fault) = λ e. cc
+-- ---- signatures
 
-pub message_is : (heard : Heard) (settings : Settings) (message : Message) → heard.method.now ≡ message.method → heard.resource.now ≡ raw_path message.target
-    → (heard.means ≢ Memory → heard.means ≡ understood settings message (target_of message.target)) → Is heard (end_after message) (request_of settings message)
-message_is heard settings message method resource means = record {
-  caller = refl;
+known_if : (b : Bool) (refusal : Refusal) (rest : Result Caller Refusal) → refusal ≢ signature.Memory → rest ≢ Err signature.Memory → cond b (Err refusal) rest ≢ Err signature.Memory
+known_if true refusal rest one others = λ e. one (let same : refusal ≡ signature.Memory = cc in same)
+known_if false refusal rest one others = others
+
+-- no reason to refuse a signature is want of memory
+judged_known : (keys : List AccessKey) (region : List ℕ) (message : Message) (target : Target) (moment : ℕ) (claim : Option Authorization) → judged keys region message target moment claim ≢ Err signature.Memory
+judged_known keys region message target moment None = λ e. cc
+judged_known keys region message target moment (Some claim) =
+    known_if (is_unknown keys claim) signature.UnknownKey _ (λ e. cc)
+    (known_if (has_wrong_scope region claim) signature.WrongScope _ (λ e. cc)
+    (known_if (leaves_unsigned claim message.headers) signature.UnsignedHeader _ (λ e. cc)
+    (known_if (lacks_date claim message.headers) signature.NoDate _ (λ e. cc)
+    (known_if (is_skewed (time_of message.headers) moment) signature.Skewed _ (λ e. cc)
+    (known_if (is_streaming message.headers) signature.Streaming _ (λ e. cc)
+    (known_if (lacks_payload_hash message.headers) signature.NoPayloadHash _ (λ e. cc)
+    (known_if (signature_differs claim (expected keys region message target claim)) (signature.SignatureDiffers (expected keys region message target claim).canonical_hash) _ (λ e. cc)
+    (known_if (payload_differs message) signature.PayloadDiffers (Ok Owner) (λ e. cc) (λ e. cc)))))))))
+
+claimed_known : (b : Bool) (judgement : Result Caller Refusal) → judgement ≢ Err signature.Memory → cond b judgement (Ok Anonymous) ≢ Err signature.Memory
+claimed_known true judgement known = known
+claimed_known false judgement known = λ e. cc
+
+signed_known : (keys : List AccessKey) (region : List ℕ) (message : Message) (target : Target) (moment : ℕ) → signed keys region message target moment ≢ Err signature.Memory
+unfolding signed
+signed_known keys region message target moment =
+    claimed_known _ (judged keys region message target moment (claim_of message.headers)) (judged_known keys region message target moment (claim_of message.headers))
+
+refusal_known : (refusal : Refusal) → refusal ≢ signature.Memory → refused_by refusal ≢ Memory
+refusal_known signature.HeaderMalformed other = λ e. cc
+refusal_known signature.UnknownKey other = λ e. cc
+refusal_known signature.WrongScope other = λ e. cc
+refusal_known signature.UnsignedHeader other = λ e. cc
+refusal_known signature.NoDate other = λ e. cc
+refusal_known signature.Skewed other = λ e. cc
+refusal_known signature.Streaming other = λ e. cc
+refusal_known signature.NoPayloadHash other = λ e. cc
+refusal_known (signature.SignatureDiffers hash) other = λ e. cc
+refusal_known signature.PayloadDiffers other = λ e. cc
+refusal_known signature.Memory other = absurd (other refl)
+
+-- a refusal that isn't want of memory is the one that is due
+gives_refusal : (refusal : Refusal) (due : Result Caller Refusal) → Gives (Err refusal) due → refused_by refusal ≢ Memory → due ≡ Err refusal
+gives_refusal signature.HeaderMalformed due gives known = gives
+gives_refusal signature.UnknownKey due gives known = gives
+gives_refusal signature.WrongScope due gives known = gives
+gives_refusal signature.UnsignedHeader due gives known = gives
+gives_refusal signature.NoDate due gives known = gives
+gives_refusal signature.Skewed due gives known = gives
+gives_refusal signature.Streaming due gives known = gives
+gives_refusal signature.NoPayloadHash due gives known = gives
+gives_refusal (signature.SignatureDiffers hash) due gives known = gives
+gives_refusal signature.PayloadDiffers due gives known = gives
+gives_refusal signature.Memory due gives known = absurd (known refl)
+
+pub refused_means : (settings : Settings) (message : Message) (target : Target) (refusal : Refusal) (due : Result Caller Refusal) → Gives (Err refusal) due
+    → refused_by refusal ≢ Memory → refused_by refusal ≡ admitted settings message target due
+refused_means settings message target refusal due gives known = sym (ap (admitted settings message target) (gives_refusal refusal due gives known))
+
+pub refused_sender : (refusal : Refusal) (due : Result Caller Refusal) → Gives (Err refusal) due → refused_by refusal ≢ Memory → Anonymous ≡ sender_of due
+refused_sender refusal due gives known = sym (ap sender_of (gives_refusal refusal due gives known))
+
+pub refused_proper : (refusal : Refusal) → IsProperMeant (refused_by refusal)
+refused_proper signature.HeaderMalformed = proper_code AuthorizationHeaderMalformed refl
+refused_proper signature.UnknownKey = proper_code InvalidAccessKeyId refl
+refused_proper signature.WrongScope = proper_code AuthorizationHeaderMalformed refl
+refused_proper signature.UnsignedHeader = proper_code AccessDenied refl
+refused_proper signature.NoDate = proper_code AccessDenied refl
+refused_proper signature.Skewed = proper_code RequestTimeTooSkewed refl
+refused_proper signature.Streaming = proper_code NotImplemented refl
+refused_proper signature.NoPayloadHash = proper_code InvalidRequest refl
+refused_proper (signature.SignatureDiffers hash) = proper_code SignatureDoesNotMatch refl
+refused_proper signature.PayloadDiffers = proper_code XAmzContentSHA256Mismatch refl
+refused_proper signature.Memory = tt
+
+-- ---- messages
+
+admitted_known : (settings : Settings) (message : Message) (target : Target) (verdict : Result Caller Refusal) → verdict ≢ Err signature.Memory → admitted settings message target verdict ≢ Memory
+admitted_known settings message target (Ok caller) known = meaning_known settings message target caller
+admitted_known settings message target (Err refusal) known = refusal_known refusal (λ e. known (ap Err e))
+
+understood_known : (service : Service) (moment : ℕ) (message : Message) (read : Result Target NameFault) → understood service moment message read ≢ Memory
+understood_known service moment message (Ok target) =
+    admitted_known service.settings message target (signed_at service moment message target) (signed_known service.keys service.settings.region message target moment)
+understood_known service moment message (Err fault) = λ e. cc
+
+pub message_is : (heard : Heard) (service : Service) (moment : ℕ) (message : Message)
+    → (heard.means ≢ Memory → heard.caller ≡ sender service moment message (target_of message.target))
+    → heard.method.now ≡ message.method → heard.resource.now ≡ raw_path message.target
+    → (heard.means ≢ Memory → heard.means ≡ understood service moment message (target_of message.target))
+    → heard.end ≡ end_after message → Is heard (request_of service moment message)
+message_is heard service moment message caller method resource means end = record {
+  caller = caller;
   method = method;
   resource = resource;
-  understands = record { meant = understood_known settings message (target_of message.target); same = means };
-  end = refl;
+  understands = record { meant = understood_known service moment message (target_of message.target); same = means };
+  end = end;
 }
 
 -- no code of a request that was refused before is one for a store that failed
@@ -44,12 +139,12 @@ pub code_is_proper : (kind : Kind) → IsProperCode (code_of kind)
 code_is_proper kind = proper_code (code_of kind) (own_code kind)
 
 -- a request that was refused before it was understood
-pub refused_is : (heard : Heard) (kind : Kind) (place : ℕ) (head : Bool) → heard.method.now ≡ cond head (codes "HEAD") [] → heard.resource.now ≡ codes "/"
-    → heard.means ≡ Refused (code_of kind) → Is heard (Some (ended.Refused kind place)) (refused_request kind place head)
-refused_is heard kind place head method resource means = record {
-  caller = refl;
+pub refused_is : (heard : Heard) (kind : Kind) (place : ℕ) (head : Bool) → heard.caller ≡ Anonymous → heard.method.now ≡ cond head (codes "HEAD") [] → heard.resource.now ≡ codes "/"
+    → heard.means ≡ Refused (code_of kind) → heard.end ≡ Some (ended.Refused kind place) → Is heard (refused_request kind place head)
+refused_is heard kind place head caller method resource means end = record {
+  caller = λ _. caller;
   method = method;
   resource = resource;
   understands = record { meant = λ e. cc; same = λ _. means };
-  end = refl;
+  end = end;
 }

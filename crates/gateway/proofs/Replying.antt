@@ -1,5 +1,6 @@
 -- What a request means, and what it is answered.
 use Rattle.std.proofs.Common.{◌≡◌, ◌≢◌, ◌≤◌, ℕ, ◌+◌, refl, sym, ap, subst, ◌∙◌, inl, arith}
+use Rattle.gate_base.specs.declared.page.Caller.{Caller}
 use Rattle.s3_machine.specs.declared.code.Code.{Code}
 use Rattle.s3_machine.specs.declared.operation.Label.{Label}
 use Rattle.s3_machine.specs.declared.operation.Settings.{Settings}
@@ -16,6 +17,7 @@ use Rattle.gateway.specs.declared.meant.Meant.{Meant}
 use Rattle.gateway.specs.declared.meant.Meant.TheVariants as meant
 use Rattle.gateway.specs.Heard.{Understands}
 use Rattle.gateway.specs.Request.{Request}
+use Rattle.gateway.specs.Connection.{sent_by}
 use Rattle.gateway.specs.Exchange.{Replies, refused, answered}
 
 -- a reply is due, and it is the one that is given, unless memory was wanted
@@ -32,11 +34,14 @@ still at p sound = record {
 }
 
 pub replies_op : (settings : Settings) (at : ℕ → Tree) (faults : ℕ → ℕ) (p q : ℕ) (request : Request) (label : Label) (means : Meant) (op : Op) (given : Reply)
-    → means ≡ meant.Op op → Understands means request → ((t : ℕ) × Answers settings at faults p t q op label given) → q ≤ p + most_calls op (at p)
-    → IsReplied settings at faults p q request label given
-replies_op settings at faults p q request label means op given e u a bound =
+    → means ≡ meant.Op op → Understands means request → (means ≢ meant.Memory → label.caller ≡ request.caller) → ((t : ℕ) × Answers settings at faults p t q op label given) → q ≤ p + most_calls op (at p)
+    → IsReplied settings at faults p q request (sent_by request.caller label) given
+replies_op settings at faults p q request label means op given e u from a bound =
     let not_memory : means ≢ meant.Memory = λ m. (let no : meant.Op op ≡ meant.Memory = sym e ∙ m in cc) in
-    (a.0, given, answered op (sym (u.same not_memory) ∙ e) a.1 bound, λ _. refl)
+    let same : label.caller ≡ request.caller = from not_memory in
+    let P : Caller → Type 0 = λ caller. Answers settings at faults p a.0 q op (sent_by caller label) given in
+    let own : P request.caller = subst P same a.1 in
+    (a.0, given, answered op (sym (u.same not_memory) ∙ e) own bound, λ _. refl)
 
 pub replies_refused : (settings : Settings) (at : ℕ → Tree) (faults : ℕ → ℕ) (p : ℕ) (request : Request) (label : Label) (means : Meant) (code : Code)
     → means ≡ meant.Refused code → Understands means request → Sound (at p)

@@ -12,15 +12,16 @@ use Rattle.swift_calls.specs.Tree.{Tree}
 use Rattle.http_wire.specs.Front.{is_head}
 use Rattle.http_wire.specs.Print.{memory_reply}
 use Rattle.gate_base.specs.declared.page.Caller.{Caller}
-use Rattle.gate_base.specs.declared.page.Caller.TheVariants.{Owner}
 use Rattle.gateway.specs.declared.ended.Ended.{Ended}
 use Rattle.gateway.specs.declared.ended.Ended.TheVariants as ended
 use Rattle.gateway.specs.declared.heard.Heard.{Heard}
+use Rattle.gateway.specs.declared.meant.Meant.TheVariants as meant
+use Rattle.gateway.specs.declared.service.Service.{Service}
 use Rattle.gateway.specs.Heard.{Is}
 use Rattle.gateway.specs.declared.turn.Turned.TheVariants.{Served, Broken}
 use Rattle.gateway.specs.Request.{Request, reply_text, print}
 use Rattle.gateway.specs.Exchange.{Replies, refused, answered, printed, wanted, Sends, SendsPart, IsPiece}
-use Rattle.gateway.specs.Connection.{LabelGiven, tally}
+use Rattle.gateway.specs.Connection.{LabelGiven, sent_by, tally}
 use Rattle.gateway.specs.Turned.{TurnsOnce}
 use Rattle.gateway.specs.Write.{IsText}
 use Rattle.gateway.proofs.Replying.{IsReplied}
@@ -64,12 +65,13 @@ part_of t q bytes wire wire' near (inr (n, e)) = record {
   each = only wire.begun t q (take n bytes) near;
 }
 
-module _ (settings : Settings) (at : ℕ → Tree) (faults : ℕ → ℕ) (p q : ℕ) (moments draws moments' draws' : List ℕ) (wire wire' : Wire) (request : Request) (label : Label) (given : Reply) where
-  pub turn_whole : LabelGiven moments draws moments' draws' request.caller label → IsReplied settings at faults p q request label given
-      → given ≢ answer.Memory → wire' ≡ with_piece wire q (print given label request)
-      → TurnsOnce settings at faults wire.begun (tally p moments draws wire.sent) (tally q moments' draws' wire'.sent) request (Served request.end)
-  turn_whole labels replied known wrote =
-      let near = replies_order settings at faults p replied.0 q request label replied.1 replied.2 in
+module _ (service : Service) (at : ℕ → Tree) (faults : ℕ → ℕ) (p q : ℕ) (moments draws moments' draws' : List ℕ) (wire wire' : Wire) (asks : ℕ → Request) (label : Label) (given : Reply)
+    (labels : LabelGiven moments draws moments' draws' (asks label.moment).caller label) (replied : IsReplied service.settings at faults p q (asks label.moment) label given) where
+  pub turn_whole : given ≢ answer.Memory → wire' ≡ with_piece wire q (print given label (asks label.moment))
+      → TurnsOnce service at faults wire.begun (tally p moments draws wire.sent) (tally q moments' draws' wire'.sent) asks (Served (asks label.moment).end)
+  turn_whole known wrote =
+      let request = asks label.moment in
+      let near = replies_order service.settings at faults p replied.0 q request label replied.1 replied.2 in
       let same : given ≡ replied.1 = replied.3 known in (
         replied.0,
         label,
@@ -83,11 +85,11 @@ module _ (settings : Settings) (at : ℕ → Tree) (faults : ℕ → ℕ) (p q :
         },
       )
 
-  pub turn_wanted : LabelGiven moments draws moments' draws' request.caller label → IsReplied settings at faults p q request label given
-      → wire' ≡ with_piece wire q (memory_reply (is_head request.method))
-      → TurnsOnce settings at faults wire.begun (tally p moments draws wire.sent) (tally q moments' draws' wire'.sent) request (Served (Some ended.Memory))
-  turn_wanted labels replied wrote =
-      let near = replies_order settings at faults p replied.0 q request label replied.1 replied.2 in (
+  pub turn_wanted : wire' ≡ with_piece wire q (memory_reply (is_head (asks label.moment).method))
+      → TurnsOnce service at faults wire.begun (tally p moments draws wire.sent) (tally q moments' draws' wire'.sent) asks (Served (Some ended.Memory))
+  turn_wanted wrote =
+      let request = asks label.moment in
+      let near = replies_order service.settings at faults p replied.0 q request label replied.1 replied.2 in (
         replied.0,
         label,
         labels,
@@ -100,11 +102,11 @@ module _ (settings : Settings) (at : ℕ → Tree) (faults : ℕ → ℕ) (p q :
         },
       )
 
-  pub turn_broken : LabelGiven moments draws moments' draws' request.caller label → IsReplied settings at faults p q request label given
-      → (bytes : List ℕ) → IsText given label request.method request.resource (is_some request.end) bytes → SendsPrefix wire q bytes wire'
-      → TurnsOnce settings at faults wire.begun (tally p moments draws wire.sent) (tally q moments' draws' wire'.sent) request Broken
-  turn_broken labels replied bytes (inl text) part =
-      let near = replies_order settings at faults p replied.0 q request label replied.1 replied.2 in
+  pub turn_broken : (bytes : List ℕ) → IsText given label (asks label.moment).method (asks label.moment).resource (is_some (asks label.moment).end) bytes → SendsPrefix wire q bytes wire'
+      → TurnsOnce service at faults wire.begun (tally p moments draws wire.sent) (tally q moments' draws' wire'.sent) asks Broken
+  turn_broken bytes (inl text) part =
+      let request = asks label.moment in
+      let near = replies_order service.settings at faults p replied.0 q request label replied.1 replied.2 in
       let same : given ≡ replied.1 = replied.3 text.0 in (
         replied.0,
         label,
@@ -118,8 +120,9 @@ module _ (settings : Settings) (at : ℕ → Tree) (faults : ℕ → ℕ) (p q :
           sends = part_of replied.0 q bytes wire wire' near.1 part;
         },
       )
-  turn_broken labels replied bytes (inr text) part =
-      let near = replies_order settings at faults p replied.0 q request label replied.1 replied.2 in (
+  turn_broken bytes (inr text) part =
+      let request = asks label.moment in
+      let near = replies_order service.settings at faults p replied.0 q request label replied.1 replied.2 in (
         replied.0,
         label,
         labels,
@@ -133,32 +136,47 @@ module _ (settings : Settings) (at : ℕ → Tree) (faults : ℕ → ℕ) (p q :
         },
       )
 
--- the same, of a request as the code holds it
-module _ (settings : Settings) (at : ℕ → Tree) (faults : ℕ → ℕ) (p q : ℕ) (moments draws moments' draws' : List ℕ) (wire wire' : Wire) (request : Request) (label : Label) (given : Reply)
-    (heard : Heard) (ending : Option Ended) (is : Is heard ending request) (labels : LabelGiven moments draws moments' draws' Owner label) (replied : IsReplied settings at faults p q request label given) where
-  own_labels : LabelGiven moments draws moments' draws' request.caller label
-  own_labels = let P : Caller → Type 0 = λ from. LabelGiven moments draws moments' draws' from label in subst P (sym is.caller) labels
+-- the same, of a request as the code holds it: the code's label has the caller of the request, unless memory was wanted
+module _ (service : Service) (at : ℕ → Tree) (faults : ℕ → ℕ) (p q : ℕ) (moments draws moments' draws' : List ℕ) (wire wire' : Wire) (asks : ℕ → Request) (next label : Label) (given : Reply)
+    (heard : Heard) (is : Is heard (asks next.moment)) (own : label ≡ sent_by heard.caller next) (labels : (from : Caller) → LabelGiven moments draws moments' draws' from (sent_by from next))
+    (known : heard.means ≡ meant.Memory → given ≡ answer.Memory) (replied : IsReplied service.settings at faults p q (asks next.moment) (sent_by (asks next.moment).caller label) given) where
+  abbrev due_label : Label
+  due_label = sent_by (asks next.moment).caller next
 
-  pub heard_whole : (closing : Bool) → closing ≡ is_some ending → given ≢ answer.Memory → wire' ≡ with_piece wire q (reply_text given label heard.method.now heard.resource.now closing)
-      → TurnsOnce settings at faults wire.begun (tally p moments draws wire.sent) (tally q moments' draws' wire'.sent) request (Served ending)
-  heard_whole closing ends known wrote =
-      let same : reply_text given label heard.method.now heard.resource.now closing ≡ print given label request
-      = ap (reply_text given label heard.method.now heard.resource.now) ends ∙ (λ i. reply_text given label (is.method i) (is.resource i) (is_some (is.end i))) in
-      let done = turn_whole settings at faults p q moments draws moments' draws' wire wire' request label given own_labels replied known (wrote ∙ ap (with_piece wire q) same) in
-      let P : Option Ended → Type 0 = λ e. TurnsOnce settings at faults wire.begun (tally p moments draws wire.sent) (tally q moments' draws' wire'.sent) request (Served e) in
+  -- the label that the code had, where it printed a reply
+  same_label : given ≢ answer.Memory → label ≡ due_label
+  same_label other = own ∙ (λ i. sent_by (is.caller (λ e. other (known e)) i) next)
+
+  due_replied : IsReplied service.settings at faults p q (asks next.moment) due_label given
+  due_replied =
+      let P : Label → Type 0 = λ l. IsReplied service.settings at faults p q (asks next.moment) (sent_by (asks next.moment).caller l) given in
+      subst P own replied
+
+  pub heard_whole : (closing : Bool) → closing ≡ is_some heard.end → given ≢ answer.Memory → wire' ≡ with_piece wire q (reply_text given label heard.method.now heard.resource.now closing)
+      → TurnsOnce service at faults wire.begun (tally p moments draws wire.sent) (tally q moments' draws' wire'.sent) asks (Served heard.end)
+  heard_whole closing ends other wrote =
+      let same : reply_text given label heard.method.now heard.resource.now closing ≡ print given due_label (asks next.moment)
+      = ap (reply_text given label heard.method.now heard.resource.now) ends ∙ (λ i. reply_text given (same_label other i) (is.method i) (is.resource i) (is_some (is.end i))) in
+      let done = turn_whole service at faults p q moments draws moments' draws' wire wire' asks due_label given (labels (asks next.moment).caller) due_replied other (wrote ∙ ap (with_piece wire q) same) in
+      let P : Option Ended → Type 0 = λ e. TurnsOnce service at faults wire.begun (tally p moments draws wire.sent) (tally q moments' draws' wire'.sent) asks (Served e) in
       subst P (sym is.end) done
 
   pub heard_wanted : wire' ≡ with_piece wire q (memory_reply (is_head heard.method.now))
-      → TurnsOnce settings at faults wire.begun (tally p moments draws wire.sent) (tally q moments' draws' wire'.sent) request (Served (Some ended.Memory))
-  heard_wanted wrote = turn_wanted settings at faults p q moments draws moments' draws' wire wire' request label given own_labels replied
+      → TurnsOnce service at faults wire.begun (tally p moments draws wire.sent) (tally q moments' draws' wire'.sent) asks (Served (Some ended.Memory))
+  heard_wanted wrote = turn_wanted service at faults p q moments draws moments' draws' wire wire' asks due_label given (labels (asks next.moment).caller) due_replied
       (wrote ∙ ap (λ m. with_piece wire q (memory_reply (is_head m))) is.method)
 
-  pub heard_broken : (closing : Bool) → closing ≡ is_some ending
+  -- the text that was begun, of the label that is due
+  due_text : (closing : Bool) (bytes : List ℕ) → closing ≡ is_some heard.end → IsText given label heard.method.now heard.resource.now closing bytes
+      → IsText given due_label (asks next.moment).method (asks next.moment).resource (is_some (asks next.moment).end) bytes
+  due_text closing bytes ends (inl text) =
+      let same : reply_text given label heard.method.now heard.resource.now closing ≡ print given due_label (asks next.moment)
+      = ap (reply_text given label heard.method.now heard.resource.now) ends ∙ (λ i. reply_text given (same_label text.0 i) (is.method i) (is.resource i) (is_some (is.end i))) in
+      inl (text.0, text.1 ∙ same)
+  due_text closing bytes ends (inr text) = inr (text ∙ ap (λ m. memory_reply (is_head m)) is.method)
+
+  pub heard_broken : (closing : Bool) → closing ≡ is_some heard.end
       → ((bytes : List ℕ) × IsText given label heard.method.now heard.resource.now closing bytes × SendsPrefix wire q bytes wire')
-      → TurnsOnce settings at faults wire.begun (tally p moments draws wire.sent) (tally q moments' draws' wire'.sent) request Broken
+      → TurnsOnce service at faults wire.begun (tally p moments draws wire.sent) (tally q moments' draws' wire'.sent) asks Broken
   heard_broken closing ends wrote =
-      let P : Bool → Type 0 = λ c. IsText given label heard.method.now heard.resource.now c wrote.0 in
-      let text : IsText given label heard.method.now heard.resource.now (is_some ending) wrote.0 = subst P ends wrote.1 in
-      let Q : (List ℕ × (List ℕ × Option Ended)) → Type 0 = λ x. IsText given label x.0 x.1.0 (is_some x.1.1) wrote.0 in
-      let own : IsText given label request.method request.resource (is_some request.end) wrote.0 = subst Q (λ i. (is.method i, (is.resource i, is.end i))) text in
-      turn_broken settings at faults p q moments draws moments' draws' wire wire' request label given own_labels replied wrote.0 own wrote.2
+      turn_broken service at faults p q moments draws moments' draws' wire wire' asks due_label given (labels (asks next.moment).caller) due_replied wrote.0 (due_text closing wrote.0 ends wrote.1) wrote.2

@@ -14,6 +14,7 @@ use Rattle.recovery.specs.Turns.{Turns, never}
 use Rattle.recovery.specs.Answers.{most_calls}
 use Rattle.recovery.specs.Agree.{answers_agree, answers_calm}
 use Rattle.gateway.specs.declared.ended.Ended.{Ended}
+use Rattle.gateway.specs.declared.service.Service.{Service}
 use Rattle.gateway.specs.Request.{Request}
 use Rattle.gateway.specs.Exchange.{Turn, Replies, refused, answered, Exchange, CutExchange}
 use Rattle.gateway.specs.Connection.{Tally, Point, Serves, Exchanges, none, more, Breaks, Ends, over, cut, served, unread, unheard, untold, broken, TalkOne}
@@ -26,21 +27,21 @@ pub replies_order : {settings : Settings} {at : ℕ → Tree} {faults : ℕ → 
 replies_order (refused code means is sound turned one) = (omega arith, omega arith)
 replies_order (answered op means answers bound) = (answers.turns.after_p, answers.turns.up_to_q)
 
-pub serves_order : {settings : Settings} {at : ℕ → Tree} {faults : ℕ → ℕ} {connection t : ℕ} {end : Option Ended} {old new : Point}
-    → Serves settings at faults connection end old t new → old.tally.number ≤ new.tally.number
+pub serves_order : {service : Service} {at : ℕ → Tree} {faults : ℕ → ℕ} {connection t : ℕ} {end : Option Ended} {old new : Point}
+    → Serves service at faults connection end old t new → old.tally.number ≤ new.tally.number
 serves_order serves = let near = replies_order serves.exchange.replies in let first = near.0 in let last = near.1 in omega arith
 
-pub breaks_order : {settings : Settings} {at : ℕ → Tree} {faults : ℕ → ℕ} {connection t : ℕ} {old : Point} {new : Tally}
-    → Breaks settings at faults connection old t new → old.tally.number ≤ new.number
+pub breaks_order : {service : Service} {at : ℕ → Tree} {faults : ℕ → ℕ} {connection t : ℕ} {old : Point} {new : Tally}
+    → Breaks service at faults connection old t new → old.tally.number ≤ new.number
 breaks_order breaks = let near = replies_order breaks.exchange.replies in let first = near.0 in let last = near.1 in omega arith
 
-pub exchanges_order : {settings : Settings} {at : ℕ → Tree} {faults : ℕ → ℕ} {connection : ℕ} {old new : Point} {turns : List Turn}
-    → Exchanges settings at faults connection old turns new → old.tally.number ≤ new.tally.number
+pub exchanges_order : {service : Service} {at : ℕ → Tree} {faults : ℕ → ℕ} {connection : ℕ} {old new : Point} {turns : List Turn}
+    → Exchanges service at faults connection old turns new → old.tally.number ≤ new.tally.number
 exchanges_order (none point) = omega arith
 exchanges_order (more old middle new turns t exchanges serves) = let first = exchanges_order exchanges in let last = serves_order serves in omega arith
 
-pub ends_order : {settings : Settings} {at : ℕ → Tree} {faults : ℕ → ℕ} {connection : ℕ} {ended : Ended} {last : Point} {new : Tally} {turns : List Turn}
-    → Ends settings at faults connection ended last new turns → last.tally.number ≤ new.number
+pub ends_order : {service : Service} {at : ℕ → Tree} {faults : ℕ → ℕ} {connection : ℕ} {ended : Ended} {last : Point} {new : Tally} {turns : List Turn}
+    → Ends service at faults connection ended last new turns → last.tally.number ≤ new.number
 ends_order (over is front same) = let e = ap (λ t. t.number) same in omega arith
 ends_order (cut is front same) = let e = ap (λ t. t.number) same in omega arith
 ends_order (served point t serves same) = let e = ap (λ t. t.number) same in let near = serves_order serves in omega arith
@@ -49,8 +50,8 @@ ends_order (unheard is same) = let e = ap (λ t. t.number) same in omega arith
 ends_order (untold is only sends) = let e = only.number in omega arith
 ends_order (broken t is breaks) = breaks_order breaks
 
-pub talk_one_order : {settings : Settings} {at : ℕ → Tree} {faults : ℕ → ℕ} {connection : ℕ} {ended : Ended} {old : Point} {turns : List Turn} {new : Tally}
-    → TalkOne settings at faults connection ended old turns new → old.tally.number ≤ new.number
+pub talk_one_order : {service : Service} {at : ℕ → Tree} {faults : ℕ → ℕ} {connection : ℕ} {ended : Ended} {old : Point} {turns : List Turn} {new : Tally}
+    → TalkOne service at faults connection ended old turns new → old.tally.number ≤ new.number
 talk_one_order talk = let first = exchanges_order talk.exchanges in let last = ends_order talk.ends in omega arith
 
 -- ---- the account is left sound
@@ -71,21 +72,21 @@ replies_turns (answered op means answers bound) = answers.turns
 turns_end : {at : ℕ → Tree} {p t q : ℕ} → Turns at p t q → Sound (at q)
 turns_end {q = q} turns = let first = turns.after_p in let last = turns.up_to_q in turns.sound q (omega arith) (omega arith)
 
-pub serves_sound : {settings : Settings} {at : ℕ → Tree} {faults : ℕ → ℕ} {connection t : ℕ} {end : Option Ended} {old new : Point}
-    → Serves settings at faults connection end old t new → Sound (at new.tally.number)
+pub serves_sound : {service : Service} {at : ℕ → Tree} {faults : ℕ → ℕ} {connection t : ℕ} {end : Option Ended} {old new : Point}
+    → Serves service at faults connection end old t new → Sound (at new.tally.number)
 serves_sound serves = turns_end (replies_turns serves.exchange.replies)
 
-pub breaks_sound : {settings : Settings} {at : ℕ → Tree} {faults : ℕ → ℕ} {connection t : ℕ} {old : Point} {new : Tally}
-    → Breaks settings at faults connection old t new → Sound (at new.number)
+pub breaks_sound : {service : Service} {at : ℕ → Tree} {faults : ℕ → ℕ} {connection t : ℕ} {old : Point} {new : Tally}
+    → Breaks service at faults connection old t new → Sound (at new.number)
 breaks_sound breaks = turns_end (replies_turns breaks.exchange.replies)
 
-pub exchanges_sound : {settings : Settings} {at : ℕ → Tree} {faults : ℕ → ℕ} {connection : ℕ} {old new : Point} {turns : List Turn}
-    → Exchanges settings at faults connection old turns new → Sound (at old.tally.number) → Sound (at new.tally.number)
+pub exchanges_sound : {service : Service} {at : ℕ → Tree} {faults : ℕ → ℕ} {connection : ℕ} {old new : Point} {turns : List Turn}
+    → Exchanges service at faults connection old turns new → Sound (at old.tally.number) → Sound (at new.tally.number)
 exchanges_sound (none point) sound = sound
 exchanges_sound (more old middle new turns t exchanges serves) sound = serves_sound serves
 
-pub ends_sound : {settings : Settings} {at : ℕ → Tree} {faults : ℕ → ℕ} {connection : ℕ} {ended : Ended} {last : Point} {new : Tally} {turns : List Turn}
-    → Ends settings at faults connection ended last new turns → Sound (at last.tally.number) → Sound (at new.number)
+pub ends_sound : {service : Service} {at : ℕ → Tree} {faults : ℕ → ℕ} {connection : ℕ} {ended : Ended} {last : Point} {new : Tally} {turns : List Turn}
+    → Ends service at faults connection ended last new turns → Sound (at last.tally.number) → Sound (at new.number)
 ends_sound {at = at} (over is front same) sound = subst (λ t. Sound (at t.number)) (sym same) sound
 ends_sound {at = at} (cut is front same) sound = subst (λ t. Sound (at t.number)) (sym same) sound
 ends_sound {at = at} (served point t serves same) sound = subst (λ t. Sound (at t.number)) (sym same) (serves_sound serves)
@@ -94,8 +95,8 @@ ends_sound {at = at} (unheard is same) sound = subst (λ t. Sound (at t.number))
 ends_sound {at = at} (untold is only sends) sound = subst (λ n. Sound (at n)) (sym only.number) sound
 ends_sound (broken t is breaks) sound = breaks_sound breaks
 
-pub talk_one_sound : {settings : Settings} {at : ℕ → Tree} {faults : ℕ → ℕ} {connection : ℕ} {ended : Ended} {old : Point} {turns : List Turn} {new : Tally}
-    → TalkOne settings at faults connection ended old turns new → Sound (at old.tally.number) → Sound (at new.number)
+pub talk_one_sound : {service : Service} {at : ℕ → Tree} {faults : ℕ → ℕ} {connection : ℕ} {ended : Ended} {old : Point} {turns : List Turn} {new : Tally}
+    → TalkOne service at faults connection ended old turns new → Sound (at old.tally.number) → Sound (at new.number)
 talk_one_sound talk sound = ends_sound talk.ends (exchanges_sound talk.exchanges sound)
 
 -- ---- later histories
@@ -130,8 +131,8 @@ cut_exchange_agree kept exchange near = record {
   sends = exchange.sends;
 }
 
-pub serves_agree : {settings : Settings} {at at' : ℕ → Tree} {faults faults' : ℕ → ℕ} {connection c t : ℕ} {end : Option Ended} {old new : Point} → Kept c at at' faults faults'
-    → Serves settings at faults connection end old t new → new.tally.number ≤ c → Serves settings at' faults' connection end old t new
+pub serves_agree : {service : Service} {at at' : ℕ → Tree} {faults faults' : ℕ → ℕ} {connection c t : ℕ} {end : Option Ended} {old new : Point} → Kept c at at' faults faults'
+    → Serves service at faults connection end old t new → new.tally.number ≤ c → Serves service at' faults' connection end old t new
 serves_agree kept serves near = record {
   request = serves.request;
   label = serves.label;
@@ -140,8 +141,8 @@ serves_agree kept serves near = record {
   exchange = exchange_agree kept serves.exchange near;
 }
 
-pub breaks_agree : {settings : Settings} {at at' : ℕ → Tree} {faults faults' : ℕ → ℕ} {connection c t : ℕ} {old : Point} {new : Tally} → Kept c at at' faults faults'
-    → Breaks settings at faults connection old t new → new.number ≤ c → Breaks settings at' faults' connection old t new
+pub breaks_agree : {service : Service} {at at' : ℕ → Tree} {faults faults' : ℕ → ℕ} {connection c t : ℕ} {old : Point} {new : Tally} → Kept c at at' faults faults'
+    → Breaks service at faults connection old t new → new.number ≤ c → Breaks service at' faults' connection old t new
 breaks_agree kept breaks near = record {
   request = breaks.request;
   label = breaks.label;
@@ -152,15 +153,15 @@ breaks_agree kept breaks near = record {
   exchange = cut_exchange_agree kept breaks.exchange near;
 }
 
-pub exchanges_agree : {settings : Settings} {at at' : ℕ → Tree} {faults faults' : ℕ → ℕ} {connection c : ℕ} {old new : Point} {turns : List Turn} → Kept c at at' faults faults'
-    → Exchanges settings at faults connection old turns new → new.tally.number ≤ c → Exchanges settings at' faults' connection old turns new
+pub exchanges_agree : {service : Service} {at at' : ℕ → Tree} {faults faults' : ℕ → ℕ} {connection c : ℕ} {old new : Point} {turns : List Turn} → Kept c at at' faults faults'
+    → Exchanges service at faults connection old turns new → new.tally.number ≤ c → Exchanges service at' faults' connection old turns new
 exchanges_agree kept (none point) near = none point
 exchanges_agree kept (more old middle new turns t exchanges serves) near =
     let last = serves_order serves in
     more old middle new turns t (exchanges_agree kept exchanges (omega arith)) (serves_agree kept serves near)
 
-pub ends_agree : {settings : Settings} {at at' : ℕ → Tree} {faults faults' : ℕ → ℕ} {connection c : ℕ} {ended : Ended} {last : Point} {new : Tally} {turns : List Turn} → Kept c at at' faults faults'
-    → Ends settings at faults connection ended last new turns → new.number ≤ c → Ends settings at' faults' connection ended last new turns
+pub ends_agree : {service : Service} {at at' : ℕ → Tree} {faults faults' : ℕ → ℕ} {connection c : ℕ} {ended : Ended} {last : Point} {new : Tally} {turns : List Turn} → Kept c at at' faults faults'
+    → Ends service at faults connection ended last new turns → new.number ≤ c → Ends service at' faults' connection ended last new turns
 ends_agree kept (over is front same) near = over is front same
 ends_agree kept (cut is front same) near = cut is front same
 ends_agree kept (served point t serves same) near = let e = ap (λ t. t.number) same in served point t (serves_agree kept serves (omega arith)) same
@@ -169,8 +170,8 @@ ends_agree kept (unheard is same) near = unheard is same
 ends_agree kept (untold is only sends) near = untold is only sends
 ends_agree kept (broken t is breaks) near = broken t is (breaks_agree kept breaks near)
 
-pub talk_one_agree : {settings : Settings} {at at' : ℕ → Tree} {faults faults' : ℕ → ℕ} {connection c : ℕ} {ended : Ended} {old : Point} {turns : List Turn} {new : Tally} → Kept c at at' faults faults'
-    → TalkOne settings at faults connection ended old turns new → new.number ≤ c → TalkOne settings at' faults' connection ended old turns new
+pub talk_one_agree : {service : Service} {at at' : ℕ → Tree} {faults faults' : ℕ → ℕ} {connection c : ℕ} {ended : Ended} {old : Point} {turns : List Turn} {new : Tally} → Kept c at at' faults faults'
+    → TalkOne service at faults connection ended old turns new → new.number ≤ c → TalkOne service at' faults' connection ended old turns new
 talk_one_agree kept talk near =
     let last = ends_order talk.ends in
     record {
@@ -210,8 +211,8 @@ cut_exchange_calm calm exchange from to = record {
   sends = exchange.sends;
 }
 
-pub serves_calm : {settings : Settings} {at : ℕ → Tree} {faults : ℕ → ℕ} {connection b c t : ℕ} {end : Option Ended} {old new : Point} → NoneFails faults b c
-    → Serves settings at faults connection end old t new → b ≤ old.tally.number → new.tally.number ≤ c → Serves settings at never connection end old t new
+pub serves_calm : {service : Service} {at : ℕ → Tree} {faults : ℕ → ℕ} {connection b c t : ℕ} {end : Option Ended} {old new : Point} → NoneFails faults b c
+    → Serves service at faults connection end old t new → b ≤ old.tally.number → new.tally.number ≤ c → Serves service at never connection end old t new
 serves_calm calm serves from to = record {
   request = serves.request;
   label = serves.label;
@@ -220,8 +221,8 @@ serves_calm calm serves from to = record {
   exchange = exchange_calm calm serves.exchange from to;
 }
 
-pub breaks_calm : {settings : Settings} {at : ℕ → Tree} {faults : ℕ → ℕ} {connection b c t : ℕ} {old : Point} {new : Tally} → NoneFails faults b c
-    → Breaks settings at faults connection old t new → b ≤ old.tally.number → new.number ≤ c → Breaks settings at never connection old t new
+pub breaks_calm : {service : Service} {at : ℕ → Tree} {faults : ℕ → ℕ} {connection b c t : ℕ} {old : Point} {new : Tally} → NoneFails faults b c
+    → Breaks service at faults connection old t new → b ≤ old.tally.number → new.number ≤ c → Breaks service at never connection old t new
 breaks_calm calm breaks from to = record {
   request = breaks.request;
   label = breaks.label;
@@ -232,16 +233,16 @@ breaks_calm calm breaks from to = record {
   exchange = cut_exchange_calm calm breaks.exchange from to;
 }
 
-pub exchanges_calm : {settings : Settings} {at : ℕ → Tree} {faults : ℕ → ℕ} {connection b c : ℕ} {old new : Point} {turns : List Turn} → NoneFails faults b c
-    → Exchanges settings at faults connection old turns new → b ≤ old.tally.number → new.tally.number ≤ c → Exchanges settings at never connection old turns new
+pub exchanges_calm : {service : Service} {at : ℕ → Tree} {faults : ℕ → ℕ} {connection b c : ℕ} {old new : Point} {turns : List Turn} → NoneFails faults b c
+    → Exchanges service at faults connection old turns new → b ≤ old.tally.number → new.tally.number ≤ c → Exchanges service at never connection old turns new
 exchanges_calm calm (none point) from to = none point
 exchanges_calm calm (more old middle new turns t exchanges serves) from to =
     let first = exchanges_order exchanges in
     let last = serves_order serves in
     more old middle new turns t (exchanges_calm calm exchanges from (omega arith)) (serves_calm calm serves (omega arith) to)
 
-pub ends_calm : {settings : Settings} {at : ℕ → Tree} {faults : ℕ → ℕ} {connection b c : ℕ} {ended : Ended} {last : Point} {new : Tally} {turns : List Turn} → NoneFails faults b c
-    → Ends settings at faults connection ended last new turns → b ≤ last.tally.number → new.number ≤ c → Ends settings at never connection ended last new turns
+pub ends_calm : {service : Service} {at : ℕ → Tree} {faults : ℕ → ℕ} {connection b c : ℕ} {ended : Ended} {last : Point} {new : Tally} {turns : List Turn} → NoneFails faults b c
+    → Ends service at faults connection ended last new turns → b ≤ last.tally.number → new.number ≤ c → Ends service at never connection ended last new turns
 ends_calm calm (over is front same) from to = over is front same
 ends_calm calm (cut is front same) from to = cut is front same
 ends_calm calm (served point t serves same) from to = let e = ap (λ t. t.number) same in served point t (serves_calm calm serves from (omega arith)) same
@@ -250,8 +251,8 @@ ends_calm calm (unheard is same) from to = unheard is same
 ends_calm calm (untold is only sends) from to = untold is only sends
 ends_calm calm (broken t is breaks) from to = broken t is (breaks_calm calm breaks from to)
 
-pub talk_one_calm : {settings : Settings} {at : ℕ → Tree} {faults : ℕ → ℕ} {connection b c : ℕ} {ended : Ended} {old : Point} {turns : List Turn} {new : Tally} → NoneFails faults b c
-    → TalkOne settings at faults connection ended old turns new → b ≤ old.tally.number → new.number ≤ c → TalkOne settings at never connection ended old turns new
+pub talk_one_calm : {service : Service} {at : ℕ → Tree} {faults : ℕ → ℕ} {connection b c : ℕ} {ended : Ended} {old : Point} {turns : List Turn} {new : Tally} → NoneFails faults b c
+    → TalkOne service at faults connection ended old turns new → b ≤ old.tally.number → new.number ≤ c → TalkOne service at never connection ended old turns new
 talk_one_calm calm talk from to =
     let first = exchanges_order talk.exchanges in
     let last = ends_order talk.ends in

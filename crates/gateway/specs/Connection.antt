@@ -5,7 +5,7 @@ use Rattle.gate_base.specs.declared.outside.Piece.{Piece}
 use Rattle.gate_base.specs.declared.page.Caller.{Caller}
 use Rattle.gate_base.specs.Told.{GivesMoment, GivesDraw}
 use Rattle.s3_machine.specs.declared.operation.Label.{Label}
-use Rattle.s3_machine.specs.declared.operation.Settings.{Settings}
+use Rattle.gateway.specs.declared.service.Service.{Service}
 use Rattle.swift_calls.specs.Tree.{Tree}
 use Rattle.http_wire.specs.declared.message.Message.{Message}
 use Rattle.http_wire.specs.declared.message.Kind.{Kind}
@@ -44,10 +44,10 @@ pub record Point : Type 0 where
 abbrev pub point : List ℕ → ℕ → Tally → Point
 point rest place tallied = record { rest = rest; place = place; tally = tallied }
 
--- the request that stands first, and what is left behind it
-pub data Hears (settings : Settings) (old : Point) (request : Request) (rest : List ℕ) (place : ℕ) : Type 0 where
-  read : (message : Message) (size : ℕ) → IsFront old.rest (asks message size) → request ≡ request_of settings message → rest ≡ drop size old.rest → place ≡ place_after old.place size → Hears settings old request rest place
-  rejected : (kind : Kind) (head : Bool) → IsFront old.rest (refused kind head) → request ≡ refused_request kind old.place head → rest ≡ old.rest → place ≡ old.place → Hears settings old request rest place
+-- the request that stands first, as it is heard at a moment, and what is left behind it
+pub data Hears (service : Service) (moment : ℕ) (old : Point) (request : Request) (rest : List ℕ) (place : ℕ) : Type 0 where
+  read : (message : Message) (size : ℕ) → IsFront old.rest (asks message size) → request ≡ request_of service moment message → rest ≡ drop size old.rest → place ≡ place_after old.place size → Hears service moment old request rest place
+  rejected : (kind : Kind) (head : Bool) → IsFront old.rest (refused kind head) → request ≡ refused_request kind old.place head → rest ≡ old.rest → place ≡ old.place → Hears service moment old request rest place
 
 -- the label of a request: its caller, the next moment, and the next two draws as its id and its word of chance
 pub record LabelGiven (moments draws moments' draws' : List ℕ) (from : Caller) (label : Label) : Type 0 where
@@ -57,32 +57,36 @@ pub record LabelGiven (moments draws moments' draws' : List ℕ) (from : Caller)
   pub id : GivesDraw draws label.request_id between
   pub draw : GivesDraw between label.draw draws'
 
+-- a label with another caller
+abbrev pub sent_by : Caller → Label → Label
+sent_by caller label = record label { caller = caller }
+
 abbrev pub Labels : Tally → Tally → Caller → Label → Type 0
 Labels old new from label = LabelGiven old.moments old.draws new.moments new.draws from label
 
 -- the next request was heard and answered in whole; its turn was at the number t
-pub record Serves (settings : Settings) (at : ℕ → Tree) (faults : ℕ → ℕ) (connection : ℕ) (end : Option Ended) (old : Point) (t : ℕ) (new : Point) : Type 0 where
+pub record Serves (service : Service) (at : ℕ → Tree) (faults : ℕ → ℕ) (connection : ℕ) (end : Option Ended) (old : Point) (t : ℕ) (new : Point) : Type 0 where
   pub request : Request
   pub label : Label
-  pub hears : Hears settings old request new.rest new.place
+  pub hears : Hears service label.moment old request new.rest new.place
   pub labels : Labels old.tally new.tally request.caller label
-  pub exchange : Exchange settings at faults connection (turn_of old.tally t new.tally) request label end old.tally.sent new.tally.sent
+  pub exchange : Exchange service.settings at faults connection (turn_of old.tally t new.tally) request label end old.tally.sent new.tally.sent
 
 -- any number of requests, none of which ended the connection, with their turns
-pub data Exchanges (settings : Settings) (at : ℕ → Tree) (faults : ℕ → ℕ) (connection : ℕ) : Point → List Turn → Point → Type 0 where
-  none : (point : Point) → Exchanges settings at faults connection point [] point
-  more : (old middle new : Point) (turns : List Turn) (t : ℕ) → Exchanges settings at faults connection old turns middle → Serves settings at faults connection None middle t new
-      → Exchanges settings at faults connection old (turns ++ turn_of middle.tally t new.tally ∷ []) new
+pub data Exchanges (service : Service) (at : ℕ → Tree) (faults : ℕ → ℕ) (connection : ℕ) : Point → List Turn → Point → Type 0 where
+  none : (point : Point) → Exchanges service at faults connection point [] point
+  more : (old middle new : Point) (turns : List Turn) (t : ℕ) → Exchanges service at faults connection old turns middle → Serves service at faults connection None middle t new
+      → Exchanges service at faults connection old (turns ++ turn_of middle.tally t new.tally ∷ []) new
 
 -- the next request was heard and answered, and the line failed under its reply
-pub record Breaks (settings : Settings) (at : ℕ → Tree) (faults : ℕ → ℕ) (connection : ℕ) (old : Point) (t : ℕ) (new : Tally) : Type 0 where
+pub record Breaks (service : Service) (at : ℕ → Tree) (faults : ℕ → ℕ) (connection : ℕ) (old : Point) (t : ℕ) (new : Tally) : Type 0 where
   pub request : Request
   pub label : Label
   pub rest : List ℕ
   pub place : ℕ
-  pub hears : Hears settings old request rest place
+  pub hears : Hears service label.moment old request rest place
   pub labels : Labels old.tally new request.caller label
-  pub exchange : CutExchange settings at faults connection (turn_of old.tally t new) request label old.tally.sent new.sent
+  pub exchange : CutExchange service.settings at faults connection (turn_of old.tally t new) request label old.tally.sent new.sent
 
 -- nothing but pieces came between
 pub record OnlySent (old new : Tally) : Type 0 where
@@ -91,29 +95,29 @@ pub record OnlySent (old new : Tally) : Type 0 where
   pub draws : new.draws ≡ old.draws
 
 -- how a connection ends, from the last point before its end, with the turn of a request that ends it
-pub data Ends (settings : Settings) (at : ℕ → Tree) (faults : ℕ → ℕ) (connection : ℕ) (ended : Ended) (last : Point) (new : Tally) : List Turn → Type 0 where
+pub data Ends (service : Service) (at : ℕ → Tree) (faults : ℕ → ℕ) (connection : ℕ) (ended : Ended) (last : Point) (new : Tally) : List Turn → Type 0 where
   -- no byte is left
-  over : ended ≡ End → IsFront last.rest nothing → new ≡ last.tally → Ends settings at faults connection ended last new []
+  over : ended ≡ End → IsFront last.rest nothing → new ≡ last.tally → Ends service at faults connection ended last new []
   -- the bytes end inside a head
-  cut : ended ≡ CutShort last.place → IsFront last.rest cut_short → new ≡ last.tally → Ends settings at faults connection ended last new []
+  cut : ended ≡ CutShort last.place → IsFront last.rest cut_short → new ≡ last.tally → Ends service at faults connection ended last new []
   -- a reply ended it
-  served : (point : Point) (t : ℕ) → Serves settings at faults connection (Some ended) last t point → new ≡ point.tally → Ends settings at faults connection ended last new (turn_of last.tally t new ∷ [])
+  served : (point : Point) (t : ℕ) → Serves service at faults connection (Some ended) last t point → new ≡ point.tally → Ends service at faults connection ended last new (turn_of last.tally t new ∷ [])
   -- memory was wanted while a request was read
-  unread : ended ≡ Memory → OnlySent last.tally new → Sends connection last.tally.number last.tally.number (memory_reply false) last.tally.sent new.sent → Ends settings at faults connection ended last new []
+  unread : ended ≡ Memory → OnlySent last.tally new → Sends connection last.tally.number last.tally.number (memory_reply false) last.tally.sent new.sent → Ends service at faults connection ended last new []
   -- the line failed while a request was read
-  unheard : ended ≡ LineFailed → new ≡ last.tally → Ends settings at faults connection ended last new []
+  unheard : ended ≡ LineFailed → new ≡ last.tally → Ends service at faults connection ended last new []
   -- memory was wanted while a request was read, and the line failed under the reply for that
-  untold : ended ≡ LineFailed → OnlySent last.tally new → SendsPart connection last.tally.number last.tally.number (memory_reply false) last.tally.sent new.sent → Ends settings at faults connection ended last new []
+  untold : ended ≡ LineFailed → OnlySent last.tally new → SendsPart connection last.tally.number last.tally.number (memory_reply false) last.tally.sent new.sent → Ends service at faults connection ended last new []
   -- the line failed under the reply to a request
-  broken : (t : ℕ) → ended ≡ LineFailed → Breaks settings at faults connection last t new → Ends settings at faults connection ended last new (turn_of last.tally t new ∷ [])
+  broken : (t : ℕ) → ended ≡ LineFailed → Breaks service at faults connection last t new → Ends service at faults connection ended last new (turn_of last.tally t new ∷ [])
 
 -- one connection: its requests in order, none skipped, with their turns, and its end
-pub record TalkOne (settings : Settings) (at : ℕ → Tree) (faults : ℕ → ℕ) (connection : ℕ) (ended : Ended) (old : Point) (turns : List Turn) (new : Tally) : Type 0 where
+pub record TalkOne (service : Service) (at : ℕ → Tree) (faults : ℕ → ℕ) (connection : ℕ) (ended : Ended) (old : Point) (turns : List Turn) (new : Tally) : Type 0 where
   pub last : Point
   pub before : List Turn
   pub after : List Turn
-  pub exchanges : Exchanges settings at faults connection old before last
-  pub ends : Ends settings at faults connection ended last new after
+  pub exchanges : Exchanges service at faults connection old before last
+  pub ends : Ends service at faults connection ended last new after
   pub all : turns ≡ before ++ after
 
 -- whether the line failed under this connection

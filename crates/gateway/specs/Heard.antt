@@ -1,12 +1,10 @@
 -- A request as the code holds it, and the request that it is. Source: this profile.
-use Rattle.std.specs.Prelude.{◌≡◌, ◌≢◌, ℕ, Option}
+use Rattle.std.specs.Prelude.{◌≡◌, ◌≢◌, ℕ}
 use Rattle.s3_machine.specs.declared.code.Code.{Code}
 use Rattle.s3_machine.specs.declared.code.Code.TheVariants.{ServiceUnavailable, InconsistentStore}
 use Rattle.s3_machine.specs.Step.{IsProperOp}
 use Rattle.swift_calls.specs.Tree.{Tree}
 use Rattle.recovery.specs.Answers.{most_calls}
-use Rattle.gate_base.specs.declared.page.Caller.TheVariants.{Owner}
-use Rattle.gateway.specs.declared.ended.Ended.{Ended}
 use Rattle.gateway.specs.declared.heard.Heard.{Heard}
 use Rattle.gateway.specs.declared.meant.Meant.{Meant}
 use Rattle.gateway.specs.declared.meant.Meant.TheVariants.{Op, Refused, Memory}
@@ -34,10 +32,10 @@ pub record Understands (means : Meant) (request : Request) : Type 0 where
   pub meant : request.means ≢ Memory
   pub same : means ≢ Memory → means ≡ request.means
 
--- the code holds this request
-pub record Is (heard : Heard) (ending : Option Ended) (request : Request) : Type 0 where
-  pub caller : request.caller ≡ Owner
+-- the code holds this request; who sent it is known unless memory was wanted
+pub record Is (heard : Heard) (request : Request) : Type 0 where
+  pub caller : heard.means ≢ Memory → heard.caller ≡ request.caller
   pub method : heard.method.now ≡ request.method
   pub resource : heard.resource.now ≡ request.resource
   pub understands : Understands heard.means request
-  pub end : ending ≡ request.end
+  pub end : heard.end ≡ request.end

@@ -2,9 +2,9 @@
 use Rattle.std.specs.Prelude.{ℕ, Bool, cond, is_some, ◌==◌, List, [], Option, None, Some, Result, Ok, Err, codes}
 use Rattle.std.specs.List.{before_first}
 use Rattle.gate_base.specs.declared.page.Caller.{Caller}
-use Rattle.gate_base.specs.declared.page.Caller.TheVariants.{Owner}
+use Rattle.gate_base.specs.declared.page.Caller.TheVariants.{Anonymous}
 use Rattle.s3_machine.specs.declared.code.Code.{Code}
-use Rattle.s3_machine.specs.declared.code.Code.TheVariants.{EntityTooLarge, IncompleteBody, InvalidRequest, InvalidURI, MissingContentLength, NotImplemented}
+use Rattle.s3_machine.specs.declared.code.Code.TheVariants.{AccessDenied, AuthorizationHeaderMalformed, EntityTooLarge, IncompleteBody, InvalidAccessKeyId, InvalidRequest, InvalidURI, MissingContentLength, NotImplemented, RequestTimeTooSkewed, SignatureDoesNotMatch, XAmzContentSHA256Mismatch}
 use Rattle.s3_machine.specs.declared.operation.Label.{Label}
 use Rattle.s3_machine.specs.declared.operation.Reply.{Reply}
 use Rattle.s3_machine.specs.declared.operation.Settings.{Settings}
@@ -16,10 +16,16 @@ use Rattle.http_wire.specs.declared.message.Kind.{Kind}
 use Rattle.http_wire.specs.declared.message.Kind.TheVariants.{BadHead, LongHead, ManyHeaders, NoLength, BadLength, LongBody, Transfer, ShortBody}
 use Rattle.http_wire.specs.Print.{page_text}
 use Rattle.s3_bodies.specs.Pages.{page_of}
+use Rattle.sigv4.specs.declared.refusal.Refusal.{Refusal}
+use Rattle.sigv4.specs.declared.refusal.Refusal.TheVariants.{HeaderMalformed, UnknownKey, WrongScope, UnsignedHeader, NoDate, Skewed, Streaming, NoPayloadHash, SignatureDiffers, PayloadDiffers, Memory}
+use Rattle.sigv4.specs.Verdict.{signed}
 use Rattle.gateway.specs.declared.ended.Ended.{Ended}
 use Rattle.gateway.specs.declared.ended.Ended.TheVariants.{Closed, Refused}
 use Rattle.gateway.specs.declared.meant.Meant.{Meant}
 use Rattle.gateway.specs.declared.meant.Meant.TheVariants as meant
+use Rattle.gateway.specs.declared.received.Received.{Received}
+use Rattle.gateway.specs.declared.received.Received.TheVariants as received
+use Rattle.gateway.specs.declared.service.Service.{Service}
 use Rattle.gateway.specs.Closing.{is_closing}
 use Rattle.gateway.specs.Meaning.{meaning_of}
 
@@ -39,18 +45,57 @@ is_question_mark byte = byte == 63
 abbrev pub raw_path : List ℕ → List ℕ
 raw_path target = before_first is_question_mark target
 
+-- what a request is answered whose signature is refused
+abbrev pub refused_by : Refusal → Meant
+refused_by HeaderMalformed = meant.Refused AuthorizationHeaderMalformed
+refused_by UnknownKey = meant.Refused InvalidAccessKeyId
+refused_by WrongScope = meant.Refused AuthorizationHeaderMalformed
+refused_by UnsignedHeader = meant.Refused AccessDenied
+refused_by NoDate = meant.Refused AccessDenied
+refused_by Skewed = meant.Refused RequestTimeTooSkewed
+refused_by Streaming = meant.Refused NotImplemented
+refused_by NoPayloadHash = meant.Refused InvalidRequest
+refused_by (SignatureDiffers hash) = meant.Refused SignatureDoesNotMatch
+refused_by PayloadDiffers = meant.Refused XAmzContentSHA256Mismatch
+refused_by Memory = meant.Memory
+
+-- what a request means by who sent it
+abbrev pub admitted : Settings → Message → Target → Result Caller Refusal → Meant
+admitted settings message target (Ok caller) = meaning_of settings message target caller
+admitted settings message target (Err refusal) = refused_by refusal
+
+-- who sent a request, nobody in particular where its signature is refused
+abbrev pub sender_of : Result Caller Refusal → Caller
+sender_of (Ok caller) = caller
+sender_of (Err refusal) = Anonymous
+
+-- who sent a request at a moment: the owner, who signed it by one of the keys, nobody in particular, or why its signature is refused
+abbrev pub signed_at : Service → ℕ → Message → Target → Result Caller Refusal
+signed_at service moment message target = signed service.keys service.settings.region message target moment
+
 -- what a request means by how its target is read: one that can't be read is no URI of this service
-abbrev pub understood : Settings → Message → Result Target NameFault → Meant
-understood settings message (Ok target) = meaning_of settings message target Owner
-understood settings message (Err fault) = meant.Refused InvalidURI
+abbrev pub understood : Service → ℕ → Message → Result Target NameFault → Meant
+understood service moment message (Ok target) = admitted service.settings message target (signed_at service moment message target)
+understood service moment message (Err fault) = meant.Refused InvalidURI
+
+-- who sent it, likewise
+abbrev pub sender : Service → ℕ → Message → Result Target NameFault → Caller
+sender service moment message (Ok target) = sender_of (signed_at service moment message target)
+sender service moment message (Err fault) = Anonymous
 
 -- how the connection ends after the reply to a message, if it does
 abbrev pub end_after : Message → Option Ended
 end_after message = cond (is_closing message) (Some Closed) None
 
--- a request that was read: first its target is, and then its meaning is found
-abbrev pub request_of : Settings → Message → Request
-request_of settings message = record { caller = Owner; method = message.method; resource = raw_path message.target; means = understood settings message (target_of message.target); end = end_after message }
+-- a request that was read, at its moment: first its target is, then its signature is verified, and then its meaning is found
+abbrev pub request_of : Service → ℕ → Message → Request
+request_of service moment message = record {
+  caller = sender service moment message (target_of message.target);
+  method = message.method;
+  resource = raw_path message.target;
+  means = understood service moment message (target_of message.target);
+  end = end_after message;
+}
 
 -- the code of a request that was refused before it was understood
 abbrev pub code_of : Kind → Code
@@ -65,7 +110,17 @@ code_of ShortBody = IncompleteBody
 
 -- such a request, at its place in the connection, which ends after the reply
 abbrev pub refused_request : Kind → ℕ → Bool → Request
-refused_request kind place head = record { caller = Owner; method = cond head (codes "HEAD") []; resource = codes "/"; means = meant.Refused (code_of kind); end = Some (Refused kind place) }
+refused_request kind place head = record { caller = Anonymous; method = cond head (codes "HEAD") []; resource = codes "/"; means = meant.Refused (code_of kind); end = Some (Refused kind place) }
+
+-- what was received, as a request at a moment
+abbrev pub asks_of : Service → Received → ℕ → Request
+asks_of service (received.Message message) = λ moment. request_of service moment message
+asks_of service (received.Refused kind place head) = λ moment. refused_request kind place head
+
+-- how the connection ends after the reply to it, if it does
+abbrev pub end_of : Received → Option Ended
+end_of (received.Message message) = end_after message
+end_of (received.Refused kind place head) = Some (Refused kind place)
 
 -- the bytes of a reply
 unfoldable pub reply_text : Reply → Label → List ℕ → List ℕ → Bool → List ℕ

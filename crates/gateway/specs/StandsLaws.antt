@@ -4,7 +4,7 @@ use Rattle.std.specs.Prelude.{◌≡◌, ◌⊎◌, ◌≤◌, ◌<◌, ℕ, Lis
 use Rattle.std.proofs.Common.{refl, sym, ap, subst, inl, inr, arith}
 use Rattle.std.proofs.lemmas.Bool.{cases_lt}
 use Rattle.std.proofs.lemmas.List.Elements.{Contains-push, Contains-append_left, Contains-append_right}
-use Rattle.s3_machine.specs.declared.operation.Settings.{Settings}
+use Rattle.gateway.specs.declared.service.Service.{Service}
 use Rattle.swift_calls.specs.Tree.{Tree}
 use Rattle.upload_records.specs.Sound.{Sound}
 use Rattle.recovery.specs.Turns.{Turns}
@@ -71,16 +71,16 @@ follows_order p q (turn ∷ turns) (begins, turned, ends, then) = let rises = fo
 
 -- ---- one connection: what it stands for
 
-module _ {settings : Settings} {at : ℕ → Tree} {faults : ℕ → ℕ} {connection : ℕ} where
-  serves_stands : {t : ℕ} {end : Option Ended} {old new : Point} → Serves settings at faults connection end old t new → StandsThroughout at (turn_of old.tally t new.tally ∷ []) old.tally.number new.tally.number
+module _ {service : Service} {at : ℕ → Tree} {faults : ℕ → ℕ} {connection : ℕ} where
+  serves_stands : {t : ℕ} {end : Option Ended} {old new : Point} → Serves service at faults connection end old t new → StandsThroughout at (turn_of old.tally t new.tally ∷ []) old.tally.number new.tally.number
   serves_stands {t = t} {old = old} {new = new} serves = stands_one (turn_of old.tally t new.tally) (replies_turns serves.exchange.replies)
 
-  pub exchanges_stands : {old new : Point} {turns : List Turn} → Exchanges settings at faults connection old turns new → Sound (at old.tally.number) → StandsThroughout at turns old.tally.number new.tally.number
+  pub exchanges_stands : {old new : Point} {turns : List Turn} → Exchanges service at faults connection old turns new → Sound (at old.tally.number) → StandsThroughout at turns old.tally.number new.tally.number
   exchanges_stands (none point) sound = stands_none refl sound
   exchanges_stands (more old middle new turns t exchanges serves) sound =
       stands_append turns (turn_of middle.tally t new.tally ∷ []) (exchanges_stands exchanges sound) (serves_stands serves)
 
-  pub ends_stands : {ended : Ended} {last : Point} {new : Tally} {turns : List Turn} → Ends settings at faults connection ended last new turns → Sound (at last.tally.number) → StandsThroughout at turns last.tally.number new.number
+  pub ends_stands : {ended : Ended} {last : Point} {new : Tally} {turns : List Turn} → Ends service at faults connection ended last new turns → Sound (at last.tally.number) → StandsThroughout at turns last.tally.number new.number
   ends_stands (over is front same) sound = stands_none (ap (λ t. t.number) same) sound
   ends_stands (cut is front same) sound = stands_none (ap (λ t. t.number) same) sound
   ends_stands {last = last} (served point t serves same) sound =
@@ -90,22 +90,22 @@ module _ {settings : Settings} {at : ℕ → Tree} {faults : ℕ → ℕ} {conne
   ends_stands (untold is only sends) sound = stands_none only.number sound
   ends_stands {last = last} {new = new} (broken t is breaks) sound = stands_one (turn_of last.tally t new) (replies_turns breaks.exchange.replies)
 
-  pub talk_one_stands : {ended : Ended} {old : Point} {turns : List Turn} {new : Tally} → TalkOne settings at faults connection ended old turns new → Sound (at old.tally.number) → StandsThroughout at turns old.tally.number new.number
+  pub talk_one_stands : {ended : Ended} {old : Point} {turns : List Turn} {new : Tally} → TalkOne service at faults connection ended old turns new → Sound (at old.tally.number) → StandsThroughout at turns old.tally.number new.number
   talk_one_stands {old = old} {new = new} talk sound =
       subst (λ turns. StandsThroughout at turns old.tally.number new.number) (sym talk.all)
       (stands_append talk.before talk.after (exchanges_stands talk.exchanges sound) (ends_stands talk.ends (exchanges_sound talk.exchanges sound)))
 
   -- ---- one connection: its turns
 
-  serves_follow : {t : ℕ} {end : Option Ended} {old new : Point} → Serves settings at faults connection end old t new → Follows old.tally.number (turn_of old.tally t new.tally ∷ []) new.tally.number
+  serves_follow : {t : ℕ} {end : Option Ended} {old new : Point} → Serves service at faults connection end old t new → Follows old.tally.number (turn_of old.tally t new.tally ∷ []) new.tally.number
   serves_follow {t = t} {old = old} {new = new} serves = let near = replies_order serves.exchange.replies in follows_one (turn_of old.tally t new.tally) near.0 near.1
 
-  pub exchanges_follow : {old new : Point} {turns : List Turn} → Exchanges settings at faults connection old turns new → Follows old.tally.number turns new.tally.number
+  pub exchanges_follow : {old new : Point} {turns : List Turn} → Exchanges service at faults connection old turns new → Follows old.tally.number turns new.tally.number
   exchanges_follow (none point) = follows_none refl
   exchanges_follow (more old middle new turns t exchanges serves) =
       follows_append old.tally.number middle.tally.number new.tally.number turns (turn_of middle.tally t new.tally ∷ []) (exchanges_follow exchanges) (serves_follow serves)
 
-  pub ends_follow : {ended : Ended} {last : Point} {new : Tally} {turns : List Turn} → Ends settings at faults connection ended last new turns → Follows last.tally.number turns new.number
+  pub ends_follow : {ended : Ended} {last : Point} {new : Tally} {turns : List Turn} → Ends service at faults connection ended last new turns → Follows last.tally.number turns new.number
   ends_follow (over is front same) = follows_none (ap (λ t. t.number) same)
   ends_follow (cut is front same) = follows_none (ap (λ t. t.number) same)
   ends_follow {last = last} (served point t serves same) =
@@ -115,6 +115,6 @@ module _ {settings : Settings} {at : ℕ → Tree} {faults : ℕ → ℕ} {conne
   ends_follow (untold is only sends) = follows_none only.number
   ends_follow {last = last} {new = new} (broken t is breaks) = let near = replies_order breaks.exchange.replies in follows_one (turn_of last.tally t new) near.0 near.1
 
-  pub talk_one_follow : {ended : Ended} {old : Point} {turns : List Turn} {new : Tally} → TalkOne settings at faults connection ended old turns new → Follows old.tally.number turns new.number
+  pub talk_one_follow : {ended : Ended} {old : Point} {turns : List Turn} {new : Tally} → TalkOne service at faults connection ended old turns new → Follows old.tally.number turns new.number
   talk_one_follow {old = old} {new = new} talk =
       subst (λ turns. Follows old.tally.number turns new.number) (sym talk.all) (follows_append old.tally.number talk.last.tally.number new.number talk.before talk.after (exchanges_follow talk.exchanges) (ends_follow talk.ends))

@@ -1,8 +1,8 @@
 -- What becomes of one request, between two tallies. Source: this profile.
-use Rattle.std.specs.Prelude.{◌≡◌, ◌⊎◌, ℕ, Option, None, Some}
+use Rattle.std.specs.Prelude.{◌≡◌, ◌⊎◌, ℕ, false, Option, None, Some}
 use Rattle.gate_base.specs.Wire.{Wire}
 use Rattle.s3_machine.specs.declared.operation.Label.{Label}
-use Rattle.s3_machine.specs.declared.operation.Settings.{Settings}
+use Rattle.gateway.specs.declared.service.Service.{Service}
 use Rattle.swift_calls.specs.Tree.{Tree}
 use Rattle.gateway.specs.declared.ended.Ended.{Ended}
 use Rattle.gateway.specs.declared.ended.Ended.TheVariants.{LineFailed, Memory}
@@ -11,6 +11,7 @@ use Rattle.gateway.specs.declared.turn.Turned.TheVariants.{Served, Broken}
 use Rattle.gateway.specs.Request.{Request}
 use Rattle.gateway.specs.Exchange.{Exchange, CutExchange}
 use Rattle.gateway.specs.Connection.{Tally, Labels, turn_of}
+use Rattle.gateway.specs.Serving.{has_ended_failed}
 
 -- only pieces and marks came to the line
 pub record OnlySends (old new : Wire) : Type 0 where
@@ -23,17 +24,22 @@ abbrev pub EndsWith : Option Ended → Turned → Type 0
 EndsWith end (Served ended) = (ended ≡ end) ⊎ (ended ≡ Some Memory)
 EndsWith end Broken = Unit {0}
 
--- the request was answered, in whole or with a line that failed under the reply
-abbrev pub TurnsOnce : Settings → (ℕ → Tree) → (ℕ → ℕ) → ℕ → Tally → Tally → Request → Turned → Type 0
-TurnsOnce settings at faults connection old new request (Served end) =
-    (t : ℕ) × (label : Label) × Labels old new request.caller label × Exchange settings at faults connection (turn_of old t new) request label end old.sent new.sent
-TurnsOnce settings at faults connection old new request Broken =
-    (t : ℕ) × (label : Label) × Labels old new request.caller label × CutExchange settings at faults connection (turn_of old t new) request label old.sent new.sent
+-- a request that was answered in whole doesn't end the connection as a failed line does
+abbrev pub IsServed : Turned → Type 0
+IsServed (Served ended) = has_ended_failed ended ≡ false
+IsServed Broken = Unit {0}
+
+-- the request was answered, in whole or with a line that failed under the reply; what it asks is known at its moment
+abbrev pub TurnsOnce : Service → (ℕ → Tree) → (ℕ → ℕ) → ℕ → Tally → Tally → (ℕ → Request) → Turned → Type 0
+TurnsOnce service at faults connection old new asks (Served end) =
+    (t : ℕ) × (label : Label) × Labels old new (asks label.moment).caller label × Exchange service.settings at faults connection (turn_of old t new) (asks label.moment) label end old.sent new.sent
+TurnsOnce service at faults connection old new asks Broken =
+    (t : ℕ) × (label : Label) × Labels old new (asks label.moment).caller label × CutExchange service.settings at faults connection (turn_of old t new) (asks label.moment) label old.sent new.sent
 
 -- the same, by how the connection ends after it, if it does
-abbrev pub TurnEnds : Settings → (ℕ → Tree) → (ℕ → ℕ) → ℕ → Tally → Tally → Request → Option Ended → Type 0
-TurnEnds settings at faults connection old new request None =
-    (t : ℕ) × (label : Label) × Labels old new request.caller label × Exchange settings at faults connection (turn_of old t new) request label None old.sent new.sent
-TurnEnds settings at faults connection old new request (Some ended) =
-    ((t : ℕ) × (label : Label) × Labels old new request.caller label × Exchange settings at faults connection (turn_of old t new) request label (Some ended) old.sent new.sent)
-    ⊎ ((ended ≡ LineFailed) × (t : ℕ) × (label : Label) × Labels old new request.caller label × CutExchange settings at faults connection (turn_of old t new) request label old.sent new.sent)
+abbrev pub TurnEnds : Service → (ℕ → Tree) → (ℕ → ℕ) → ℕ → Tally → Tally → (ℕ → Request) → Option Ended → Type 0
+TurnEnds service at faults connection old new asks None =
+    (t : ℕ) × (label : Label) × Labels old new (asks label.moment).caller label × Exchange service.settings at faults connection (turn_of old t new) (asks label.moment) label None old.sent new.sent
+TurnEnds service at faults connection old new asks (Some ended) =
+    ((t : ℕ) × (label : Label) × Labels old new (asks label.moment).caller label × Exchange service.settings at faults connection (turn_of old t new) (asks label.moment) label (Some ended) old.sent new.sent)
+    ⊎ ((ended ≡ LineFailed) × (t : ℕ) × (label : Label) × Labels old new (asks label.moment).caller label × CutExchange service.settings at faults connection (turn_of old t new) (asks label.moment) label old.sent new.sent)

@@ -1,52 +1,152 @@
 //! How a request is heard: a message that was read, or one that was refused before it was understood.
-ghost use Rattle.std.specs.Prelude.{◌≡◌, ◌≢◌, ℕ, cond, codes, [], Some, position, IfSome, ◌<◌, length};
+ghost use Rattle.std.specs.Prelude.{◌≡◌, ◌≢◌, false, cond, codes, [], Some, position, IfSome, ◌<◌, length};
+ghost use Rattle.gate_base.specs.declared.page.Caller.TheVariants.{Anonymous as anonymous};
 ghost use Rattle.s3_names.specs.Target.{target_of};
 ghost use Rattle.gateway.specs.Heard.{Is, IsProperMeant};
-ghost use Rattle.gateway.specs.Request.{raw_path, end_after, understood, request_of, refused_request, code_of, is_question_mark};
+ghost use Rattle.gateway.specs.Request.{raw_path, end_after, understood, admitted, sender, sender_of, signed_at, refused_by, request_of, refused_request, asks_of, end_of, code_of, is_question_mark};
+ghost use Rattle.gateway.specs.Serving.{has_ended_failed};
 ghost use Rattle.gateway.specs.declared.ended.Ended.TheVariants as ended;
 ghost use Rattle.gateway.specs.declared.meant.Meant.TheVariants as variant;
 
 use crate::closing::closing;
-use crate::{Ended, Heard, Meant, meaning};
+use crate::received::Received;
+use crate::{Ended, Heard, Meant, Service, meaning};
 use gate_base::Caller;
 use http_wire::{Kind, Message};
-use s3_machine::{Code, Settings};
+use s3_machine::Code;
 use s3_names::{NameFault, Target};
+use sigv4::{Refusal, verify};
 use std::alloc::Global;
 
-/// A message that was read, as it is answered.
-pub fn hear<'a>(alloc: Global, settings: &Settings, message: &'a Message) -> Heard<'a>
+/// What was received, as it is answered at that moment.
+pub fn hear<'a>(alloc: Global, service: &Service, received: &'a Received, moment: u64) -> Heard<'a>
     ensures proper { IsProperMeant result.means }
-    ensures is { Is result (end_after message.now) (request_of settings.now message.now) }
+    ensures ends { result.end ≡ end_of received.now }
+    ensures served { has_ended_failed result.end ≡ false }
+    ensures is { Is result (asks_of service.now received.now moment) }
 {
-    Heard {
-        method: message.method.as_slice(),
-        resource: path_of(message.target.as_slice()),
-        means: understand(alloc, settings, message),
+    match received {
+        Received::Message(message) => hear_message(alloc, service, message, moment),
+        Received::Refused { kind, place, head } => hear_refused(*kind, *place, *head),
     }
 }
 
-/// The target is read, and then the meaning is found. Every request counts as the owner's.
-fn understand(alloc: Global, settings: &Settings, message: &Message) -> Meant
-    ensures proper { IsProperMeant result }
-    ensures value { result ≢ variant.Memory → result ≡ understood settings.now message.now (target_of message.now.target) }
+/// A message that was read, as it is answered.
+fn hear_message<'a>(
+    alloc: Global,
+    service: &Service,
+    message: &'a Message,
+    moment: u64,
+) -> Heard<'a>
+    ensures proper { IsProperMeant result.means }
+    ensures ends { result.end ≡ end_after message.now }
+    ensures served { has_ended_failed result.end ≡ false }
+    ensures is { Is result (request_of service.now moment message.now) }
+{
+    let understood = understand(alloc, service, message, moment);
+    Heard {
+        caller: understood.caller,
+        method: message.method.as_slice(),
+        resource: path_of(message.target.as_slice()),
+        means: understood.means,
+        end: end_of(message),
+    }
+}
+
+/// What was understood of a message: who sent it, and what it means.
+#[derive(Debug, Drop)]
+struct Understood {
+    caller: Caller,
+    means: Meant,
+}
+
+fn refused(code: Code) -> Understood
+    ensures means { result.means ≡ variant.Refused code }
+    ensures caller { result.caller ≡ anonymous }
+{
+    Understood {
+        caller: Caller::Anonymous,
+        means: Meant::Refused(code),
+    }
+}
+
+fn unknown() -> Understood
+    ensures means { result.means ≡ variant.Memory }
+{
+    Understood {
+        caller: Caller::Anonymous,
+        means: Meant::Memory,
+    }
+}
+
+/// The target is read, then the signature is verified, and then the meaning is found.
+fn understand(alloc: Global, service: &Service, message: &Message, moment: u64) -> Understood
+    ensures proper { IsProperMeant result.means }
+    ensures means { result.means ≢ variant.Memory → result.means ≡ understood service.now moment message.now (target_of message.now.target) }
+    ensures caller { result.means ≢ variant.Memory → result.caller ≡ sender service.now moment message.now (target_of message.now.target) }
 {
     match Target::read(alloc, message.target.as_slice()) {
-        Ok(target) => meaning(alloc, message, &target, &Caller::Owner, settings),
-        Err(NameFault::Memory) => Meant::Memory,
+        Ok(target) => admit(alloc, service, message, &target, moment),
+        Err(NameFault::Memory) => unknown(),
         Err(
             NameFault::BadBucket
             | NameFault::EmptyKey
             | NameFault::LongKey
             | NameFault::NotUtf8
             | NameFault::BadEscape,
-        ) => Meant::Refused(Code::InvalidURI),
+        ) => refused(Code::InvalidURI),
+    }
+}
+
+/// The signature is verified, and then the meaning is found.
+#[tactic(auto, using(crate::proofs::Hearing::refused_means, crate::proofs::Hearing::refused_sender, crate::proofs::Hearing::refused_proper))]
+fn admit(
+    alloc: Global,
+    service: &Service,
+    message: &Message,
+    target: &Target,
+    moment: u64,
+) -> Understood
+    ensures proper { IsProperMeant result.means }
+    ensures means { result.means ≢ variant.Memory → result.means ≡ admitted service.now.settings message.now target.now (signed_at service.now moment message.now target.now) }
+    ensures caller { result.means ≢ variant.Memory → result.caller ≡ sender_of (signed_at service.now moment message.now target.now) }
+{
+    let region = service.settings.region.as_slice();
+    match verify(alloc, &service.keys, region, message, target, moment) {
+        Ok(caller) => Understood {
+            caller,
+            means: meaning(alloc, message, target, &caller, &service.settings),
+        },
+        Err(refusal) => Understood {
+            caller: Caller::Anonymous,
+            means: refused_by(refusal),
+        },
+    }
+}
+
+/// What a request is answered whose signature is refused.
+fn refused_by(refusal: Refusal) -> Meant
+    ensures { result ≡ refused_by refusal }
+{
+    match refusal {
+        Refusal::HeaderMalformed | Refusal::WrongScope => {
+            Meant::Refused(Code::AuthorizationHeaderMalformed)
+        }
+        Refusal::UnknownKey => Meant::Refused(Code::InvalidAccessKeyId),
+        Refusal::UnsignedHeader | Refusal::NoDate => Meant::Refused(Code::AccessDenied),
+        Refusal::Skewed => Meant::Refused(Code::RequestTimeTooSkewed),
+        Refusal::Streaming => Meant::Refused(Code::NotImplemented),
+        Refusal::NoPayloadHash => Meant::Refused(Code::InvalidRequest),
+        Refusal::SignatureDiffers(_) => Meant::Refused(Code::SignatureDoesNotMatch),
+        Refusal::PayloadDiffers => Meant::Refused(Code::XAmzContentSHA256Mismatch),
+        Refusal::Memory => Meant::Memory,
     }
 }
 
 /// How the connection ends after the reply to a message, if it does.
-pub fn end_of(message: &Message) -> Option<Ended>
-    ensures { result ≡ end_after message.now }
+fn end_of(message: &Message) -> Option<Ended>
+    ensures is { result ≡ end_after message.now }
+    ensures served { has_ended_failed result ≡ false }
 {
     if closing(message) {
         Some(Ended::Closed)
@@ -57,14 +157,18 @@ pub fn end_of(message: &Message) -> Option<Ended>
 
 /// A request that was refused before it was understood, as it is answered: with the code of its kind, on `/`.
 #[tactic(auto, using(crate::proofs::Hearing::refused_is, crate::proofs::Hearing::code_is_proper))]
-pub fn hear_refused(kind: Kind, head: bool) -> Heard<'static>
+fn hear_refused(kind: Kind, place: u64, head: bool) -> Heard<'static>
     ensures proper { IsProperMeant result.means }
-    ensures is { (place : ℕ) → Is result (Some (ended.Refused kind place)) (refused_request kind place head) }
+    ensures ends { result.end ≡ Some (ended.Refused kind place) }
+    ensures served { has_ended_failed result.end ≡ false }
+    ensures is { Is result (refused_request kind place head) }
 {
     Heard {
+        caller: Caller::Anonymous,
         method: method_for(head),
         resource: b"/",
         means: Meant::Refused(code(kind)),
+        end: Some(Ended::Refused { kind, place }),
     }
 }
 

@@ -1,9 +1,13 @@
-use crate::Meant;
+use crate::{Ended, Meant};
+use gate_base::Caller;
 
-/// A request as it is answered: its method, what an error names, and what it means.
+/// A request as it is answered: who sent it, its method, what an error names, what it means, and how the connection ends
+/// after the reply, if it does.
 #[derive(Debug, Drop)]
 pub struct Heard<'a> {
+    pub caller: Caller,
     pub method: &'a [u8],
     pub resource: &'a [u8],
     pub means: Meant,
+    pub end: Option<Ended>,
 }

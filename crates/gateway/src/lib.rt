@@ -1,4 +1,4 @@
-//! One connection: what each request means, what it is answered, and what is written for it.
+//! One connection: who sent each request, what it means, what it is answered, and what is written for it.
 #![tactic(auto)]
 
 mod closing;
@@ -11,9 +11,11 @@ mod join;
 mod label;
 mod meant;
 mod query;
+mod received;
 mod reply;
 mod rows;
 mod serve;
+mod service;
 mod turn;
 mod write;
 
@@ -21,6 +23,7 @@ pub use ended::Ended;
 pub use heard::Heard;
 pub use meant::{Meant, meaning};
 pub use serve::serve_connection;
+pub use service::Service;
 pub use write::print_reply;
 
 #[cfg(test)]

@@ -1,4 +1,3 @@
-use crate::hear::hear;
 use crate::query::has_name_twice;
 use crate::{Meant, meaning};
 use gate_base::{Bytes, Caller, List, Memory, Pair};
@@ -42,9 +41,14 @@ fn settings(alloc: Global) -> Result<Settings, Memory> {
     })
 }
 
-// What the owner means, by the way that a connection takes.
+// What the owner means.
 fn owner(alloc: Global, message: &Message) -> Result<Meant, Memory> {
-    Ok(hear(alloc, &settings(alloc)?, message).means)
+    let settings = settings(alloc)?;
+    match Target::read(alloc, message.target.as_slice()) {
+        Ok(target) => Ok(meaning(alloc, message, &target, &Caller::Owner, &settings)),
+        Err(NameFault::Memory) => Err(Memory),
+        Err(_) => Ok(Meant::Refused(Code::InvalidURI)),
+    }
 }
 
 fn anonymous(alloc: Global, message: &Message) -> Result<Meant, NameFault> {

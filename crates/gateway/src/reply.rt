@@ -9,6 +9,8 @@ ghost use Rattle.s3_machine.specs.Shown.{IsShowable};
 ghost use Rattle.s3_machine.specs.Step.{IsProper};
 ghost use Rattle.recovery.specs.Answers.{Answers, most_calls};
 ghost use Rattle.recovery.specs.Calls.{Within};
+ghost use Rattle.gateway.specs.Connection.{sent_by};
+ghost use Rattle.gateway.specs.declared.meant.Meant.TheVariants as variant;
 ghost use Rattle.gateway.specs.Heard.{IsProperMeant, Understands, most_calls_of};
 ghost use Rattle.gateway.specs.Request.{Request};
 ghost use Rattle.gateway.specs.Exchange.{Replies};
@@ -36,9 +38,12 @@ pub fn reply_to<W: Swift>(
     ensures tells { W.tells store.old → W.tells store.new }
     ensures kept { W.tells store.old → Kept (W.called store.old) (W.tree_at store.old) (W.tree_at store.new) (W.faults_at store.old) (W.faults_at store.new) }
 
-    // Where memory was wanted, some reply is due, and it is not this one.
+    ensures wanted { means.now ≡ variant.Memory → result ≡ answer.Memory }
+
+    // Where memory was wanted, some reply is due, and it is not this one; then who sent the request may be unknown.
     ensures told { W.tells store.old → Sound (W.tree_at store.new (W.called store.old)) → (request : Request) → Understands means.now request
-        → (t : ℕ) × (due : _) × Replies settings.now (W.tree_at store.new) (W.faults_at store.new) (W.called store.old) t (W.called store.new) request label.now due
+        → (means.now ≢ variant.Memory → label.now.caller ≡ request.caller)
+        → (t : ℕ) × (due : _) × Replies settings.now (W.tree_at store.new) (W.faults_at store.new) (W.called store.old) t (W.called store.new) request (sent_by request.caller label.now) due
         × (result ≢ answer.Memory → result ≡ due) }
 {
     match means {

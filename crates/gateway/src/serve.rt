@@ -6,19 +6,16 @@ ghost use Rattle.upload_records.specs.Sound.{Sound};
 ghost use Rattle.http_wire.specs.Gives.{weight};
 ghost use Rattle.gateway.specs.Exchange.{Turn};
 ghost use Rattle.gateway.specs.Connection.{tally, point, has_failed, TalkOne};
-ghost use Rattle.recovery.specs.Calls.{Within};
-ghost use Rattle.gateway.specs.Heard.{IsProperMeant, most_calls_of, Is};
-ghost use Rattle.gateway.specs.Request.{Request};
+ghost use Rattle.gateway.specs.Request.{asks_of, end_of};
 ghost use Rattle.gateway.specs.Turned.{TurnEnds};
 ghost use Rattle.gateway.specs.Serving.{has_ended_failed, OnlyServes, NextOne, EndsUnread};
 
-use crate::hear::{end_of, hear, hear_refused};
+use crate::received::Received;
 use crate::turn::{Turned, take_turn};
 use crate::write::{Written, write_memory};
-use crate::{Ended, Heard};
+use crate::{Ended, Service};
 use gate_base::{Clock, Draws, Line};
 use http_wire::{Got, ReadFault, Reader};
-use s3_machine::Settings;
 use std::alloc::Global;
 use swift_calls::Swift;
 
@@ -27,7 +24,7 @@ use swift_calls::Swift;
 pub fn serve_connection<N: Line<W>, W: Swift, C: Clock, D: Draws>(
     alloc: Global,
     store: &mut W,
-    settings: &Settings,
+    service: &Service,
     line: &mut N,
     clock: &mut C,
     draws: &mut D,
@@ -51,7 +48,7 @@ pub fn serve_connection<N: Line<W>, W: Swift, C: Clock, D: Draws>(
 
     // Where line, store, clock and draws tell, and the account is sound: it is one connection.
     ensures told { N.tells line.old → W.tells store.old → C.tells clock.old → D.tells draws.old → Sound (W.tree_at store.new (W.called store.old))
-        → (turns : List Turn) × TalkOne settings.now (W.tree_at store.new) (W.faults_at store.new) (N.wire line.old).begun result
+        → (turns : List Turn) × TalkOne service.now (W.tree_at store.new) (W.faults_at store.new) (N.wire line.old).begun result
         (point (N.wire line.old).rest 0 (tally (W.called store.old) (C.moments clock.old) (D.draws draws.old) (N.wire line.old).sent))
         turns
         (tally (W.called store.new) (C.moments clock.new) (D.draws draws.new) (N.wire line.new).sent) }
@@ -61,7 +58,7 @@ pub fn serve_connection<N: Line<W>, W: Swift, C: Clock, D: Draws>(
         Err(_) => return end_unread(line, store),
     };
     'requests: loop {
-        match serve_next(alloc, &mut reader, store, settings, line, clock, draws) {
+        match serve_next(alloc, &mut reader, store, service, line, clock, draws) {
             Some(ended) => return ended,
             None => {}
         }
@@ -73,7 +70,7 @@ fn serve_next<N: Line<W>, W: Swift, C: Clock, D: Draws>(
     alloc: Global,
     reader: &mut Reader,
     store: &mut W,
-    settings: &Settings,
+    service: &Service,
     line: &mut N,
     clock: &mut C,
     draws: &mut D,
@@ -99,7 +96,7 @@ fn serve_next<N: Line<W>, W: Swift, C: Clock, D: Draws>(
     ensures only_serves { N.tells line.old → OnlyServes (has_ended_failed result) (N.wire line.old) (N.wire line.new) }
 
     ensures told { N.tells line.old → W.tells store.old → C.tells clock.old → D.tells draws.old → Sound (W.tree_at store.new (W.called store.old))
-        → NextOne settings.now (W.tree_at store.new) (W.faults_at store.new) (N.wire line.old).begun
+        → NextOne service.now (W.tree_at store.new) (W.faults_at store.new) (N.wire line.old).begun
         (point (reader.old.bytes ++ (N.wire line.old).rest) reader.old.place (tally (W.called store.old) (C.moments clock.old) (D.draws draws.old) (N.wire line.old).sent))
         result
         (point (reader.new.bytes ++ (N.wire line.new).rest) reader.new.place (tally (W.called store.new) (C.moments clock.new) (D.draws draws.new) (N.wire line.new).sent)) }
@@ -108,22 +105,20 @@ fn serve_next<N: Line<W>, W: Swift, C: Clock, D: Draws>(
         Ok(Got::Request(message)) => answer(
             alloc,
             store,
-            settings,
+            service,
             line,
             clock,
             draws,
-            &hear(alloc, settings, &message),
-            end_of(&message),
+            &Received::Message(message),
         ),
         Ok(Got::Refused { kind, place, head }) => answer(
             alloc,
             store,
-            settings,
+            service,
             line,
             clock,
             draws,
-            &hear_refused(kind, head),
-            Some(Ended::Refused { kind, place }),
+            &Received::Refused { kind, place, head },
         ),
         Ok(Got::End) => Some(Ended::End),
         Ok(Got::CutShort(place)) => Some(Ended::CutShort(place)),
@@ -132,23 +127,20 @@ fn serve_next<N: Line<W>, W: Swift, C: Clock, D: Draws>(
     }
 }
 
-/// Answers a request. `None` says that the connection goes on.
+/// Answers what was received. `None` says that the connection goes on.
 fn answer<N: Line<W>, W: Swift, C: Clock, D: Draws>(
     alloc: Global,
     store: &mut W,
-    settings: &Settings,
+    service: &Service,
     line: &mut N,
     clock: &mut C,
     draws: &mut D,
-    heard: &Heard<'_>,
-    end: Option<Ended>,
+    received: &Received,
 ) -> Option<Ended>
     requires open { IsTrue (N.is_open line.old) }
-    requires proper { IsProperMeant heard.now.means }
-    requires end { has_ended_failed end ≡ false }
 
     ensures open { N.is_open line.new ≡ true }
-    ensures ends { result ≡ None → end ≡ None }
+    ensures ends { result ≡ None → end_of received.now ≡ None }
     ensures quiet { has_ended_failed result ≡ false → N.faults line.new ≡ N.faults line.old }
     ensures cause { has_ended_failed result ≡ true → Rose (N.faults line.old) (N.faults line.new) }
     ensures quiet_next { N.next_faults line.new ≡ N.next_faults line.old }
@@ -159,19 +151,18 @@ fn answer<N: Line<W>, W: Swift, C: Clock, D: Draws>(
     ensures tells_clock { C.tells clock.old → C.tells clock.new }
     ensures tells_draws { D.tells draws.old → D.tells draws.new }
 
-    ensures calls { Within (most_calls_of heard.now.means (W.tree_at store.old (W.called store.old))) (W.called store.old) (W.called store.new) }
+    ensures ordered { W.called store.old ≤ W.called store.new }
     ensures kept { W.tells store.old → Kept (W.called store.old) (W.tree_at store.old) (W.tree_at store.new) (W.faults_at store.old) (W.faults_at store.new) }
     ensures only_serves { N.tells line.old → OnlyServes (has_ended_failed result) (N.wire line.old) (N.wire line.new) }
     ensures rest { N.tells line.old → (N.wire line.new).rest ≡ (N.wire line.old).rest }
 
     ensures told { N.tells line.old → W.tells store.old → C.tells clock.old → D.tells draws.old → Sound (W.tree_at store.new (W.called store.old))
-        → (request : Request) → Is heard.now end request
-        → TurnEnds settings.now (W.tree_at store.new) (W.faults_at store.new) (N.wire line.old).begun
+        → TurnEnds service.now (W.tree_at store.new) (W.faults_at store.new) (N.wire line.old).begun
         (tally (W.called store.old) (C.moments clock.old) (D.draws draws.old) (N.wire line.old).sent)
         (tally (W.called store.new) (C.moments clock.new) (D.draws draws.new) (N.wire line.new).sent)
-        request result }
+        (asks_of service.now received.now) result }
 {
-    match take_turn(alloc, store, settings, line, clock, draws, heard, end) {
+    match take_turn(alloc, store, service, line, clock, draws, received) {
         Turned::Served(ended) => ended,
         Turned::Broken => Some(Ended::LineFailed),
     }

@@ -1,21 +1,20 @@
-ghost use Rattle.std.specs.Prelude.{◌≡◌, ◌≢◌, ℕ, true, IsTrue};
+ghost use Rattle.std.specs.Prelude.{◌≡◌, ◌≢◌, ◌≤◌, true, IsTrue};
 ghost use Rattle.gate_base.specs.Causes.{Rose};
 ghost use Rattle.gate_base.specs.Wire.{with_mark};
 ghost use Rattle.swift_calls.specs.History.{Kept};
 ghost use Rattle.upload_records.specs.Sound.{Sound};
-ghost use Rattle.recovery.specs.Calls.{Within};
 ghost use Rattle.gateway.specs.declared.turn.Turned.TheVariants as turned;
 ghost use Rattle.gateway.specs.Connection.{tally};
-ghost use Rattle.gateway.specs.Heard.{IsProperMeant, most_calls_of, Is};
-ghost use Rattle.gateway.specs.Request.{Request};
-ghost use Rattle.gateway.specs.Turned.{TurnsOnce, OnlySends, EndsWith};
+ghost use Rattle.gateway.specs.Request.{asks_of, end_of};
+ghost use Rattle.gateway.specs.Turned.{TurnsOnce, OnlySends, EndsWith, IsServed};
 
-use crate::label::next_label;
+use crate::hear::hear;
+use crate::label::{next_label, sent_by};
+use crate::received::Received;
 use crate::reply::reply_to;
 use crate::write::{Written, write_reply};
-use crate::{Ended, Heard};
+use crate::{Ended, Service};
 use gate_base::{Clock, Draws, Line};
-use s3_machine::Settings;
 use std::alloc::Global;
 use swift_calls::Swift;
 
@@ -28,23 +27,22 @@ pub enum Turned {
     Broken,
 }
 
-/// Answers one request: the clock is read once and two words are drawn, the reply is found, and it is written as one
-/// piece. `end` says how the connection ends after the reply, if it does.
+/// Answers what was received: the clock is read once and two words are drawn, the request is heard and its reply found,
+/// and that is written as one piece.
 pub fn take_turn<N: Line<W>, W: Swift, C: Clock, D: Draws>(
     alloc: Global,
     store: &mut W,
-    settings: &Settings,
+    service: &Service,
     line: &mut N,
     clock: &mut C,
     draws: &mut D,
-    heard: &Heard<'_>,
-    end: Option<Ended>,
+    received: &Received,
 ) -> Turned
     requires open { IsTrue (N.is_open line.old) }
-    requires proper { IsProperMeant heard.now.means }
 
     ensures open { N.is_open line.new ≡ true }
-    ensures endings { EndsWith end result }
+    ensures endings { EndsWith (end_of received.now) result }
+    ensures served { IsServed result }
     ensures quiet { result ≢ turned.Broken → N.faults line.new ≡ N.faults line.old }
     ensures cause { result ≡ turned.Broken → Rose (N.faults line.old) (N.faults line.new) }
     ensures quiet_next { N.next_faults line.new ≡ N.next_faults line.old }
@@ -55,21 +53,22 @@ pub fn take_turn<N: Line<W>, W: Swift, C: Clock, D: Draws>(
     ensures tells_clock { C.tells clock.old → C.tells clock.new }
     ensures tells_draws { D.tells draws.old → D.tells draws.new }
 
-    ensures calls { Within (most_calls_of heard.now.means (W.tree_at store.old (W.called store.old))) (W.called store.old) (W.called store.new) }
+    ensures ordered { W.called store.old ≤ W.called store.new }
     ensures kept { W.tells store.old → Kept (W.called store.old) (W.tree_at store.old) (W.tree_at store.new) (W.faults_at store.old) (W.faults_at store.new) }
     ensures only_sends { N.tells line.old → OnlySends (N.wire line.old) (N.wire line.new) }
     ensures marks { N.tells line.old → result ≢ turned.Broken → (N.wire line.new).marks ≡ (N.wire line.old).marks }
     ensures mark { N.tells line.old → result ≡ turned.Broken → (N.wire line.new).marks ≡ (with_mark (N.wire line.old)).marks }
 
     ensures told { N.tells line.old → W.tells store.old → C.tells clock.old → D.tells draws.old → Sound (W.tree_at store.new (W.called store.old))
-        → (request : Request) → Is heard.now end request
-        → TurnsOnce settings.now (W.tree_at store.new) (W.faults_at store.new) (N.wire line.old).begun
+        → TurnsOnce service.now (W.tree_at store.new) (W.faults_at store.new) (N.wire line.old).begun
         (tally (W.called store.old) (C.moments clock.old) (D.draws draws.old) (N.wire line.old).sent)
         (tally (W.called store.new) (C.moments clock.new) (D.draws draws.new) (N.wire line.new).sent)
-        request result }
+        (asks_of service.now received.now) result }
 {
-    let label = next_label(clock, draws);
-    let reply = reply_to(alloc, store, settings, &heard.means, &label);
+    let next = next_label(clock, draws);
+    let heard = hear(alloc, service, received, next.moment);
+    let label = sent_by(heard.caller, next);
+    let reply = reply_to(alloc, store, &service.settings, &heard.means, &label);
     match write_reply(
         alloc,
         line,
@@ -78,9 +77,9 @@ pub fn take_turn<N: Line<W>, W: Swift, C: Clock, D: Draws>(
         &label,
         heard.method,
         heard.resource,
-        end.is_some(),
+        heard.end.is_some(),
     ) {
-        Written::Whole => Turned::Served(end),
+        Written::Whole => Turned::Served(heard.end),
         Written::Memory => Turned::Served(Some(Ended::Memory)),
         Written::Failed => Turned::Broken,
     }

@@ -1,2 +1,4 @@
 pub mod Sessions
 pub mod Marks
+pub mod Refusing
+pub mod Exits

@@ -1,31 +1,87 @@
 -- The words of the program `s3gate`, its statuses and the lines that it reports. Source: this profile.
-use Rattle.std.specs.Prelude.{◌≡◌, ◌⊎◌, ℕ, Bool, false, List, [], ◌∷◌, ◌++◌, codes, bytes_eq, string_bytes, String}
+use Rattle.std.specs.Prelude.{◌≡◌, ◌≢◌, ◌⊎◌, ℕ, Bool, true, false, List, [], ◌∷◌, ◌++◌, ◌&&◌, is_some, codes, Option, Some, None, String}
 use Rattle.std.specs.declared.alloc.Global.{Global}
+use Rattle.hex.specs.Hex.{encode_lower}
+use Rattle.sigv4.specs.Keys.{keys_of, are_keys, secret_of}
+use Rattle.sigv4.specs.declared.signature.Signed.{Signed as Signature}
+use Rattle.signing.specs.declared.first.Signing.{Signing}
+use Rattle.signing.specs.declared.first.Signing.TheVariants as signing
+use Rattle.gateway_words.specs.Words.{command_of}
+use Rattle.gateway_words.specs.declared.command.Command.{Command}
+use Rattle.gateway_words.specs.declared.command.Command.TheVariants.{Session, Sign}
 use Rattle.gateway_cmd.specs.declared.status.Status.{Status}
-use Rattle.gateway_cmd.specs.declared.status.Status.TheVariants.{Done, Usage, Line, Memory}
+use Rattle.gateway_cmd.specs.declared.status.Status.TheVariants.{Done, Usage, Line, Request, Memory}
+use Rattle.gateway_cmd.specs.declared.status.Ended.{Ended}
+use Rattle.gateway_cmd.specs.declared.status.Ended.TheVariants.{Signed, Plain}
 
--- the words are taken: just `session`
-abbrev pub is_accepted : List (String Global) → Bool
-is_accepted [] = false
-is_accepted (word ∷ []) = bytes_eq (string_bytes word) (codes "session")
-is_accepted (word ∷ next ∷ more) = false
+-- the command can be done by the key text: each of its lines is a key, no id twice; and to sign, one of them has the id
+abbrev pub is_possible : Option Command → List ℕ → Bool
+is_possible None keys = false
+is_possible (Some (Session region)) keys = are_keys (keys_of keys)
+is_possible (Some (Sign id region)) keys = are_keys (keys_of keys) && is_some (secret_of id (keys_of keys))
+
+-- the words are taken, and the command can be done by the key text
+abbrev pub is_admitted : List (String Global) → List ℕ → Bool
+is_admitted words keys = is_possible (command_of words) keys
+
+-- the command serves connections
+abbrev pub is_serving : Option Command → Bool
+is_serving None = false
+is_serving (Some (Session region)) = true
+is_serving (Some (Sign id region)) = false
+
+abbrev pub serves : List (String Global) → Bool
+serves words = is_serving (command_of words)
 
 abbrev pub code_of : Status → ℕ
 code_of Done = 0
 code_of Usage = 2
 code_of Line = 3
 code_of Memory = 5
+code_of Request = 8
 
 abbrev pub line_feed : List ℕ
 line_feed = 10 ∷ []
 
--- the line that is reported, none where all was done
+-- the line that is reported, none where all connections were served
 unfoldable pub line_of : Status → List ℕ
 line_of Done = []
 line_of Usage = codes "usage: s3gate session|serve|recover|sweep|check|sign|trial" ++ line_feed
 line_of Line = codes "s3gate: line" ++ line_feed
 line_of Memory = codes "s3gate: memory" ++ line_feed
+line_of Request = codes "s3gate: request" ++ line_feed
+
+-- the two lines of a signature
+unfoldable pub signed_lines : Signature → List ℕ
+signed_lines signed = (((codes "canonical " ++ encode_lower signed.canonical_hash) ++ (line_feed ++ codes "signature ")) ++ encode_lower signed.signature) ++ line_feed
 
 -- the statuses that there are
 abbrev pub IsStatus : ℕ → Type 0
-IsStatus status = (status ≡ 0) ⊎ ((status ≡ 2) ⊎ ((status ≡ 3) ⊎ (status ≡ 5)))
+IsStatus status = (status ≡ 0) ⊎ ((status ≡ 2) ⊎ ((status ≡ 3) ⊎ ((status ≡ 5) ⊎ ((status ≡ 6) ⊎ (status ≡ 8)))))
+
+-- how a run ended that signed, or couldn't
+abbrev pub end_of : Signing → Ended
+end_of (signing.Signed signed) = Signed signed
+end_of signing.NoRequest = Plain Request
+end_of signing.LineFailed = Plain Line
+end_of signing.Memory = Plain Memory
+
+-- the run ended without a signature
+abbrev pub is_plain : Ended → Bool
+is_plain (Signed signed) = false
+is_plain (Plain ended) = true
+
+-- how a run may end by whether it serves: a session without a signature, and a run that is to sign not as a session does
+abbrev pub Fits : Bool → Ended → Type 0
+Fits true ended = is_plain ended ≡ true
+Fits false ended = ended ≢ Plain Done
+
+-- the exit status and the report of a run that ended so, where the report doesn't fail; the lines of a signature may find no memory
+abbrev pub Says : Ended → ℕ → List ℕ → Type 0
+Says (Signed signed) status text = ((status ≡ 0) × (text ≡ signed_lines signed)) ⊎ ((status ≡ 5) × (text ≡ line_of Memory))
+Says (Plain ended) status text = (status ≡ code_of ended) × (text ≡ line_of ended)
+
+-- the exit status of a run that ended so; 6 is that of a signature whose report failed
+abbrev pub Exits : Ended → ℕ → Type 0
+Exits (Signed signed) status = (status ≡ 0) ⊎ ((status ≡ 5) ⊎ (status ≡ 6))
+Exits (Plain ended) status = status ≡ code_of ended

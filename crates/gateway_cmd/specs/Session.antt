@@ -1,20 +1,36 @@
 -- One step of a session: a connection that was served, or its end. Source: this profile.
-use Rattle.std.specs.Prelude.{◌≡◌, ◌≤◌, ℕ, ◌-◌, false, List, ◌++◌, replicate, Option, None, Some, codes}
+use Rattle.std.specs.Prelude.{◌≡◌, ◌≤◌, ℕ, ◌-◌, true, false, List, ◌++◌, replicate, Option, None, Some, Result, Ok, Err}
 use Rattle.gate_base.specs.Wire.{Wire}
 use Rattle.s3_machine.specs.declared.operation.Settings.{Settings}
 use Rattle.swift_calls.specs.Tree.{Tree}
+use Rattle.sigv4.specs.Keys.{keys_of, are_keys}
+use Rattle.sigv4.specs.declared.keys.AccessKey.{AccessKey}
+use Rattle.sigv4.specs.declared.keys.KeysFault.{KeysFault}
+use Rattle.sigv4.specs.declared.keys.KeysFault.TheVariants.{BadLine, Twice, Memory}
+use Rattle.gateway.specs.declared.service.Service.{Service}
 use Rattle.gateway.specs.Exchange.{Turn}
 use Rattle.gateway_cmd.specs.declared.status.Status.{Status}
 use Rattle.gateway_cmd.specs.Run.{Place, ServesNext}
 
--- what holds where no option says otherwise
-abbrev pub default_settings : Settings
-default_settings = record { region = codes "us-east-1"; least_part = 5242880 }
+-- the settings of a service of that region
+abbrev pub settings_of : List ℕ → Settings
+settings_of region = record { region = region; least_part = 5242880 }
+
+-- what connections are served by, as the region and the key text say
+abbrev pub service_of : List ℕ → List ℕ → Service
+service_of region keys = record { settings = settings_of region; keys = keys_of keys }
+
+-- what a key text gives: its keys, each of the form and no id twice; or it is refused; want of memory may come for any
+abbrev pub Offers : List ℕ → Result (List AccessKey) KeysFault → Type 0
+Offers keys (Ok read) = (read ≡ keys_of keys) × (are_keys (keys_of keys) ≡ true)
+Offers keys (Err (BadLine n)) = are_keys (keys_of keys) ≡ false
+Offers keys (Err (Twice n)) = are_keys (keys_of keys) ≡ false
+Offers keys (Err Memory) = Unit {0}
 
 -- the next connection was served, or nothing came between
-abbrev pub NextPlace : Settings → (ℕ → Tree) → (ℕ → ℕ) → Place → Option Status → Place → Type 0
-NextPlace settings at faults old None new = (turns : List Turn) × ServesNext settings at faults old turns new
-NextPlace settings at faults old (Some status) new = new ≡ old
+abbrev pub NextPlace : Service → (ℕ → Tree) → (ℕ → ℕ) → Place → Option Status → Place → Type 0
+NextPlace service at faults old None new = (turns : List Turn) × ServesNext service at faults old turns new
+NextPlace service at faults old (Some status) new = new ≡ old
 
 -- connections began, and none of them has the mark of a failed line
 pub record Unmarked (old new : Wire) : Type 0 where

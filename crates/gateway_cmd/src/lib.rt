@@ -1,8 +1,10 @@
-//! The top call of `s3gate`: the words, the connections of the line in turn, the status and the report.
+//! The top call of `s3gate`: the words, the key text, the connections of the line in turn, the status and the report.
 #![tactic(auto)]
 
+mod attempt;
 mod command;
 mod laws;
+mod service;
 mod session;
 mod status;
 
@@ -14,6 +16,14 @@ mod object_tests;
 #[cfg(test)]
 mod requests;
 #[cfg(test)]
+mod running;
+#[cfg(test)]
 mod service_tests;
+#[cfg(test)]
+mod sign_tests;
+#[cfg(test)]
+mod signature_tests;
+#[cfg(test)]
+mod signed;
 #[cfg(test)]
 mod tests;

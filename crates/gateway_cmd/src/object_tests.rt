@@ -1,3 +1,4 @@
+use crate::signed::KEY_TEXT;
 use crate::tests::{Given, empty_account, numbers, run_text};
 use std::alloc::Global;
 use std::fmt::Write;
@@ -7,7 +8,7 @@ use swift_calls::{Account, MemSwift};
 /// A bucket, and its objects: put with metadata, read, put again, deleted twice; then an empty one whose type looks
 /// like a tag; and requests that are refused.
 const OBJECTS: &str =
-    "PUT /photos HTTP/1.1\r\nContent-Length: 0\r\n\r\nPUT /photos/a%20b/%C3%BC%25 HTTP/1.1\r\nContent-Type: text/plain\r\nX-Amz-Meta-Colour: red\r\nCache-Control: no-cache\r\nContent-Length: 5\r\n\r\nhelloGET /photos/a%20b/%C3%BC%25 HTTP/1.1\r\n\r\nHEAD /photos/a%20b/%C3%BC%25 HTTP/1.1\r\n\r\nPUT /photos/a%20b/%C3%BC%25 HTTP/1.1\r\nContent-Length: 5\r\n\r\notherGET /photos/a%20b/%C3%BC%25 HTTP/1.1\r\n\r\nDELETE /photos/a%20b/%C3%BC%25 HTTP/1.1\r\n\r\nDELETE /photos/a%20b/%C3%BC%25 HTTP/1.1\r\n\r\nGET /photos/a%20b/%C3%BC%25 HTTP/1.1\r\n\r\nPUT /photos/e HTTP/1.1\r\nContent-Type: text/plain;s3=x\r\nx-amz-meta-a:\r\nContent-Length: 0\r\n\r\nHEAD /photos/e HTTP/1.1\r\n\r\nGET /music/k HTTP/1.1\r\n\r\nPUT /photos/kkkkkkkkkkkkkkkkkkkkkkkkkkkkkkkkkkkkkkkkkkkkkkkkkkkkkkkkkkkkkkkkkkkkkkkkkkkkkkkkkkkkkkkkkkkkkkkkkkkkkkkkkkkkkkkkkkkkkkkkkkkkkkkkkkkkkkkkkkkkkkkkkkkkkkkkkkkkkkkkkkkkkkkkkkkkkkkkkkkkkkkkkkkkkkkkkkkkkkkkkkkkkkkkkkkkkkkkkkkkkkkkkkkkkkkkkkkkkkkkkkkkkkkkkkkkkkkkkkkkkkkkkkkkkkkkkkkkkkkkkkkkkkkkkkkkkkkkkkkkkkkkkkkkkkkkkkkkkkkkkkkkkkkkkkkkkkkkkkkkkkkkkkkkkkkkkkkkkkkkkkkkkkkkkkkkkkkkkkkkkkkkkkkkkkkkkkkkkkkkkkkkkkkkkkkkkkkkkkkkkkkkkkkkkkkkkkkkkkkkkkkkkkkkkkkkkkkkkkkkkkkkkkkkkkkkkkkkkkkkkkkkkkkkkkkkkkkkkkkkkkkkkkkkkkkkkkkkkkkkkkkkkkkkkkkkkkkkkkkkkkkkkkkkkkkkkkkkkkkkkkkkkkkkkkkkkkkkkkkkkkkkkkkkkkkkkkkkkkkkkkkkkkkkkkkkkkkkkkkkkkkkkkkkkkkkkkkkkkkkkkkkkkkkkkkkkkkkkkkkkkkkkkkkkkkkkkkkkkkkkkkkkkkkkkkkkkkkkkkkkkkkkkkkkkkkkkkkkkkkkkkkkkkkkkkkkkkkkkkkkkkkkkkkkkkkkkkkkkkkkkkkkkkkkkkkkkkkkkkkkkkkkkkkkkkkkkkkkkkkkkkkkkkkkkkkkkkkkkkkkkkkkkkkkkkkkkkkkkkkkkkkkkkkkkkkkkkkkkkkkkkkkkkkkkkkkkkkkkkkkkkkkkkkkkkkkkkkkkkkkkkkkkkkkkkkkkkkkkkkkkkkkkkkkkkkkkkkkkkkkkkkkkkkkkkkkkkkkkkkkkkkkkkkkkkkkkkkkkkkkkkkkkkkkkkkkkkkkkkkkkkkkkkkkkkkkkkkkkkkkkkkk HTTP/1.1\r\nContent-Length: 0\r\n\r\nPATCH /photos HTTP/1.1\r\n\r\nGET /photos/%zz HTTP/1.1\r\n\r\nGET /photos/../x HTTP/1.1\r\n\r\nGET /photos/a%00b HTTP/1.1\r\n\r\n";
+    "~PUT /photos HTTP/1.1\r\nContent-Length: 0\r\n\r\n~PUT /photos/a%20b/%C3%BC%25 HTTP/1.1\r\nContent-Type: text/plain\r\nX-Amz-Meta-Colour: red\r\nCache-Control: no-cache\r\nContent-Length: 5\r\n\r\nhello~GET /photos/a%20b/%C3%BC%25 HTTP/1.1\r\n\r\n~HEAD /photos/a%20b/%C3%BC%25 HTTP/1.1\r\n\r\n~PUT /photos/a%20b/%C3%BC%25 HTTP/1.1\r\nContent-Length: 5\r\n\r\nother~GET /photos/a%20b/%C3%BC%25 HTTP/1.1\r\n\r\n~DELETE /photos/a%20b/%C3%BC%25 HTTP/1.1\r\n\r\n~DELETE /photos/a%20b/%C3%BC%25 HTTP/1.1\r\n\r\n~GET /photos/a%20b/%C3%BC%25 HTTP/1.1\r\n\r\n~PUT /photos/e HTTP/1.1\r\nContent-Type: text/plain;s3=x\r\nx-amz-meta-a: \r\nContent-Length: 0\r\n\r\n~HEAD /photos/e HTTP/1.1\r\n\r\n~GET /music/k HTTP/1.1\r\n\r\n~PUT /photos/kkkkkkkkkkkkkkkkkkkkkkkkkkkkkkkkkkkkkkkkkkkkkkkkkkkkkkkkkkkkkkkkkkkkkkkkkkkkkkkkkkkkkkkkkkkkkkkkkkkkkkkkkkkkkkkkkkkkkkkkkkkkkkkkkkkkkkkkkkkkkkkkkkkkkkkkkkkkkkkkkkkkkkkkkkkkkkkkkkkkkkkkkkkkkkkkkkkkkkkkkkkkkkkkkkkkkkkkkkkkkkkkkkkkkkkkkkkkkkkkkkkkkkkkkkkkkkkkkkkkkkkkkkkkkkkkkkkkkkkkkkkkkkkkkkkkkkkkkkkkkkkkkkkkkkkkkkkkkkkkkkkkkkkkkkkkkkkkkkkkkkkkkkkkkkkkkkkkkkkkkkkkkkkkkkkkkkkkkkkkkkkkkkkkkkkkkkkkkkkkkkkkkkkkkkkkkkkkkkkkkkkkkkkkkkkkkkkkkkkkkkkkkkkkkkkkkkkkkkkkkkkkkkkkkkkkkkkkkkkkkkkkkkkkkkkkkkkkkkkkkkkkkkkkkkkkkkkkkkkkkkkkkkkkkkkkkkkkkkkkkkkkkkkkkkkkkkkkkkkkkkkkkkkkkkkkkkkkkkkkkkkkkkkkkkkkkkkkkkkkkkkkkkkkkkkkkkkkkkkkkkkkkkkkkkkkkkkkkkkkkkkkkkkkkkkkkkkkkkkkkkkkkkkkkkkkkkkkkkkkkkkkkkkkkkkkkkkkkkkkkkkkkkkkkkkkkkkkkkkkkkkkkkkkkkkkkkkkkkkkkkkkkkkkkkkkkkkkkkkkkkkkkkkkkkkkkkkkkkkkkkkkkkkkkkkkkkkkkkkkkkkkkkkkkkkkkkkkkkkkkkkkkkkkkkkkkkkkkkkkkkkkkkkkkkkkkkkkkkkkkkkkkkkkkkkkkkkkkkkkkkkkkkkkkkkkkkkkkkkkkkkkkkkkkkkkkkkkkkkkkkkkkkkkkkkkkkkkkkkkkkkkkkkkkkkkkkkkkkkkkkkkkkkkkkkkkkkkkkkkkkkkkkkkkkkkkkkkkkkkkkkkkkkkkkkkkkkkkkkkkkkkk HTTP/1.1\r\nContent-Length: 0\r\n\r\n~PATCH /photos HTTP/1.1\r\n\r\nGET /photos/%zz HTTP/1.1\r\n\r\n~GET /photos/../x HTTP/1.1\r\n\r\nGET /photos/a%00b HTTP/1.1\r\n\r\n";
 
 /// What they are answered. The MD5s are those of Python's `hashlib`.
 const ANSWERS: &str =
@@ -49,6 +50,7 @@ fn objects_come_and_go(rt: HostRuntime) -> Result<(), Fail> {
         )?;
         let given = Given {
             words: &["session"],
+            keys: KEY_TEXT,
             connections: &[OBJECTS],
             piece,
             fails: &[],
@@ -65,13 +67,13 @@ fn objects_come_and_go(rt: HostRuntime) -> Result<(), Fail> {
 }
 
 const PUT_OF_OLD: &str =
-    "PUT /photos HTTP/1.1\r\nContent-Length: 0\r\n\r\nPUT /photos/k HTTP/1.1\r\nContent-Length: 3\r\n\r\noldPUT /photos/k HTTP/1.1\r\nContent-Length: 3\r\n\r\nnewGET /photos/k HTTP/1.1\r\n\r\n";
+    "~PUT /photos HTTP/1.1\r\nContent-Length: 0\r\n\r\n~PUT /photos/k HTTP/1.1\r\nContent-Length: 3\r\n\r\nold~PUT /photos/k HTTP/1.1\r\nContent-Length: 3\r\n\r\nnew~GET /photos/k HTTP/1.1\r\n\r\n";
 
 const DELETE_OF_OLD: &str =
-    "PUT /photos HTTP/1.1\r\nContent-Length: 0\r\n\r\nPUT /photos/k HTTP/1.1\r\nContent-Length: 3\r\n\r\noldDELETE /photos/k HTTP/1.1\r\n\r\nGET /photos/k HTTP/1.1\r\n\r\n";
+    "~PUT /photos HTTP/1.1\r\nContent-Length: 0\r\n\r\n~PUT /photos/k HTTP/1.1\r\nContent-Length: 3\r\n\r\nold~DELETE /photos/k HTTP/1.1\r\n\r\n~GET /photos/k HTTP/1.1\r\n\r\n";
 
 const GET_OF_OLD: &str =
-    "PUT /photos HTTP/1.1\r\nContent-Length: 0\r\n\r\nPUT /photos/k HTTP/1.1\r\nContent-Length: 3\r\n\r\noldGET /photos/k HTTP/1.1\r\n\r\nGET /photos/k HTTP/1.1\r\n\r\n";
+    "~PUT /photos HTTP/1.1\r\nContent-Length: 0\r\n\r\n~PUT /photos/k HTTP/1.1\r\nContent-Length: 3\r\n\r\nold~GET /photos/k HTTP/1.1\r\n\r\n~GET /photos/k HTTP/1.1\r\n\r\n";
 
 /// An object is put, then a request on it meets one lost call, then it is read: the request's connection, the calls
 /// whose request is lost, those whose answer is lost, and the replies.
@@ -135,6 +137,7 @@ fn a_lost_call_is_one_service(rt: HostRuntime) -> Result<(), Fail> {
         let mut store = MemSwift::new(alloc, empty_account(alloc), before, after, 0)?;
         let given = Given {
             words: &["session"],
+            keys: KEY_TEXT,
             connections,
             piece: 1024,
             fails: &[],

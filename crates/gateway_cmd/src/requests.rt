@@ -4,6 +4,7 @@ ghost use Rattle.gate_base.specs.Told.{moment_limit};
 ghost use Rattle.s3_machine.specs.Shown.{IsShowable, IsShown};
 ghost use Rattle.s3_machine.specs.Step.{IsProperOp};
 
+use crate::signed::signed_at;
 use gate_base::{Bytes, Caller, Clock, MOMENT_LIMIT};
 use gateway::print_reply;
 use s3_machine::{
@@ -64,7 +65,8 @@ impl Clock for Ticking {
     }
 }
 
-fn moment_of(turn: u16) -> u64
+/// So many seconds after the midnight of 24 May 2013.
+pub(crate) fn moment_of(turn: u16) -> u64
     ensures { result < moment_limit }
 {
     MOMENT + u64::from(turn)
@@ -120,24 +122,17 @@ impl Request {
         })
     }
 
-    /// The bytes of the request behind those of the ones before.
-    pub(crate) fn write(&self, alloc: Global, text: &mut String) -> Result<(), Fail> {
+    /// The bytes of the request by its place in a run, behind those of the ones before. It is signed for its moment.
+    pub(crate) fn write(&self, alloc: Global, turn: u16, text: &mut String) -> Result<(), Fail> {
         let method = self.method();
         let path = self.path(alloc)?;
-        write!(text, "{method} {path} HTTP/1.1\r\n")?;
-        match self.act {
-            Act::Create => text.push_str("Content-Length: 0\r\n\r\n")?,
-            Act::Put => {
-                let count = self.body;
-                let body = body_of(alloc, count)?;
-                let size = body.len();
-                write!(
-                    text,
-                    "Content-Type: text/plain\r\nX-Amz-Meta-Count: {count}\r\nContent-Length: {size}\r\n\r\n{body}"
-                )?;
-            }
-            Act::Get | Act::Head | Act::Delete => text.push_str("\r\n")?,
-        }
+        let rest = match self.act {
+            Act::Create => String::from_str(alloc, "Content-Length: 0\r\n\r\n")?,
+            Act::Put => put_text(alloc, self.body)?,
+            Act::Get | Act::Head | Act::Delete => String::from_str(alloc, "\r\n")?,
+        };
+        let request = format!(in alloc; "{method} {path} HTTP/1.1\r\n{rest}")?;
+        text.push_str(&signed_at(alloc, &request, turn)?)?;
         Ok(())
     }
 
@@ -161,6 +156,15 @@ impl Request {
             Act::Delete => Ok(Op::DeleteObject { bucket, key }),
         }
     }
+}
+
+/// The headers of a PUT, and its body of so many numbers.
+fn put_text(alloc: Global, count: u8) -> Result<String, Fail> {
+    let body = body_of(alloc, count)?;
+    let size = body.len();
+    Ok(format!(in alloc;
+        "Content-Type: text/plain\r\nX-Amz-Meta-Count: {count}\r\nContent-Length: {size}\r\n\r\n{body}"
+    )?)
 }
 
 fn put_object(alloc: Global, bucket: Bytes, key: Bytes, count: u8) -> Result<Op, Fail>

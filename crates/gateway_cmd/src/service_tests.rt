@@ -2,9 +2,10 @@ ghost use Rattle.std.specs.Prelude.{◌<◌, IfOk};
 ghost use Rattle.swift_calls.specs.Tree.{IsOrdered, IsSized};
 
 use crate::requests::{Act, Machine, Request, Ticking};
-use crate::run;
+use crate::running::{one_connection, run_words};
+use crate::signed::{KEY_TEXT, signed};
 use crate::tests::{Due, due_text, empty_account, numbers, sent_text};
-use gate_base::{Bytes, Counted, List, ListDraws, MemLine, MemSink};
+use gate_base::{Counted, List, MemLine, MemSink};
 use std::alloc::Global;
 use std::process::Abort;
 use std::test::Fail;
@@ -19,22 +20,19 @@ fn run_bytes(
 ) -> Result<MemLine, Fail>
     requires { 0 < piece }
 {
-    let mut connections = List::new(alloc);
-    connections.push(Bytes::from_slice(alloc, bytes.as_bytes())?)?;
-    let mut words = Vec::new(alloc);
-    words.push(String::from_str(alloc, "session")?)?;
-    let mut line = MemLine::new(alloc, connections, piece, List::new(alloc))?;
+    let mut line = one_connection(alloc, bytes, piece)?;
     let mut report = MemSink::new(alloc, List::new(alloc));
-    let status = run(
+    let mut clock = Ticking::new();
+    let words = ["session"];
+    let status = run_words(
         alloc,
         &words,
-        "",
+        KEY_TEXT,
         &mut line,
-        &mut report,
         store,
-        &mut Ticking::new(),
-        &mut ListDraws::new(List::new(alloc)),
-    );
+        &mut clock,
+        &mut report,
+    )?;
     if status != 0 {
         return Err(Fail::from("another status"));
     }
@@ -44,8 +42,10 @@ fn run_bytes(
 /// One connection with these requests.
 fn served(alloc: Global, requests: &[Request], store: &mut MemSwift) -> Result<MemLine, Fail> {
     let mut text = String::new(alloc);
+    let mut turn = 0u16;
     for request in requests {
-        request.write(alloc, &mut text)?;
+        request.write(alloc, turn, &mut text)?;
+        turn = turn.saturating_add(1);
     }
     run_bytes(alloc, &text, 7, store)
 }
@@ -307,30 +307,30 @@ fn repeated(
 /// the reply.
 const HEADS: [(&str, &str, usize, &str, Due); 4] = [
     (
-        "PUT /abc HTTP/1.1\r\nContent-Length: 0\r\na: ",
+        "~PUT /abc HTTP/1.1\r\nContent-Length: 0\r\na: ",
         "b",
-        16_339,
+        16_026,
         "\r\n\r\n",
         (1, 2, "Made", 1, "/abc", false, false),
     ),
     (
-        "PUT /abc HTTP/1.1\r\nContent-Length: 0\r\na: ",
+        "~PUT /abc HTTP/1.1\r\nContent-Length: 0\r\na: ",
         "b",
-        16_340,
+        16_027,
         "\r\n\r\n",
         (1, 0, "InvalidRequest", 1, "/", true, false),
     ),
     (
-        "PUT /abc HTTP/1.1\r\nContent-Length: 0\r\n",
+        "~PUT /abc HTTP/1.1\r\nContent-Length: 0\r\n",
         "a:b\r\n",
-        99,
+        95,
         "\r\n",
         (1, 2, "Made", 1, "/abc", false, false),
     ),
     (
-        "PUT /abc HTTP/1.1\r\nContent-Length: 0\r\n",
+        "~PUT /abc HTTP/1.1\r\nContent-Length: 0\r\n",
         "a:b\r\n",
-        100,
+        96,
         "\r\n",
         (1, 0, "InvalidRequest", 1, "/", true, false),
     ),
@@ -340,7 +340,7 @@ const HEADS: [(&str, &str, usize, &str, Due); 4] = [
 fn heads_at_their_limits_are_answered(rt: HostRuntime) -> Result<(), Fail> {
     let alloc = rt.alloc();
     for (start, text, count, end, due) in HEADS {
-        let bytes = repeated(alloc, start, text, count, end)?;
+        let bytes = signed(alloc, &repeated(alloc, start, text, count, end)?)?;
         let mut store = whole_store(alloc, empty_account(alloc))?;
         let line = run_bytes(alloc, &bytes, 1000, &mut store)?;
         assert_eq!(rt;
@@ -358,9 +358,12 @@ fn a_body_of_16777216_bytes_is_stored(rt: HostRuntime) -> Result<(), Fail> {
     let alloc = rt.alloc();
     let body = repeated(alloc, "", "0123456789abcdef", 1_048_576, "")?;
     let body = body.as_str();
-    let bytes = format!(in alloc;
-        "PUT /photos HTTP/1.1\r\nContent-Length: 0\r\n\r\nPUT /photos/k HTTP/1.1\r\nContent-Length: 16777216\r\n\r\n{body}GET /photos/k HTTP/1.1\r\n\r\n"
+    let before = signed(
+        alloc,
+        "~PUT /photos HTTP/1.1\r\nContent-Length: 0\r\n\r\n~PUT /photos/k HTTP/1.1\r\nContent-Length: 16777216\r\n\r\n",
     )?;
+    let after = signed(alloc, "~GET /photos/k HTTP/1.1\r\n\r\n")?;
+    let bytes = format!(in alloc; "{before}{body}{after}")?;
     let mut store = whole_store(alloc, empty_account(alloc))?;
     let line = run_bytes(alloc, &bytes, 100_000, &mut store)?;
     let want = format!(in alloc;

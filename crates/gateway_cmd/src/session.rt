@@ -1,5 +1,5 @@
 //! The command `session`: the connections of the line, in turn.
-ghost use Rattle.std.specs.Prelude.{◌≡◌, ◌≢◌, ◌<◌, ◌≤◌, ◌-◌, ◌^◌, ℕ, List, [], None, Some, IfOk};
+ghost use Rattle.std.specs.Prelude.{◌≡◌, ◌≢◌, ◌<◌, ◌≤◌, ◌-◌, ◌^◌, ℕ, List, [], None, Some};
 ghost use Rattle.gate_base.specs.Causes.{Rose};
 ghost use Rattle.swift_calls.specs.History.{Kept};
 ghost use Rattle.upload_records.specs.Sound.{Sound};
@@ -7,27 +7,25 @@ ghost use Rattle.gateway.specs.Exchange.{Turn};
 ghost use Rattle.gateway.specs.Connection.{tally};
 ghost use Rattle.gateway_cmd.specs.declared.status.Status.TheVariants as status;
 ghost use Rattle.gateway_cmd.specs.Run.{place_of, Talk};
-ghost use Rattle.gateway_cmd.specs.Session.{default_settings, NextPlace, Unmarked};
+ghost use Rattle.gateway_cmd.specs.Session.{NextPlace, Unmarked};
 
 use crate::status::Status;
-use gate_base::{Bytes, Clock, Draws, Line, Memory};
-use gateway::serve_connection;
-use s3_machine::Settings;
+use gate_base::{Clock, Draws, Line};
+use gateway::{Service, serve_connection};
 use std::alloc::Global;
 use swift_calls::Swift;
-
-/// The least size in bytes of a part that isn't the last, where none is given.
-const LEAST_PART: u64 = 5_242_880;
 
 /// Serves the connections of the line until there is none.
 pub fn session<N: Line<W>, W: Swift, C: Clock, D: Draws>(
     alloc: Global,
+    service: &Service,
     line: &mut N,
     store: &mut W,
     clock: &mut C,
     draws: &mut D,
 ) -> Status
     ensures known { result ≢ status.Usage }
+    ensures served { result ≢ status.Request }
     ensures cause { result ≡ status.Line → Rose (N.next_faults line.old) (N.next_faults line.new) }
     ensures quiet { result ≢ status.Line → N.next_faults line.new ≡ N.next_faults line.old }
     ensures done { N.tells line.old → result ≡ status.Done → (N.wire line.new).waiting ≡ [] }
@@ -41,17 +39,13 @@ pub fn session<N: Line<W>, W: Swift, C: Clock, D: Draws>(
     ensures kept { W.tells store.old → Kept (W.called store.old) (W.tree_at store.old) (W.tree_at store.new) (W.faults_at store.old) (W.faults_at store.new) }
 
     ensures told { N.tells line.old → W.tells store.old → C.tells clock.old → D.tells draws.old → Sound (W.tree_at store.new (W.called store.old))
-        → (turns : List Turn) × Talk default_settings (W.tree_at store.new) (W.faults_at store.new)
+        → (turns : List Turn) × Talk service.now (W.tree_at store.new) (W.faults_at store.new)
         (place_of (N.wire line.old) (tally (W.called store.old) (C.moments clock.old) (D.draws draws.old) (N.wire line.old).sent))
         turns
         (place_of (N.wire line.new) (tally (W.called store.new) (C.moments clock.new) (D.draws draws.new) (N.wire line.new).sent)) }
 {
-    let settings = match settings(alloc) {
-        Ok(settings) => settings,
-        Err(_) => return Status::Memory,
-    };
     'connections: loop {
-        match serve_another(alloc, &settings, line, store, clock, draws) {
+        match serve_another(alloc, service, line, store, clock, draws) {
             Some(status) => return status,
             None => {}
         }
@@ -61,13 +55,14 @@ pub fn session<N: Line<W>, W: Swift, C: Clock, D: Draws>(
 /// Serves the next connection, if there is one. `None` says that it was served.
 fn serve_another<N: Line<W>, W: Swift, C: Clock, D: Draws>(
     alloc: Global,
-    settings: &Settings,
+    service: &Service,
     line: &mut N,
     store: &mut W,
     clock: &mut C,
     draws: &mut D,
 ) -> Option<Status>
-    ensures known { (result ≢ Some status.Usage) }
+    ensures known { result ≢ Some status.Usage }
+    ensures served { result ≢ Some status.Request }
     ensures falls { result ≡ None → 2 ^ 63 - N.spent line.new < 2 ^ 63 - N.spent line.old }
     ensures cause { result ≡ Some status.Line → Rose (N.next_faults line.old) (N.next_faults line.new) }
     ensures quiet { result ≢ Some status.Line → N.next_faults line.new ≡ N.next_faults line.old }
@@ -83,27 +78,17 @@ fn serve_another<N: Line<W>, W: Swift, C: Clock, D: Draws>(
 
     ensures done { N.tells line.old → result ≡ Some status.Done → (N.wire line.new).waiting ≡ [] }
     ensures told { N.tells line.old → W.tells store.old → C.tells clock.old → D.tells draws.old → Sound (W.tree_at store.new (W.called store.old))
-        → NextPlace settings.now (W.tree_at store.new) (W.faults_at store.new)
+        → NextPlace service.now (W.tree_at store.new) (W.faults_at store.new)
         (place_of (N.wire line.old) (tally (W.called store.old) (C.moments clock.old) (D.draws draws.old) (N.wire line.old).sent))
         result
         (place_of (N.wire line.new) (tally (W.called store.new) (C.moments clock.new) (D.draws draws.new) (N.wire line.new).sent)) }
 {
     match line.next() {
         Ok(true) => {
-            let _ended = serve_connection(alloc, store, settings, line, clock, draws);
+            let _ended = serve_connection(alloc, store, service, line, clock, draws);
             None
         }
         Ok(false) => Some(Status::Done),
         Err(_) => Some(Status::Line),
     }
-}
-
-// What holds where no option says otherwise.
-fn settings(alloc: Global) -> Result<Settings, Memory>
-    ensures { IfOk result (λ settings. settings ≡ default_settings) }
-{
-    Ok(Settings {
-        region: Bytes::from_slice(alloc, b"us-east-1")?,
-        least_part: LEAST_PART,
-    })
 }

@@ -1,15 +1,21 @@
-ghost use Rattle.std.specs.Prelude.{◌≡◌};
-ghost use Rattle.gateway_cmd.specs.Report.{code_of, line_of};
+ghost use Rattle.std.specs.Prelude.{◌≡◌, IfOk};
+ghost use Rattle.gateway_cmd.specs.Report.{code_of, line_of, signed_lines};
 
-/// How a run ended.
+use gate_base::{Bytes, Memory};
+use sigv4::Signed as Signature;
+use std::alloc::Global;
+
+/// How a run ended that has no signature to report.
 #[derive(Clone, Copy, Debug, PartialEq, Eq)]
 pub enum Status {
     /// Each connection of the line was served.
     Done,
-    /// The words are refused.
+    /// The words are refused, or the key text.
     Usage,
-    /// The line failed to give another connection.
+    /// The line failed to give another connection, or, where a request was to be signed, at any call.
     Line,
+    /// No request stood first on the line, or one that can't be signed.
+    Request,
     /// Memory was wanted and not there.
     Memory,
 }
@@ -24,6 +30,7 @@ impl Status {
             Status::Usage => 2,
             Status::Line => 3,
             Status::Memory => 5,
+            Status::Request => 8,
         }
     }
 
@@ -37,6 +44,28 @@ impl Status {
             Status::Usage => b"usage: s3gate session|serve|recover|sweep|check|sign|trial\n",
             Status::Line => b"s3gate: line\n",
             Status::Memory => b"s3gate: memory\n",
+            Status::Request => b"s3gate: request\n",
         }
     }
+}
+
+/// How a run ended.
+#[derive(Clone, Copy, Debug, PartialEq, Eq)]
+pub enum Ended {
+    /// The first request of the line signs to this.
+    Signed(Signature),
+    Plain(Status),
+}
+
+/// The two lines that report a signature.
+#[tactic(auto, unfolding(crate::specs::Report::signed_lines))]
+pub fn signed_lines(alloc: Global, signed: &Signature) -> Result<Bytes, Memory>
+    ensures { IfOk result (λ lines. lines ≡ signed_lines signed.now) }
+{
+    let mut lines = Bytes::from_slice(alloc, b"canonical ")?;
+    lines.append(hex::encode(alloc, signed.canonical_hash)?.as_bytes())?;
+    lines.append(b"\nsignature ")?;
+    lines.append(hex::encode(alloc, signed.signature)?.as_bytes())?;
+    lines.append(b"\n")?;
+    Ok(lines)
 }

@@ -3,8 +3,9 @@ ghost use Rattle.swift_calls.specs.Tree.{IsOrdered, IsSized};
 ghost use Rattle.s3_machine.specs.Shown.{IsShowable};
 ghost use Rattle.s3_machine.specs.Step.{IsProperOp};
 
-use crate::run;
-use gate_base::{Bytes, Caller, Counted, List, ListClock, ListDraws, MemLine, MemSink, Memory};
+use crate::running::run_words;
+use crate::signed::{KEY_TEXT, signed};
+use gate_base::{Bytes, Caller, Counted, List, ListClock, MemLine, MemSink, Memory};
 use gateway::print_reply;
 use s3_machine::{Code, Label, Native, Op, Reply, Settings};
 use s3_names::{Acl, is_bucket};
@@ -19,10 +20,10 @@ const MOMENT: u64 = 1_369_353_600;
 
 const USAGE: &str = "usage: s3gate session|serve|recover|sweep|check|sign|trial\n";
 
-const PUT: &str = "PUT /photos HTTP/1.1\r\nContent-Length: 0\r\n\r\n";
+const PUT: &str = "~PUT /photos HTTP/1.1\r\nContent-Length: 0\r\n\r\n";
 
 const PUT_TWICE: &str =
-    "PUT /photos HTTP/1.1\r\nContent-Length: 0\r\n\r\nPUT /photos HTTP/1.1\r\nContent-Length: 0\r\n\r\n";
+    "~PUT /photos HTTP/1.1\r\nContent-Length: 0\r\n\r\n~PUT /photos HTTP/1.1\r\nContent-Length: 0\r\n\r\n";
 
 const MADE: &str =
     "HTTP/1.1 200 OK\r\nDate: Fri, 24 May 2013 00:00:00 GMT\r\nx-amz-request-id: 00000000000000000000000000000001\r\nLocation: /photos\r\nContent-Length: 0\r\n\r\n";
@@ -224,47 +225,37 @@ fn store_of(alloc: Global, account: Account) -> Result<MemSwift, Memory>
     MemSwift::new(alloc, account, List::new(alloc), List::new(alloc), 0)
 }
 
-/// What a run is given but for its store: its words, the bytes of each connection, how many a read gives at most, and
+/// What a run is given but for its store: its words and key text, the bytes of each connection, how many a read gives at most, and
 /// the calls of the line that fail.
 #[derive(Clone, Copy)]
 pub(crate) struct Given {
     pub(crate) words: &'static [&'static str],
+    pub(crate) keys: &'static str,
     pub(crate) connections: &'static [&'static str],
     pub(crate) piece: usize,
     pub(crate) fails: &'static [u64],
 }
 
 /// `status S`, the report and the pieces that were sent.
-pub(crate) fn run_text(alloc: Global, given: Given, store: &mut MemSwift) -> Result<String, Fail>
-    requires { 0 < given.piece }
-{
-    let mut words = Vec::new(alloc);
-    for word in given.words {
-        words.push(String::from_str(alloc, word)?)?;
-    }
+pub(crate) fn run_text(alloc: Global, given: Given, store: &mut MemSwift) -> Result<String, Fail> {
     let mut connections = List::new(alloc);
     for bytes in given.connections {
-        connections.push(Bytes::from_slice(alloc, bytes.as_bytes())?)?;
+        connections.push(Bytes::from_slice(alloc, signed(alloc, bytes)?.as_bytes())?)?;
     }
-    let mut line = MemLine::new(
-        alloc,
-        connections,
-        given.piece,
-        numbers(alloc, given.fails)?,
-    )?;
-    let mut report = MemSink::new(alloc, List::new(alloc));
+    let fails = numbers(alloc, given.fails)?;
+    let piece = if given.piece == 0 { 1 } else { given.piece };
+    let mut line = MemLine::new(alloc, connections, piece, fails)?;
     let mut clock = ListClock::new(numbers(alloc, &[MOMENT])?);
-    let mut draws = ListDraws::new(List::new(alloc));
-    let status = run(
+    let mut report = MemSink::new(alloc, List::new(alloc));
+    let status = run_words(
         alloc,
-        &words,
-        "",
+        given.words,
+        given.keys,
         &mut line,
-        &mut report,
         store,
         &mut clock,
-        &mut draws,
-    );
+        &mut report,
+    )?;
     let reported = str::from_utf8(report.bytes())?;
     let sent = sent_text(alloc, &line)?;
     Ok(format!(in alloc; "status {status}\n{reported}{sent}")?)
@@ -287,7 +278,7 @@ const TALKS: [(&[&str], &[Due], &str); 15] = [
     ),
     // without the last byte
     (
-        &["PUT /photos HTTP/1.1\r\nContent-Length: 0\r\n\r"],
+        &["~PUT /photos HTTP/1.1\r\nContent-Length: 0\r\n\r"],
         &[],
         "",
     ),
@@ -298,21 +289,21 @@ const TALKS: [(&[&str], &[Due], &str); 15] = [
     ),
     (
         &[
-            "PUT /photos HTTP/1.1\r\nContent-Length: 0\r\nConnection: Keep-Alive, CLOSE\r\n\r\nPUT /photos HTTP/1.1\r\nContent-Length: 0\r\n\r\n",
+            "~PUT /photos HTTP/1.1\r\nContent-Length: 0\r\nConnection: Keep-Alive, CLOSE\r\n\r\n~PUT /photos HTTP/1.1\r\nContent-Length: 0\r\n\r\n",
         ],
         &[(1, 2, "Made", 1, "/photos", true, false)],
         PHOTOS,
     ),
     (
         &[
-            "PUT /photos HTTP/1.0\r\nContent-Length: 0\r\n\r\nPUT /photos HTTP/1.1\r\nContent-Length: 0\r\n\r\n",
+            "~PUT /photos HTTP/1.0\r\nContent-Length: 0\r\n\r\n~PUT /photos HTTP/1.1\r\nContent-Length: 0\r\n\r\n",
         ],
         &[(1, 2, "Made", 1, "/photos", true, false)],
         PHOTOS,
     ),
     (
         &[
-            "HEAD /photos HTTP/1.1\r\nContent-Length: 0\r\n\r\nGET /?acl HTTP/1.1\r\nContent-Length: 0\r\n\r\nPUT /ab HTTP/1.1\r\nContent-Length: 0\r\n\r\n",
+            "~HEAD /photos HTTP/1.1\r\nContent-Length: 0\r\n\r\n~GET /?acl HTTP/1.1\r\nContent-Length: 0\r\n\r\n~PUT /ab HTTP/1.1\r\nContent-Length: 0\r\n\r\n",
         ],
         &[
             (1, 0, "NotImplemented", 1, "/photos", false, true),
@@ -322,13 +313,13 @@ const TALKS: [(&[&str], &[Due], &str); 15] = [
         "",
     ),
     (
-        &["PUT /photos HTTP/1.1\r\nContent-Length: 0\r\nX-Amz-Acl: private\r\n\r\n"],
+        &["~PUT /photos HTTP/1.1\r\nContent-Length: 0\r\nX-Amz-Acl: private\r\n\r\n"],
         &[(1, 0, "NotImplemented", 1, "/photos", false, false)],
         "",
     ),
     (
         &[
-            "PUT /photos HTTP/1.1\r\nContent-Length: 5\r\n\r\nhelloPUT /photos HTTP/1.1\r\nContent-Length: 0\r\n\r\nGET /photos HTTP/1.1\r\n\r\nPUT /photos HTTP/1.1\r\n\r\n",
+            "~PUT /photos HTTP/1.1\r\nContent-Length: 5\r\n\r\nhello~PUT /photos HTTP/1.1\r\nContent-Length: 0\r\n\r\n~GET /photos HTTP/1.1\r\n\r\n~PUT /photos HTTP/1.1\r\n\r\n",
         ],
         &[
             (1, 0, "NotImplemented", 1, "/photos", false, false),
@@ -341,11 +332,11 @@ const TALKS: [(&[&str], &[Due], &str); 15] = [
     // refused fronts
     (
         &[
-            "PUT /photos HTTP/1.1\r\nContent-Length: 5\r\nContent-Length: 5\r\n\r\nhelloPUT /photos HTTP/1.1\r\nContent-Length: 0\r\n\r\n",
-            "PUT /photos HTTP/1.1\r\nContent-Length: 16777217\r\n\r\n",
-            "PUT /photos HTTP/1.1\r\nTransfer-Encoding: chunked\r\nContent-Length: 0\r\nContent-Length: 0\r\n\r\n0\r\n\r\n",
-            "PUT /photos HTTP/1.1\r\nContent-Length: 5\r\n\r\nhell",
-            "HEAD /photos HTTP/1.1\r\nContent-Length: 00000000000000000005\r\n\r\nhello",
+            "~PUT /photos HTTP/1.1\r\nContent-Length: 5\r\nContent-Length: 5\r\n\r\nhello~PUT /photos HTTP/1.1\r\nContent-Length: 0\r\n\r\n",
+            "~PUT /photos HTTP/1.1\r\nContent-Length: 16777217\r\n\r\n",
+            "~PUT /photos HTTP/1.1\r\nTransfer-Encoding: chunked\r\nContent-Length: 0\r\nContent-Length: 0\r\n\r\n0\r\n\r\n",
+            "~PUT /photos HTTP/1.1\r\nContent-Length: 5\r\n\r\nhell",
+            "~HEAD /photos HTTP/1.1\r\nContent-Length: 00000000000000000005\r\n\r\nhello",
         ],
         &[
             (1, 0, "InvalidRequest", 1, "/", true, false),
@@ -367,7 +358,7 @@ const TALKS: [(&[&str], &[Due], &str); 15] = [
     // bucket names
     (
         &[
-            "PUT /ab HTTP/1.1\r\nContent-Length: 0\r\n\r\nPUT /192.168.0.1 HTTP/1.1\r\nContent-Length: 0\r\n\r\nPUT /a..b HTTP/1.1\r\nContent-Length: 0\r\n\r\nPUT /abc HTTP/1.1\r\nContent-Length: 0\r\n\r\n",
+            "~PUT /ab HTTP/1.1\r\nContent-Length: 0\r\n\r\n~PUT /192.168.0.1 HTTP/1.1\r\nContent-Length: 0\r\n\r\n~PUT /a..b HTTP/1.1\r\nContent-Length: 0\r\n\r\n~PUT /abc HTTP/1.1\r\nContent-Length: 0\r\n\r\n",
         ],
         &[
             (1, 0, "InvalidBucketName", 1, "/ab", false, false),
@@ -380,7 +371,7 @@ const TALKS: [(&[&str], &[Due], &str); 15] = [
     // a body without its last byte
     (
         &[
-            "PUT /photos HTTP/1.1\r\nContent-Length: 0\r\n\r\nPUT /photos/a%20b/%C3%BC%25 HTTP/1.1\r\nContent-Length: 5\r\n\r\nhell",
+            "~PUT /photos HTTP/1.1\r\nContent-Length: 0\r\n\r\n~PUT /photos/a%20b/%C3%BC%25 HTTP/1.1\r\nContent-Length: 5\r\n\r\nhell",
         ],
         &[
             (1, 2, "Made", 1, "/photos", false, false),
@@ -392,7 +383,7 @@ const TALKS: [(&[&str], &[Due], &str); 15] = [
     (
         &[
             "\u{0}\u{1}",
-            "PUT /photos HTTP/1.1\r\nContent-Length: 0\r\n\r\nPUT /photos HTTP/1.1\r\nContent-Length: 0\r\nConnection: Keep-Alive, CLOSE\r\n\r\nPUT /photos HTTP/1.1\r\nContent-Length: 0\r\n\r\n",
+            "~PUT /photos HTTP/1.1\r\nContent-Length: 0\r\n\r\n~PUT /photos HTTP/1.1\r\nContent-Length: 0\r\nConnection: Keep-Alive, CLOSE\r\n\r\n~PUT /photos HTTP/1.1\r\nContent-Length: 0\r\n\r\n",
         ],
         &[
             (1, 0, "InvalidRequest", 1, "/", true, false),
@@ -426,6 +417,7 @@ fn talks_are_the_same_in_any_pieces(rt: HostRuntime) -> Result<(), Fail> {
         for piece in [1, 2, 3, 7, 1024] {
             let given = Given {
                 words: &["session"],
+                keys: KEY_TEXT,
                 connections,
                 piece,
                 fails: &[],
@@ -447,9 +439,10 @@ fn talks_are_the_same_in_any_pieces(rt: HostRuntime) -> Result<(), Fail> {
 
 /// Words, the calls of the line that fail, the status, the report, and the account after it. The input is one PUT,
 /// which is read whole by the second call and answered by the third.
-const RUNS: [(&[&str], &[u64], u8, &str, &str); 6] = [
+const RUNS: [(&[&str], &[u64], u8, &str, &str); 7] = [
     (&[], &[], 2, USAGE, ""),
     (&["serve"], &[], 2, USAGE, ""),
+    (&["session", "--region", "A"], &[], 2, USAGE, ""),
     (&["session", "x"], &[], 2, USAGE, ""),
     (&["session"], &[1], 3, "s3gate: line\n", ""),
     (&["session"], &[2], 0, "", ""),
@@ -462,6 +455,7 @@ fn words_and_the_line_decide_the_status(rt: HostRuntime) -> Result<(), Fail> {
     for (words, fails, status, report, account) in RUNS {
         let given = Given {
             words,
+            keys: KEY_TEXT,
             connections: &[PUT],
             piece: 1024,
             fails,
@@ -568,6 +562,7 @@ fn runs_again(rt: &impl Abort, alloc: Global, store: &MemSwift, commit: u64) -> 
         assert_eq!(rt; account_text(alloc, &account)?.as_str(), text, "at {k}");
         let given = Given {
             words: &["session"],
+            keys: KEY_TEXT,
             connections: &[PUT],
             piece: 1024,
             fails: &[],
@@ -602,6 +597,7 @@ fn a_fault_at_each_call_is_one_service(rt: HostRuntime) -> Result<(), Fail> {
         let mut store = MemSwift::new(alloc, empty_account(alloc), before, after, stop)?;
         let given = Given {
             words: &["session"],
+            keys: KEY_TEXT,
             connections: &[PUT_TWICE],
             piece: 1024,
             fails: &[],

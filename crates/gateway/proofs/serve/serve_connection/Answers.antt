@@ -32,7 +32,7 @@ returns-in-Some-clause-told g c = λ line store clock draws sound.
     let s = c.in-Some.ensures in
     let present : Point = (point (c.requests.reader.bytes ++ (g.N.Line.wire c.requests.line).rest) c.requests.reader.place (tally (g.W.Counted.called c.requests.store) (g.C.Clock.moments c.requests.clock) (g.D.Draws.draws c.requests.draws) (g.N.Line.wire c.requests.line).sent)) in
     let next : Point = (point (c.serve_next.new.reader.bytes ++ (g.N.Line.wire c.serve_next.new.line).rest) c.serve_next.new.reader.place (tally (g.W.Counted.called c.serve_next.new.store) (g.C.Clock.moments c.serve_next.new.clock) (g.D.Draws.draws c.serve_next.new.draws) (g.N.Line.wire c.serve_next.new.line).sent)) in
-    let P : ℕ → Type 0 = λ n. NextOne c.args.settings.now (g.W.Swift.tree_at c.serve_next.new.store) (g.W.Swift.faults_at c.serve_next.new.store) n present (Some c.in-Some.ended) next in
+    let P : ℕ → Type 0 = λ n. NextOne c.args.service.now (g.W.Swift.tree_at c.serve_next.new.store) (g.W.Swift.faults_at c.serve_next.new.store) n present (Some c.in-Some.ended) next in
     let step = λ (sound_now : Sound (g.W.Swift.tree_at c.serve_next.new.store (g.W.Counted.called c.requests.store))).
     subst P (i.only_serves line).begun (s.told (i.tells_line line) (i.tells_store store) (i.tells_clock clock) (i.tells_draws draws) sound_now) in
     answered_ends _ _ (point (g.N.Line.wire c.args.line.now).rest 0 (tally (g.W.Counted.called c.args.store.now) (g.C.Clock.moments c.args.clock.now) (g.D.Draws.draws c.args.draws.now) (g.N.Line.wire c.args.line.now).sent)) present _ _ _ _ i.ordered (s.kept (i.tells_store store)) (i.answered line store clock draws) next c.in-Some.ended step sound
@@ -57,7 +57,7 @@ requests-preserved g c =
       answered = λ line store clock draws.
           let present : Point = (point (c.requests.reader.bytes ++ (g.N.Line.wire c.requests.line).rest) c.requests.reader.place (tally (g.W.Counted.called c.requests.store) (g.C.Clock.moments c.requests.clock) (g.D.Draws.draws c.requests.draws) (g.N.Line.wire c.requests.line).sent)) in
           let next : Point = (point (c.serve_next.new.reader.bytes ++ (g.N.Line.wire c.serve_next.new.line).rest) c.serve_next.new.reader.place (tally (g.W.Counted.called c.serve_next.new.store) (g.C.Clock.moments c.serve_next.new.clock) (g.D.Draws.draws c.serve_next.new.draws) (g.N.Line.wire c.serve_next.new.line).sent)) in
-          let P : ℕ → Type 0 = λ n. NextOne c.args.settings.now (g.W.Swift.tree_at c.serve_next.new.store) (g.W.Swift.faults_at c.serve_next.new.store) n present None next in
+          let P : ℕ → Type 0 = λ n. NextOne c.args.service.now (g.W.Swift.tree_at c.serve_next.new.store) (g.W.Swift.faults_at c.serve_next.new.store) n present None next in
           let step = λ (sound_now : Sound (g.W.Swift.tree_at c.serve_next.new.store (g.W.Counted.called c.requests.store))).
           subst P (i.only_serves line).begun (s.told (i.tells_line line) (i.tells_store store) (i.tells_clock clock) (i.tells_draws draws) sound_now) in
           answered_more _ _ (point (g.N.Line.wire c.args.line.now).rest 0 (tally (g.W.Counted.called c.args.store.now) (g.C.Clock.moments c.args.clock.now) (g.D.Draws.draws c.args.draws.now) (g.N.Line.wire c.args.line.now).sent)) present _ _ _ _ i.ordered (s.kept (i.tells_store store)) (i.answered line store clock draws) next step;

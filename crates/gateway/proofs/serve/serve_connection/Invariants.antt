@@ -21,7 +21,7 @@ invariant-requests g l = record {
   kept : g.W.Swift.tells l.initial.store → Kept (g.W.Counted.called l.initial.store) (g.W.Swift.tree_at l.initial.store) (g.W.Swift.tree_at l.store) (g.W.Swift.faults_at l.initial.store) (g.W.Swift.faults_at l.store);
   only_serves : g.N.Line.tells l.initial.line → OnlyServes false (g.N.Line.wire l.initial.line) (g.N.Line.wire l.line);
   answered : g.N.Line.tells l.initial.line → g.W.Swift.tells l.initial.store → g.C.Clock.tells l.initial.clock → g.D.Draws.tells l.initial.draws
-      → Answered l.settings (g.W.Swift.tree_at l.store) (g.W.Swift.faults_at l.store) (g.N.Line.wire l.initial.line).begun
+      → Answered l.service (g.W.Swift.tree_at l.store) (g.W.Swift.faults_at l.store) (g.N.Line.wire l.initial.line).begun
       (point (g.N.Line.wire l.initial.line).rest 0 (tally (g.W.Counted.called l.initial.store) (g.C.Clock.moments l.initial.clock) (g.D.Draws.draws l.initial.draws) (g.N.Line.wire l.initial.line).sent))
       (point (l.reader.bytes ++ (g.N.Line.wire l.line).rest) l.reader.place (tally (g.W.Counted.called l.store) (g.C.Clock.moments l.clock) (g.D.Draws.draws l.draws) (g.N.Line.wire l.line).sent));
 }

@@ -1,10 +1,54 @@
-use Rattle.std.proofs.Common.{◌∙◌, sym, subst, arith}
+use Rattle.std.proofs.Common.{◌∙◌, ℕ, sym, subst, arith}
 use Rattle.gate_base.specs.Causes.{Rose}
 use Rattle.swift_calls.specs.History.{none_fails}
 use Rattle.upload_records.specs.Sound.{Sound}
+use Rattle.gateway_cmd.specs.declared.status.Ended.{Ended}
+use Rattle.gateway_cmd.specs.declared.status.Status.TheVariants.{Line, Memory}
+use Rattle.gateway_cmd.specs.Report.{Exits, Says}
 use Rattle.gateway_cmd.specs.TalkLaws.{talk_calm}
+use Rattle.gateway_cmd.proofs.Exits.{exits_status, exits_usage, exits_line, exits_request, exits_done, exits_other, exits_signed, fits_serving, not_serving}
 use Rattle.gateway_cmd.proofs.Sessions.{talk_laws}
 use Rattle.gateway_cmd.proofs.command.run.Goals as goal
+
+pub returns-clause-status : goal.returns-clause-status
+returns-clause-status g c = exits_status _ _ c.tell.ensures.exits
+
+pub returns-clause-usage : goal.returns-clause-usage
+returns-clause-usage g c = λ e. c.attempt-ended.ensures.usage (exits_usage _ _ c.tell.ensures.exits e)
+
+pub returns-clause-refused : goal.returns-clause-refused
+returns-clause-refused g c = λ not other.
+    subst (λ how. Exits how c.tell.result) (c.attempt-ended.ensures.refused not (exits_other _ Memory _ c.tell.ensures.exits other)) c.tell.ensures.exits
+
+pub returns-clause-line : goal.returns-clause-line
+returns-clause-line g c = λ serving e. c.attempt-ended.ensures.line serving (exits_line _ _ c.tell.ensures.exits e)
+
+pub returns-clause-line_signing : goal.returns-clause-line_signing
+returns-clause-line_signing g c = λ signing e. c.attempt-ended.ensures.line_signing signing (exits_line _ _ c.tell.ensures.exits e)
+
+pub returns-clause-quiet : goal.returns-clause-quiet
+returns-clause-quiet g c = λ other. c.attempt-ended.ensures.quiet (exits_other _ Line _ c.tell.ensures.exits other)
+
+pub returns-clause-done : goal.returns-clause-done
+returns-clause-done g c = λ serving tells e.
+    c.attempt-ended.ensures.done serving tells (exits_done _ _ c.tell.ensures.exits e (c.attempt-ended.ensures.plain serving))
+
+pub returns-clause-request : goal.returns-clause-request
+returns-clause-request g c = λ e. c.attempt-ended.ensures.request (exits_request _ _ c.tell.ensures.exits e)
+
+pub returns-clause-report : goal.returns-clause-report
+returns-clause-report g c = λ tells still.
+    let told = c.tell.ensures.told tells still in
+    (_, told.0, fits_serving _ _ c.attempt-ended.ensures.plain c.attempt-ended.ensures.served, told.1, told.2)
+
+pub returns-clause-unreported : goal.returns-clause-unreported
+returns-clause-unreported g c = λ e.
+    let told = c.tell.ensures.unreported e in
+    (not_serving _ _ c.attempt-ended.ensures.plain told.0, told.1)
+
+pub returns-clause-reported : goal.returns-clause-reported
+returns-clause-reported g c = λ signing e.
+    c.tell.ensures.reported (exits_signed _ _ c.tell.ensures.exits e (c.attempt-ended.ensures.served signing)) e
 
 pub returns-clause-undisturbed : goal.returns-clause-undisturbed
 returns-clause-undisturbed g c = λ tells left still.
@@ -19,12 +63,23 @@ returns-clause-undisturbed g c = λ tells left still.
     (λ rose. still (subst (λ n. Rose n (g.W.Swift.faults new)) first (subst (Rose (g.W.Swift.faults_at new (g.W.Counted.called old))) last rose)))
 
 pub returns-clause-told : goal.returns-clause-told
-returns-clause-told g c = λ line store clock draws sound.
+returns-clause-told g c = λ region asked line store clock draws sound.
     let then : Sound (g.W.Swift.tree_at c.attempt-ended.new.store (g.W.Counted.called c.args.store.now)) = subst Sound (sym ((c.attempt-ended.ensures.kept store).accounts _ (omega arith))) sound in
-    talk_laws _ _ _ _ _ then (c.attempt-ended.ensures.told line store clock draws then)
+    talk_laws _ _ _ _ _ then (c.attempt-ended.ensures.told region asked line store clock draws then)
 
 pub returns-clause-told_undisturbed : goal.returns-clause-told_undisturbed
-returns-clause-told_undisturbed g c = λ line store clock draws sound left still.
+returns-clause-told_undisturbed g c = λ region asked line store clock draws sound left still.
     let then : Sound (g.W.Swift.tree_at c.attempt-ended.new.store (g.W.Counted.called c.args.store.now)) = subst Sound (sym ((c.attempt-ended.ensures.kept store).accounts _ (omega arith))) sound in
-    let talk = c.attempt-ended.ensures.told line store clock draws then in
+    let talk = c.attempt-ended.ensures.told region asked line store clock draws then in
     (talk.0, talk_calm (returns-clause-undisturbed g c store left still) talk.1 (omega arith) (omega arith))
+
+pub returns-clause-told_signed : goal.returns-clause-told_signed
+returns-clause-told_signed g c = λ id region secret asked good known tells other.
+    let signs = c.attempt-ended.ensures.told_signed id region secret asked good known tells (exits_other _ Memory _ c.tell.ensures.exits other) in (
+      signs.0,
+      signs.1,
+      subst (λ how. Exits how c.tell.result) signs.2 c.tell.ensures.exits,
+      λ reports still.
+          let told = c.tell.ensures.told reports still in
+          (told.0, subst (λ how. Says how c.tell.result told.0) signs.2 told.1, told.2),
+    )

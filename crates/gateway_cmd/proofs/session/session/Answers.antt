@@ -1,19 +1,11 @@
-use Rattle.std.proofs.Common.{◌∙◌, [], None, Some, refl, subst, arith}
-use Rattle.s3_machine.specs.declared.operation.Settings.{Settings}
+use Rattle.std.proofs.Common.{◌∙◌, [], refl, arith}
 use Rattle.swift_calls.specs.History.{kept_trans}
 use Rattle.upload_records.specs.Sound.{Sound}
 use Rattle.gateway.specs.Connection.{tally}
 use Rattle.gateway_cmd.specs.Run.{Place, place_of, none}
-use Rattle.gateway_cmd.specs.Session.{NextPlace}
 use Rattle.gateway_cmd.proofs.Marks.{rose_first, rose_last, unmarked_none, unmarked_more}
 use Rattle.gateway_cmd.proofs.Sessions.{served_more, served_all}
 use Rattle.gateway_cmd.proofs.session.session.Goals as goal
-
-pub returns-in-Err-clause-told : goal.returns-in-Err-clause-told
-returns-in-Err-clause-told g c = λ line store clock draws sound. ([], none _)
-
-pub returns-in-Err-clause-unmarked : goal.returns-in-Err-clause-unmarked
-returns-in-Err-clause-unmarked g c = λ tells still. unmarked_none _ _ refl
 
 pub connections-init : goal.connections-init
 connections-init g c = record {
@@ -35,9 +27,8 @@ returns-in-Some-clause-told g c = λ line store clock draws sound.
     let s = c.in-Some.ensures in
     let present : Place = (place_of (g.N.Line.wire c.connections.line) (tally (g.W.Counted.called c.connections.store) (g.C.Clock.moments c.connections.clock) (g.D.Draws.draws c.connections.draws) (g.N.Line.wire c.connections.line).sent)) in
     let next : Place = (place_of (g.N.Line.wire c.serve_another.new.line) (tally (g.W.Counted.called c.serve_another.new.store) (g.C.Clock.moments c.serve_another.new.clock) (g.D.Draws.draws c.serve_another.new.draws) (g.N.Line.wire c.serve_another.new.line).sent)) in
-    let P : Settings → Type 0 = λ settings. NextPlace settings (g.W.Swift.tree_at c.serve_another.new.store) (g.W.Swift.faults_at c.serve_another.new.store) present (Some c.in-Some.status) next in
     let step = λ (sound_now : Sound (g.W.Swift.tree_at c.serve_another.new.store (g.W.Counted.called c.connections.store))).
-    subst P c.in-Ok.ensures (s.told (i.tells_line line) (i.tells_store store) (i.tells_clock clock) (i.tells_draws draws) sound_now) in
+    s.told (i.tells_line line) (i.tells_store store) (i.tells_clock clock) (i.tells_draws draws) sound_now in
     served_all _ (place_of (g.N.Line.wire c.args.line.now) (tally (g.W.Counted.called c.args.store.now) (g.C.Clock.moments c.args.clock.now) (g.D.Draws.draws c.args.draws.now) (g.N.Line.wire c.args.line.now).sent)) present _ _ _ _ i.ordered (s.kept (i.tells_store store)) (i.served line store clock draws) next c.in-Some.status step sound
 
 pub returns-in-Some-clause-unmarked : goal.returns-in-Some-clause-unmarked
@@ -67,8 +58,7 @@ connections-preserved g c =
       served = λ line store clock draws.
           let present : Place = (place_of (g.N.Line.wire c.connections.line) (tally (g.W.Counted.called c.connections.store) (g.C.Clock.moments c.connections.clock) (g.D.Draws.draws c.connections.draws) (g.N.Line.wire c.connections.line).sent)) in
           let next : Place = (place_of (g.N.Line.wire c.serve_another.new.line) (tally (g.W.Counted.called c.serve_another.new.store) (g.C.Clock.moments c.serve_another.new.clock) (g.D.Draws.draws c.serve_another.new.draws) (g.N.Line.wire c.serve_another.new.line).sent)) in
-          let P : Settings → Type 0 = λ settings. NextPlace settings (g.W.Swift.tree_at c.serve_another.new.store) (g.W.Swift.faults_at c.serve_another.new.store) present None next in
           let step = λ (sound_now : Sound (g.W.Swift.tree_at c.serve_another.new.store (g.W.Counted.called c.connections.store))).
-          subst P c.in-Ok.ensures (s.told (i.tells_line line) (i.tells_store store) (i.tells_clock clock) (i.tells_draws draws) sound_now) in
+          s.told (i.tells_line line) (i.tells_store store) (i.tells_clock clock) (i.tells_draws draws) sound_now in
           served_more _ (place_of (g.N.Line.wire c.args.line.now) (tally (g.W.Counted.called c.args.store.now) (g.C.Clock.moments c.args.clock.now) (g.D.Draws.draws c.args.draws.now) (g.N.Line.wire c.args.line.now).sent)) present _ _ _ _ i.ordered (s.kept (i.tells_store store)) (i.served line store clock draws) next step;
     }

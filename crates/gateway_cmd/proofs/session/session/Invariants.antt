@@ -3,7 +3,7 @@ use Rattle.gate_base.specs.Causes.{Rose}
 use Rattle.swift_calls.specs.History.{Kept}
 use Rattle.gateway.specs.Connection.{tally}
 use Rattle.gateway_cmd.specs.Run.{place_of}
-use Rattle.gateway_cmd.specs.Session.{default_settings, Unmarked}
+use Rattle.gateway_cmd.specs.Session.{Unmarked}
 use Rattle.gateway_cmd.proofs.Sessions.{Served}
 use Rattle.gateway_cmd.proofs.session.session.Given as goal
 
@@ -19,7 +19,7 @@ invariant-connections g l = record {
   ordered : g.W.Counted.called l.initial.store ≤ g.W.Counted.called l.store;
   kept : g.W.Swift.tells l.initial.store → Kept (g.W.Counted.called l.initial.store) (g.W.Swift.tree_at l.initial.store) (g.W.Swift.tree_at l.store) (g.W.Swift.faults_at l.initial.store) (g.W.Swift.faults_at l.store);
   served : g.N.Line.tells l.initial.line → g.W.Swift.tells l.initial.store → g.C.Clock.tells l.initial.clock → g.D.Draws.tells l.initial.draws
-      → Served default_settings (g.W.Swift.tree_at l.store) (g.W.Swift.faults_at l.store)
+      → Served l.service (g.W.Swift.tree_at l.store) (g.W.Swift.faults_at l.store)
       (place_of (g.N.Line.wire l.initial.line) (tally (g.W.Counted.called l.initial.store) (g.C.Clock.moments l.initial.clock) (g.D.Draws.draws l.initial.draws) (g.N.Line.wire l.initial.line).sent))
       (place_of (g.N.Line.wire l.line) (tally (g.W.Counted.called l.store) (g.C.Clock.moments l.clock) (g.D.Draws.draws l.draws) (g.N.Line.wire l.line).sent));
 }
