@@ -1,0 +1,10 @@
+#!/usr/bin/env bash
+# Proves and builds s3gate where that is still to be done, and serves the requests of a file, signed for this moment.
+#
+#   examples/run.sh REQUESTS.http
+set -euo pipefail
+[ $# -eq 1 ] || { echo "usage: run.sh REQUESTS.http" >&2; exit 1; }
+requests="$(realpath "$1")"
+cd "$(dirname "$0")/.."
+(cd crates/s3gate && env -u S3GATE_KEYS rt run -- session </dev/null)
+examples/sign.py "$requests" | S3GATE_KEYS=examples/keys.txt crates/s3gate/out/s3gate session
