@@ -1,0 +1,13 @@
+//! The notation of case files, which the programs `conversations` and `vectors` share: how the lines of a case give bytes,
+//! and how its lines say which bytes are wanted. `docs/TESTING.md` has it for those who write cases.
+#![tactic(auto)]
+
+mod escapes;
+mod fault;
+mod given;
+mod wanted;
+
+pub use escapes::{hex_bytes, show, unescaped};
+pub use fault::Fault;
+pub use given::give;
+pub use wanted::{behind, first_difference, is_wanted};

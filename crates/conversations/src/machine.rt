@@ -1,0 +1,291 @@
+//! The same requests through the S3 service as one machine: what it answers is what was written.
+ghost use Rattle.std.specs.Prelude.{◌≡◌, ◌<◌, IsTrue, IfOk};
+ghost use Rattle.gate_base.specs.Told.{moment_limit};
+ghost use Rattle.s3_machine.specs.Shown.{IsShowable, IsShown};
+ghost use Rattle.s3_machine.specs.Step.{IsProper, IsProperOp};
+
+use crate::entry::Case;
+use crate::given::Given;
+use crate::talk::Talk;
+use crate::tally::Tally;
+use case_text::Fault;
+use gate_base::{Bytes, Caller, MOMENT_LIMIT, Piece};
+use gateway::{Meant, Service, meaning, print_reply};
+use http_wire::Message;
+use s3_machine::{Label, Native, ObjectHead, Op, Reply, Settings};
+use s3_names::Target;
+use sigv4::{Keys, verify};
+use std::alloc::Global;
+
+/// The machine, by what its requests are understood, and how many a run has had.
+#[derive(Drop)]
+pub(crate) struct Machine {
+    alloc: Global,
+    native: Native,
+    service: Service,
+    turn: u64,
+}
+
+/// What the machine is compared for.
+#[derive(Clone, Copy)]
+struct Turn<'a, 'b, 'c> {
+    case: &'c Case<'a, 'b>,
+    context: &'c str,
+    label: Label,
+    piece: &'c Piece,
+}
+
+impl Machine {
+    /// A machine without a bucket, for runs on what is given.
+    pub(crate) fn new(alloc: Global, given: &Given) -> Result<Machine, Fault> {
+        let native = Native::new(alloc, settings_of(alloc, given)?);
+        let service = service_of(alloc, given)?;
+        Ok(Machine {
+            alloc,
+            native,
+            service,
+            turn: 0,
+        })
+    }
+
+    /// The machine is asked what a new run was, and answers what that wrote.
+    pub(crate) fn follow(
+        &mut self,
+        case: &Case,
+        context: &str,
+        given: &Given,
+        pieces: &[Piece],
+        tally: &mut Tally,
+    ) -> Result<(), Fault> {
+        self.service = service_of(self.alloc, given)?;
+        self.turn = 0;
+        let mut rest = pieces;
+        let mut number = 0u64;
+        for bytes in given.connections.as_slice() {
+            number = number.saturating_add(1);
+            let count = count_of(rest, number);
+            let Some((own, next)) = rest.split_at_checked(count) else {
+                break;
+            };
+            self.follow_connection(case, context, given, bytes, own, tally)?;
+            rest = next;
+        }
+        Ok(())
+    }
+
+    fn follow_connection(
+        &mut self,
+        case: &Case,
+        context: &str,
+        given: &Given,
+        bytes: &Bytes,
+        pieces: &[Piece],
+        tally: &mut Tally,
+    ) -> Result<(), Fault> {
+        if pieces.is_empty() {
+            return Ok(());
+        }
+        let mut talk = Talk::open(self.alloc, bytes)?;
+        for piece in pieces {
+            let label = label_of(self.turn, given.moments.as_slice());
+            self.turn = self.turn.saturating_add(1);
+            let turn = Turn {
+                case,
+                context,
+                label,
+                piece,
+            };
+            self.hear(&mut talk, &turn, tally)?;
+        }
+        Ok(())
+    }
+
+    /// The next request of a connection. One that is refused before it is understood is not for the machine.
+    fn hear(&mut self, talk: &mut Talk, turn: &Turn, tally: &mut Tally) -> Result<(), Fault> {
+        match talk.next() {
+            Some(message) => self.read(&message, turn, tally),
+            None => Ok(()),
+        }
+    }
+
+    fn read(&mut self, message: &Message, turn: &Turn, tally: &mut Tally) -> Result<(), Fault> {
+        match Target::read(self.alloc, message.target.as_slice()) {
+            Ok(target) => self.admit(message, &target, turn, tally),
+            Err(_) => Ok(()),
+        }
+    }
+
+    fn admit(
+        &mut self,
+        message: &Message,
+        target: &Target,
+        turn: &Turn,
+        tally: &mut Tally,
+    ) -> Result<(), Fault> {
+        let keys = &self.service.keys;
+        let region = self.service.settings.region.as_slice();
+        match verify(self.alloc, keys, region, message, target, turn.label.moment) {
+            Ok(caller) => self.understand(message, target, caller, turn, tally),
+            Err(_) => Ok(()),
+        }
+    }
+
+    fn understand(
+        &mut self,
+        message: &Message,
+        target: &Target,
+        caller: Caller,
+        turn: &Turn,
+        tally: &mut Tally,
+    ) -> Result<(), Fault> {
+        match meaning(self.alloc, message, target, &caller, &self.service.settings) {
+            Meant::Op(op) => self.answer(&op, message, target, caller, turn, tally),
+            Meant::Refused(_) => Ok(()),
+            Meant::Memory => Err(Fault::Memory),
+        }
+    }
+
+    fn answer(
+        &mut self,
+        op: &Op,
+        message: &Message,
+        target: &Target,
+        caller: Caller,
+        turn: &Turn,
+        tally: &mut Tally,
+    ) -> Result<(), Fault>
+        requires { IsProperOp op.now }
+    {
+        let label = Label {
+            caller,
+            ..turn.label
+        };
+        let reply = self.step(op, &label)?;
+        let method = message.method.as_slice();
+        let resource = target.raw_path.as_slice();
+        self.compare(&reply, &label, method, resource, turn, tally)
+    }
+
+    fn step(&mut self, op: &Op, label: &Label) -> Result<Reply, Fault>
+        requires { IsProperOp op.now }
+    {
+        if label.moment < MOMENT_LIMIT {
+            Ok(self.native.step(op, label)?)
+        } else {
+            Err(Fault::Unread("a moment past the year 9999"))
+        }
+    }
+
+    /// The reply as it is printed is the piece, which may say besides that the connection ends.
+    fn compare(
+        &self,
+        reply: &Reply,
+        label: &Label,
+        method: &[u8],
+        resource: &[u8],
+        turn: &Turn,
+        tally: &mut Tally,
+    ) -> Result<(), Fault> {
+        let came = turn.piece.bytes.as_slice();
+        let due = printed(self.alloc, reply, label, method, resource, false)?;
+        if due.as_slice() == came {
+            return Ok(());
+        }
+        let closing = printed(self.alloc, reply, label, method, resource, true)?;
+        if closing.as_slice() == came {
+            return Ok(());
+        }
+        tally.mismatch(turn.case, turn.context, due.as_slice(), came)
+    }
+}
+
+/// How many of the first pieces are of a connection.
+fn count_of(pieces: &[Piece], connection: u64) -> usize {
+    pieces
+        .iter()
+        .take_while(|piece| piece.connection == connection)
+        .count()
+}
+
+/// The label of a request by its place in a run, from 0: two words are drawn a request.
+fn label_of(turn: u64, moments: &[u64]) -> Label {
+    let draws = 2 * u128::from(turn);
+    Label {
+        caller: Caller::Anonymous,
+        moment: moment_of(turn, moments),
+        request_id: draws + 1,
+        draw: draws + 2,
+    }
+}
+
+/// The moment of that place, or the last.
+fn moment_of(turn: u64, moments: &[u64]) -> u64 {
+    match moments.get(turn as usize) {
+        Some(moment) => *moment,
+        None => match moments.last() {
+            Some(moment) => *moment,
+            None => 0,
+        },
+    }
+}
+
+fn settings_of(alloc: Global, given: &Given) -> Result<Settings, Fault> {
+    let region = Bytes::from_slice(alloc, region_of(given.words.as_slice()))?;
+    Ok(Settings {
+        region,
+        least_part: 5_242_880,
+    })
+}
+
+/// The word behind `--region`, or the usual region.
+fn region_of(words: &[String]) -> &[u8] {
+    match words {
+        [.., option, region] if option.as_bytes() == b"--region".as_slice() => region.as_bytes(),
+        _ => b"us-east-1",
+    }
+}
+
+fn service_of(alloc: Global, given: &Given) -> Result<Service, Fault> {
+    let settings = settings_of(alloc, given)?;
+    match Keys::read(alloc, given.keys.as_bytes()) {
+        Ok(keys) => Ok(Service { settings, keys }),
+        Err(_) => Err(Fault::Unread("requests without a key text")),
+    }
+}
+
+fn printed(
+    alloc: Global,
+    reply: &Reply,
+    label: &Label,
+    method: &[u8],
+    resource: &[u8],
+    closing: bool,
+) -> Result<Bytes, Fault> {
+    if is_showable(reply) && label.moment < MOMENT_LIMIT {
+        Ok(print_reply(alloc, reply, label, method, resource, closing)?)
+    } else {
+        Err(Fault::Unread("a reply without a page"))
+    }
+}
+
+fn shows(head: &ObjectHead, from: u64, length: u64, partial: bool) -> bool
+    ensures { IsTrue result → IsShown head.now from length partial }
+{
+    from == 0 && length <= 1 << 63 && !partial && head.modified < MOMENT_LIMIT
+}
+
+fn is_showable(reply: &Reply) -> bool
+    ensures { IsTrue result → IsShowable reply.now }
+{
+    match reply {
+        Reply::Refused(_) | Reply::Made { .. } | Reply::Stored { .. } | Reply::Gone => true,
+        Reply::Object {
+            head,
+            from,
+            length,
+            partial,
+            ..
+        } => shows(head, *from, *length, *partial),
+        Reply::Memory => false,
+    }
+}

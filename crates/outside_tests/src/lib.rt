@@ -1,0 +1,20 @@
+//! Tests that must be code: stores that answer what is forbidden, the real adapters over a runtime in memory, generic
+//! functions over types that tell nothing, and copies that no program makes.
+#![tactic(auto)]
+
+#[cfg(test)]
+mod adapters;
+#[cfg(test)]
+mod copies;
+#[cfg(test)]
+mod odd_stores;
+#[cfg(test)]
+mod own_line;
+#[cfg(test)]
+mod own_outside;
+#[cfg(test)]
+mod own_store;
+#[cfg(test)]
+mod runs;
+#[cfg(test)]
+mod runtime;

@@ -1,0 +1,54 @@
+//! A sink, a clock and draws that tell nothing.
+ghost use Rattle.std.specs.Prelude.{◌≡◌, []};
+
+use gate_base::{Clock, Draws, Failed, Sink};
+
+/// It forgets what is put, but for the number of bytes.
+#[derive(Drop)]
+pub(crate) struct OwnSink {
+    pub(crate) size: usize,
+}
+
+impl Sink for OwnSink {
+    ghost faults = { λ _. 0 };
+
+    ghost tells = { λ _. ⊥ };
+
+    ghost put_bytes = { λ _. [] };
+
+    fn put(&mut self, bytes: &[u8]) -> Result<(), Failed> {
+        self.size = self.size.saturating_add(bytes.len());
+        Ok(())
+    }
+}
+
+/// It stands at 24 May 2013, 00:00:00.
+#[derive(Drop)]
+pub(crate) struct OwnClock;
+
+impl Clock for OwnClock {
+    ghost tells = { λ _. ⊥ };
+
+    ghost moments = { λ _. [] };
+
+    fn now(&mut self) -> u64 {
+        1_369_353_600
+    }
+}
+
+/// The draws count up.
+#[derive(Drop)]
+pub(crate) struct OwnDraws {
+    pub(crate) last: u128,
+}
+
+impl Draws for OwnDraws {
+    ghost tells = { λ _. ⊥ };
+
+    ghost draws = { λ _. [] };
+
+    fn draw(&mut self) -> u128 {
+        self.last = self.last.wrapping_add(1);
+        self.last
+    }
+}
