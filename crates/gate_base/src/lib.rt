@@ -25,6 +25,3 @@ pub use page::{Caller, Page, Pair};
 pub use real::{RandomDraws, StdLine, StdSink, SystemClock};
 pub use sink_memory::MemSink;
 pub use told_memory::{ListClock, ListDraws};
-
-#[cfg(test)]
-mod tests;

@@ -25,6 +25,3 @@ pub use meant::{Meant, meaning};
 pub use serve::serve_connection;
 pub use service::Service;
 pub use write::print_reply;
-
-#[cfg(test)]
-mod meaning_tests;

@@ -194,31 +194,12 @@ fn op_of(
     requires meta { meta ≡ taken_meta row message.now.headers }
     ensures { IfOk result (λ meant. meant ≡ op_of row message.now target.now) }
 {
-    let op = match row {
-        Row::CreateBucket => Op::CreateBucket {
-            bucket: target.bucket.copy()?,
-            acl: Acl::Private,
-        },
-        Row::PutObject => Op::PutObject {
-            bucket: target.bucket.copy()?,
-            key: target.key.copy()?,
-            acl: None,
-            content_type,
-            meta,
-            body: message.body.copy()?,
-        },
-        Row::GetObject => Op::GetObject {
-            bucket: target.bucket.copy()?,
-            key: target.key.copy()?,
-        },
-        Row::HeadObject => Op::HeadObject {
-            bucket: target.bucket.copy()?,
-            key: target.key.copy()?,
-        },
-        Row::DeleteObject => Op::DeleteObject {
-            bucket: target.bucket.copy()?,
-            key: target.key.copy()?,
-        },
+    match row {
+        Row::CreateBucket => create_bucket(target),
+        Row::PutObject => put_object(message, target, content_type, meta),
+        Row::GetObject => get_object(target),
+        Row::HeadObject => head_object(target),
+        Row::DeleteObject => delete_object(target),
         Row::ListBuckets
         | Row::PutBucketAcl
         | Row::DeleteBucket
@@ -233,9 +214,71 @@ fn op_of(
         | Row::UploadPart
         | Row::ListParts
         | Row::CompleteUpload
-        | Row::AbortUpload => return Ok(Meant::Refused(Code::NotImplemented)),
-    };
-    Ok(Meant::Op(op))
+        | Row::AbortUpload => Ok(Meant::Refused(Code::NotImplemented)),
+    }
+}
+
+fn create_bucket(target: &Target) -> Result<Meant, Memory>
+    ensures { IfOk result (λ meant. meant ≡ Meant.Op (Op.CreateBucket target.now.bucket Acl.Private)) }
+{
+    let bucket = target.bucket.copy()?;
+    Ok(Meant::Op(Op::CreateBucket {
+        bucket,
+        acl: Acl::Private,
+    }))
+}
+
+fn put_object(
+    message: &Message,
+    target: &Target,
+    content_type: Bytes,
+    meta: Meta,
+) -> Result<Meant, Memory>
+    ensures { IfOk result (λ meant. meant ≡ Meant.Op (Op.PutObject target.now.bucket target.now.key None content_type meta message.now.body)) }
+{
+    let (bucket, key, body) = put_copies(message, target)?;
+    Ok(Meant::Op(Op::PutObject {
+        bucket,
+        key,
+        acl: None,
+        content_type,
+        meta,
+        body,
+    }))
+}
+
+/// The bucket and the key of the target, and the body.
+fn put_copies(message: &Message, target: &Target) -> Result<(Bytes, Bytes, Bytes), Memory>
+    ensures { IfOk result (λ copies. copies ≡ record { 0 = target.now.bucket; 1 = target.now.key; 2 = message.now.body }) }
+{
+    let bucket = target.bucket.copy()?;
+    let key = target.key.copy()?;
+    let body = message.body.copy()?;
+    Ok((bucket, key, body))
+}
+
+fn get_object(target: &Target) -> Result<Meant, Memory>
+    ensures { IfOk result (λ meant. meant ≡ Meant.Op (Op.GetObject target.now.bucket target.now.key)) }
+{
+    let bucket = target.bucket.copy()?;
+    let key = target.key.copy()?;
+    Ok(Meant::Op(Op::GetObject { bucket, key }))
+}
+
+fn head_object(target: &Target) -> Result<Meant, Memory>
+    ensures { IfOk result (λ meant. meant ≡ Meant.Op (Op.HeadObject target.now.bucket target.now.key)) }
+{
+    let bucket = target.bucket.copy()?;
+    let key = target.key.copy()?;
+    Ok(Meant::Op(Op::HeadObject { bucket, key }))
+}
+
+fn delete_object(target: &Target) -> Result<Meant, Memory>
+    ensures { IfOk result (λ meant. meant ≡ Meant.Op (Op.DeleteObject target.now.bucket target.now.key)) }
+{
+    let bucket = target.bucket.copy()?;
+    let key = target.key.copy()?;
+    Ok(Meant::Op(Op::DeleteObject { bucket, key }))
 }
 
 fn level_of_target(target: &Target) -> Level

@@ -1,5 +1,5 @@
 //! The table of requests: which method, at which level, with which names in the query asks for which operation.
-ghost use Rattle.std.specs.Prelude.{◌≡◌, Bool, true, false, not, ◌&&◌, find, codes};
+ghost use Rattle.std.specs.Prelude.{◌≡◌, Bool, true, false, not, ◌&&◌, find, codes, bytes_eq};
 ghost use Rattle.std.specs.List.{list_any};
 ghost use Rattle.std.specs.Option.{option_copied};
 ghost use Rattle.gateway.specs.Rows.{rows, shape_of, level_of, is_same_level, is_same, is_asked, is_among, is_name_of, agrees, is_same_set, fits, is_method};
@@ -62,6 +62,37 @@ const ROWS: [Row; 20] = [
     Row::CompleteUpload,
     Row::AbortUpload,
 ];
+
+/// The names that ListObjects has beside its selectors.
+const OBJECTS_FURTHER: [&[u8]; 5] = [
+    b"prefix",
+    b"delimiter",
+    b"marker",
+    b"max-keys",
+    b"encoding-type",
+];
+
+/// The names that ListObjectsV2 has beside its selectors.
+const OBJECTS_V2_FURTHER: [&[u8]; 7] = [
+    b"prefix",
+    b"delimiter",
+    b"start-after",
+    b"continuation-token",
+    b"max-keys",
+    b"encoding-type",
+    b"fetch-owner",
+];
+
+/// The names that ListMultipartUploads has beside its selectors.
+const UPLOADS_FURTHER: [&[u8]; 4] = [
+    b"prefix",
+    b"key-marker",
+    b"upload-id-marker",
+    b"max-uploads",
+];
+
+/// The names that ListParts has beside its selectors.
+const PARTS_FURTHER: [&[u8]; 2] = [b"max-parts", b"part-number-marker"];
 
 #[tactic(auto, unfolding(crate::specs::Rows::rows))]
 fn table() -> &'static [Row]
@@ -262,32 +293,17 @@ fn goes_on(name: &[u8], row: Row) -> bool
         | Row::UploadPart
         | Row::CompleteUpload
         | Row::AbortUpload => false,
-        Row::ListObjects => {
-            name == b"prefix".as_slice()
-                || name == b"delimiter".as_slice()
-                || name == b"marker".as_slice()
-                || name == b"max-keys".as_slice()
-                || name == b"encoding-type".as_slice()
-        }
-        Row::ListObjectsV2 => {
-            name == b"prefix".as_slice()
-                || name == b"delimiter".as_slice()
-                || name == b"start-after".as_slice()
-                || name == b"continuation-token".as_slice()
-                || name == b"max-keys".as_slice()
-                || name == b"encoding-type".as_slice()
-                || name == b"fetch-owner".as_slice()
-        }
-        Row::ListUploads => {
-            name == b"prefix".as_slice()
-                || name == b"key-marker".as_slice()
-                || name == b"upload-id-marker".as_slice()
-                || name == b"max-uploads".as_slice()
-        }
-        Row::ListParts => {
-            name == b"max-parts".as_slice() || name == b"part-number-marker".as_slice()
-        }
+        Row::ListObjects => is_one_of(name, &OBJECTS_FURTHER),
+        Row::ListObjectsV2 => is_one_of(name, &OBJECTS_V2_FURTHER),
+        Row::ListUploads => is_one_of(name, &UPLOADS_FURTHER),
+        Row::ListParts => is_one_of(name, &PARTS_FURTHER),
     }
+}
+
+fn is_one_of(name: &[u8], names: &[&[u8]]) -> bool
+    ensures { result ≡ list_any (λ other. bytes_eq name.now other.now) names.now }
+{
+    names.iter().any(|other| name == *other)
 }
 
 /// Whether the row has the name.

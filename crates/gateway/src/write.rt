@@ -72,7 +72,23 @@ pub fn write_memory<N: Line<W>, W: Swift>(line: &mut N, store: &W, head: bool) -
     ensures told { N.tells line.old → result ≢ written.Failed → N.wire line.new ≡ with_piece (N.wire line.old) (W.called store.now) (memory_reply head) }
     ensures told_err { N.tells line.old → result ≡ written.Failed → SendsPrefix (N.wire line.old) (W.called store.now) (memory_reply head) (N.wire line.new) }
 {
-    match line.write(store, print_memory(head)) {
+    write_wanted(line, store, print_memory(head))
+}
+
+/// Writes these bytes, which are the reply for want of memory.
+fn write_wanted<N: Line<W>, W: Swift>(line: &mut N, store: &W, bytes: &[u8]) -> Written
+    requires { IsTrue (N.is_open line.old) }
+    ensures open { N.is_open line.new ≡ true }
+    ensures outcome { result ≢ written.Whole }
+    ensures quiet { result ≢ written.Failed → N.faults line.new ≡ N.faults line.old }
+    ensures cause { result ≡ written.Failed → Rose (N.faults line.old) (N.faults line.new) }
+    ensures quiet_next { N.next_faults line.new ≡ N.next_faults line.old }
+    ensures spent { N.spent line.new ≡ N.spent line.old }
+    ensures tells { N.tells line.old → N.tells line.new }
+    ensures told { N.tells line.old → result ≢ written.Failed → N.wire line.new ≡ with_piece (N.wire line.old) (W.called store.now) bytes.now }
+    ensures told_err { N.tells line.old → result ≡ written.Failed → SendsPrefix (N.wire line.old) (W.called store.now) bytes.now (N.wire line.new) }
+{
+    match line.write(store, bytes) {
         Ok(()) => Written::Memory,
         Err(_) => Written::Failed,
     }

@@ -10,20 +10,3 @@ mod status;
 
 pub use command::run;
 pub use laws::{law_talk_stands, law_talk_undisturbed, law_turns_follow};
-
-#[cfg(test)]
-mod object_tests;
-#[cfg(test)]
-mod requests;
-#[cfg(test)]
-mod running;
-#[cfg(test)]
-mod service_tests;
-#[cfg(test)]
-mod sign_tests;
-#[cfg(test)]
-mod signature_tests;
-#[cfg(test)]
-mod signed;
-#[cfg(test)]
-mod tests;

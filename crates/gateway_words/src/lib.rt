@@ -8,6 +8,3 @@ mod text;
 
 pub use command::{Command, WordsFault};
 pub use read::read_words;
-
-#[cfg(test)]
-mod tests;

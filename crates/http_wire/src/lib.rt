@@ -16,6 +16,3 @@ pub use laws::{one_front, one_spelling, request_size};
 pub use message::{Got, Kind, Message, ReadFault};
 pub use print::{print_memory, print_page};
 pub use reader::Reader;
-
-#[cfg(test)]
-mod tests;

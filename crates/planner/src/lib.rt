@@ -6,7 +6,5 @@ mod buckets;
 mod end;
 mod objects;
 mod operation;
-#[cfg(test)]
-mod tests;
 
 pub use operation::answer;

@@ -4,8 +4,6 @@
 mod codes;
 mod object;
 mod pages;
-#[cfg(test)]
-mod tests;
 mod texts;
 mod xml;
 

@@ -357,6 +357,3 @@ pub fn may_read(caller: Caller, acl: Acl) -> bool
         (Caller::Anonymous, Acl::Private) => false,
     }
 }
-
-#[cfg(test)]
-mod tests;

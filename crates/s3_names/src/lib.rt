@@ -11,8 +11,6 @@ mod key;
 mod meta;
 mod query;
 mod target;
-#[cfg(test)]
-mod tests;
 mod text;
 
 pub use acl::Acl;

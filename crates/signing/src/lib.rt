@@ -10,6 +10,3 @@ mod names;
 
 pub use first::{Signing, sign_first};
 pub use laws::{law_names_once, law_one_answer};
-
-#[cfg(test)]
-mod tests;

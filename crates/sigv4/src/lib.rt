@@ -21,10 +21,3 @@ pub use refusal::Refusal;
 pub use request::canonical;
 pub use signature::{Signed, is_date_time, sign};
 pub use verdict::verify;
-
-#[cfg(test)]
-mod signed_requests;
-#[cfg(test)]
-mod tests;
-#[cfg(test)]
-mod verdict_tests;

@@ -1,10 +1,9 @@
-ghost use Rattle.std.specs.Prelude.{◌≡◌, true, IfOk};
+ghost use Rattle.std.specs.Prelude.{◌≡◌, [], ◌∷◌, ◌++◌, true, IfOk, OnOk};
 ghost use Rattle.std.specs.List.{list_all};
 ghost use Rattle.s3_names.specs.Bucket.{is_digit};
 ghost use Rattle.sigv4.specs.Sign.{is_date_time, date_of, scope_of, string_to_sign, signing_key, signature_of, signed_of};
 
 use crate::hash::hmac;
-use crate::join::joined;
 use gate_base::{Bytes, Memory};
 use sha2::{Digest, Sha256};
 use std::alloc::Global;
@@ -91,13 +90,11 @@ pub fn date_of(date_time: &[u8]) -> &[u8]
 fn scope_of(alloc: Global, date: &[u8], region: &[u8]) -> Result<Bytes, Memory>
     ensures { IfOk result (λ scope. scope ≡ scope_of date.now region.now) }
 {
-    let parts = [
-        Bytes::from_slice(alloc, date)?,
-        Bytes::from_slice(alloc, region)?,
-        Bytes::from_slice(alloc, b"s3")?,
-        Bytes::from_slice(alloc, b"aws4_request")?,
-    ];
-    joined(alloc, b'/', &parts)
+    let mut scope = Bytes::from_slice(alloc, date)?;
+    scope.push(b'/')?;
+    scope.append(region)?;
+    scope.append(b"/s3/aws4_request")?;
+    Ok(scope)
 }
 
 fn string_to_sign(
@@ -108,13 +105,19 @@ fn string_to_sign(
 ) -> Result<Bytes, Memory>
     ensures { IfOk result (λ text. text ≡ string_to_sign date_time.now scope.now hash.now) }
 {
-    let parts = [
-        Bytes::from_slice(alloc, b"AWS4-HMAC-SHA256")?,
-        Bytes::from_slice(alloc, date_time)?,
-        Bytes::from_slice(alloc, scope)?,
-        Bytes::from_slice(alloc, hex::encode(alloc, *hash)?.as_bytes())?,
-    ];
-    joined(alloc, b'\n', &parts)
+    let mut text = Bytes::from_slice(alloc, b"AWS4-HMAC-SHA256\n")?;
+    append_lines(&mut text, date_time, scope)?;
+    text.append(hex::encode(alloc, *hash)?.as_bytes())?;
+    Ok(text)
+}
+
+fn append_lines(text: &mut Bytes, first: &[u8], second: &[u8]) -> Result<(), Memory>
+    ensures { OnOk result (text.new ≡ text.old ++ first.now ++ 10 ∷ [] ++ second.now ++ 10 ∷ []) }
+{
+    text.append(first)?;
+    text.push(b'\n')?;
+    text.append(second)?;
+    text.push(b'\n')
 }
 
 fn signing_key(alloc: Global, secret: &[u8], date: &[u8], region: &[u8]) -> Result<[u8; 32], Memory>

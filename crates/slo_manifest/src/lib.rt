@@ -13,8 +13,6 @@ mod paths;
 mod ranges;
 mod reading;
 mod segments;
-#[cfg(test)]
-mod tests;
 mod writing;
 
 pub use covering::cover;

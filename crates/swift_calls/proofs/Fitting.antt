@@ -1,39 +1,10 @@
 -- Texts within their limits.
-use Rattle.std.specs.Prelude.{◌≡◌, ℕ, ◌<◌, ◌≤◌, ◌^◌, List, [], ◌∷◌, ◌++◌, map, length, IsUtf8, Contains, codes}
-use Rattle.std.specs.List.{list_all}
-use Rattle.std.proofs.Common.{refl, sym, ap, subst, ◌∙◌, arith, lit<, lit≤}
-use Rattle.std.proofs.lemmas.Bool.{lt-ltb}
-use Rattle.gate_base.specs.Named.{ascends, placed, ascends_placed, all_placed, both, first_of_two, second_of_two}
-use Rattle.swift_calls.specs.Tree.{size_of, is_sized_object, IsOrdered, IsSized}
-use Rattle.slo_manifest.specs.declared.Segment.{Segment}
-use Rattle.swift_calls.specs.declared.account.Content.TheVariants.{Segments}
-use Rattle.swift_calls.specs.declared.account.Stored.{Stored}
-use Rattle.swift_calls.specs.declared.account.Container.{Container}
-use Rattle.swift_calls.specs.declared.account.Account.{Account}
+use Rattle.std.specs.Prelude.{ℕ, ◌<◌, ◌≤◌, List, length, IsUtf8, Contains}
 use Rattle.swift_calls.specs.Limits.{IsText}
-use Rattle.swift_calls.specs.Step.{IsContainerName, tested_name}
+use Rattle.swift_calls.specs.Step.{IsContainerName}
 
 pub text_is : (most : ℕ) (text : List ℕ) → length text ≤ most → IsUtf8 text → ¬ (Contains text 0) → IsText most text
 text_is most text within utf8 no_zero = record { within = within; utf8 = utf8; no_zero = no_zero }
 
 pub container_name_is : (name : List ℕ) → 0 < length name → IsText 256 name → IsContainerName name
 container_name_is name filled text = record { filled = filled; within = text.within; text = text.utf8; no_zero = text.no_zero }
-
--- a name that the tests ask a store for
-pub photos_fits : IsContainerName (codes "photos")
-photos_fits = tested_name _ (lit< tt) (lit≤ tt) refl
-
--- ---- accounts of the tests
-
--- one container more, with one object
-pub one_more_ordered : (account : Account) (x : Container) (s : Stored) → x.objects ≡ [] ++ s ∷ [] → IsOrdered account → IsOrdered (record { containers = placed (λ c. c.name) x account.containers })
-one_more_ordered account x s is h = both _ _
-    (ascends_placed (λ c. c.name) x account.containers (first_of_two _ _ h))
-    (all_placed (λ c. c.name) (λ c. ascends (map (λ o. o.name) c.objects)) x account.containers (ap (λ l. ascends (map (λ o. o.name) l)) is) (second_of_two _ _ h))
-
-pub one_more_sized : (account : Account) (x : Container) (s : Stored) → x.objects ≡ [] ++ s ∷ [] → size_of s.content < 2 ^ 63 → IsSized account → IsSized (record { containers = placed (λ c. c.name) x account.containers })
-one_more_sized account x s is small h = all_placed (λ c. c.name) (λ c. list_all is_sized_object c.objects) x account.containers (ap (list_all is_sized_object) is ∙ both _ _ (lt-ltb _ _ small) refl) h
-
--- an object that lists two segments
-pub two_segments : (segments : List Segment) (s t : Segment) (size : ℕ) → segments ≡ [] ++ s ∷ [] ++ t ∷ [] → s.size ≡ size → t.size ≡ size → size < 100 → size_of (Segments segments) < 2 ^ 63
-two_segments segments s t size is first second small = subst (λ l. size_of (Segments l) < 2 ^ 63) (sym is) (omega arith)

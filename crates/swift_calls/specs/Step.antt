@@ -1,15 +1,9 @@
 -- What each call answers, and the account that it leaves. Source: Object Storage API v1.
-use Rattle.std.specs.Prelude.{◌≡◌, ℕ, ◌<◌, ◌≤◌, Bool, true, false, ◌&&◌, nat_eq, nat_lt, List, [], map, length, take, All, Contains, IsUtf8, IsTrue, Option, None, Some, IfSome}
+use Rattle.std.specs.Prelude.{◌≡◌, ℕ, ◌<◌, ◌≤◌, Bool, true, false, ◌&&◌, nat_eq, List, [], map, length, take, Contains, IsUtf8, IsTrue, Option, None, Some, IfSome}
 use Rattle.std.specs.FinMap.{entries, get, insert, len, remove}
-use Rattle.std.proofs.Common.{arith, inl, inr}
-use Rattle.std.proofs.lemmas.Bool.{cases_Bool, ltb-true, ltb-false}
-use Rattle.std.specs.List.{list_all, filter, starts_with}
+use Rattle.std.specs.List.{filter, starts_with}
 use Rattle.std.specs.Ordering.{is_gt}
-use Rattle.std.proofs.lemmas.List.{get_or_past}
-use Rattle.std.proofs.lemmas.List.Sums.{AllPass-from_list_all}
-use Rattle.std.proofs.lemmas.Str.{IsUtf8-from_ascii}
 use Rattle.gate_base.specs.Maps.{adjust, name_cmp}
-use Rattle.gate_base.specs.Named.{first_of_two, second_of_two}
 use Rattle.swift_calls.specs.Tree.{Tree, File, Folder, look, put_file, remove_file, with_head, with_readers, new_folder}
 use Rattle.swift_calls.specs.Bodies.{Look, etag_of, bytes_of, ranged, head_of, item_of}
 use Rattle.swift_calls.specs.Limits.{IsObjectName, IsMark, IsLimit, IsRange, is_content_type, is_meta, most_body}
@@ -27,24 +21,6 @@ pub record IsContainerName (name : List ℕ) : Type 0 where
   pub within : length name ≤ 256
   pub text : IsUtf8 name
   pub no_zero : ¬ (Contains name 0)
-
--- a name of ASCII bytes is one
-pub ascii_name : (name : List ℕ) → 0 < length name → length name ≤ 256 → All (λ b. (0 < b) × (b < 128)) name → IsContainerName name
-ascii_name name filled within ascii = record {
-  filled = filled;
-  within = within;
-  text = IsUtf8-from_ascii name (λ i. elim (cases_Bool (nat_lt i (length name))) [
-    | inl is ↦ (ascii i 0 (ltb-true i (length name) is)).1
-    | inr not ↦ let e = get_or_past name i 0 (ltb-false i (length name) not) in omega arith
-  ]);
-  no_zero = λ (k, inside, e). let above = (ascii k 0 inside).0 in omega (arith, e, above);
-}
-
--- the same, where a test finds each byte so
-pub tested_name : (name : List ℕ) → 0 < length name → length name ≤ 256 → list_all (λ b. nat_lt 0 b && nat_lt b 128) name ≡ true → IsContainerName name
-tested_name name filled within tested =
-    let pass = AllPass-from_list_all (λ b. nat_lt 0 b && nat_lt b 128) name tested in
-    ascii_name name filled within (λ k d inside. (ltb-true 0 _ (first_of_two _ _ (pass k d inside)), ltb-true _ 128 (second_of_two _ _ (pass k d inside))))
 
 -- a moment up to the end of the year 9999, in seconds since the beginning of 1970
 abbrev pub IsMoment : ℕ → Type 0

@@ -1,4 +1,4 @@
-ghost use Rattle.std.specs.Prelude.{◌≡◌, ◌<◌, ◌≤◌, ℕ};
+ghost use Rattle.std.specs.Prelude.{◌≡◌, ◌<◌, ◌≤◌, ℕ, IfOk};
 ghost use Rattle.swift_calls.specs.Tree.{Tree};
 ghost use Rattle.swift_calls.specs.Step.{Fit};
 ghost use Rattle.swift_calls.specs.History.{budget, Counts, CountsFaults, Kept, Called};
@@ -102,44 +102,74 @@ impl Copying for SwiftRequest {
                 prefix,
                 marker,
                 limit,
-            } => Ok(SwiftRequest::ListNames {
-                container: container.copy()?,
-                prefix: prefix.copy()?,
-                marker: marker.copy()?,
-                limit: *limit,
-            }),
+            } => {
+                let container = container.copy()?;
+                let (prefix, marker) = copy_both(prefix, marker)?;
+                Ok(SwiftRequest::ListNames {
+                    container,
+                    prefix,
+                    marker,
+                    limit: *limit,
+                })
+            }
             SwiftRequest::PutObject {
                 container,
                 name,
                 content_type,
                 meta,
                 body,
-            } => Ok(SwiftRequest::PutObject {
-                container: container.copy()?,
-                name: name.copy()?,
-                content_type: content_type.copy()?,
-                meta: meta.copy()?,
-                body: body.copy()?,
-            }),
-            SwiftRequest::HeadObject { container, name } => Ok(SwiftRequest::HeadObject {
-                container: container.copy()?,
-                name: name.copy()?,
-            }),
+            } => copy_put(container, name, content_type, meta, body),
+            SwiftRequest::HeadObject { container, name } => {
+                let (container, name) = copy_both(container, name)?;
+                Ok(SwiftRequest::HeadObject { container, name })
+            }
             SwiftRequest::GetObject {
                 container,
                 name,
                 range,
-            } => Ok(SwiftRequest::GetObject {
-                container: container.copy()?,
-                name: name.copy()?,
-                range: *range,
-            }),
-            SwiftRequest::DeleteObject { container, name } => Ok(SwiftRequest::DeleteObject {
-                container: container.copy()?,
-                name: name.copy()?,
-            }),
+            } => {
+                let (container, name) = copy_both(container, name)?;
+                Ok(SwiftRequest::GetObject {
+                    container,
+                    name,
+                    range: *range,
+                })
+            }
+            SwiftRequest::DeleteObject { container, name } => {
+                let (container, name) = copy_both(container, name)?;
+                Ok(SwiftRequest::DeleteObject { container, name })
+            }
         }
     }
+}
+
+fn copy_both(first: &Bytes, second: &Bytes) -> Result<(Bytes, Bytes), Memory>
+    ensures { IfOk result (λ copies. copies ≡ record { 0 = first.now; 1 = second.now }) }
+{
+    let first = first.copy()?;
+    let second = second.copy()?;
+    Ok((first, second))
+}
+
+fn copy_put(
+    container: &Bytes,
+    name: &Bytes,
+    content_type: &Bytes,
+    meta: &List<Bytes>,
+    body: &Bytes,
+) -> Result<SwiftRequest, Memory>
+    ensures { IfOk result (λ copied. copied ≡ SwiftRequest.PutObject container.now name.now content_type.now meta.now body.now) }
+{
+    let meta = meta.copy()?;
+    let (container, name) = copy_both(container, name)?;
+    let (content_type, body) = copy_both(content_type, body)?;
+    Ok(SwiftRequest::PutObject {
+        container,
+        name,
+        content_type,
+        meta,
+        body,
+    })
 }
 
 /// What a store answers.

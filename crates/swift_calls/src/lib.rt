@@ -11,12 +11,8 @@ mod listing;
 mod memory;
 mod objects;
 mod replay;
-#[cfg(test)]
-mod rows;
 mod segments;
 mod serve;
-#[cfg(test)]
-mod tests;
 
 pub use account::{Account, Container, Content, ReadList, Stored};
 pub use calls::{Swift, SwiftFault, SwiftReply, SwiftRequest};

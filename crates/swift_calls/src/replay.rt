@@ -1,5 +1,6 @@
 //! A store in memory: its calls, and its accounts again.
-ghost use Rattle.std.specs.Prelude.{◌≡◌, ℕ, ◌<◌, ◌≤◌, ◌+◌, [], ◌∷◌, ◌++◌, length, take, IfOk, OnErr, OnOk, IsErrOf};
+ghost use Rattle.std.specs.Prelude.{◌≡◌, ℕ, ◌<◌, ◌≤◌, ◌+◌, [], ◌∷◌, ◌++◌, length, take, ◌&&◌, ◌==◌, nat_lt, nat_le, IfOk, OnErr, OnOk, IsErrOf};
+ghost use Rattle.std.specs.List.{list_any};
 ghost use Rattle.swift_calls.specs.Tree.{tree_of, IsOrdered, IsSized};
 ghost use Rattle.swift_calls.specs.Step.{Fit, swift_step};
 ghost use Rattle.swift_calls.specs.History.{Counts, CountsFaults, Kept, Called};
@@ -82,14 +83,8 @@ impl MemSwift {
     fn outcome(&self, number: u64) -> Outcome
         ensures { result ≡ planned self.now number }
     {
-        let stopped = 0 < self.stop && self.stop <= number;
-        if self.before.as_slice().contains(&number) || stopped {
-            Outcome::LostBefore
-        } else if self.after.as_slice().contains(&number) {
-            Outcome::LostAfter
-        } else {
-            Outcome::Answered
-        }
+        let before = self.before.as_slice();
+        outcome_at(before, self.after.as_slice(), self.stop, number)
     }
 
     /// Makes a call and records it. For want of memory all is as it was.
@@ -113,6 +108,32 @@ impl MemSwift {
             None => Err(SwiftFault::Failed),
         }
     }
+}
+
+/// How the call of a number goes, by what a store was told of its calls.
+fn outcome_at(before: &[u64], after: &[u64], stop: u64, number: u64) -> Outcome
+    ensures { result ≡ outcome_at before.now after.now stop number }
+{
+    if is_among(number, before) || is_stopped(stop, number) {
+        Outcome::LostBefore
+    } else if is_among(number, after) {
+        Outcome::LostAfter
+    } else {
+        Outcome::Answered
+    }
+}
+
+fn is_among(number: u64, numbers: &[u64]) -> bool
+    ensures { result ≡ list_any (λ k. k == number) numbers.now }
+{
+    numbers.iter().any(|k| *k == number)
+}
+
+/// Whether each call fails from the number on, where 0 stops none.
+fn is_stopped(stop: u64, number: u64) -> bool
+    ensures { result ≡ nat_lt 0 stop && nat_le stop number }
+{
+    0 < stop && stop <= number
 }
 
 impl Entry {

@@ -16,6 +16,3 @@ pub use laws::{
 };
 pub use packs::{pack, unpack};
 pub use tag::Tag;
-
-#[cfg(test)]
-mod tests;

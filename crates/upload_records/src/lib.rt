@@ -3,8 +3,6 @@
 
 mod laws;
 mod marks;
-#[cfg(test)]
-mod tests;
 
 pub use laws::{
     law_bucket_made, law_bucket_there, law_empty_sound, law_object_found, law_object_gone,
