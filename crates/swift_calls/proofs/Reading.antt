@@ -3,7 +3,7 @@ use Rattle.std.specs.Prelude.{◌≡◌, ℕ, true, Option, None, Some, Result, 
 use Rattle.std.proofs.Common.{refl, sym, ap, ◌∙◌, inl, inr, true≢false}
 use Rattle.swift_calls.specs.Tree.{Tree, Folder}
 use Rattle.swift_calls.specs.Step.{swift_step, head_container, only_reads}
-use Rattle.swift_calls.specs.History.{Called, Either}
+use Rattle.swift_calls.specs.History.{History, Called, Either}
 use Rattle.swift_calls.specs.declared.calls.SwiftRequest.{SwiftRequest}
 use Rattle.swift_calls.specs.declared.calls.SwiftRequest.TheVariants.{ListContainers, HeadContainer, PutContainer, PostContainer, DeleteContainer, ListNames, PutObject, HeadObject, GetObject, DeleteObject}
 use Rattle.swift_calls.specs.declared.calls.SwiftReply.{SwiftReply}
@@ -26,13 +26,13 @@ reads_leave (HeadObject c n) tree is = refl
 reads_leave (GetObject c n range) tree is = refl
 reads_leave (DeleteObject c n) tree is = absurd (true≢false (sym is))
 
-either_keeps : (at : ℕ → Tree) (p q : ℕ) (request : SwiftRequest) → only_reads request ≡ true → Either at p q request → at q ≡ at p
-either_keeps at p q request is (inl same) = same
-either_keeps at p q request is (inr done) = done ∙ reads_leave request (at p) is
+either_keeps : (h : History) (p q : ℕ) (request : SwiftRequest) → only_reads request ≡ true → Either h p q request → h.tree_at q ≡ h.tree_at p
+either_keeps h p q request is (inl same) = same
+either_keeps h p q request is (inr done) = done ∙ reads_leave request (h.tree_at p) is
 
-pub reads_keep : (at : ℕ → Tree) (faults : ℕ → ℕ) (p q : ℕ) (request : SwiftRequest) (result : Result SwiftReply SwiftFault) → only_reads request ≡ true → Called at faults p q request result → at q ≡ at p
-reads_keep at faults p q request (Ok reply) is called = called.tree ∙ reads_leave request (at p) is
-reads_keep at faults p q request (Err Failed) is (inl lost) = either_keeps at p q request is lost.either
-reads_keep at faults p q request (Err Failed) is (inr spent) = ap at spent.1
-reads_keep at faults p q request (Err Memory) is (inl unread) = either_keeps at p q request is unread.either
-reads_keep at faults p q request (Err Memory) is (inr same) = ap at same
+pub reads_keep : (h : History) (p q : ℕ) (request : SwiftRequest) (result : Result SwiftReply SwiftFault) → only_reads request ≡ true → Called h p q request result → h.tree_at q ≡ h.tree_at p
+reads_keep h p q request (Ok reply) is called = called.tree ∙ reads_leave request (h.tree_at p) is
+reads_keep h p q request (Err Failed) is (inl lost) = either_keeps h p q request is lost.either
+reads_keep h p q request (Err Failed) is (inr spent) = ap h.tree_at spent.1
+reads_keep h p q request (Err Memory) is (inl unread) = either_keeps h p q request is unread.either
+reads_keep h p q request (Err Memory) is (inr same) = ap h.tree_at same

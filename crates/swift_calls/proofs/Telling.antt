@@ -7,7 +7,7 @@ use Rattle.std.proofs.lemmas.List.Sums.{sum_by_push}
 use Rattle.gate_base.specs.Causes.{Rose}
 use Rattle.swift_calls.specs.Tree.{tree_of}
 use Rattle.swift_calls.specs.Step.{swift_step}
-use Rattle.swift_calls.specs.History.{Called}
+use Rattle.swift_calls.specs.History.{History, Called}
 use Rattle.swift_calls.specs.Replay.{left_by, replayed, is_lost, failures, Logs, Goes}
 use Rattle.swift_calls.specs.declared.account.Account.{Account}
 use Rattle.swift_calls.specs.declared.calls.SwiftRequest.{SwiftRequest}
@@ -64,8 +64,12 @@ rose_by : (lost : Bool) (n m : ℕ) → lost ≡ true → m ≡ n + cond lost 1 
 rose_by true n m is e = omega arith
 rose_by false n m is e = absurd (true≢false (sym is))
 
+-- the history of a store that began with this account, by the record of its calls
+abbrev told_by : Account → List Entry → History
+told_by first log = record { tells = true; called = length log; faults = failures log; tree_at = λ k. tree_of (account_at first log k); faults_at = λ k. failures (take k log) }
+
 abbrev TellsOf : Account → SwiftRequest → List Entry → List Entry → Result SwiftReply SwiftFault → Type 0
-TellsOf first request old new result = Called (λ k. tree_of (account_at first new k)) (λ k. failures (take k new)) (length old) (length new) request result
+TellsOf first request old new result = Called (told_by first new) (length old) (length new) request result
 
 answered : (first : Account) (request : SwiftRequest) (outcome : Outcome) (reply : SwiftReply) (old : List Entry) → outcome ≡ Answered → reply ≡ (swift_step request (tree_of (account_at first old (length old)))).reply → TellsOf first request old (logged old request outcome) (Ok reply)
 answered first request outcome reply old is replies =

@@ -2,7 +2,7 @@
 use Rattle.std.specs.Prelude.{◌≡◌, ℕ, true, Result}
 use Rattle.swift_calls.specs.Tree.{Tree}
 use Rattle.swift_calls.specs.Step.{swift_step, only_reads}
-use Rattle.swift_calls.specs.History.{Called}
+use Rattle.swift_calls.specs.History.{History, Called}
 use Rattle.swift_calls.specs.declared.calls.SwiftRequest.{SwiftRequest}
 use Rattle.swift_calls.specs.declared.calls.SwiftReply.{SwiftReply}
 use Rattle.swift_calls.specs.declared.calls.SwiftFault.{SwiftFault}
@@ -13,5 +13,5 @@ ReadsLeave = (request : SwiftRequest) (tree : Tree) → only_reads request ≡ t
 
 -- and so it does in each history, whatever came of it
 abbrev pub ReadsKeep : Type 0
-ReadsKeep = (at : ℕ → Tree) (faults : ℕ → ℕ) (p q : ℕ) (request : SwiftRequest) (result : Result SwiftReply SwiftFault)
-    → only_reads request ≡ true → Called at faults p q request result → at q ≡ at p
+ReadsKeep = (h : History) (p q : ℕ) (request : SwiftRequest) (result : Result SwiftReply SwiftFault)
+    → only_reads request ≡ true → Called h p q request result → h.tree_at q ≡ h.tree_at p

@@ -1,9 +1,10 @@
 -- What a store in memory tells of itself.
-use Rattle.std.specs.Prelude.{◌≡◌, ◌≤◌, ℕ, List, length, take}
+use Rattle.std.specs.Prelude.{◌≡◌, ◌≤◌, ℕ, true, List, length, take}
 use Rattle.std.proofs.Common.{ap, subst}
 use Rattle.std.proofs.lemmas.List.{take-take}
 use Rattle.std.proofs.lemmas.List.Sums.{sum_by-take-le}
 use Rattle.std.proofs.Math.Seq.{take-length}
+use Rattle.swift_calls.specs.History.{History, IsHistory}
 use Rattle.swift_calls.specs.Tree.{Tree, tree_of}
 use Rattle.swift_calls.specs.Replay.{outcome_at, replayed, failures}
 use Rattle.swift_calls.specs.declared.account.Account.{Account}
@@ -27,6 +28,10 @@ tree_after m k = tree_of (account_after m k)
 abbrev pub faults_after : MemSwift → ℕ → ℕ
 faults_after m k = failures (take k m.log.items)
 
+-- what it counts and tells
+abbrev pub history_of : MemSwift → History
+history_of m = record { tells = true; called = calls_of m; faults = failures m.log.items; tree_at = tree_after m; faults_at = faults_after m }
+
 -- how the call of a number goes
 abbrev pub planned : MemSwift → ℕ → Outcome
 planned m number = outcome_at m.before m.after m.stop number
@@ -47,3 +52,6 @@ pub failures_rise : (m : MemSwift) (j k : ℕ) → j ≤ k → faults_after m j 
 failures_rise m j k order =
     let P : List Entry → Type 0 = λ entries. failures entries ≤ faults_after m k in
     subst P (take-take j k m.log.items order) (sum_by-take-le _ (take k m.log.items) j)
+
+pub mem_is_history : (m : MemSwift) → IsHistory (history_of m)
+mem_is_history m = record { last = λ tells left. failures_of_all m; rise = λ tells j k order within. failures_rise m j k order }

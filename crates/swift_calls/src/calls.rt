@@ -1,7 +1,6 @@
-ghost use Rattle.std.specs.Prelude.{◌≡◌, ◌<◌, ◌≤◌, ℕ, IfOk};
-ghost use Rattle.swift_calls.specs.Tree.{Tree};
+ghost use Rattle.std.specs.Prelude.{◌≡◌, IfOk};
 ghost use Rattle.swift_calls.specs.Step.{Fit};
-ghost use Rattle.swift_calls.specs.History.{budget, Counts, CountsFaults, Kept, Called};
+ghost use Rattle.swift_calls.specs.History.{History, Calls, IsHistory};
 ghost use Rattle.swift_calls.specs.declared.calls.SwiftFault.TheVariants as fault;
 
 use crate::{NameItem, ReadList, StoredHead};
@@ -286,15 +285,8 @@ impl<T: Drop> From<AllocFailed<T>> for SwiftFault {
 /// A Swift store. It takes 2^63 calls and counts them. Where it tells its contents, it tells the account and the
 /// count of faults as they stood after each call that it has counted.
 pub trait Swift: Counted {
-    ghost tells: { Self → Type 0 };
-
-    ghost faults: { Self → ℕ };
-
-    /// The account after so many calls, up to the number called, where the store tells.
-    ghost tree_at: { Self → ℕ → Tree };
-
-    /// The count of faults after so many calls, up to the number called, where the store tells.
-    ghost faults_at: { Self → ℕ → ℕ };
+    /// What the store counts, and where it tells, the account and the count of faults after each number of calls.
+    ghost history: { Self → History };
 
     /// Makes one call. Ok is the store's answer, and the account is as the call leaves it. Failed comes only with a
     /// higher count of faults: the call had no effect or its whole effect, or no call was left and nothing
@@ -302,31 +294,22 @@ pub trait Swift: Counted {
     /// the call was made, which is then not counted.
     fn call(&mut self, request: &SwiftRequest) -> Result<SwiftReply, SwiftFault>
         requires { Fit request.now }
-        ensures calls { Counts (Self.called self.old) (Self.called self.new) result }
-        ensures faults { CountsFaults (faults self.old) (faults self.new) result }
-        ensures tells { tells self.old → tells self.new }
-        ensures kept { tells self.old → Kept (Self.called self.old) (tree_at self.old) (tree_at self.new) (faults_at self.old) (faults_at self.new) }
-        ensures told { tells self.old → Called (tree_at self.new) (faults_at self.new) (Self.called self.old) (Self.called self.new) request.now result };
+        ensures { Calls (history self.old) (history self.new) request.now result };
 
-    /// While calls are left, the count after the calls made is the count of faults itself.
-    ghost counts_match: { (store : Self) → tells store → Self.called store < budget → faults_at store (Self.called store) ≡ faults store };
+    /// The calls of the history are those that are counted.
+    ghost counted: { (store : Self) → (history store).called ≡ Self.called store };
 
-    /// From call to call the count of faults never falls.
-    ghost faults_rise: { (store : Self) → tells store → (j k : ℕ) → j ≤ k → k ≤ Self.called store → faults_at store j ≤ faults_at store k };
+    /// While calls are left, the last count of the history is the count of faults itself, and from call to call it
+    /// never falls.
+    ghost is_history: { (store : Self) → IsHistory (history store) };
 }
 
 impl<W: Swift> Swift for &mut W {
-    ghost tells = { λ s. W.tells s.now };
+    ghost history = { λ s. W.history s.now };
 
-    ghost faults = { λ s. W.faults s.now };
+    ghost counted = { λ store. W.counted store.now };
 
-    ghost tree_at = { λ s. W.tree_at s.now };
-
-    ghost faults_at = { λ s. W.faults_at s.now };
-
-    ghost counts_match = { λ store tells left. W.counts_match store.now tells left };
-
-    ghost faults_rise = { λ store tells j k order within. W.faults_rise store.now tells j k order within };
+    ghost is_history = { λ store. W.is_history store.now };
 
     fn call(&mut self, request: &SwiftRequest) -> Result<SwiftReply, SwiftFault> {
         (**self).call(request)

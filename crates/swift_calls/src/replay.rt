@@ -1,12 +1,11 @@
 //! A store in memory: its calls, and its accounts again.
-ghost use Rattle.std.specs.Prelude.{◌≡◌, ℕ, ◌<◌, ◌≤◌, ◌+◌, [], ◌∷◌, ◌++◌, length, take, ◌&&◌, ◌==◌, nat_lt, nat_le, IfOk, OnErr, OnOk, IsErrOf};
+ghost use Rattle.std.specs.Prelude.{◌≡◌, ℕ, ◌≤◌, ◌+◌, ◌&&◌, ◌==◌, nat_lt, nat_le, refl, IfOk, OnErr, OnOk, IsErrOf};
 ghost use Rattle.std.specs.List.{list_any};
 ghost use Rattle.swift_calls.specs.Tree.{tree_of, IsOrdered, IsSized};
 ghost use Rattle.swift_calls.specs.Step.{Fit, swift_step};
-ghost use Rattle.swift_calls.specs.History.{Counts, CountsFaults, Kept, Called};
-ghost use Rattle.swift_calls.specs.Lists.{served};
-ghost use Rattle.swift_calls.specs.Replay.{outcome_at, left_by, reply_by, replayed, failures, Goes, Logs};
-ghost use Rattle.swift_calls.specs.MemSwift.{calls_of, account_after, tree_after, faults_after, planned, SamePlan, failures_of_all, failures_rise};
+ghost use Rattle.swift_calls.specs.History.{Calls};
+ghost use Rattle.swift_calls.specs.Replay.{outcome_at, left_by, reply_by, Goes, Logs};
+ghost use Rattle.swift_calls.specs.MemSwift.{calls_of, account_after, faults_after, history_of, planned, SamePlan, mem_is_history};
 
 use crate::memory::Entry;
 use crate::serve::serve;
@@ -168,24 +167,15 @@ impl Counted for MemSwift {
 /// A call goes as its number was told to. For want of memory it is not counted and changes nothing, so the next
 /// call has its number.
 impl Swift for MemSwift {
-    ghost tells = { λ _. Unit {0} };
+    ghost history = { history_of };
 
-    ghost faults = { λ m. failures m.log.items };
+    ghost counted = { λ m. refl };
 
-    ghost tree_at = { tree_after };
-
-    ghost faults_at = { faults_after };
-
-    ghost counts_match = { λ m tells left. failures_of_all m };
-
-    ghost faults_rise = { λ m tells j k order within. failures_rise m j k order };
+    ghost is_history = { mem_is_history };
 
     fn call(&mut self, request: &SwiftRequest) -> Result<SwiftReply, SwiftFault>
         requires { Fit request.now }
-        ensures calls { Counts (calls_of self.old) (calls_of self.new) result }
-        ensures faults { CountsFaults (failures self.old.log.items) (failures self.new.log.items) result }
-        ensures kept { Kept (calls_of self.old) (tree_after self.old) (tree_after self.new) (faults_after self.old) (faults_after self.new) }
-        ensures told { Called (tree_after self.new) (faults_after self.new) (calls_of self.old) (calls_of self.new) request.now result }
+        ensures calls { Calls (history_of self.old) (history_of self.new) request.now result }
         ensures plan { SamePlan self.old self.new }
         ensures exact { Goes (planned self.old (calls_of self.old + 1)) request.now result (account_after self.old (calls_of self.old)) (account_after self.new (calls_of self.new)) }
         ensures memory { IsErrOf result SwiftFault.Memory → calls_of self.new ≡ calls_of self.old }

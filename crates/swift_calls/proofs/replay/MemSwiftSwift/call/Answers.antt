@@ -1,13 +1,20 @@
-use Rattle.std.proofs.Common.{◌+◌}
+use Rattle.std.proofs.Common.{◌+◌, arith}
+use Rattle.std.proofs.lemmas.Grind.{common_steps}
 use Rattle.swift_calls.specs.MemSwift.{calls_of, planned}
 use Rattle.swift_calls.proofs.Telling.{goes_by, called_by}
 use Rattle.swift_calls.proofs.replay.MemSwiftSwift.call.Goals as goal
 
-pub returns-clause-told : goal.returns-clause-told
-returns-clause-told c =
+pub returns-clause-calls : goal.returns-clause-calls
+returns-clause-calls c =
     let old = c.args.self.now in
     let new = c.make.new.self in
-    called_by old.first new.first c.make.ensures.plan.first c.args.request.now (planned old (calls_of old + 1)) c.make.result old.log.items new.log.items old.present c.make.ensures.logs old.replays c.make.ensures.reply
+    record {
+      counts = grind (arith, common_steps);
+      faults = grind (arith, common_steps);
+      tells = λ tells. tells;
+      kept = λ tells. grind (arith, common_steps);
+      told = λ tells. called_by old.first new.first c.make.ensures.plan.first c.args.request.now (planned old (calls_of old + 1)) c.make.result old.log.items new.log.items old.present c.make.ensures.logs old.replays c.make.ensures.reply;
+    }
 
 pub returns-clause-exact : goal.returns-clause-exact
 returns-clause-exact c =
