@@ -1,5 +1,5 @@
 -- The moment of a tag has a date.
-use Rattle.std.specs.Prelude.{◌≡◌, ◌<◌, ◌&&◌, ℕ, true, nat_lt, List, Option, Some}
+use Rattle.std.specs.Prelude.{◌≡◌, ◌<◌, ◌&&◌, ℕ, true, nat_lt, List, Some}
 use Rattle.std.proofs.lemmas.Bool.{and_parts, ltb-true}
 use Rattle.gate_base.specs.Told.{moment_limit}
 use Rattle.swift_marks.specs.declared.tag.Tag.{Tag}

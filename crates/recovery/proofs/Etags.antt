@@ -1,5 +1,5 @@
 -- The ETag of a body is one that a tag can have, and the one that a store gives of the body.
-use Rattle.std.proofs.Common.{◌≡◌, ℕ, zero, suc, ◌<◌, ◌+◌, ◌*◌, ◌/◌, ◌%◌, Bool, true, ◌&&◌, List, [], ◌∷◌, ◌++◌, length, get_or, nat_lt, refl, sym, ap, ◌∙◌, arith}
+use Rattle.std.proofs.Common.{◌≡◌, ℕ, zero, suc, ◌<◌, ◌*◌, ◌/◌, ◌%◌, Bool, true, List, [], ◌∷◌, length, get_or, nat_lt, refl, ap, ◌∙◌, arith}
 use Rattle.std.specs.Int.{w32, to_le_bytes, bytes_low_first, byte_at}
 use Rattle.std.specs.List.{list_all}
 use Rattle.std.proofs.lemmas.Bool.{and_from, and_parts, ltb-true}

@@ -1,10 +1,10 @@
 -- What the calls on an object's file tell of the object, and do to it.
 use Rattle.std.proofs.lemmas.Bool.{and_from, le-leb}
-use Rattle.std.specs.Prelude.{◌≡◌, ◌<◌, ◌≤◌, ℕ, ◌&&◌, cond, nat_le, List, length, bytes_eq, true, Option, Some, None, Result, Ok, Err, is_some}
+use Rattle.std.specs.Prelude.{◌≡◌, ◌<◌, ◌≤◌, ℕ, ◌&&◌, cond, nat_le, List, length, bytes_eq, true, Option, Some, None, Ok, Err, is_some}
 use Rattle.std.specs.Option.{option_map}
-use Rattle.std.specs.FinMap.{get, insert, remove}
+use Rattle.std.specs.FinMap.{get}
 use Rattle.std.proofs.Common.{refl, sym, ap, subst, ◌∙◌, arith}
-use Rattle.gate_base.specs.Maps.{adjust, by_name, adjust_stays, remove_missing, some_value}
+use Rattle.gate_base.specs.Maps.{by_name, adjust_stays, remove_missing, some_value}
 use Rattle.gate_base.specs.Told.{moment_limit}
 use Rattle.gate_base.specs.declared.page.Pair.{Pair}
 use Rattle.s3_names.specs.Bucket.{is_bucket}
@@ -14,10 +14,9 @@ use Rattle.s3_names.specs.declared.acl.Acl.{Acl}
 use Rattle.s3_machine.specs.declared.operation.ObjectHead.{ObjectHead}
 use Rattle.s3_machine.specs.ETag.{body_etag}
 use Rattle.s3_machine.specs.Limits.{most_body_bytes}
-use Rattle.s3_machine.specs.State.{Object, Bucket, State}
 use Rattle.s3_machine.specs.Step.{IsProperContent, head_of, drop_object}
 use Rattle.swift_calls.specs.declared.account.Content.TheVariants.{Plain}
-use Rattle.swift_calls.specs.Tree.{File, Folder, Tree, look, put_file, remove_file}
+use Rattle.swift_calls.specs.Tree.{File, Folder, Tree, look, put_file}
 use Rattle.swift_calls.specs.Bodies.{bytes_of, etag_text}
 use Rattle.swift_calls.specs.Bodies as bodies
 use Rattle.swift_calls.specs.Step.{Answer, swift_step, head_reply, get_reply, body_reply, delete_object}
@@ -33,25 +32,19 @@ use Rattle.upload_records.specs.Native.{native}
 use Rattle.upload_records.specs.Sound.{Sound, IsPlainObject, IsStored}
 use Rattle.upload_records.specs.BucketLaws.{native_there}
 use Rattle.upload_records.specs.ObjectLaws.{FindsObject, object_at, object_in, found, native_put, native_removed, sound_put, sound_removed}
-use Rattle.recovery.specs.Calls.{TellsBucket, TellsObject, TellsBytes, acl_of_bucket, bytes_in, puts_object, drops_object}
+use Rattle.recovery.specs.Calls.{TellsBucket, TellsObject, TellsBytes, acl_of_bucket, bytes_in, Any, HasBucket, puts_object, drops_object}
 use Rattle.recovery.specs.declared.fault.PlanFault.TheVariants.{Inconsistent}
 use Rattle.recovery.specs.Due.{known, head_by, head_due, bytes_due, stored_due, gone_due, plain_tag, put_of}
 use Rattle.recovery.proofs.Etags.{etag_agrees}
 use Rattle.recovery.proofs.Fits.{has_a_pack, tag_has_text}
 use Rattle.recovery.proofs.Names.{object_name}
-use Rattle.recovery.proofs.One.{Leaves, Changes}
+use Rattle.recovery.proofs.One.{IsReading, Effect, IsWriting}
 
 -- ---- HEAD and GET
 
 -- bytes that are no more than a body may have agree with their own tag
 plain_agrees : (body : List ℕ) → length body ≤ most_body_bytes → bytes_eq (etag_text body) (body_etag body) && nat_le (length body) most_body_bytes ≡ true
 plain_agrees body sized = and_from _ _ (etag_agrees body) (le-leb (length body) most_body_bytes sized)
-
-pub head_leaves : (container name : List ℕ) → Leaves (HeadObject container name)
-head_leaves container name = record { same = λ tree. refl }
-
-pub get_leaves : (container name : List ℕ) → Leaves (GetObject container name None)
-get_leaves container name = record { same = λ tree. refl }
 
 module _ (tree : Tree) (bucket key : List ℕ) where
   head_told_by : (o : Option File) → FindsObject tree bucket key o → (reply : SwiftReply) → reply ≡ head_reply o
@@ -78,11 +71,26 @@ module _ (tree : Tree) (container name bucket key : List ℕ) (named : container
   same_file : look tree container name ≡ look tree bucket key
   same_file = λ i. look tree (named i) (under i)
 
-  pub head_tells : (reply : SwiftReply) → reply ≡ (swift_step (HeadObject container name) tree).reply → (told : Option ObjectHead) × (head_due reply ≡ Ok told) × TellsObject bucket key (native tree) told
+  head_tells : (reply : SwiftReply) → reply ≡ (swift_step (HeadObject container name) tree).reply → (told : Option ObjectHead) × (head_due reply ≡ Ok told) × TellsObject bucket key (native tree) told
   head_tells reply replied = head_told_by tree bucket key (look tree bucket key) (found tree bucket key is sound) reply (replied ∙ ap head_reply same_file)
 
-  pub get_tells : (reply : SwiftReply) → reply ≡ (swift_step (GetObject container name None) tree).reply → (told : Option (List ℕ)) × (bytes_due reply ≡ Ok told) × TellsBytes bucket key (native tree) told
+  get_tells : (reply : SwiftReply) → reply ≡ (swift_step (GetObject container name None) tree).reply → (told : Option (List ℕ)) × (bytes_due reply ≡ Ok told) × TellsBytes bucket key (native tree) told
   get_tells reply replied = bytes_told_by tree bucket key (look tree bucket key) (found tree bucket key is sound) reply (replied ∙ ap (get_reply (look tree) None) same_file)
+
+module _ {container name bucket key : List ℕ} (named : container ≡ bucket) (under : name ≡ key) (is : is_bucket bucket ≡ true) where
+  -- HEAD of an object's file tells of its head
+  pub head_reads : IsReading (HeadObject container name) head_due (TellsObject bucket key)
+  head_reads = record {
+    leaves = λ tree. refl;
+    tells = λ tree sound reply replied. head_tells tree container name bucket key named under is sound reply replied;
+  }
+
+  -- GET of it tells of its bytes
+  pub get_reads : IsReading (GetObject container name None) bytes_due (TellsBytes bucket key)
+  get_reads = record {
+    leaves = λ tree. refl;
+    tells = λ tree sound reply replied. get_tells tree container name bucket key named under is sound reply replied;
+  }
 
 -- ---- PUT
 
@@ -138,8 +146,8 @@ module _ (tree : Tree) (request : SwiftRequest) (bucket key content_type : List 
   answered = ap (λ r. swift_step r tree) put.same ∙ ap (λ o. store.put_object o bucket key (file_put content_type meta body moment) tree) there.1
 
   -- the object is put
-  pub put_changes : Changes tree request (puts_object bucket key content_type meta body moment)
-  put_changes =
+  put_effect : Effect tree request (puts_object bucket key content_type meta body moment)
+  put_effect =
       let new_tree : (swift_step request tree).tree ≡ put_file bucket key (file_put content_type meta body moment) tree = ap (λ (a : Answer). a.tree) answered in
       record {
         sound = sound;
@@ -148,8 +156,16 @@ module _ (tree : Tree) (request : SwiftRequest) (bucket key content_type : List 
       }
 
   -- and the store says so
-  pub put_is_due : (reply : SwiftReply) → reply ≡ (swift_step request tree).reply → stored_due (body_etag body) reply ≡ Ok tt
+  put_is_due : (reply : SwiftReply) → reply ≡ (swift_step request tree).reply → stored_due (body_etag body) reply ≡ Ok tt
   put_is_due reply replied = ap (stored_due (body_etag body)) (replied ∙ ap (λ (a : Answer). a.reply) answered) ∙ ap (λ t. cond t (Ok tt) (Err Inconsistent)) (etag_agrees body)
+
+-- PUT of an object's file puts the object, into a bucket that is there
+pub puts : {request : SwiftRequest} {bucket key content_type : List ℕ} {meta : List Pair} {body : List ℕ} {moment : ℕ} → IsPutOf request bucket key content_type meta body moment
+    → IsWriting request (stored_due (body_etag body)) (HasBucket bucket) (puts_object bucket key content_type meta body moment)
+puts {request = request} {bucket = bucket} {key = key} {content_type = content_type} {meta = meta} {body = body} {moment = moment} put = record {
+  effect = λ tree sound has. put_effect tree request bucket key content_type meta body moment put sound has.0 has.1;
+  says = λ tree sound has reply replied. put_is_due tree request bucket key content_type meta body moment put sound has.0 has.1 reply replied;
+}
 
 -- ---- DELETE
 
@@ -171,8 +187,8 @@ module _ (tree : Tree) (container name bucket key : List ℕ) (named : container
   deleted : swift_step (DeleteObject container name) tree ≡ delete_object (look tree bucket key) bucket key tree
   deleted = λ i. delete_object (look tree (named i) (under i)) (named i) (under i) tree
 
-  pub delete_changes : Changes tree (DeleteObject container name) (drops_object bucket key)
-  delete_changes =
+  delete_effect : Effect tree (DeleteObject container name) (drops_object bucket key)
+  delete_effect =
       let both = deleted_by tree bucket key is sound (look tree bucket key) (found tree bucket key is sound) in
       record {
         sound = sound;
@@ -180,5 +196,12 @@ module _ (tree : Tree) (container name bucket key : List ℕ) (named : container
         state = ap (λ (a : Answer). native a.tree) deleted ∙ both.1;
       }
 
-  pub delete_is_due : (reply : SwiftReply) → reply ≡ (swift_step (DeleteObject container name) tree).reply → gone_due reply ≡ Ok tt
+  delete_is_due : (reply : SwiftReply) → reply ≡ (swift_step (DeleteObject container name) tree).reply → gone_due reply ≡ Ok tt
   delete_is_due reply replied = ap gone_due (replied ∙ ap (λ (a : Answer). a.reply) deleted) ∙ gone_by tree bucket key (look tree bucket key)
+
+-- DELETE of an object's file deletes the object
+pub deletes : {container name bucket key : List ℕ} → container ≡ bucket → name ≡ key → is_bucket bucket ≡ true → IsWriting (DeleteObject container name) gone_due Any (drops_object bucket key)
+deletes {container = container} {name = name} {bucket = bucket} {key = key} named under is = record {
+  effect = λ tree sound any. delete_effect tree container name bucket key named under is sound;
+  says = λ tree sound any reply replied. delete_is_due tree container name bucket key named under is sound reply replied;
+}

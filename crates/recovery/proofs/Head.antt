@@ -1,5 +1,5 @@
 -- What HEAD of a bucket's container tells of the bucket.
-use Rattle.std.specs.Prelude.{◌≡◌, ℕ, List, true, Option, Some, None, Result, Ok}
+use Rattle.std.specs.Prelude.{◌≡◌, ℕ, List, true, Option, Some, None, Ok}
 use Rattle.std.specs.Option.{option_map}
 use Rattle.std.specs.FinMap.{get}
 use Rattle.std.proofs.Common.{refl, sym, ap, ◌∙◌}
@@ -15,14 +15,11 @@ use Rattle.upload_records.specs.Sound.{Sound, head_of}
 use Rattle.upload_records.specs.BucketLaws.{acl_of_folder, native_acl}
 use Rattle.recovery.specs.Calls.{TellsBucket}
 use Rattle.recovery.specs.Due.{bucket_due}
-use Rattle.recovery.proofs.One.{Leaves}
+use Rattle.recovery.proofs.One.{IsReading}
 
 leaves_by : (o : Option Folder) (tree : Tree) → (head_container o tree).tree ≡ tree
 leaves_by None tree = refl
 leaves_by (Some folder) tree = refl
-
-pub head_leaves : (name : List ℕ) → Leaves (HeadContainer name)
-head_leaves name = record { same = λ tree. leaves_by (get tree name) tree }
 
 -- a container that is there has a moment
 abbrev IsTimed : Option Folder → Type 0
@@ -37,10 +34,17 @@ due_by : (o : Option Folder) (tree : Tree) (reply : SwiftReply) → IsTimed o �
 due_by None tree reply timed e = ap bucket_due e
 due_by (Some folder) tree reply timed e = ap bucket_due e ∙ ap (λ created. bucket_due (Readers folder.readers created)) timed.1
 
-pub head_tells : (tree : Tree) (name bucket : List ℕ) → name ≡ bucket → is_bucket bucket ≡ true → Sound tree → (reply : SwiftReply) → reply ≡ (swift_step (HeadContainer name) tree).reply
+head_tells : (tree : Tree) (name bucket : List ℕ) → name ≡ bucket → is_bucket bucket ≡ true → Sound tree → (reply : SwiftReply) → reply ≡ (swift_step (HeadContainer name) tree).reply
     → (told : Option Acl) × (bucket_due reply ≡ Ok told) × TellsBucket bucket (native tree) told
 head_tells tree name bucket named is sound reply replied = (
   option_map acl_of_folder (get tree name),
   due_by (get tree name) tree reply (timed_by tree bucket is sound (get tree name) (ap (get tree) (sym named))) replied,
   native_acl tree bucket is ∙ ap (λ n. option_map acl_of_folder (get tree n)) (sym named),
 )
+
+-- HEAD of a bucket's container tells who may read the bucket
+pub head_reads : {name bucket : List ℕ} → name ≡ bucket → is_bucket bucket ≡ true → IsReading (HeadContainer name) bucket_due (TellsBucket bucket)
+head_reads {name = name} {bucket = bucket} named is = record {
+  leaves = λ tree. leaves_by (get tree name) tree;
+  tells = λ tree sound reply replied. head_tells tree name bucket named is sound reply replied;
+}

@@ -1,3 +1,4 @@
+pub mod Calm
 pub mod Causes
 pub mod Dates
 pub mod Etags

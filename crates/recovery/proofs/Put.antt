@@ -15,9 +15,9 @@ use Rattle.upload_records.specs.Marks.{readers_of}
 use Rattle.upload_records.specs.Native.{native}
 use Rattle.upload_records.specs.Sound.{Sound}
 use Rattle.upload_records.specs.BucketLaws.{native_there, native_made, sound_made}
-use Rattle.recovery.specs.Calls.{makes_bucket}
+use Rattle.recovery.specs.Calls.{LacksBucket, makes_bucket}
 use Rattle.recovery.specs.Due.{made_due}
-use Rattle.recovery.proofs.One.{Changes}
+use Rattle.recovery.proofs.One.{Effect, IsWriting}
 
 -- the request, for the bucket's own name, access control list and moment
 pub record IsPutOf (name bucket : List ℕ) (readers : ReadList) (acl : Acl) (moment : ℕ) : Type 0 where
@@ -49,13 +49,21 @@ module _ (tree : Tree) (name bucket : List ℕ) (readers : ReadList) (acl : Acl)
   new_tree = put_new (get tree name) name readers (Some moment) tree no_folder ∙ (λ i. insert tree (put.named i) (new_folder (put.listed i) (Some moment)))
 
   -- the bucket is made
-  pub put_changes : Changes tree (PutContainer name readers (Some moment)) (makes_bucket bucket acl moment)
-  put_changes = record {
+  put_effect : Effect tree (PutContainer name readers (Some moment)) (makes_bucket bucket acl moment)
+  put_effect = record {
     sound = sound;
     after = subst Sound (sym new_tree) (sound_made tree bucket acl moment put.is put.below sound);
     state = ap native new_tree ∙ native_made tree bucket acl moment put.is;
   }
 
   -- a new container is answered `Made`
-  pub put_is_due : (reply : SwiftReply) → reply ≡ (swift_step (PutContainer name readers (Some moment)) tree).reply → made_due reply ≡ Ok tt
+  put_is_due : (reply : SwiftReply) → reply ≡ (swift_step (PutContainer name readers (Some moment)) tree).reply → made_due reply ≡ Ok tt
   put_is_due reply replied = ap made_due (replied ∙ put_replies (get tree name) name readers (Some moment) tree no_folder)
+
+-- PUT of a bucket's container makes a bucket that is missing
+pub puts : {name bucket : List ℕ} {readers : ReadList} {acl : Acl} {moment : ℕ} → IsPutOf name bucket readers acl moment
+    → IsWriting (PutContainer name readers (Some moment)) made_due (LacksBucket bucket) (makes_bucket bucket acl moment)
+puts {name = name} {bucket = bucket} {readers = readers} {acl = acl} {moment = moment} put = record {
+  effect = λ tree sound missing. put_effect tree name bucket readers acl moment put sound missing;
+  says = λ tree sound missing reply replied. put_is_due tree name bucket readers acl moment put sound missing reply replied;
+}

@@ -1,5 +1,4 @@
--- What the calls of an operation amounted to is so in each later history too, and where no call failed, over `never`;
--- and how two stretches are joined.
+-- What the calls of an operation amounted to is so in each later history too; and how two stretches are joined.
 use Rattle.std.specs.Prelude.{◌≡◌, ◌<◌, ◌≤◌, ℕ, Result, Ok, Err}
 use Rattle.std.proofs.Common.{refl, sym, ap, subst, ◌∙◌, inl, inr, arith}
 use Rattle.std.proofs.lemmas.Bool.{cases_lt}
@@ -9,31 +8,30 @@ use Rattle.s3_machine.specs.declared.operation.Op.{Op}
 use Rattle.s3_machine.specs.declared.operation.Reply.{Reply}
 use Rattle.s3_machine.specs.State.{State}
 use Rattle.s3_machine.specs.Step.{S3Step}
-use Rattle.swift_calls.specs.Tree.{Tree}
-use Rattle.swift_calls.specs.History.{Kept, NoneFails, failed_agree}
+use Rattle.swift_calls.specs.History.{History, Kept, failed_agree}
 use Rattle.upload_records.specs.Native.{native}
 use Rattle.upload_records.specs.Sound.{Sound}
 use Rattle.recovery.specs.declared.fault.PlanFault.{PlanFault}
 use Rattle.recovery.specs.declared.fault.PlanFault.TheVariants.{Failed, Memory, Inconsistent}
-use Rattle.recovery.specs.Turns.{Quiet, Turns, OldBefore, never, LastFailed}
+use Rattle.recovery.specs.Turns.{Quiet, Turns, OldBefore, LastFailed}
 use Rattle.recovery.specs.Calls.{Reads}
 use Rattle.recovery.specs.Answers.{OldOrStepped, AnswersBy, machine, unavailable, memory, Answers}
 
 -- the state and Sound at a number that is kept
-same_at : {at at' : ℕ → Tree} {faults faults' : ℕ → ℕ} {q : ℕ} → Kept q at at' faults faults' → (k p : ℕ) → k ≤ q → p ≤ q → native (at k) ≡ native (at p) → native (at' k) ≡ native (at' p)
+same_at : {old new : History} {q : ℕ} → Kept q old new → (k p : ℕ) → k ≤ q → p ≤ q → native (old.tree_at k) ≡ native (old.tree_at p) → native (new.tree_at k) ≡ native (new.tree_at p)
 same_at kept k p to from e = ap native (kept.accounts k to) ∙ e ∙ sym (ap native (kept.accounts p from))
 
-sound_at : {at at' : ℕ → Tree} {faults faults' : ℕ → ℕ} {q : ℕ} → Kept q at at' faults faults' → (k : ℕ) → k ≤ q → Sound (at k) → Sound (at' k)
+sound_at : {old new : History} {q : ℕ} → Kept q old new → (k : ℕ) → k ≤ q → Sound (old.tree_at k) → Sound (new.tree_at k)
 sound_at kept k to sound = subst Sound (sym (kept.accounts k to)) sound
 
-pub quiet_agree : {at at' : ℕ → Tree} {faults faults' : ℕ → ℕ} {p q : ℕ} → Kept q at at' faults faults' → Quiet at p q → Quiet at' p q
+pub quiet_agree : {old new : History} {p q : ℕ} → Kept q old new → Quiet old p q → Quiet new p q
 quiet_agree {p = p} kept quiet = record {
   ordered = quiet.ordered;
   same = λ k from to. same_at kept k p to quiet.ordered (quiet.same k from to);
   sound = λ k from to. sound_at kept k to (quiet.sound k from to);
 }
 
-pub turns_agree : {at at' : ℕ → Tree} {faults faults' : ℕ → ℕ} {p t q : ℕ} → Kept q at at' faults faults' → Turns at p t q → Turns at' p t q
+pub turns_agree : {old new : History} {p t q : ℕ} → Kept q old new → Turns old p t q → Turns new p t q
 turns_agree {p = p} {t = t} {q = q} kept turns =
     let first = turns.after_p in
     let last = turns.up_to_q in
@@ -45,10 +43,10 @@ turns_agree {p = p} {t = t} {q = q} kept turns =
       sound = λ k from to. sound_at kept k to (turns.sound k from to);
     }
 
-pub old_before_agree : {at at' : ℕ → Tree} {faults faults' : ℕ → ℕ} {p q : ℕ} → Kept q at at' faults faults' → OldBefore at p q → OldBefore at' p q
+pub old_before_agree : {old new : History} {p q : ℕ} → Kept q old new → OldBefore old p q → OldBefore new p q
 old_before_agree {p = p} kept old = λ k from to. same_at kept k p (omega arith) (omega arith) (old k from to)
 
-pub last_failed_agree : {at at' : ℕ → Tree} {faults faults' : ℕ → ℕ} {p q : ℕ} → Kept q at at' faults faults' → LastFailed faults p q → LastFailed faults' p q
+pub last_failed_agree : {old new : History} {p q : ℕ} → Kept q old new → LastFailed old p q → LastFailed new p q
 last_failed_agree {p = p} {q = q} kept l =
     let after_p = l.after_p in
     let before_q = l.before_q in
@@ -61,7 +59,7 @@ last_failed_agree {p = p} {q = q} kept l =
       failed = failed_agree l.last q before_q kept l.failed;
     }
 
-pub reads_agree : {T : Type 0} {at at' : ℕ → Tree} {faults faults' : ℕ → ℕ} (p q : ℕ) (P : State → T → Type 0) (result : Result T PlanFault) → Kept q at at' faults faults' → Reads at faults p q P result → Reads at' faults' p q P result
+pub reads_agree : {T : Type 0} {old new : History} (p q : ℕ) (P : State → T → Type 0) (result : Result T PlanFault) → Kept q old new → Reads old p q P result → Reads new p q P result
 reads_agree p q P (Ok told) kept (quiet, same, is) =
     let ordered = quiet.ordered in
     (quiet_agree kept quiet, kept.counts q (omega arith) ∙ same ∙ sym (kept.counts p ordered), subst (λ t. P (native t) told) (sym (kept.accounts p ordered)) is)
@@ -76,7 +74,7 @@ pub stepped_agree : {old old' new new' : State} (settings : Settings) (op : Op) 
 stepped_agree settings op label from to (inl same) = inl (sym to ∙ same ∙ from)
 stepped_agree settings op label from to (inr (reply, step)) = inr (reply, step_agree settings op label reply from to step)
 
-pub answers_by_agree : {at at' : ℕ → Tree} {faults faults' : ℕ → ℕ} {settings : Settings} {p q : ℕ} {op : Op} {label : Label} {reply : Reply} → p ≤ q → Kept q at at' faults faults' → AnswersBy settings at faults p q op label reply → AnswersBy settings at' faults' p q op label reply
+pub answers_by_agree : {old new : History} {settings : Settings} {p q : ℕ} {op : Op} {label : Label} {reply : Reply} → p ≤ q → Kept q old new → AnswersBy settings old p q op label reply → AnswersBy settings new p q op label reply
 answers_by_agree {settings = settings} {p = p} {q = q} {op = op} {label = label} {reply = reply} ordered kept (machine step) =
     machine (step_agree settings op label reply (ap native (sym (kept.accounts p ordered))) (ap native (sym (kept.accounts q (omega arith)))) step)
 answers_by_agree {settings = settings} {p = p} {q = q} {op = op} {label = label} ordered kept (unavailable is failed old new) =
@@ -84,50 +82,36 @@ answers_by_agree {settings = settings} {p = p} {q = q} {op = op} {label = label}
 answers_by_agree {settings = settings} {p = p} {q = q} {op = op} {label = label} ordered kept (memory is old new) =
     memory is (old_before_agree kept old) (stepped_agree settings op label (ap native (sym (kept.accounts p ordered))) (ap native (sym (kept.accounts q (omega arith)))) new)
 
-pub answers_agree : {at at' : ℕ → Tree} {faults faults' : ℕ → ℕ} {settings : Settings} {p t q : ℕ} {op : Op} {label : Label} {reply : Reply} → Kept q at at' faults faults' → Answers settings at faults p t q op label reply → Answers settings at' faults' p t q op label reply
+pub answers_agree : {old new : History} {settings : Settings} {p t q : ℕ} {op : Op} {label : Label} {reply : Reply} → Kept q old new → Answers settings old p t q op label reply → Answers settings new p t q op label reply
 answers_agree kept answers =
     let first = answers.turns.after_p in
     let last = answers.turns.up_to_q in
     record { turns = turns_agree kept answers.turns; by = answers_by_agree (omega arith) kept answers.by }
 
--- ---- histories in which no call failed
-
-pub answers_by_calm : {settings : Settings} {at : ℕ → Tree} {faults : ℕ → ℕ} {b c p q : ℕ} {op : Op} {label : Label} {reply : Reply} → NoneFails faults b c → b ≤ p → q ≤ c
-    → AnswersBy settings at faults p q op label reply → AnswersBy settings at never p q op label reply
-answers_by_calm calm from to (machine step) = machine step
-answers_by_calm {q = q} calm from to (unavailable is failed old stepped) =
-    let first = failed.after_p in
-    absurd (calm failed.last q (omega arith) failed.before_q to failed.failed)
-answers_by_calm calm from to (memory is old stepped) = memory is old stepped
-
-pub answers_calm : {settings : Settings} {at : ℕ → Tree} {faults : ℕ → ℕ} {b c p t q : ℕ} {op : Op} {label : Label} {reply : Reply} → NoneFails faults b c → b ≤ p → q ≤ c
-    → Answers settings at faults p t q op label reply → Answers settings at never p t q op label reply
-answers_calm calm from to answers = record { turns = answers.turns; by = answers_by_calm calm from to answers.by }
-
 -- ---- laws
 
 -- an answer leaves the account sound at each number
-pub answers_sound : {at : ℕ → Tree} {faults : ℕ → ℕ} {settings : Settings} {p t q : ℕ} {op : Op} {label : Label} {reply : Reply} → Answers settings at faults p t q op label reply → (k : ℕ) → p ≤ k → k ≤ q → Sound (at k)
+pub answers_sound : {h : History} {settings : Settings} {p t q : ℕ} {op : Op} {label : Label} {reply : Reply} → Answers settings h p t q op label reply → (k : ℕ) → p ≤ k → k ≤ q → Sound (h.tree_at k)
 answers_sound answers k from to = answers.turns.sound k from to
 
-pub quiet_trans : {at : ℕ → Tree} {p q r : ℕ} → Quiet at p q → Quiet at q r → Quiet at p r
-quiet_trans {at = at} {p = p} {q = q} {r = r} first then =
+pub quiet_trans : {h : History} {p q r : ℕ} → Quiet h p q → Quiet h q r → Quiet h p r
+quiet_trans {h = h} {p = p} {q = q} {r = r} first then =
     let first_ordered = first.ordered in
     let then_ordered = then.ordered in
     record {
       ordered = omega arith;
-      same = λ k from to. elim (cases_lt k q) as (λ _. native (at k) ≡ native (at p)) [
+      same = λ k from to. elim (cases_lt k q) as (λ _. native (h.tree_at k) ≡ native (h.tree_at p)) [
         | inl near ↦ first.same k from (omega arith)
         | inr far ↦ then.same k far to ∙ first.same q first_ordered (omega arith)
       ];
-      sound = λ k from to. elim (cases_lt k q) as (λ _. Sound (at k)) [
+      sound = λ k from to. elim (cases_lt k q) as (λ _. Sound (h.tree_at k)) [
         | inl near ↦ first.sound k from (omega arith)
         | inr far ↦ then.sound k far to
       ];
     }
 
 -- quiet calls turn at once
-pub turns_quiet : {at : ℕ → Tree} {p q : ℕ} → Quiet at p q → Turns at p p q
+pub turns_quiet : {h : History} {p q : ℕ} → Quiet h p q → Turns h p p q
 turns_quiet {q = q} quiet =
     let ordered = quiet.ordered in
     record {
@@ -138,16 +122,16 @@ turns_quiet {q = q} quiet =
       sound = quiet.sound;
     }
 
-before_after : {at : ℕ → Tree} {p q r : ℕ} → Quiet at p q → ((k : ℕ) → q ≤ k → k < r → native (at k) ≡ native (at q)) → (k : ℕ) → p ≤ k → k < r → native (at k) ≡ native (at p)
-before_after {at = at} {p = p} {q = q} quiet then k from to =
+before_after : {h : History} {p q r : ℕ} → Quiet h p q → ((k : ℕ) → q ≤ k → k < r → native (h.tree_at k) ≡ native (h.tree_at q)) → (k : ℕ) → p ≤ k → k < r → native (h.tree_at k) ≡ native (h.tree_at p)
+before_after {h = h} {p = p} {q = q} quiet then k from to =
     let ordered = quiet.ordered in
-    elim (cases_lt k q) as (λ _. native (at k) ≡ native (at p)) [
+    elim (cases_lt k q) as (λ _. native (h.tree_at k) ≡ native (h.tree_at p)) [
       | inl near ↦ quiet.same k from (omega arith)
       | inr far ↦ then k far to ∙ quiet.same q ordered (omega arith)
     ]
 
-turns_after : {at : ℕ → Tree} {p q t r : ℕ} → Quiet at p q → Turns at q t r → Turns at p t r
-turns_after {at = at} {p = p} {q = q} {t = t} {r = r} quiet turns =
+turns_after : {h : History} {p q t r : ℕ} → Quiet h p q → Turns h q t r → Turns h p t r
+turns_after {h = h} {p = p} {q = q} {t = t} {r = r} quiet turns =
     let ordered = quiet.ordered in
     let first = turns.after_p in
     record {
@@ -155,27 +139,27 @@ turns_after {at = at} {p = p} {q = q} {t = t} {r = r} quiet turns =
       up_to_q = turns.up_to_q;
       before = before_after quiet turns.before;
       since = turns.since;
-      sound = λ k from to. elim (cases_lt k q) as (λ _. Sound (at k)) [
+      sound = λ k from to. elim (cases_lt k q) as (λ _. Sound (h.tree_at k)) [
         | inl near ↦ quiet.sound k from (omega arith)
         | inr far ↦ turns.sound k far to
       ];
     }
 
-failed_after : {faults : ℕ → ℕ} {p q r : ℕ} → p ≤ q → faults q ≡ faults p → LastFailed faults q r → LastFailed faults p r
+failed_after : {h : History} {p q r : ℕ} → p ≤ q → h.faults_at q ≡ h.faults_at p → LastFailed h q r → LastFailed h p r
 failed_after ordered same l = let after_p = l.after_p in record { last = l.last; after_p = omega arith; before_q = l.before_q; one = l.one; quiet = l.quiet ∙ same; failed = l.failed }
 
-by_after : {at : ℕ → Tree} {faults : ℕ → ℕ} {settings : Settings} {p q r : ℕ} {op : Op} {label : Label} {reply : Reply} → p ≤ q → q ≤ r → Quiet at p q → faults q ≡ faults p
-    → AnswersBy settings at faults q r op label reply → AnswersBy settings at faults p r op label reply
-by_after {at = at} {settings = settings} {p = p} {q = q} {r = r} {op = op} {label = label} {reply = reply} ordered further quiet same (machine step) =
+by_after : {h : History} {settings : Settings} {p q r : ℕ} {op : Op} {label : Label} {reply : Reply} → p ≤ q → q ≤ r → Quiet h p q → h.faults_at q ≡ h.faults_at p
+    → AnswersBy settings h q r op label reply → AnswersBy settings h p r op label reply
+by_after {h = h} {settings = settings} {p = p} {q = q} {r = r} {op = op} {label = label} {reply = reply} ordered further quiet same (machine step) =
     machine (step_agree settings op label reply (quiet.same q ordered (omega arith)) refl step)
-by_after {at = at} {settings = settings} {p = p} {q = q} {r = r} {op = op} {label = label} ordered further quiet same (unavailable is failed old new) =
+by_after {h = h} {settings = settings} {p = p} {q = q} {r = r} {op = op} {label = label} ordered further quiet same (unavailable is failed old new) =
     unavailable is (failed_after ordered same failed) (before_after quiet old) (stepped_agree settings op label (quiet.same q ordered (omega arith)) refl new)
-by_after {at = at} {settings = settings} {p = p} {q = q} {r = r} {op = op} {label = label} ordered further quiet same (memory is old new) =
+by_after {h = h} {settings = settings} {p = p} {q = q} {r = r} {op = op} {label = label} ordered further quiet same (memory is old new) =
     memory is (before_after quiet old) (stepped_agree settings op label (quiet.same q ordered (omega arith)) refl new)
 
 -- quiet calls without a fault, and then those of the whole answer
-pub answers_after : {at : ℕ → Tree} {faults : ℕ → ℕ} {settings : Settings} {p q t r : ℕ} {op : Op} {label : Label} {reply : Reply} → Quiet at p q → faults q ≡ faults p → Answers settings at faults q t r op label reply → Answers settings at faults p t r op label reply
-answers_after {at = at} {faults = faults} {settings = settings} {p = p} {q = q} {t = t} {r = r} {op = op} {label = label} {reply = reply} quiet same answers =
+pub answers_after : {h : History} {settings : Settings} {p q t r : ℕ} {op : Op} {label : Label} {reply : Reply} → Quiet h p q → h.faults_at q ≡ h.faults_at p → Answers settings h q t r op label reply → Answers settings h p t r op label reply
+answers_after {h = h} {settings = settings} {p = p} {q = q} {t = t} {r = r} {op = op} {label = label} {reply = reply} quiet same answers =
     let ordered = quiet.ordered in
     let first = answers.turns.after_p in
     let last = answers.turns.up_to_q in

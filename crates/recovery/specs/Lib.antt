@@ -3,4 +3,5 @@ pub mod Answers
 pub mod Calls
 pub mod Due
 pub mod Fault
+pub mod Lent
 pub mod Turns

@@ -1,20 +1,16 @@
 //! The calls on the files of a bucket's container, one function a call.
-ghost use Rattle.std.specs.Prelude.{◌≡◌, ◌<◌, true, IfOk, OnOk, Some};
+ghost use Rattle.std.specs.Prelude.{◌≡◌, ◌<◌, true, IfOk, OnOk};
 ghost use Rattle.gate_base.specs.Told.{moment_limit};
 ghost use Rattle.s3_names.specs.Bucket.{is_bucket};
 ghost use Rattle.s3_names.specs.Key.{is_key};
-ghost use Rattle.s3_names.specs.declared.acl.Acl.{Acl};
 ghost use Rattle.s3_machine.specs.ETag.{body_etag};
 ghost use Rattle.s3_machine.specs.Step.{IsProperContent};
-ghost use Rattle.swift_calls.specs.History.{Kept};
-ghost use Rattle.swift_marks.specs.Tag.{has_text, tag_text};
-ghost use Rattle.upload_records.specs.Native.{native};
-ghost use Rattle.upload_records.specs.Sound.{Sound};
 ghost use Rattle.swift_calls.specs.Step.{Fit};
+ghost use Rattle.swift_marks.specs.Tag.{has_text, tag_text};
 ghost use Rattle.s3_names.specs.Meta.{names_ascend};
 ghost use Rattle.recovery.specs.Due.{IsShownHead, plain_tag, put_of};
-ghost use Rattle.recovery.specs.Fault.{CausesFault};
-ghost use Rattle.recovery.specs.Calls.{Within, Reads, Writes, TellsBucket, TellsBytes, TellsObject, drops_object, puts_object};
+ghost use Rattle.recovery.specs.Calls.{Asks, Changes, Any, HasBucket, TellsBytes, TellsObject, drops_object, puts_object};
+ghost use Rattle.recovery.specs.Lent.{Stays};
 
 use crate::due::{bytes_in, gone_in, head_in, stored_in};
 use crate::{PlanFault, Settled};
@@ -29,7 +25,7 @@ use swift_marks::{Tag, pack};
 /// metadata"). At most one call, and the S3 state stays. Failed comes only where the store's count of faults rose;
 /// Memory where memory was wanted, before the call, to read its answer or to read the marks of the file; Inconsistent
 /// never over a told sound account.
-#[tactic(auto, using(crate::proofs::Names::container_name, crate::proofs::Names::object_name, crate::proofs::Causes::due_cause))]
+#[tactic(auto, using(crate::proofs::Names::container_name, crate::proofs::Names::object_name))]
 pub fn head_object<W: Swift>(
     alloc: Global,
     state: &mut Settled<'_, W>,
@@ -38,14 +34,8 @@ pub fn head_object<W: Swift>(
 ) -> Result<Option<ObjectHead>, PlanFault>
     requires name { is_bucket bucket.now ≡ true }
     requires key { is_key key.now ≡ true }
-    ensures same { state.new.store.ghost_name ≡ state.old.store.ghost_name }
-    ensures settings { state.new.settings.now ≡ state.old.settings.now }
-    ensures calls { Within 1 (W.called state.old.store.now) (W.called state.new.store.now) }
-    ensures cause { CausesFault (W.faults state.old.store.now) (W.faults state.new.store.now) result }
-    ensures tells { W.tells state.old.store.now → W.tells state.new.store.now }
-    ensures kept { W.tells state.old.store.now → Kept (W.called state.old.store.now) (W.tree_at state.old.store.now) (W.tree_at state.new.store.now) (W.faults_at state.old.store.now) (W.faults_at state.new.store.now) }
-    ensures told { W.tells state.old.store.now → Sound (W.tree_at state.new.store.now (W.called state.old.store.now))
-        → Reads (W.tree_at state.new.store.now) (W.faults_at state.new.store.now) (W.called state.old.store.now) (W.called state.new.store.now) (TellsObject bucket.now key.now) result }
+    ensures stays { Stays state.old state.new }
+    ensures asks { Asks 1 (W.history state.old.store.now) (W.history state.new.store.now) (TellsObject bucket.now key.now) result }
     ensures shown { IfOk result IsShownHead }
 {
     let container = bucket.copy()?;
@@ -57,7 +47,7 @@ pub fn head_object<W: Swift>(
 
 /// The bytes of an object, and `None` where it is missing, by GET of its file (Object Storage API v1, "Get object content
 /// and metadata"). At most one call, and the S3 state stays. The faults are those of [`head_object`].
-#[tactic(auto, using(crate::proofs::Names::container_name, crate::proofs::Names::object_name, crate::proofs::Causes::due_cause))]
+#[tactic(auto, using(crate::proofs::Names::container_name, crate::proofs::Names::object_name))]
 pub fn get_object<W: Swift>(
     state: &mut Settled<'_, W>,
     bucket: &Bytes,
@@ -65,14 +55,8 @@ pub fn get_object<W: Swift>(
 ) -> Result<Option<Bytes>, PlanFault>
     requires name { is_bucket bucket.now ≡ true }
     requires key { is_key key.now ≡ true }
-    ensures same { state.new.store.ghost_name ≡ state.old.store.ghost_name }
-    ensures settings { state.new.settings.now ≡ state.old.settings.now }
-    ensures calls { Within 1 (W.called state.old.store.now) (W.called state.new.store.now) }
-    ensures cause { CausesFault (W.faults state.old.store.now) (W.faults state.new.store.now) result }
-    ensures tells { W.tells state.old.store.now → W.tells state.new.store.now }
-    ensures kept { W.tells state.old.store.now → Kept (W.called state.old.store.now) (W.tree_at state.old.store.now) (W.tree_at state.new.store.now) (W.faults_at state.old.store.now) (W.faults_at state.new.store.now) }
-    ensures told { W.tells state.old.store.now → Sound (W.tree_at state.new.store.now (W.called state.old.store.now))
-        → Reads (W.tree_at state.new.store.now) (W.faults_at state.new.store.now) (W.called state.old.store.now) (W.called state.new.store.now) (TellsBytes bucket.now key.now) result }
+    ensures stays { Stays state.old state.new }
+    ensures asks { Asks 1 (W.history state.old.store.now) (W.history state.new.store.now) (TellsBytes bucket.now key.now) result }
 {
     let container = bucket.copy()?;
     let name = key.copy()?;
@@ -90,7 +74,6 @@ pub fn get_object<W: Swift>(
 /// 10000. After Ok the S3 state has the new object in place of what stood under the key. After Failed, which comes only
 /// where the store's count of faults rose, and after Memory the state is the old one or the new one. Inconsistent never
 /// comes over a told sound account in which the bucket is there.
-#[tactic(auto, using(crate::proofs::Causes::due_cause))]
 pub fn put_object<W: Swift>(
     alloc: Global,
     state: &mut Settled<'_, W>,
@@ -105,15 +88,8 @@ pub fn put_object<W: Swift>(
     requires key { is_key key.now ≡ true }
     requires content { IsProperContent content_type.now meta.now body.now }
     requires moment { moment < moment_limit }
-    ensures same { state.new.store.ghost_name ≡ state.old.store.ghost_name }
-    ensures settings { state.new.settings.now ≡ state.old.settings.now }
-    ensures calls { Within 1 (W.called state.old.store.now) (W.called state.new.store.now) }
-    ensures cause { CausesFault (W.faults state.old.store.now) (W.faults state.new.store.now) result }
-    ensures tells { W.tells state.old.store.now → W.tells state.new.store.now }
-    ensures kept { W.tells state.old.store.now → Kept (W.called state.old.store.now) (W.tree_at state.old.store.now) (W.tree_at state.new.store.now) (W.faults_at state.old.store.now) (W.faults_at state.new.store.now) }
-    ensures told { W.tells state.old.store.now → Sound (W.tree_at state.new.store.now (W.called state.old.store.now))
-        → (acl : Acl) → TellsBucket bucket.now (native (W.tree_at state.new.store.now (W.called state.old.store.now))) (Some acl)
-        → Writes (W.tree_at state.new.store.now) (W.faults_at state.new.store.now) (W.called state.old.store.now) (W.called state.new.store.now) (puts_object bucket.now key.now content_type.now meta.now body.now moment) result }
+    ensures stays { Stays state.old state.new }
+    ensures changes { Changes (W.history state.old.store.now) (W.history state.new.store.now) (HasBucket bucket.now) (puts_object bucket.now key.now content_type.now meta.now body.now moment) result }
 {
     let etag = body_etag(body.as_slice());
     let request = put_request(alloc, bucket, key, content_type, meta, body, &etag, moment)?;
@@ -171,7 +147,7 @@ fn tag_text(alloc: Global, content_type: &Bytes, etag: &[u8], moment: u64) -> Re
 /// commits. At most one call. After Ok the S3 state has no object under the key; also one that wasn't there is gone.
 /// After Failed, which comes only where the store's count of faults rose, and after Memory the state is the old one or
 /// the new one. Inconsistent never comes over a told sound account.
-#[tactic(auto, using(crate::proofs::Names::container_name, crate::proofs::Names::object_name, crate::proofs::Causes::due_cause))]
+#[tactic(auto, using(crate::proofs::Names::container_name, crate::proofs::Names::object_name))]
 pub fn delete_object<W: Swift>(
     state: &mut Settled<'_, W>,
     bucket: &Bytes,
@@ -179,14 +155,8 @@ pub fn delete_object<W: Swift>(
 ) -> Result<(), PlanFault>
     requires name { is_bucket bucket.now ≡ true }
     requires key { is_key key.now ≡ true }
-    ensures same { state.new.store.ghost_name ≡ state.old.store.ghost_name }
-    ensures settings { state.new.settings.now ≡ state.old.settings.now }
-    ensures calls { Within 1 (W.called state.old.store.now) (W.called state.new.store.now) }
-    ensures cause { CausesFault (W.faults state.old.store.now) (W.faults state.new.store.now) result }
-    ensures tells { W.tells state.old.store.now → W.tells state.new.store.now }
-    ensures kept { W.tells state.old.store.now → Kept (W.called state.old.store.now) (W.tree_at state.old.store.now) (W.tree_at state.new.store.now) (W.faults_at state.old.store.now) (W.faults_at state.new.store.now) }
-    ensures told { W.tells state.old.store.now → Sound (W.tree_at state.new.store.now (W.called state.old.store.now))
-        → Writes (W.tree_at state.new.store.now) (W.faults_at state.new.store.now) (W.called state.old.store.now) (W.called state.new.store.now) (drops_object bucket.now key.now) result }
+    ensures stays { Stays state.old state.new }
+    ensures changes { Changes (W.history state.old.store.now) (W.history state.new.store.now) Any (drops_object bucket.now key.now) result }
 {
     let container = bucket.copy()?;
     let name = key.copy()?;

@@ -1,16 +1,13 @@
-use Rattle.std.specs.Prelude.{Option}
 use Rattle.std.proofs.Common.{inr}
-use Rattle.s3_names.specs.declared.acl.Acl.{Acl}
-use Rattle.recovery.specs.Calls.{TellsBucket}
-use Rattle.recovery.proofs.Head.{head_leaves, head_tells}
-use Rattle.recovery.proofs.One.{lost, told_by}
+use Rattle.recovery.proofs.Head.{head_reads}
+use Rattle.recovery.proofs.One.{not_asked, asked_in_vain, asked}
 use Rattle.recovery.proofs.bucket.head_bucket.Goals as goal
 
-pub returns-in_err-reply-clause-told : goal.returns-in_err-reply-clause-told
-returns-in_err-reply-clause-told g c = λ tells sound.
-    lost {T = Option Acl} _ _ _ _ _ (head_leaves _) (TellsBucket c.args.bucket.now) sound _ _ c.from_residual-in_err-reply.ensures.1 (c.in_err-reply.ensures.told tells)
+pub returns-in_err-copy-clause-asks : goal.returns-in_err-copy-clause-asks
+returns-in_err-copy-clause-asks g c = not_asked _ _ _ c.from_residual.ensures.1
 
-pub returns-clause-told : goal.returns-clause-told
-returns-clause-told g c = λ tells sound.
-    told_by {T = Option Acl} _ _ _ _ _ (head_leaves _) (TellsBucket c.args.bucket.now) sound _ _ _ (c.in_ok-reply.ensures.told tells)
-    (head_tells _ _ _ c.in_ok-copy.ensures c.requires sound _ (c.in_ok-reply.ensures.told tells).reply) (inr c.bucket_in.ensures.due)
+pub returns-in_err-reply-clause-asks : goal.returns-in_err-reply-clause-asks
+returns-in_err-reply-clause-asks g c = asked_in_vain (head_reads c.in_ok-copy.ensures c.requires) c.in_err-reply.ensures _ c.from_residual-in_err-reply.ensures.1
+
+pub returns-clause-asks : goal.returns-clause-asks
+returns-clause-asks g c = asked (head_reads c.in_ok-copy.ensures c.requires) c.in_ok-reply.ensures _ (inr c.bucket_in.ensures.due) c.bucket_in.ensures.own

@@ -1,15 +1,14 @@
-use Rattle.recovery.proofs.One.{unanswered, done_by}
-use Rattle.recovery.proofs.Put.{put_changes, put_is_due}
+use Rattle.recovery.proofs.One.{not_sent, sent_in_vain, sent}
+use Rattle.recovery.proofs.Put.{puts}
 use Rattle.recovery.proofs.bucket.make_bucket.Goals as goal
 
-pub returns-in_err-reply-clause-told : goal.returns-in_err-reply-clause-told
-returns-in_err-reply-clause-told g c = λ tells sound missing.
-    unanswered _ _ _ _ _ _ (put_changes _ _ _ _ _ _ (record { named = c.in_ok-copy.ensures; listed = c.readers.ensures; is = c.requires.name; below = c.requires.moment }) sound missing)
-    _ _ c.from_residual-in_err-reply.ensures.1 (c.in_err-reply.ensures.told tells)
+pub returns-in_err-copy-clause-changes : goal.returns-in_err-copy-clause-changes
+returns-in_err-copy-clause-changes g c = not_sent _ _ c.from_residual.ensures.1
 
-pub returns-clause-told : goal.returns-clause-told
-returns-clause-told g c = λ tells sound missing.
-    done_by _ _ _ _ _ _ (put_changes _ _ _ _ _ _ (record { named = c.in_ok-copy.ensures; listed = c.readers.ensures; is = c.requires.name; below = c.requires.moment }) sound missing)
-    _ _ _ (c.in_ok-reply.ensures.told tells)
-    (put_is_due _ _ _ _ _ _ (record { named = c.in_ok-copy.ensures; listed = c.readers.ensures; is = c.requires.name; below = c.requires.moment }) sound missing _ (c.in_ok-reply.ensures.told tells).reply)
-    c.made_in.ensures.due
+pub returns-in_err-reply-clause-changes : goal.returns-in_err-reply-clause-changes
+returns-in_err-reply-clause-changes g c =
+    sent_in_vain (puts (record { named = c.in_ok-copy.ensures; listed = c.readers.ensures; is = c.requires.name; below = c.requires.moment })) c.in_err-reply.ensures _ c.from_residual-in_err-reply.ensures.1
+
+pub returns-clause-changes : goal.returns-clause-changes
+returns-clause-changes g c =
+    sent (puts (record { named = c.in_ok-copy.ensures; listed = c.readers.ensures; is = c.requires.name; below = c.requires.moment })) c.in_ok-reply.ensures _ c.made_in.ensures.due c.made_in.ensures.own

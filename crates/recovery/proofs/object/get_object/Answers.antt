@@ -1,15 +1,13 @@
-use Rattle.std.specs.Prelude.{Option, List, ℕ}
 use Rattle.std.proofs.Common.{inr}
-use Rattle.recovery.specs.Calls.{TellsBytes}
-use Rattle.recovery.proofs.Files.{get_leaves, get_tells}
-use Rattle.recovery.proofs.One.{lost, told_by}
+use Rattle.recovery.proofs.Files.{get_reads}
+use Rattle.recovery.proofs.One.{not_asked, asked_in_vain, asked}
 use Rattle.recovery.proofs.object.get_object.Goals as goal
 
-pub returns-in_err-reply-clause-told : goal.returns-in_err-reply-clause-told
-returns-in_err-reply-clause-told g c = λ tells sound.
-    lost {T = Option (List ℕ)} _ _ _ _ _ (get_leaves _ _) (TellsBytes c.args.bucket.now c.args.key.now) sound _ _ c.from_residual-in_err-reply.ensures.1 (c.in_err-reply.ensures.told tells)
+pub returns-in_err-name-clause-asks : goal.returns-in_err-name-clause-asks
+returns-in_err-name-clause-asks g c = not_asked _ _ _ c.from_residual-in_err-name.ensures.1
 
-pub returns-clause-told : goal.returns-clause-told
-returns-clause-told g c = λ tells sound.
-    told_by {T = Option (List ℕ)} _ _ _ _ _ (get_leaves _ _) (TellsBytes c.args.bucket.now c.args.key.now) sound _ _ _ (c.in_ok-reply.ensures.told tells)
-    (get_tells _ _ _ _ _ c.in_ok-container.ensures c.in_ok-name.ensures c.requires.name sound _ (c.in_ok-reply.ensures.told tells).reply) (inr c.bytes_in.ensures.due)
+pub returns-in_err-reply-clause-asks : goal.returns-in_err-reply-clause-asks
+returns-in_err-reply-clause-asks g c = asked_in_vain (get_reads c.in_ok-container.ensures c.in_ok-name.ensures c.requires.name) c.in_err-reply.ensures _ c.from_residual-in_err-reply.ensures.1
+
+pub returns-clause-asks : goal.returns-clause-asks
+returns-clause-asks g c = asked (get_reads c.in_ok-container.ensures c.in_ok-name.ensures c.requires.name) c.in_ok-reply.ensures _ (inr c.bytes_in.ensures.due) c.bytes_in.ensures.own
