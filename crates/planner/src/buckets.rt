@@ -1,14 +1,11 @@
 //! The plans of the operations on buckets.
-ghost use Rattle.std.specs.Prelude.{◌≡◌, ◌<◌, true, None, IfOk};
+ghost use Rattle.std.specs.Prelude.{◌≡◌, ◌<◌, true, None};
 ghost use Rattle.gate_base.specs.Told.{moment_limit};
 ghost use Rattle.s3_names.specs.Bucket.{is_bucket};
-ghost use Rattle.swift_calls.specs.History.{Kept};
-ghost use Rattle.upload_records.specs.Native.{native};
-ghost use Rattle.upload_records.specs.Sound.{Sound};
-ghost use Rattle.recovery.specs.Fault.{CausesFault};
-ghost use Rattle.recovery.specs.Calls.{Within, TellsBucket};
 ghost use Rattle.s3_machine.specs.declared.operation.Op.TheVariants.{CreateBucket};
-ghost use Rattle.planner.specs.Plan.{Ends, IsOwnReply};
+ghost use Rattle.recovery.specs.Calls.{Any, TellsBucket};
+ghost use Rattle.recovery.specs.Lent.{Stays};
+ghost use Rattle.planner.specs.Plan.{Plans};
 
 use crate::end::reply_after;
 use gate_base::{Bytes, Copying};
@@ -27,14 +24,9 @@ pub(crate) fn create_bucket<W: Swift>(
 ) -> Result<Reply, PlanFault>
     requires name { is_bucket bucket.now ≡ true }
     requires moment { label.now.moment < moment_limit }
-    ensures same { state.new.store.ghost_name ≡ state.old.store.ghost_name }
-    ensures calls { Within 2 (W.called state.old.store.now) (W.called state.new.store.now) }
-    ensures cause { CausesFault (W.faults state.old.store.now) (W.faults state.new.store.now) result }
-    ensures own { IfOk result IsOwnReply }
-    ensures tells { W.tells state.old.store.now → W.tells state.new.store.now }
-    ensures kept { W.tells state.old.store.now → Kept (W.called state.old.store.now) (W.tree_at state.old.store.now) (W.tree_at state.new.store.now) (W.faults_at state.old.store.now) (W.faults_at state.new.store.now) }
-    ensures told { W.tells state.old.store.now → Sound (W.tree_at state.new.store.now (W.called state.old.store.now))
-        → Ends state.old.settings.now (W.tree_at state.new.store.now) (W.faults_at state.new.store.now) (W.called state.old.store.now) (W.called state.new.store.now) (CreateBucket bucket.now acl) label.now result }
+    ensures stays { Stays state.old state.new }
+    ensures plans { Plans 2 (W.history state.old.store.now) (W.history state.new.store.now) state.old.settings.now
+        Any (CreateBucket bucket.now acl) label.now result }
 {
     match head_bucket(state, bucket) {
         Ok(None) => make_missing(state, bucket, acl, label),
@@ -52,15 +44,9 @@ fn make_missing<W: Swift>(
 ) -> Result<Reply, PlanFault>
     requires name { is_bucket bucket.now ≡ true }
     requires moment { label.now.moment < moment_limit }
-    ensures same { state.new.store.ghost_name ≡ state.old.store.ghost_name }
-    ensures calls { Within 1 (W.called state.old.store.now) (W.called state.new.store.now) }
-    ensures cause { CausesFault (W.faults state.old.store.now) (W.faults state.new.store.now) result }
-    ensures own { IfOk result IsOwnReply }
-    ensures tells { W.tells state.old.store.now → W.tells state.new.store.now }
-    ensures kept { W.tells state.old.store.now → Kept (W.called state.old.store.now) (W.tree_at state.old.store.now) (W.tree_at state.new.store.now) (W.faults_at state.old.store.now) (W.faults_at state.new.store.now) }
-    ensures told { W.tells state.old.store.now → Sound (W.tree_at state.new.store.now (W.called state.old.store.now))
-        → TellsBucket bucket.now (native (W.tree_at state.new.store.now (W.called state.old.store.now))) None
-        → Ends state.old.settings.now (W.tree_at state.new.store.now) (W.faults_at state.new.store.now) (W.called state.old.store.now) (W.called state.new.store.now) (CreateBucket bucket.now acl) label.now result }
+    ensures stays { Stays state.old state.new }
+    ensures plans { Plans 1 (W.history state.old.store.now) (W.history state.new.store.now) state.old.settings.now
+        (λ s. TellsBucket bucket.now s None) (CreateBucket bucket.now acl) label.now result }
 {
     let reply = Reply::Made {
         bucket: bucket.copy()?,

@@ -3,14 +3,11 @@ ghost use Rattle.std.specs.Prelude.{◌≡◌, ◌≢◌, ◌<◌, Some, IfOk, E
 ghost use Rattle.gate_base.specs.Told.{moment_limit};
 ghost use Rattle.s3_machine.specs.Step.{IsPlace, IsProperContent};
 ghost use Rattle.s3_machine.specs.declared.operation.Op.TheVariants.{PutObject, GetObject, HeadObject, DeleteObject};
-ghost use Rattle.swift_calls.specs.History.{Kept};
-ghost use Rattle.upload_records.specs.Native.{native};
-ghost use Rattle.upload_records.specs.Sound.{Sound};
+ghost use Rattle.recovery.specs.Calls.{Any, TellsBucket};
 ghost use Rattle.recovery.specs.Due.{IsShownHead};
-ghost use Rattle.recovery.specs.Fault.{CausesFault};
+ghost use Rattle.recovery.specs.Lent.{Stays};
 ghost use Rattle.recovery.specs.declared.fault.PlanFault.TheVariants.{Failed};
-ghost use Rattle.recovery.specs.Calls.{Within, TellsBucket};
-ghost use Rattle.planner.specs.Plan.{Ends, IsOwnReply};
+ghost use Rattle.planner.specs.Plan.{Plans, IsOwnReply};
 ghost use Rattle.planner.specs.Objects.{TellsReadable, headed_reply, whole_end};
 
 use crate::end::reply_after;
@@ -37,14 +34,9 @@ pub(crate) fn put_object<W: Swift>(
     requires place { IsPlace bucket.now key.now }
     requires content { IsProperContent content_type.now meta.now body.now }
     requires moment { label.now.moment < moment_limit }
-    ensures same { state.new.store.ghost_name ≡ state.old.store.ghost_name }
-    ensures calls { Within 2 (W.called state.old.store.now) (W.called state.new.store.now) }
-    ensures cause { CausesFault (W.faults state.old.store.now) (W.faults state.new.store.now) result }
-    ensures own { IfOk result IsOwnReply }
-    ensures tells { W.tells state.old.store.now → W.tells state.new.store.now }
-    ensures kept { W.tells state.old.store.now → Kept (W.called state.old.store.now) (W.tree_at state.old.store.now) (W.tree_at state.new.store.now) (W.faults_at state.old.store.now) (W.faults_at state.new.store.now) }
-    ensures told { W.tells state.old.store.now → Sound (W.tree_at state.new.store.now (W.called state.old.store.now))
-        → Ends state.old.settings.now (W.tree_at state.new.store.now) (W.faults_at state.new.store.now) (W.called state.old.store.now) (W.called state.new.store.now) (PutObject bucket.now key.now acl content_type.now meta.now body.now) label.now result }
+    ensures stays { Stays state.old state.new }
+    ensures plans { Plans 2 (W.history state.old.store.now) (W.history state.new.store.now) state.old.settings.now
+        Any (PutObject bucket.now key.now acl content_type.now meta.now body.now) label.now result }
 {
     match head_bucket(state, bucket) {
         Ok(None) => Ok(Reply::Refused(Code::NoSuchBucket)),
@@ -82,15 +74,9 @@ fn put_into<W: Swift>(
     requires place { IsPlace bucket.now key.now }
     requires content { IsProperContent content_type.now meta.now body.now }
     requires moment { label.now.moment < moment_limit }
-    ensures same { state.new.store.ghost_name ≡ state.old.store.ghost_name }
-    ensures calls { Within 1 (W.called state.old.store.now) (W.called state.new.store.now) }
-    ensures cause { CausesFault (W.faults state.old.store.now) (W.faults state.new.store.now) result }
-    ensures own { IfOk result IsOwnReply }
-    ensures tells { W.tells state.old.store.now → W.tells state.new.store.now }
-    ensures kept { W.tells state.old.store.now → Kept (W.called state.old.store.now) (W.tree_at state.old.store.now) (W.tree_at state.new.store.now) (W.faults_at state.old.store.now) (W.faults_at state.new.store.now) }
-    ensures told { W.tells state.old.store.now → Sound (W.tree_at state.new.store.now (W.called state.old.store.now))
-        → TellsBucket bucket.now (native (W.tree_at state.new.store.now (W.called state.old.store.now))) (Some list)
-        → Ends state.old.settings.now (W.tree_at state.new.store.now) (W.faults_at state.new.store.now) (W.called state.old.store.now) (W.called state.new.store.now) (PutObject bucket.now key.now acl content_type.now meta.now body.now) label.now result }
+    ensures stays { Stays state.old state.new }
+    ensures plans { Plans 1 (W.history state.old.store.now) (W.history state.new.store.now) state.old.settings.now
+        (λ s. TellsBucket bucket.now s (Some list)) (PutObject bucket.now key.now acl content_type.now meta.now body.now) label.now result }
 {
     if is_other_acl(acl, list) {
         return Ok(Reply::Refused(Code::NotImplemented));
@@ -123,14 +109,9 @@ pub(crate) fn get_object<W: Swift>(
     label: &Label,
 ) -> Result<Reply, PlanFault>
     requires place { IsPlace bucket.now key.now }
-    ensures same { state.new.store.ghost_name ≡ state.old.store.ghost_name }
-    ensures calls { Within 3 (W.called state.old.store.now) (W.called state.new.store.now) }
-    ensures cause { CausesFault (W.faults state.old.store.now) (W.faults state.new.store.now) result }
-    ensures own { IfOk result IsOwnReply }
-    ensures tells { W.tells state.old.store.now → W.tells state.new.store.now }
-    ensures kept { W.tells state.old.store.now → Kept (W.called state.old.store.now) (W.tree_at state.old.store.now) (W.tree_at state.new.store.now) (W.faults_at state.old.store.now) (W.faults_at state.new.store.now) }
-    ensures told { W.tells state.old.store.now → Sound (W.tree_at state.new.store.now (W.called state.old.store.now))
-        → Ends state.old.settings.now (W.tree_at state.new.store.now) (W.faults_at state.new.store.now) (W.called state.old.store.now) (W.called state.new.store.now) (GetObject bucket.now key.now) label.now result }
+    ensures stays { Stays state.old state.new }
+    ensures plans { Plans 3 (W.history state.old.store.now) (W.history state.new.store.now) state.old.settings.now
+        Any (GetObject bucket.now key.now) label.now result }
 {
     match head_bucket(state, bucket) {
         Ok(None) => Ok(Reply::Refused(Code::NoSuchBucket)),
@@ -149,15 +130,9 @@ fn get_within<W: Swift>(
     label: &Label,
 ) -> Result<Reply, PlanFault>
     requires place { IsPlace bucket.now key.now }
-    ensures same { state.new.store.ghost_name ≡ state.old.store.ghost_name }
-    ensures calls { Within 2 (W.called state.old.store.now) (W.called state.new.store.now) }
-    ensures cause { CausesFault (W.faults state.old.store.now) (W.faults state.new.store.now) result }
-    ensures own { IfOk result IsOwnReply }
-    ensures tells { W.tells state.old.store.now → W.tells state.new.store.now }
-    ensures kept { W.tells state.old.store.now → Kept (W.called state.old.store.now) (W.tree_at state.old.store.now) (W.tree_at state.new.store.now) (W.faults_at state.old.store.now) (W.faults_at state.new.store.now) }
-    ensures told { W.tells state.old.store.now → Sound (W.tree_at state.new.store.now (W.called state.old.store.now))
-        → TellsBucket bucket.now (native (W.tree_at state.new.store.now (W.called state.old.store.now))) (Some list)
-        → Ends state.old.settings.now (W.tree_at state.new.store.now) (W.faults_at state.new.store.now) (W.called state.old.store.now) (W.called state.new.store.now) (GetObject bucket.now key.now) label.now result }
+    ensures stays { Stays state.old state.new }
+    ensures plans { Plans 2 (W.history state.old.store.now) (W.history state.new.store.now) state.old.settings.now
+        (λ s. TellsBucket bucket.now s (Some list)) (GetObject bucket.now key.now) label.now result }
 {
     if !may_read(label.caller, list) {
         return Ok(Reply::Refused(Code::AccessDenied));
@@ -170,7 +145,6 @@ fn get_within<W: Swift>(
 }
 
 /// The rest of GetObject, for an object that is there and may be read.
-#[tactic(auto, using(recovery::proofs::Causes::due_cause))]
 fn get_bytes<W: Swift>(
     state: &mut Settled<'_, W>,
     bucket: &Bytes,
@@ -181,15 +155,9 @@ fn get_bytes<W: Swift>(
 ) -> Result<Reply, PlanFault>
     requires place { IsPlace bucket.now key.now }
     requires shown { IsShownHead (Some head) }
-    ensures same { state.new.store.ghost_name ≡ state.old.store.ghost_name }
-    ensures calls { Within 1 (W.called state.old.store.now) (W.called state.new.store.now) }
-    ensures cause { CausesFault (W.faults state.old.store.now) (W.faults state.new.store.now) result }
-    ensures own { IfOk result IsOwnReply }
-    ensures tells { W.tells state.old.store.now → W.tells state.new.store.now }
-    ensures kept { W.tells state.old.store.now → Kept (W.called state.old.store.now) (W.tree_at state.old.store.now) (W.tree_at state.new.store.now) (W.faults_at state.old.store.now) (W.faults_at state.new.store.now) }
-    ensures told { W.tells state.old.store.now → Sound (W.tree_at state.new.store.now (W.called state.old.store.now))
-        → TellsReadable bucket.now key.now label.now.caller list head (native (W.tree_at state.new.store.now (W.called state.old.store.now)))
-        → Ends state.old.settings.now (W.tree_at state.new.store.now) (W.faults_at state.new.store.now) (W.called state.old.store.now) (W.called state.new.store.now) (GetObject bucket.now key.now) label.now result }
+    ensures stays { Stays state.old state.new }
+    ensures plans { Plans 1 (W.history state.old.store.now) (W.history state.new.store.now) state.old.settings.now
+        (TellsReadable bucket.now key.now label.now.caller list head) (GetObject bucket.now key.now) label.now result }
 {
     match recovery::get_object(state, bucket, key) {
         Ok(Some(body)) => whole(head, body),
@@ -228,14 +196,9 @@ pub(crate) fn head_object<W: Swift>(
     label: &Label,
 ) -> Result<Reply, PlanFault>
     requires place { IsPlace bucket.now key.now }
-    ensures same { state.new.store.ghost_name ≡ state.old.store.ghost_name }
-    ensures calls { Within 2 (W.called state.old.store.now) (W.called state.new.store.now) }
-    ensures cause { CausesFault (W.faults state.old.store.now) (W.faults state.new.store.now) result }
-    ensures own { IfOk result IsOwnReply }
-    ensures tells { W.tells state.old.store.now → W.tells state.new.store.now }
-    ensures kept { W.tells state.old.store.now → Kept (W.called state.old.store.now) (W.tree_at state.old.store.now) (W.tree_at state.new.store.now) (W.faults_at state.old.store.now) (W.faults_at state.new.store.now) }
-    ensures told { W.tells state.old.store.now → Sound (W.tree_at state.new.store.now (W.called state.old.store.now))
-        → Ends state.old.settings.now (W.tree_at state.new.store.now) (W.faults_at state.new.store.now) (W.called state.old.store.now) (W.called state.new.store.now) (HeadObject bucket.now key.now) label.now result }
+    ensures stays { Stays state.old state.new }
+    ensures plans { Plans 2 (W.history state.old.store.now) (W.history state.new.store.now) state.old.settings.now
+        Any (HeadObject bucket.now key.now) label.now result }
 {
     match head_bucket(state, bucket) {
         Ok(None) => Ok(Reply::Refused(Code::NoSuchBucket)),
@@ -254,15 +217,9 @@ fn head_within<W: Swift>(
     label: &Label,
 ) -> Result<Reply, PlanFault>
     requires place { IsPlace bucket.now key.now }
-    ensures same { state.new.store.ghost_name ≡ state.old.store.ghost_name }
-    ensures calls { Within 1 (W.called state.old.store.now) (W.called state.new.store.now) }
-    ensures cause { CausesFault (W.faults state.old.store.now) (W.faults state.new.store.now) result }
-    ensures own { IfOk result IsOwnReply }
-    ensures tells { W.tells state.old.store.now → W.tells state.new.store.now }
-    ensures kept { W.tells state.old.store.now → Kept (W.called state.old.store.now) (W.tree_at state.old.store.now) (W.tree_at state.new.store.now) (W.faults_at state.old.store.now) (W.faults_at state.new.store.now) }
-    ensures told { W.tells state.old.store.now → Sound (W.tree_at state.new.store.now (W.called state.old.store.now))
-        → TellsBucket bucket.now (native (W.tree_at state.new.store.now (W.called state.old.store.now))) (Some list)
-        → Ends state.old.settings.now (W.tree_at state.new.store.now) (W.faults_at state.new.store.now) (W.called state.old.store.now) (W.called state.new.store.now) (HeadObject bucket.now key.now) label.now result }
+    ensures stays { Stays state.old state.new }
+    ensures plans { Plans 1 (W.history state.old.store.now) (W.history state.new.store.now) state.old.settings.now
+        (λ s. TellsBucket bucket.now s (Some list)) (HeadObject bucket.now key.now) label.now result }
 {
     if !may_read(label.caller, list) {
         return Ok(Reply::Refused(Code::AccessDenied));
@@ -299,14 +256,9 @@ pub(crate) fn delete_object<W: Swift>(
     label: &Label,
 ) -> Result<Reply, PlanFault>
     requires place { IsPlace bucket.now key.now }
-    ensures same { state.new.store.ghost_name ≡ state.old.store.ghost_name }
-    ensures calls { Within 2 (W.called state.old.store.now) (W.called state.new.store.now) }
-    ensures cause { CausesFault (W.faults state.old.store.now) (W.faults state.new.store.now) result }
-    ensures own { IfOk result IsOwnReply }
-    ensures tells { W.tells state.old.store.now → W.tells state.new.store.now }
-    ensures kept { W.tells state.old.store.now → Kept (W.called state.old.store.now) (W.tree_at state.old.store.now) (W.tree_at state.new.store.now) (W.faults_at state.old.store.now) (W.faults_at state.new.store.now) }
-    ensures told { W.tells state.old.store.now → Sound (W.tree_at state.new.store.now (W.called state.old.store.now))
-        → Ends state.old.settings.now (W.tree_at state.new.store.now) (W.faults_at state.new.store.now) (W.called state.old.store.now) (W.called state.new.store.now) (DeleteObject bucket.now key.now) label.now result }
+    ensures stays { Stays state.old state.new }
+    ensures plans { Plans 2 (W.history state.old.store.now) (W.history state.new.store.now) state.old.settings.now
+        Any (DeleteObject bucket.now key.now) label.now result }
 {
     match head_bucket(state, bucket) {
         Ok(None) => Ok(Reply::Refused(Code::NoSuchBucket)),
@@ -324,15 +276,9 @@ fn delete_from<W: Swift>(
     label: &Label,
 ) -> Result<Reply, PlanFault>
     requires place { IsPlace bucket.now key.now }
-    ensures same { state.new.store.ghost_name ≡ state.old.store.ghost_name }
-    ensures calls { Within 1 (W.called state.old.store.now) (W.called state.new.store.now) }
-    ensures cause { CausesFault (W.faults state.old.store.now) (W.faults state.new.store.now) result }
-    ensures own { IfOk result IsOwnReply }
-    ensures tells { W.tells state.old.store.now → W.tells state.new.store.now }
-    ensures kept { W.tells state.old.store.now → Kept (W.called state.old.store.now) (W.tree_at state.old.store.now) (W.tree_at state.new.store.now) (W.faults_at state.old.store.now) (W.faults_at state.new.store.now) }
-    ensures told { W.tells state.old.store.now → Sound (W.tree_at state.new.store.now (W.called state.old.store.now))
-        → TellsBucket bucket.now (native (W.tree_at state.new.store.now (W.called state.old.store.now))) (Some list)
-        → Ends state.old.settings.now (W.tree_at state.new.store.now) (W.faults_at state.new.store.now) (W.called state.old.store.now) (W.called state.new.store.now) (DeleteObject bucket.now key.now) label.now result }
+    ensures stays { Stays state.old state.new }
+    ensures plans { Plans 1 (W.history state.old.store.now) (W.history state.new.store.now) state.old.settings.now
+        (λ s. TellsBucket bucket.now s (Some list)) (DeleteObject bucket.now key.now) label.now result }
 {
     reply_after(recovery::delete_object(state, bucket, key), Reply::Gone)
 }

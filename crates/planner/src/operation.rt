@@ -1,16 +1,11 @@
 //! The answer to each operation.
-ghost use Rattle.std.specs.Prelude.{◌≡◌, ◌≢◌, ℕ, IfOk};
-ghost use Rattle.gate_base.specs.Causes.{Rose};
-ghost use Rattle.swift_calls.specs.History.{Kept};
-ghost use Rattle.s3_machine.specs.Shown.{IsShowable};
+ghost use Rattle.std.specs.Prelude.{◌≡◌};
 ghost use Rattle.s3_machine.specs.Step.{IsProper};
-ghost use Rattle.s3_machine.specs.declared.code.Code.TheVariants.{ServiceUnavailable, InconsistentStore};
-ghost use Rattle.s3_machine.specs.declared.operation.Reply.TheVariants.{Refused};
-ghost use Rattle.upload_records.specs.Sound.{Sound};
-ghost use Rattle.recovery.specs.Fault.{CausesFault};
-ghost use Rattle.recovery.specs.Calls.{Within};
-ghost use Rattle.recovery.specs.Answers.{Answers, most_calls};
-ghost use Rattle.planner.specs.Plan.{reply_of, Ends, IsOwnReply};
+ghost use Rattle.swift_calls.specs.History.{present};
+ghost use Rattle.recovery.specs.Answers.{most_calls};
+ghost use Rattle.recovery.specs.Calls.{Any};
+ghost use Rattle.recovery.specs.Lent.{Stays};
+ghost use Rattle.planner.specs.Plan.{reply_of, Plans, Answered};
 
 use crate::buckets::create_bucket;
 use crate::objects::{delete_object, get_object, head_object, put_object};
@@ -25,18 +20,11 @@ use swift_calls::Swift;
 /// same two states. Or it is InconsistentStore, never over a told sound account. No call is repeated.
 pub fn answer<W: Swift>(alloc: Global, state: &mut Settled<'_, W>, op: &Op, label: &Label) -> Reply
     requires { IsProper op.now label.now }
-    ensures same { state.new.store.ghost_name ≡ state.old.store.ghost_name }
-    ensures calls { Within (most_calls op.now (W.tree_at state.old.store.now (W.called state.old.store.now))) (W.called state.old.store.now) (W.called state.new.store.now) }
-    ensures showable { IsShowable result }
-    ensures unavailable { result ≡ Refused ServiceUnavailable → Rose (W.faults state.old.store.now) (W.faults state.new.store.now) }
-    ensures steady { result ≢ Refused ServiceUnavailable → W.faults state.new.store.now ≡ W.faults state.old.store.now }
-    ensures tells { W.tells state.old.store.now → W.tells state.new.store.now }
-    ensures kept { W.tells state.old.store.now → Kept (W.called state.old.store.now) (W.tree_at state.old.store.now) (W.tree_at state.new.store.now) (W.faults_at state.old.store.now) (W.faults_at state.new.store.now) }
+    ensures stays { Stays state.old state.new }
 
     // The calls amount to the operation, with one turn of the account from the old state to the new one.
-    ensures told { W.tells state.old.store.now → Sound (W.tree_at state.new.store.now (W.called state.old.store.now))
-        → (t : ℕ) × Answers state.old.settings.now (W.tree_at state.new.store.now) (W.faults_at state.new.store.now) (W.called state.old.store.now) t (W.called state.new.store.now) op.now label.now result }
-    ensures consistent { W.tells state.old.store.now → Sound (W.tree_at state.new.store.now (W.called state.old.store.now)) → result ≢ Refused InconsistentStore }
+    ensures answered { Answered (most_calls op.now (present (W.history state.old.store.now))) (W.history state.old.store.now) (W.history state.new.store.now)
+        state.old.settings.now op.now label.now result }
 {
     reply_to(plan(alloc, state, op, label))
 }
@@ -49,14 +37,9 @@ fn plan<W: Swift>(
     label: &Label,
 ) -> Result<Reply, PlanFault>
     requires { IsProper op.now label.now }
-    ensures same { state.new.store.ghost_name ≡ state.old.store.ghost_name }
-    ensures calls { Within (most_calls op.now (W.tree_at state.old.store.now (W.called state.old.store.now))) (W.called state.old.store.now) (W.called state.new.store.now) }
-    ensures cause { CausesFault (W.faults state.old.store.now) (W.faults state.new.store.now) result }
-    ensures own { IfOk result IsOwnReply }
-    ensures tells { W.tells state.old.store.now → W.tells state.new.store.now }
-    ensures kept { W.tells state.old.store.now → Kept (W.called state.old.store.now) (W.tree_at state.old.store.now) (W.tree_at state.new.store.now) (W.faults_at state.old.store.now) (W.faults_at state.new.store.now) }
-    ensures told { W.tells state.old.store.now → Sound (W.tree_at state.new.store.now (W.called state.old.store.now))
-        → Ends state.old.settings.now (W.tree_at state.new.store.now) (W.faults_at state.new.store.now) (W.called state.old.store.now) (W.called state.new.store.now) op.now label.now result }
+    ensures stays { Stays state.old state.new }
+    ensures plans { Plans (most_calls op.now (present (W.history state.old.store.now))) (W.history state.old.store.now) (W.history state.new.store.now) state.old.settings.now
+        Any op.now label.now result }
 {
     match op {
         Op::CreateBucket { bucket, acl } => create_bucket(state, bucket, *acl, label),

@@ -1,24 +1,20 @@
-use Rattle.std.specs.Prelude.{None, Some}
-use Rattle.std.proofs.Common.{refl, sym, ap, subst, ◌∙◌}
-use Rattle.std.specs.Prelude.{Ok}
-use Rattle.planner.specs.Plan.{Ends}
+use Rattle.std.specs.Prelude.{None, Some, Ok}
+use Rattle.std.proofs.Common.{sym, ap, ◌∙◌, lit≤, rules}
 use Rattle.planner.specs.Objects.{headed_reply}
-use Rattle.recovery.specs.Calls.{TellsObject}
-use Rattle.planner.proofs.Ends.{not_read, is_read, none_needed}
+use Rattle.planner.proofs.Ends.{needs_none, told_nothing, answers, ends_by}
 use Rattle.planner.proofs.Steps.{head_refused, head_none, head_there}
 use Rattle.planner.proofs.objects.head_within.Goals as goal
 
-pub returns-then-not-may_read-clause-told : goal.returns-then-not-may_read-clause-told
-returns-then-not-may_read-clause-told g c = λ tells sound there. none_needed _ _ _ _ _ _ _ _ refl sound (head_refused _ _ _ _ _ _ there (sym c.may_read.ensures ∙ c.if-not-may_read.true))
+pub returns-then-not-may_read-clause-plans : goal.returns-then-not-may_read-clause-plans
+returns-then-not-may_read-clause-plans g c = needs_none _ (search rules) (λ state there. head_refused _ state _ _ _ _ there (sym c.may_read.ensures ∙ c.if-not-may_read.true))
 
-pub returns-in-Ok-None-clause-told : goal.returns-in-Ok-None-clause-told
-returns-in-Ok-None-clause-told g c = λ tells sound there.
-    is_read _ _ _ _ _ _ _ (TellsObject c.args.bucket.now c.args.key.now) None c.in-Ok-None.field-0-is _ (c.in-Ok-None.ensures.told tells sound) (λ none. head_none _ _ _ _ _ _ there (sym c.may_read.ensures ∙ c.if-not-may_read.false) none)
+pub returns-in-Ok-None-clause-plans : goal.returns-in-Ok-None-clause-plans
+returns-in-Ok-None-clause-plans g c = answers (lit≤ tt) None c.in-Ok-None.field-0-is _ c.in-Ok-None.ensures.asks (search rules) (λ state there none. head_none _ state _ _ _ _ there (sym c.may_read.ensures ∙ c.if-not-may_read.false) none)
 
-pub returns-in-Ok-Some-clause-told : goal.returns-in-Ok-Some-clause-told
-returns-in-Ok-Some-clause-told g c = λ tells sound there.
-    subst (Ends _ _ _ _ _ _ _) (ap Ok (sym c.headed.ensures.reply))
-    (is_read _ _ _ _ _ _ _ (TellsObject c.args.bucket.now c.args.key.now) (Some c.in-Ok-Some.head) c.in-Ok-Some.field-0-is (headed_reply c.in-Ok-Some.head) (c.in-Ok-Some.ensures.told tells sound) (λ object. head_there _ _ _ _ _ _ there (sym c.may_read.ensures ∙ c.if-not-may_read.false) _ object))
+pub returns-in-Ok-Some-clause-plans : goal.returns-in-Ok-Some-clause-plans
+returns-in-Ok-Some-clause-plans g c =
+    ends_by (lit≤ tt) (Some c.in-Ok-Some.head) c.in-Ok-Some.field-0-is _ c.in-Ok-Some.ensures.asks c.headed.ensures.own (search rules)
+    (λ state there object. (headed_reply c.in-Ok-Some.head, ap Ok c.headed.ensures.reply, head_there _ state _ _ _ _ there (sym c.may_read.ensures ∙ c.if-not-may_read.false) _ object))
 
-pub returns-in-Err-clause-told : goal.returns-in-Err-clause-told
-returns-in-Err-clause-told g c = λ tells sound there. not_read _ _ _ _ _ _ _ (TellsObject c.args.bucket.now c.args.key.now) _ c.head_object.ensures.calls (c.in-Err.ensures.told tells sound)
+pub returns-in-Err-clause-plans : goal.returns-in-Err-clause-plans
+returns-in-Err-clause-plans g c = told_nothing (lit≤ tt) c.in-Err.ensures.asks
