@@ -3,7 +3,7 @@ use Rattle.std.proofs.Common.{◌≡◌, ℕ, Bool, true, false, List, [], Optio
 use Rattle.gate_base.specs.declared.outside.Piece.{Piece}
 use Rattle.gate_base.specs.Wire.{Wire}
 use Rattle.gateway.specs.declared.service.Service.{Service}
-use Rattle.swift_calls.specs.Tree.{Tree}
+use Rattle.swift_calls.specs.History.{History}
 use Rattle.http_wire.specs.declared.message.Message.{Message}
 use Rattle.http_wire.specs.declared.message.Kind.{Kind}
 use Rattle.http_wire.specs.declared.message.Got.TheVariants as got
@@ -19,44 +19,44 @@ use Rattle.gateway.specs.Connection.{Tally, Point, tally, point, Hears, read, re
 use Rattle.gateway.specs.Turned.{TurnsOnce, TurnEnds}
 use Rattle.gateway.specs.Serving.{NextOne, EndsUnread}
 
-module _ (service : Service) (at : ℕ → Tree) (faults : ℕ → ℕ) (connection : ℕ) where
-  pub turn_ends : (old new : Tally) (asks : ℕ → Request) (ended : Option Ended) → TurnsOnce service at faults connection old new asks (Served ended) → TurnEnds service at faults connection old new asks ended
+module _ (service : Service) (h : History) (connection : ℕ) where
+  pub turn_ends : (old new : Tally) (asks : ℕ → Request) (ended : Option Ended) → TurnsOnce service h connection old new asks (Served ended) → TurnEnds service h connection old new asks ended
   turn_ends old new asks None turn = turn
   turn_ends old new asks (Some ended) turn = inl turn
 
-  pub turn_breaks : (old new : Tally) (asks : ℕ → Request) → TurnsOnce service at faults connection old new asks Broken → TurnEnds service at faults connection old new asks (Some LineFailed)
+  pub turn_breaks : (old new : Tally) (asks : ℕ → Request) → TurnsOnce service h connection old new asks Broken → TurnEnds service h connection old new asks (Some LineFailed)
   turn_breaks old new asks turn = inr (refl, turn.0, turn.1, turn.2, turn.3)
 
   -- a request that was heard was answered
   pub next_of : (old new : Point) (asks : ℕ → Request) (ended : Option Ended) → ((moment : ℕ) → Hears service moment old (asks moment) new.rest new.place)
-      → TurnEnds service at faults connection old.tally new.tally asks ended → NextOne service at faults connection old ended new
+      → TurnEnds service h connection old.tally new.tally asks ended → NextOne service h connection old ended new
   next_of old new asks None hears turn = (turn.0, record { request = asks turn.1.moment; label = turn.1; hears = hears turn.1.moment; labels = turn.2; exchange = turn.3 })
   next_of old new asks (Some ended) hears (inl turn) =
       (_, served new turn.0 (record { request = asks turn.1.moment; label = turn.1; hears = hears turn.1.moment; labels = turn.2; exchange = turn.3 }) refl)
   next_of old new asks (Some ended) hears (inr turn) =
       (_, broken turn.1 turn.0 (record { request = asks turn.2.moment; label = turn.2; rest = new.rest; place = new.place; hears = hears turn.2.moment; labels = turn.3; exchange = turn.4 }))
 
-module _ (service : Service) (at : ℕ → Tree) (faults : ℕ → ℕ) (number : ℕ) (moments draws : List ℕ) (begun : ℕ) (sent : List Piece) (pending pending' : Pending) (all rest : List ℕ) where
+module _ (service : Service) (h : History) (number : ℕ) (moments draws : List ℕ) (begun : ℕ) (sent : List Piece) (pending pending' : Pending) (all rest : List ℕ) where
   -- what was read is a message
   pub next_request : (wire : Wire) (message : Message) (left : List ℕ) (new : Tally) (ended : Option Ended) → Gives pending all (got.Request message) pending' left
       → wire.begun ≡ begun → wire.sent ≡ sent → rest ≡ left
-      → TurnEnds service at faults wire.begun (tally number moments draws wire.sent) new (asks_of service (received.Message message)) ended
-      → NextOne service at faults begun (point all pending.place (tally number moments draws sent)) ended (point rest pending'.place new)
+      → TurnEnds service h wire.begun (tally number moments draws wire.sent) new (asks_of service (received.Message message)) ended
+      → NextOne service h begun (point all pending.place (tally number moments draws sent)) ended (point rest pending'.place new)
   next_request wire message left new ended gives b s r turn =
-      let P : (ℕ × List Piece) → Type 0 = λ x. TurnEnds service at faults x.0 (tally number moments draws x.1) new (asks_of service (received.Message message)) ended in
+      let P : (ℕ × List Piece) → Type 0 = λ x. TurnEnds service h x.0 (tally number moments draws x.1) new (asks_of service (received.Message message)) ended in
       let own : P (begun, sent) = subst P (λ i. (b i, s i)) turn in
-      next_of service at faults begun (point all pending.place (tally number moments draws sent)) (point rest pending'.place new) (asks_of service (received.Message message)) ended
+      next_of service h begun (point all pending.place (tally number moments draws sent)) (point rest pending'.place new) (asks_of service (received.Message message)) ended
       (λ moment. read message gives.0 gives.2 refl (r ∙ gives.3) gives.4) own
 
   -- what was read is refused
   pub next_refused : (wire : Wire) (kind : Kind) (place : ℕ) (head : Bool) (left : List ℕ) (new : Tally) (ended : Option Ended) → Gives pending all (got.Refused kind place head) pending' left
       → wire.begun ≡ begun → wire.sent ≡ sent → rest ≡ left
-      → TurnEnds service at faults wire.begun (tally number moments draws wire.sent) new (asks_of service (received.Refused kind place head)) ended
-      → NextOne service at faults begun (point all pending.place (tally number moments draws sent)) ended (point rest pending'.place new)
+      → TurnEnds service h wire.begun (tally number moments draws wire.sent) new (asks_of service (received.Refused kind place head)) ended
+      → NextOne service h begun (point all pending.place (tally number moments draws sent)) ended (point rest pending'.place new)
   next_refused wire kind place head left new ended gives b s r turn =
-      let P : (ℕ × List Piece) → Type 0 = λ x. TurnEnds service at faults x.0 (tally number moments draws x.1) new (asks_of service (received.Refused kind place head)) ended in
+      let P : (ℕ × List Piece) → Type 0 = λ x. TurnEnds service h x.0 (tally number moments draws x.1) new (asks_of service (received.Refused kind place head)) ended in
       let own : P (begun, sent) = subst P (λ i. (b i, s i)) turn in
-      next_of service at faults begun (point all pending.place (tally number moments draws sent)) (point rest pending'.place new) (asks_of service (received.Refused kind place head)) ended
+      next_of service h begun (point all pending.place (tally number moments draws sent)) (point rest pending'.place new) (asks_of service (received.Refused kind place head)) ended
       (λ moment. rejected kind head gives.1 (ap (λ n. refused_request kind n head) gives.2) (r ∙ gives.3) gives.4) own
 
   same_tally : (sent' : List Piece) → sent' ≡ sent → tally number moments draws sent' ≡ tally number moments draws sent
@@ -64,7 +64,7 @@ module _ (service : Service) (at : ℕ → Tree) (faults : ℕ → ℕ) (number 
 
   -- no byte was left
   pub next_end : (sent' : List Piece) (left : List ℕ) → pending.ended ≡ false → Gives pending all got.End pending' left → sent' ≡ sent
-      → NextOne service at faults begun (point all pending.place (tally number moments draws sent)) (Some End) (point rest pending'.place (tally number moments draws sent'))
+      → NextOne service h begun (point all pending.place (tally number moments draws sent)) (Some End) (point rest pending'.place (tally number moments draws sent'))
   next_end sent' left goes gives e = elim gives.0 [
     | inl ended ↦ absurd (let no : true ≡ false = sym ended ∙ goes in cc)
     | inr front ↦ ([], over refl front (same_tally sent' e))
@@ -72,17 +72,17 @@ module _ (service : Service) (at : ℕ → Tree) (faults : ℕ → ℕ) (number 
 
   -- the bytes ended inside a head
   pub next_cut : (place : ℕ) (sent' : List Piece) (left : List ℕ) → Gives pending all (got.CutShort place) pending' left → sent' ≡ sent
-      → NextOne service at faults begun (point all pending.place (tally number moments draws sent)) (Some (CutShort place)) (point rest pending'.place (tally number moments draws sent'))
+      → NextOne service h begun (point all pending.place (tally number moments draws sent)) (Some (CutShort place)) (point rest pending'.place (tally number moments draws sent'))
   next_cut place sent' left gives e = ([], cut (ap CutShort gives.2) gives.1 (same_tally sent' e))
 
   -- the line failed while a request was read
   pub next_failed : (sent' : List Piece) → sent' ≡ sent
-      → NextOne service at faults begun (point all pending.place (tally number moments draws sent)) (Some LineFailed) (point rest pending'.place (tally number moments draws sent'))
+      → NextOne service h begun (point all pending.place (tally number moments draws sent)) (Some LineFailed) (point rest pending'.place (tally number moments draws sent'))
   next_failed sent' e = ([], unheard refl (same_tally sent' e))
 
   -- memory was wanted while a request was read
   pub next_unread : (wire wire' : Wire) (ended : Ended) → wire.begun ≡ begun → wire.sent ≡ sent → EndsUnread number wire ended wire'
-      → NextOne service at faults begun (point all pending.place (tally number moments draws sent)) (Some ended) (point rest pending'.place (tally number moments draws wire'.sent))
+      → NextOne service h begun (point all pending.place (tally number moments draws sent)) (Some ended) (point rest pending'.place (tally number moments draws wire'.sent))
   next_unread wire wire' End b s ends = absurd ends
   next_unread wire wire' Closed b s ends = absurd ends
   next_unread wire wire' (CutShort place) b s ends = absurd ends

@@ -8,7 +8,7 @@ use Rattle.s3_machine.specs.declared.operation.Label.{Label}
 use Rattle.s3_machine.specs.declared.operation.Settings.{Settings}
 use Rattle.s3_machine.specs.declared.operation.Reply.{Reply}
 use Rattle.s3_machine.specs.declared.operation.Reply.TheVariants as answer
-use Rattle.swift_calls.specs.Tree.{Tree}
+use Rattle.swift_calls.specs.History.{History}
 use Rattle.http_wire.specs.Front.{is_head}
 use Rattle.http_wire.specs.Print.{memory_reply}
 use Rattle.gate_base.specs.declared.page.Caller.{Caller}
@@ -27,10 +27,10 @@ use Rattle.gateway.specs.Write.{IsText}
 use Rattle.gateway.proofs.Replying.{IsReplied}
 
 -- the turn stands between the numbers
-pub replies_order : (settings : Settings) (at : ℕ → Tree) (faults : ℕ → ℕ) (p t q : ℕ) (request : Request) (label : Label) (due : Reply)
-    → Replies settings at faults p t q request label due → (p ≤ t) × (t ≤ q)
-replies_order settings at faults p t q request label due (refused code means is sound turned one) = (omega arith, omega arith)
-replies_order settings at faults p t q request label due (answered op means answers bound) = (answers.turns.after_p, answers.turns.up_to_q)
+pub replies_order : (settings : Settings) (h : History) (p t q : ℕ) (request : Request) (label : Label) (due : Reply)
+    → Replies settings h p t q request label due → (p ≤ t) × (t ≤ q)
+replies_order settings h p t q request label due (refused code means is sound turned one) = (omega arith, omega arith)
+replies_order settings h p t q request label due (answered op means answers bound) = (answers.turns.after_p, answers.turns.up_to_q)
 
 only : (connection t q : ℕ) (bytes : List ℕ) → t ≤ q → All (IsPiece connection t q) (record { connection = connection; at = q; bytes = bytes } ∷ [])
 only connection t q bytes near =
@@ -65,13 +65,13 @@ part_of t q bytes wire wire' near (inr (n, e)) = record {
   each = only wire.begun t q (take n bytes) near;
 }
 
-module _ (service : Service) (at : ℕ → Tree) (faults : ℕ → ℕ) (p q : ℕ) (moments draws moments' draws' : List ℕ) (wire wire' : Wire) (asks : ℕ → Request) (label : Label) (given : Reply)
-    (labels : LabelGiven moments draws moments' draws' (asks label.moment).caller label) (replied : IsReplied service.settings at faults p q (asks label.moment) label given) where
+module _ (service : Service) (h : History) (p q : ℕ) (moments draws moments' draws' : List ℕ) (wire wire' : Wire) (asks : ℕ → Request) (label : Label) (given : Reply)
+    (labels : LabelGiven moments draws moments' draws' (asks label.moment).caller label) (replied : IsReplied service.settings h p q (asks label.moment) label given) where
   pub turn_whole : given ≢ answer.Memory → wire' ≡ with_piece wire q (print given label (asks label.moment))
-      → TurnsOnce service at faults wire.begun (tally p moments draws wire.sent) (tally q moments' draws' wire'.sent) asks (Served (asks label.moment).end)
+      → TurnsOnce service h wire.begun (tally p moments draws wire.sent) (tally q moments' draws' wire'.sent) asks (Served (asks label.moment).end)
   turn_whole known wrote =
       let request = asks label.moment in
-      let near = replies_order service.settings at faults p replied.0 q request label replied.1 replied.2 in
+      let near = replies_order service.settings h p replied.0 q request label replied.1 replied.2 in
       let same : given ≡ replied.1 = replied.3 known in (
         replied.0,
         label,
@@ -86,10 +86,10 @@ module _ (service : Service) (at : ℕ → Tree) (faults : ℕ → ℕ) (p q : �
       )
 
   pub turn_wanted : wire' ≡ with_piece wire q (memory_reply (is_head (asks label.moment).method))
-      → TurnsOnce service at faults wire.begun (tally p moments draws wire.sent) (tally q moments' draws' wire'.sent) asks (Served (Some ended.Memory))
+      → TurnsOnce service h wire.begun (tally p moments draws wire.sent) (tally q moments' draws' wire'.sent) asks (Served (Some ended.Memory))
   turn_wanted wrote =
       let request = asks label.moment in
-      let near = replies_order service.settings at faults p replied.0 q request label replied.1 replied.2 in (
+      let near = replies_order service.settings h p replied.0 q request label replied.1 replied.2 in (
         replied.0,
         label,
         labels,
@@ -103,10 +103,10 @@ module _ (service : Service) (at : ℕ → Tree) (faults : ℕ → ℕ) (p q : �
       )
 
   pub turn_broken : (bytes : List ℕ) → IsText given label (asks label.moment).method (asks label.moment).resource (is_some (asks label.moment).end) bytes → SendsPrefix wire q bytes wire'
-      → TurnsOnce service at faults wire.begun (tally p moments draws wire.sent) (tally q moments' draws' wire'.sent) asks Broken
+      → TurnsOnce service h wire.begun (tally p moments draws wire.sent) (tally q moments' draws' wire'.sent) asks Broken
   turn_broken bytes (inl text) part =
       let request = asks label.moment in
-      let near = replies_order service.settings at faults p replied.0 q request label replied.1 replied.2 in
+      let near = replies_order service.settings h p replied.0 q request label replied.1 replied.2 in
       let same : given ≡ replied.1 = replied.3 text.0 in (
         replied.0,
         label,
@@ -122,7 +122,7 @@ module _ (service : Service) (at : ℕ → Tree) (faults : ℕ → ℕ) (p q : �
       )
   turn_broken bytes (inr text) part =
       let request = asks label.moment in
-      let near = replies_order service.settings at faults p replied.0 q request label replied.1 replied.2 in (
+      let near = replies_order service.settings h p replied.0 q request label replied.1 replied.2 in (
         replied.0,
         label,
         labels,
@@ -137,9 +137,9 @@ module _ (service : Service) (at : ℕ → Tree) (faults : ℕ → ℕ) (p q : �
       )
 
 -- the same, of a request as the code holds it: the code's label has the caller of the request, unless memory was wanted
-module _ (service : Service) (at : ℕ → Tree) (faults : ℕ → ℕ) (p q : ℕ) (moments draws moments' draws' : List ℕ) (wire wire' : Wire) (asks : ℕ → Request) (next label : Label) (given : Reply)
+module _ (service : Service) (h : History) (p q : ℕ) (moments draws moments' draws' : List ℕ) (wire wire' : Wire) (asks : ℕ → Request) (next label : Label) (given : Reply)
     (heard : Heard) (is : Is heard (asks next.moment)) (own : label ≡ sent_by heard.caller next) (labels : (from : Caller) → LabelGiven moments draws moments' draws' from (sent_by from next))
-    (known : heard.means ≡ meant.Memory → given ≡ answer.Memory) (replied : IsReplied service.settings at faults p q (asks next.moment) (sent_by (asks next.moment).caller label) given) where
+    (known : heard.means ≡ meant.Memory → given ≡ answer.Memory) (replied : IsReplied service.settings h p q (asks next.moment) (sent_by (asks next.moment).caller label) given) where
   abbrev due_label : Label
   due_label = sent_by (asks next.moment).caller next
 
@@ -147,23 +147,23 @@ module _ (service : Service) (at : ℕ → Tree) (faults : ℕ → ℕ) (p q : �
   same_label : given ≢ answer.Memory → label ≡ due_label
   same_label other = own ∙ (λ i. sent_by (is.caller (λ e. other (known e)) i) next)
 
-  due_replied : IsReplied service.settings at faults p q (asks next.moment) due_label given
+  due_replied : IsReplied service.settings h p q (asks next.moment) due_label given
   due_replied =
-      let P : Label → Type 0 = λ l. IsReplied service.settings at faults p q (asks next.moment) (sent_by (asks next.moment).caller l) given in
+      let P : Label → Type 0 = λ l. IsReplied service.settings h p q (asks next.moment) (sent_by (asks next.moment).caller l) given in
       subst P own replied
 
   pub heard_whole : (closing : Bool) → closing ≡ is_some heard.end → given ≢ answer.Memory → wire' ≡ with_piece wire q (reply_text given label heard.method.now heard.resource.now closing)
-      → TurnsOnce service at faults wire.begun (tally p moments draws wire.sent) (tally q moments' draws' wire'.sent) asks (Served heard.end)
+      → TurnsOnce service h wire.begun (tally p moments draws wire.sent) (tally q moments' draws' wire'.sent) asks (Served heard.end)
   heard_whole closing ends other wrote =
       let same : reply_text given label heard.method.now heard.resource.now closing ≡ print given due_label (asks next.moment)
       = ap (reply_text given label heard.method.now heard.resource.now) ends ∙ (λ i. reply_text given (same_label other i) (is.method i) (is.resource i) (is_some (is.end i))) in
-      let done = turn_whole service at faults p q moments draws moments' draws' wire wire' asks due_label given (labels (asks next.moment).caller) due_replied other (wrote ∙ ap (with_piece wire q) same) in
-      let P : Option Ended → Type 0 = λ e. TurnsOnce service at faults wire.begun (tally p moments draws wire.sent) (tally q moments' draws' wire'.sent) asks (Served e) in
+      let done = turn_whole service h p q moments draws moments' draws' wire wire' asks due_label given (labels (asks next.moment).caller) due_replied other (wrote ∙ ap (with_piece wire q) same) in
+      let P : Option Ended → Type 0 = λ e. TurnsOnce service h wire.begun (tally p moments draws wire.sent) (tally q moments' draws' wire'.sent) asks (Served e) in
       subst P (sym is.end) done
 
   pub heard_wanted : wire' ≡ with_piece wire q (memory_reply (is_head heard.method.now))
-      → TurnsOnce service at faults wire.begun (tally p moments draws wire.sent) (tally q moments' draws' wire'.sent) asks (Served (Some ended.Memory))
-  heard_wanted wrote = turn_wanted service at faults p q moments draws moments' draws' wire wire' asks due_label given (labels (asks next.moment).caller) due_replied
+      → TurnsOnce service h wire.begun (tally p moments draws wire.sent) (tally q moments' draws' wire'.sent) asks (Served (Some ended.Memory))
+  heard_wanted wrote = turn_wanted service h p q moments draws moments' draws' wire wire' asks due_label given (labels (asks next.moment).caller) due_replied
       (wrote ∙ ap (λ m. with_piece wire q (memory_reply (is_head m))) is.method)
 
   -- the text that was begun, of the label that is due
@@ -177,6 +177,6 @@ module _ (service : Service) (at : ℕ → Tree) (faults : ℕ → ℕ) (p q : �
 
   pub heard_broken : (closing : Bool) → closing ≡ is_some heard.end
       → ((bytes : List ℕ) × IsText given label heard.method.now heard.resource.now closing bytes × SendsPrefix wire q bytes wire')
-      → TurnsOnce service at faults wire.begun (tally p moments draws wire.sent) (tally q moments' draws' wire'.sent) asks Broken
+      → TurnsOnce service h wire.begun (tally p moments draws wire.sent) (tally q moments' draws' wire'.sent) asks Broken
   heard_broken closing ends wrote =
-      turn_broken service at faults p q moments draws moments' draws' wire wire' asks due_label given (labels (asks next.moment).caller) due_replied wrote.0 (due_text closing wrote.0 ends wrote.1) wrote.2
+      turn_broken service h p q moments draws moments' draws' wire wire' asks due_label given (labels (asks next.moment).caller) due_replied wrote.0 (due_text closing wrote.0 ends wrote.1) wrote.2

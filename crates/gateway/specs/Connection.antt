@@ -6,7 +6,7 @@ use Rattle.gate_base.specs.declared.page.Caller.{Caller}
 use Rattle.gate_base.specs.Told.{GivesMoment, GivesDraw}
 use Rattle.s3_machine.specs.declared.operation.Label.{Label}
 use Rattle.gateway.specs.declared.service.Service.{Service}
-use Rattle.swift_calls.specs.Tree.{Tree}
+use Rattle.swift_calls.specs.History.{History}
 use Rattle.http_wire.specs.declared.message.Message.{Message}
 use Rattle.http_wire.specs.declared.message.Kind.{Kind}
 use Rattle.http_wire.specs.Front.{IsFront, asks, nothing, cut_short, refused}
@@ -65,28 +65,28 @@ abbrev pub Labels : Tally → Tally → Caller → Label → Type 0
 Labels old new from label = LabelGiven old.moments old.draws new.moments new.draws from label
 
 -- the next request was heard and answered in whole; its turn was at the number t
-pub record Serves (service : Service) (at : ℕ → Tree) (faults : ℕ → ℕ) (connection : ℕ) (end : Option Ended) (old : Point) (t : ℕ) (new : Point) : Type 0 where
+pub record Serves (service : Service) (h : History) (connection : ℕ) (end : Option Ended) (old : Point) (t : ℕ) (new : Point) : Type 0 where
   pub request : Request
   pub label : Label
   pub hears : Hears service label.moment old request new.rest new.place
   pub labels : Labels old.tally new.tally request.caller label
-  pub exchange : Exchange service.settings at faults connection (turn_of old.tally t new.tally) request label end old.tally.sent new.tally.sent
+  pub exchange : Exchange service.settings h connection (turn_of old.tally t new.tally) request label end old.tally.sent new.tally.sent
 
 -- any number of requests, none of which ended the connection, with their turns
-pub data Exchanges (service : Service) (at : ℕ → Tree) (faults : ℕ → ℕ) (connection : ℕ) : Point → List Turn → Point → Type 0 where
-  none : (point : Point) → Exchanges service at faults connection point [] point
-  more : (old middle new : Point) (turns : List Turn) (t : ℕ) → Exchanges service at faults connection old turns middle → Serves service at faults connection None middle t new
-      → Exchanges service at faults connection old (turns ++ turn_of middle.tally t new.tally ∷ []) new
+pub data Exchanges (service : Service) (h : History) (connection : ℕ) : Point → List Turn → Point → Type 0 where
+  none : (point : Point) → Exchanges service h connection point [] point
+  more : (old middle new : Point) (turns : List Turn) (t : ℕ) → Exchanges service h connection old turns middle → Serves service h connection None middle t new
+      → Exchanges service h connection old (turns ++ turn_of middle.tally t new.tally ∷ []) new
 
 -- the next request was heard and answered, and the line failed under its reply
-pub record Breaks (service : Service) (at : ℕ → Tree) (faults : ℕ → ℕ) (connection : ℕ) (old : Point) (t : ℕ) (new : Tally) : Type 0 where
+pub record Breaks (service : Service) (h : History) (connection : ℕ) (old : Point) (t : ℕ) (new : Tally) : Type 0 where
   pub request : Request
   pub label : Label
   pub rest : List ℕ
   pub place : ℕ
   pub hears : Hears service label.moment old request rest place
   pub labels : Labels old.tally new request.caller label
-  pub exchange : CutExchange service.settings at faults connection (turn_of old.tally t new) request label old.tally.sent new.sent
+  pub exchange : CutExchange service.settings h connection (turn_of old.tally t new) request label old.tally.sent new.sent
 
 -- nothing but pieces came between
 pub record OnlySent (old new : Tally) : Type 0 where
@@ -95,29 +95,29 @@ pub record OnlySent (old new : Tally) : Type 0 where
   pub draws : new.draws ≡ old.draws
 
 -- how a connection ends, from the last point before its end, with the turn of a request that ends it
-pub data Ends (service : Service) (at : ℕ → Tree) (faults : ℕ → ℕ) (connection : ℕ) (ended : Ended) (last : Point) (new : Tally) : List Turn → Type 0 where
+pub data Ends (service : Service) (h : History) (connection : ℕ) (ended : Ended) (last : Point) (new : Tally) : List Turn → Type 0 where
   -- no byte is left
-  over : ended ≡ End → IsFront last.rest nothing → new ≡ last.tally → Ends service at faults connection ended last new []
+  over : ended ≡ End → IsFront last.rest nothing → new ≡ last.tally → Ends service h connection ended last new []
   -- the bytes end inside a head
-  cut : ended ≡ CutShort last.place → IsFront last.rest cut_short → new ≡ last.tally → Ends service at faults connection ended last new []
+  cut : ended ≡ CutShort last.place → IsFront last.rest cut_short → new ≡ last.tally → Ends service h connection ended last new []
   -- a reply ended it
-  served : (point : Point) (t : ℕ) → Serves service at faults connection (Some ended) last t point → new ≡ point.tally → Ends service at faults connection ended last new (turn_of last.tally t new ∷ [])
+  served : (point : Point) (t : ℕ) → Serves service h connection (Some ended) last t point → new ≡ point.tally → Ends service h connection ended last new (turn_of last.tally t new ∷ [])
   -- memory was wanted while a request was read
-  unread : ended ≡ Memory → OnlySent last.tally new → Sends connection last.tally.number last.tally.number (memory_reply false) last.tally.sent new.sent → Ends service at faults connection ended last new []
+  unread : ended ≡ Memory → OnlySent last.tally new → Sends connection last.tally.number last.tally.number (memory_reply false) last.tally.sent new.sent → Ends service h connection ended last new []
   -- the line failed while a request was read
-  unheard : ended ≡ LineFailed → new ≡ last.tally → Ends service at faults connection ended last new []
+  unheard : ended ≡ LineFailed → new ≡ last.tally → Ends service h connection ended last new []
   -- memory was wanted while a request was read, and the line failed under the reply for that
-  untold : ended ≡ LineFailed → OnlySent last.tally new → SendsPart connection last.tally.number last.tally.number (memory_reply false) last.tally.sent new.sent → Ends service at faults connection ended last new []
+  untold : ended ≡ LineFailed → OnlySent last.tally new → SendsPart connection last.tally.number last.tally.number (memory_reply false) last.tally.sent new.sent → Ends service h connection ended last new []
   -- the line failed under the reply to a request
-  broken : (t : ℕ) → ended ≡ LineFailed → Breaks service at faults connection last t new → Ends service at faults connection ended last new (turn_of last.tally t new ∷ [])
+  broken : (t : ℕ) → ended ≡ LineFailed → Breaks service h connection last t new → Ends service h connection ended last new (turn_of last.tally t new ∷ [])
 
 -- one connection: its requests in order, none skipped, with their turns, and its end
-pub record TalkOne (service : Service) (at : ℕ → Tree) (faults : ℕ → ℕ) (connection : ℕ) (ended : Ended) (old : Point) (turns : List Turn) (new : Tally) : Type 0 where
+pub record TalkOne (service : Service) (h : History) (connection : ℕ) (ended : Ended) (old : Point) (turns : List Turn) (new : Tally) : Type 0 where
   pub last : Point
   pub before : List Turn
   pub after : List Turn
-  pub exchanges : Exchanges service at faults connection old before last
-  pub ends : Ends service at faults connection ended last new after
+  pub exchanges : Exchanges service h connection old before last
+  pub ends : Ends service h connection ended last new after
   pub all : turns ≡ before ++ after
 
 -- whether the line failed under this connection

@@ -8,7 +8,7 @@ use Rattle.s3_machine.specs.declared.operation.Settings.{Settings}
 use Rattle.s3_machine.specs.declared.operation.Op.{Op}
 use Rattle.s3_machine.specs.declared.operation.Reply.{Reply}
 use Rattle.s3_machine.specs.declared.operation.Reply.TheVariants.{Refused, Memory}
-use Rattle.swift_calls.specs.Tree.{Tree}
+use Rattle.swift_calls.specs.History.{History}
 use Rattle.upload_records.specs.Sound.{Sound}
 use Rattle.recovery.specs.Answers.{Answers, most_calls}
 use Rattle.http_wire.specs.Front.{is_head}
@@ -25,9 +25,9 @@ pub record Turn : Type 0 where
   pub to : ℕ
 
 -- the reply: the code of a request that is no operation, without any call; or what the operation is answered, with no more calls than it may make
-pub data Replies (settings : Settings) (at : ℕ → Tree) (faults : ℕ → ℕ) (p t q : ℕ) (request : Request) (label : Label) (reply : Reply) : Type 0 where
-  refused : (code : Code) → request.means ≡ meant.Refused code → reply ≡ Refused code → Sound (at p) → t ≡ p → q ≡ p → Replies settings at faults p t q request label reply
-  answered : (op : Op) → request.means ≡ meant.Op op → Answers settings at faults p t q op label reply → q ≤ p + most_calls op (at p) → Replies settings at faults p t q request label reply
+pub data Replies (settings : Settings) (h : History) (p t q : ℕ) (request : Request) (label : Label) (reply : Reply) : Type 0 where
+  refused : (code : Code) → request.means ≡ meant.Refused code → reply ≡ Refused code → Sound (h.tree_at p) → t ≡ p → q ≡ p → Replies settings h p t q request label reply
+  answered : (op : Op) → request.means ≡ meant.Op op → Answers settings h p t q op label reply → q ≤ p + most_calls op (h.tree_at p) → Replies settings h p t q request label reply
 
 -- the bytes that are due, and how the connection ends after them: the reply in print, or the reply for want of memory, which ends it
 pub data Due (request : Request) (label : Label) (reply : Reply) (end : Option Ended) (bytes : List ℕ) : Type 0 where
@@ -61,18 +61,18 @@ pub record SendsPart (connection t q : ℕ) (bytes : List ℕ) (old new : List P
   pub each : All (IsPiece connection t q) pieces
 
 -- a request was answered in whole
-pub record Exchange (settings : Settings) (at : ℕ → Tree) (faults : ℕ → ℕ) (connection : ℕ) (turn : Turn) (request : Request) (label : Label) (end : Option Ended) (old new : List Piece) : Type 0 where
+pub record Exchange (settings : Settings) (h : History) (connection : ℕ) (turn : Turn) (request : Request) (label : Label) (end : Option Ended) (old new : List Piece) : Type 0 where
   pub reply : Reply
   pub bytes : List ℕ
-  pub replies : Replies settings at faults turn.from turn.turned turn.to request label reply
+  pub replies : Replies settings h turn.from turn.turned turn.to request label reply
   pub due : Due request label reply end bytes
   pub sends : Sends connection turn.turned turn.to bytes old new
 
 -- a request was answered, and the line failed while the reply was written
-pub record CutExchange (settings : Settings) (at : ℕ → Tree) (faults : ℕ → ℕ) (connection : ℕ) (turn : Turn) (request : Request) (label : Label) (old new : List Piece) : Type 0 where
+pub record CutExchange (settings : Settings) (h : History) (connection : ℕ) (turn : Turn) (request : Request) (label : Label) (old new : List Piece) : Type 0 where
   pub reply : Reply
   pub end : Option Ended
   pub bytes : List ℕ
-  pub replies : Replies settings at faults turn.from turn.turned turn.to request label reply
+  pub replies : Replies settings h turn.from turn.turned turn.to request label reply
   pub due : Due request label reply end bytes
   pub sends : SendsPart connection turn.turned turn.to bytes old new

@@ -2,7 +2,7 @@
 use Rattle.std.specs.Prelude.{◌≡◌, ℕ, Bool, false, List, if◌then◌else◌, Option, None, Some}
 use Rattle.gate_base.specs.Wire.{Wire, with_mark}
 use Rattle.gateway.specs.declared.service.Service.{Service}
-use Rattle.swift_calls.specs.Tree.{Tree}
+use Rattle.swift_calls.specs.History.{History}
 use Rattle.http_wire.specs.Print.{memory_reply}
 use Rattle.gateway.specs.declared.ended.Ended.{Ended}
 use Rattle.gateway.specs.declared.ended.Ended.TheVariants.{End, Closed, CutShort, Refused, LineFailed, Memory}
@@ -21,9 +21,9 @@ pub record OnlyServes (failed : Bool) (old new : Wire) : Type 0 where
   pub marks : new.marks ≡ (if failed then (with_mark old).marks else old.marks)
 
 -- a request was answered and the connection goes on, or it ended so
-abbrev pub NextOne : Service → (ℕ → Tree) → (ℕ → ℕ) → ℕ → Point → Option Ended → Point → Type 0
-NextOne service at faults connection old None new = (t : ℕ) × Serves service at faults connection None old t new
-NextOne service at faults connection old (Some ended) new = (turns : List Turn) × Ends service at faults connection ended old new.tally turns
+abbrev pub NextOne : Service → History → ℕ → Point → Option Ended → Point → Type 0
+NextOne service h connection old None new = (t : ℕ) × Serves service h connection None old t new
+NextOne service h connection old (Some ended) new = (turns : List Turn) × Ends service h connection ended old new.tally turns
 
 -- the reply for want of memory was written, or the line failed under it
 abbrev pub EndsUnread : ℕ → Wire → Ended → Wire → Type 0

@@ -3,7 +3,7 @@ use Rattle.std.specs.Prelude.{◌≡◌, ◌⊎◌, ℕ, false, Option, None, So
 use Rattle.gate_base.specs.Wire.{Wire}
 use Rattle.s3_machine.specs.declared.operation.Label.{Label}
 use Rattle.gateway.specs.declared.service.Service.{Service}
-use Rattle.swift_calls.specs.Tree.{Tree}
+use Rattle.swift_calls.specs.History.{History}
 use Rattle.gateway.specs.declared.ended.Ended.{Ended}
 use Rattle.gateway.specs.declared.ended.Ended.TheVariants.{LineFailed, Memory}
 use Rattle.gateway.specs.declared.turn.Turned.{Turned}
@@ -30,16 +30,16 @@ IsServed (Served ended) = has_ended_failed ended ≡ false
 IsServed Broken = Unit {0}
 
 -- the request was answered, in whole or with a line that failed under the reply; what it asks is known at its moment
-abbrev pub TurnsOnce : Service → (ℕ → Tree) → (ℕ → ℕ) → ℕ → Tally → Tally → (ℕ → Request) → Turned → Type 0
-TurnsOnce service at faults connection old new asks (Served end) =
-    (t : ℕ) × (label : Label) × Labels old new (asks label.moment).caller label × Exchange service.settings at faults connection (turn_of old t new) (asks label.moment) label end old.sent new.sent
-TurnsOnce service at faults connection old new asks Broken =
-    (t : ℕ) × (label : Label) × Labels old new (asks label.moment).caller label × CutExchange service.settings at faults connection (turn_of old t new) (asks label.moment) label old.sent new.sent
+abbrev pub TurnsOnce : Service → History → ℕ → Tally → Tally → (ℕ → Request) → Turned → Type 0
+TurnsOnce service h connection old new asks (Served end) =
+    (t : ℕ) × (label : Label) × Labels old new (asks label.moment).caller label × Exchange service.settings h connection (turn_of old t new) (asks label.moment) label end old.sent new.sent
+TurnsOnce service h connection old new asks Broken =
+    (t : ℕ) × (label : Label) × Labels old new (asks label.moment).caller label × CutExchange service.settings h connection (turn_of old t new) (asks label.moment) label old.sent new.sent
 
 -- the same, by how the connection ends after it, if it does
-abbrev pub TurnEnds : Service → (ℕ → Tree) → (ℕ → ℕ) → ℕ → Tally → Tally → (ℕ → Request) → Option Ended → Type 0
-TurnEnds service at faults connection old new asks None =
-    (t : ℕ) × (label : Label) × Labels old new (asks label.moment).caller label × Exchange service.settings at faults connection (turn_of old t new) (asks label.moment) label None old.sent new.sent
-TurnEnds service at faults connection old new asks (Some ended) =
-    ((t : ℕ) × (label : Label) × Labels old new (asks label.moment).caller label × Exchange service.settings at faults connection (turn_of old t new) (asks label.moment) label (Some ended) old.sent new.sent)
-    ⊎ ((ended ≡ LineFailed) × (t : ℕ) × (label : Label) × Labels old new (asks label.moment).caller label × CutExchange service.settings at faults connection (turn_of old t new) (asks label.moment) label old.sent new.sent)
+abbrev pub TurnEnds : Service → History → ℕ → Tally → Tally → (ℕ → Request) → Option Ended → Type 0
+TurnEnds service h connection old new asks None =
+    (t : ℕ) × (label : Label) × Labels old new (asks label.moment).caller label × Exchange service.settings h connection (turn_of old t new) (asks label.moment) label None old.sent new.sent
+TurnEnds service h connection old new asks (Some ended) =
+    ((t : ℕ) × (label : Label) × Labels old new (asks label.moment).caller label × Exchange service.settings h connection (turn_of old t new) (asks label.moment) label (Some ended) old.sent new.sent)
+    ⊎ ((ended ≡ LineFailed) × (t : ℕ) × (label : Label) × Labels old new (asks label.moment).caller label × CutExchange service.settings h connection (turn_of old t new) (asks label.moment) label old.sent new.sent)

@@ -1,14 +1,15 @@
-ghost use Rattle.std.specs.Prelude.{◌≡◌, ◌≢◌, ◌<◌, ℕ};
+ghost use Rattle.std.specs.Prelude.{◌≡◌, ◌≢◌, ◌<◌, ℕ, IsTrue};
 ghost use Rattle.gate_base.specs.Causes.{Rose};
 ghost use Rattle.gate_base.specs.Told.{moment_limit};
 ghost use Rattle.s3_machine.specs.declared.code.Code.TheVariants.{ServiceUnavailable};
 ghost use Rattle.s3_machine.specs.declared.operation.Reply.TheVariants as answer;
-ghost use Rattle.swift_calls.specs.History.{Kept};
+ghost use Rattle.swift_calls.specs.History.{present};
 ghost use Rattle.upload_records.specs.Sound.{Sound};
 ghost use Rattle.s3_machine.specs.Shown.{IsShowable};
 ghost use Rattle.s3_machine.specs.Step.{IsProper};
-ghost use Rattle.recovery.specs.Answers.{Answers, most_calls};
-ghost use Rattle.recovery.specs.Calls.{Within};
+ghost use Rattle.recovery.specs.Answers.{most_calls};
+ghost use Rattle.recovery.specs.Calls.{Grows};
+ghost use Rattle.planner.specs.Plan.{Answered};
 ghost use Rattle.gateway.specs.Connection.{sent_by};
 ghost use Rattle.gateway.specs.declared.meant.Meant.TheVariants as variant;
 ghost use Rattle.gateway.specs.Heard.{IsProperMeant, Understands, most_calls_of};
@@ -33,17 +34,15 @@ pub fn reply_to<W: Swift>(
     requires moment { label.now.moment < moment_limit }
 
     ensures showable { IsShowable result }
-    ensures calls { Within (most_calls_of means.now (W.tree_at store.old (W.called store.old))) (W.called store.old) (W.called store.new) }
-    ensures unavailable { result ≡ answer.Refused ServiceUnavailable → Rose (W.faults store.old) (W.faults store.new) }
-    ensures tells { W.tells store.old → W.tells store.new }
-    ensures kept { W.tells store.old → Kept (W.called store.old) (W.tree_at store.old) (W.tree_at store.new) (W.faults_at store.old) (W.faults_at store.new) }
+    ensures grows { Grows (most_calls_of means.now (present (W.history store.old))) (W.history store.old) (W.history store.new) }
+    ensures unavailable { result ≡ answer.Refused ServiceUnavailable → Rose (W.history store.old).faults (W.history store.new).faults }
 
     ensures wanted { means.now ≡ variant.Memory → result ≡ answer.Memory }
 
     // Where memory was wanted, some reply is due, and it is not this one; then who sent the request may be unknown.
-    ensures told { W.tells store.old → Sound (W.tree_at store.new (W.called store.old)) → (request : Request) → Understands means.now request
+    ensures told { IsTrue (W.history store.old).tells → Sound (present (W.history store.old)) → (request : Request) → Understands means.now request
         → (means.now ≢ variant.Memory → label.now.caller ≡ request.caller)
-        → (t : ℕ) × (due : _) × Replies settings.now (W.tree_at store.new) (W.faults_at store.new) (W.called store.old) t (W.called store.new) request (sent_by request.caller label.now) due
+        → (t : ℕ) × (due : _) × Replies settings.now (W.history store.new) (W.history store.old).called t (W.history store.new).called request (sent_by request.caller label.now) due
         × (result ≢ answer.Memory → result ≡ due) }
 {
     match means {
@@ -62,13 +61,7 @@ fn operate<W: Swift>(
     label: &Label,
 ) -> Reply
     requires { IsProper op.now label.now }
-    ensures showable { IsShowable result }
-    ensures calls { Within (most_calls op.now (W.tree_at store.old (W.called store.old))) (W.called store.old) (W.called store.new) }
-    ensures unavailable { result ≡ answer.Refused ServiceUnavailable → Rose (W.faults store.old) (W.faults store.new) }
-    ensures tells { W.tells store.old → W.tells store.new }
-    ensures kept { W.tells store.old → Kept (W.called store.old) (W.tree_at store.old) (W.tree_at store.new) (W.faults_at store.old) (W.faults_at store.new) }
-    ensures told { W.tells store.old → Sound (W.tree_at store.new (W.called store.old))
-        → (t : ℕ) × Answers settings.now (W.tree_at store.new) (W.faults_at store.new) (W.called store.old) t (W.called store.new) op.now label.now result }
+    ensures { Answered (most_calls op.now (present (W.history store.old))) (W.history store.old) (W.history store.new) settings.now op.now label.now result }
 {
     match Unsure::open(store, settings).settle() {
         Ok(()) => planner::answer(alloc, &mut Settled::hold(store, settings), op, label),

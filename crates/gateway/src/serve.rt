@@ -1,7 +1,7 @@
 ghost use Rattle.std.specs.Prelude.{◌≡◌, ◌≢◌, ◌<◌, ◌≤◌, ◌++◌, ℕ, Bool, true, false, List, IsTrue, None};
 ghost use Rattle.gate_base.specs.Causes.{Rose};
 ghost use Rattle.gate_base.specs.Wire.{with_mark};
-ghost use Rattle.swift_calls.specs.History.{Kept};
+ghost use Rattle.swift_calls.specs.History.{present, Kept};
 ghost use Rattle.upload_records.specs.Sound.{Sound};
 ghost use Rattle.http_wire.specs.Gives.{weight};
 ghost use Rattle.gateway.specs.Exchange.{Turn};
@@ -38,20 +38,20 @@ pub fn serve_connection<N: Line<W>, W: Swift, C: Clock, D: Draws>(
     ensures spent { N.spent line.old ≤ N.spent line.new }
 
     ensures tells_line { N.tells line.old → N.tells line.new }
-    ensures tells_store { W.tells store.old → W.tells store.new }
+    ensures tells_store { IsTrue (W.history store.old).tells → IsTrue (W.history store.new).tells }
     ensures tells_clock { C.tells clock.old → C.tells clock.new }
     ensures tells_draws { D.tells draws.old → D.tells draws.new }
 
-    ensures ordered { W.called store.old ≤ W.called store.new }
-    ensures kept { W.tells store.old → Kept (W.called store.old) (W.tree_at store.old) (W.tree_at store.new) (W.faults_at store.old) (W.faults_at store.new) }
+    ensures ordered { (W.history store.old).called ≤ (W.history store.new).called }
+    ensures kept { IsTrue (W.history store.old).tells → Kept (W.history store.old).called (W.history store.old) (W.history store.new) }
     ensures only_serves { N.tells line.old → OnlyServes (has_failed result) (N.wire line.old) (N.wire line.new) }
 
     // Where line, store, clock and draws tell, and the account is sound: it is one connection.
-    ensures told { N.tells line.old → W.tells store.old → C.tells clock.old → D.tells draws.old → Sound (W.tree_at store.new (W.called store.old))
-        → (turns : List Turn) × TalkOne service.now (W.tree_at store.new) (W.faults_at store.new) (N.wire line.old).begun result
-        (point (N.wire line.old).rest 0 (tally (W.called store.old) (C.moments clock.old) (D.draws draws.old) (N.wire line.old).sent))
+    ensures told { N.tells line.old → IsTrue (W.history store.old).tells → C.tells clock.old → D.tells draws.old → Sound (present (W.history store.old))
+        → (turns : List Turn) × TalkOne service.now (W.history store.new) (N.wire line.old).begun result
+        (point (N.wire line.old).rest 0 (tally (W.history store.old).called (C.moments clock.old) (D.draws draws.old) (N.wire line.old).sent))
         turns
-        (tally (W.called store.new) (C.moments clock.new) (D.draws draws.new) (N.wire line.new).sent) }
+        (tally (W.history store.new).called (C.moments clock.new) (D.draws draws.new) (N.wire line.new).sent) }
 {
     let mut reader = match Reader::new(alloc) {
         Ok(reader) => reader,
@@ -87,19 +87,19 @@ fn serve_next<N: Line<W>, W: Swift, C: Clock, D: Draws>(
     ensures spent { N.spent line.old ≤ N.spent line.new }
 
     ensures tells_line { N.tells line.old → N.tells line.new }
-    ensures tells_store { W.tells store.old → W.tells store.new }
+    ensures tells_store { IsTrue (W.history store.old).tells → IsTrue (W.history store.new).tells }
     ensures tells_clock { C.tells clock.old → C.tells clock.new }
     ensures tells_draws { D.tells draws.old → D.tells draws.new }
 
-    ensures ordered { W.called store.old ≤ W.called store.new }
-    ensures kept { W.tells store.old → Kept (W.called store.old) (W.tree_at store.old) (W.tree_at store.new) (W.faults_at store.old) (W.faults_at store.new) }
+    ensures ordered { (W.history store.old).called ≤ (W.history store.new).called }
+    ensures kept { IsTrue (W.history store.old).tells → Kept (W.history store.old).called (W.history store.old) (W.history store.new) }
     ensures only_serves { N.tells line.old → OnlyServes (has_ended_failed result) (N.wire line.old) (N.wire line.new) }
 
-    ensures told { N.tells line.old → W.tells store.old → C.tells clock.old → D.tells draws.old → Sound (W.tree_at store.new (W.called store.old))
-        → NextOne service.now (W.tree_at store.new) (W.faults_at store.new) (N.wire line.old).begun
-        (point (reader.old.bytes ++ (N.wire line.old).rest) reader.old.place (tally (W.called store.old) (C.moments clock.old) (D.draws draws.old) (N.wire line.old).sent))
+    ensures told { N.tells line.old → IsTrue (W.history store.old).tells → C.tells clock.old → D.tells draws.old → Sound (present (W.history store.old))
+        → NextOne service.now (W.history store.new) (N.wire line.old).begun
+        (point (reader.old.bytes ++ (N.wire line.old).rest) reader.old.place (tally (W.history store.old).called (C.moments clock.old) (D.draws draws.old) (N.wire line.old).sent))
         result
-        (point (reader.new.bytes ++ (N.wire line.new).rest) reader.new.place (tally (W.called store.new) (C.moments clock.new) (D.draws draws.new) (N.wire line.new).sent)) }
+        (point (reader.new.bytes ++ (N.wire line.new).rest) reader.new.place (tally (W.history store.new).called (C.moments clock.new) (D.draws draws.new) (N.wire line.new).sent)) }
 {
     match reader.next_request(line, store) {
         Ok(Got::Request(message)) => answer(
@@ -147,19 +147,19 @@ fn answer<N: Line<W>, W: Swift, C: Clock, D: Draws>(
     ensures spent { N.spent line.new ≡ N.spent line.old }
 
     ensures tells_line { N.tells line.old → N.tells line.new }
-    ensures tells_store { W.tells store.old → W.tells store.new }
+    ensures tells_store { IsTrue (W.history store.old).tells → IsTrue (W.history store.new).tells }
     ensures tells_clock { C.tells clock.old → C.tells clock.new }
     ensures tells_draws { D.tells draws.old → D.tells draws.new }
 
-    ensures ordered { W.called store.old ≤ W.called store.new }
-    ensures kept { W.tells store.old → Kept (W.called store.old) (W.tree_at store.old) (W.tree_at store.new) (W.faults_at store.old) (W.faults_at store.new) }
+    ensures ordered { (W.history store.old).called ≤ (W.history store.new).called }
+    ensures kept { IsTrue (W.history store.old).tells → Kept (W.history store.old).called (W.history store.old) (W.history store.new) }
     ensures only_serves { N.tells line.old → OnlyServes (has_ended_failed result) (N.wire line.old) (N.wire line.new) }
     ensures rest { N.tells line.old → (N.wire line.new).rest ≡ (N.wire line.old).rest }
 
-    ensures told { N.tells line.old → W.tells store.old → C.tells clock.old → D.tells draws.old → Sound (W.tree_at store.new (W.called store.old))
-        → TurnEnds service.now (W.tree_at store.new) (W.faults_at store.new) (N.wire line.old).begun
-        (tally (W.called store.old) (C.moments clock.old) (D.draws draws.old) (N.wire line.old).sent)
-        (tally (W.called store.new) (C.moments clock.new) (D.draws draws.new) (N.wire line.new).sent)
+    ensures told { N.tells line.old → IsTrue (W.history store.old).tells → C.tells clock.old → D.tells draws.old → Sound (present (W.history store.old))
+        → TurnEnds service.now (W.history store.new) (N.wire line.old).begun
+        (tally (W.history store.old).called (C.moments clock.old) (D.draws draws.old) (N.wire line.old).sent)
+        (tally (W.history store.new).called (C.moments clock.new) (D.draws draws.new) (N.wire line.new).sent)
         (asks_of service.now received.now) result }
 {
     match take_turn(alloc, store, service, line, clock, draws, received) {
@@ -179,7 +179,7 @@ fn end_unread<N: Line<W>, W: Swift>(line: &mut N, store: &W) -> Ended
     ensures tells { N.tells line.old → N.tells line.new }
     ensures only_serves { N.tells line.old → OnlyServes (has_failed result) (N.wire line.old) (N.wire line.new) }
     ensures rest { N.tells line.old → (N.wire line.new).rest ≡ (N.wire line.old).rest }
-    ensures told { N.tells line.old → EndsUnread (W.called store.now) (N.wire line.old) result (N.wire line.new) }
+    ensures told { N.tells line.old → EndsUnread (W.history store.now).called (N.wire line.old) result (N.wire line.new) }
 {
     match write_memory(line, store, false) {
         Written::Failed => Ended::LineFailed,

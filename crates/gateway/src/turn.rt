@@ -1,7 +1,7 @@
 ghost use Rattle.std.specs.Prelude.{◌≡◌, ◌≢◌, ◌≤◌, true, IsTrue};
 ghost use Rattle.gate_base.specs.Causes.{Rose};
 ghost use Rattle.gate_base.specs.Wire.{with_mark};
-ghost use Rattle.swift_calls.specs.History.{Kept};
+ghost use Rattle.swift_calls.specs.History.{present, Kept};
 ghost use Rattle.upload_records.specs.Sound.{Sound};
 ghost use Rattle.gateway.specs.declared.turn.Turned.TheVariants as turned;
 ghost use Rattle.gateway.specs.Connection.{tally};
@@ -49,20 +49,20 @@ pub fn take_turn<N: Line<W>, W: Swift, C: Clock, D: Draws>(
     ensures spent { N.spent line.new ≡ N.spent line.old }
 
     ensures tells_line { N.tells line.old → N.tells line.new }
-    ensures tells_store { W.tells store.old → W.tells store.new }
+    ensures tells_store { IsTrue (W.history store.old).tells → IsTrue (W.history store.new).tells }
     ensures tells_clock { C.tells clock.old → C.tells clock.new }
     ensures tells_draws { D.tells draws.old → D.tells draws.new }
 
-    ensures ordered { W.called store.old ≤ W.called store.new }
-    ensures kept { W.tells store.old → Kept (W.called store.old) (W.tree_at store.old) (W.tree_at store.new) (W.faults_at store.old) (W.faults_at store.new) }
+    ensures ordered { (W.history store.old).called ≤ (W.history store.new).called }
+    ensures kept { IsTrue (W.history store.old).tells → Kept (W.history store.old).called (W.history store.old) (W.history store.new) }
     ensures only_sends { N.tells line.old → OnlySends (N.wire line.old) (N.wire line.new) }
     ensures marks { N.tells line.old → result ≢ turned.Broken → (N.wire line.new).marks ≡ (N.wire line.old).marks }
     ensures mark { N.tells line.old → result ≡ turned.Broken → (N.wire line.new).marks ≡ (with_mark (N.wire line.old)).marks }
 
-    ensures told { N.tells line.old → W.tells store.old → C.tells clock.old → D.tells draws.old → Sound (W.tree_at store.new (W.called store.old))
-        → TurnsOnce service.now (W.tree_at store.new) (W.faults_at store.new) (N.wire line.old).begun
-        (tally (W.called store.old) (C.moments clock.old) (D.draws draws.old) (N.wire line.old).sent)
-        (tally (W.called store.new) (C.moments clock.new) (D.draws draws.new) (N.wire line.new).sent)
+    ensures told { N.tells line.old → IsTrue (W.history store.old).tells → C.tells clock.old → D.tells draws.old → Sound (present (W.history store.old))
+        → TurnsOnce service.now (W.history store.new) (N.wire line.old).begun
+        (tally (W.history store.old).called (C.moments clock.old) (D.draws draws.old) (N.wire line.old).sent)
+        (tally (W.history store.new).called (C.moments clock.new) (D.draws draws.new) (N.wire line.new).sent)
         (asks_of service.now received.now) result }
 {
     let next = next_label(clock, draws);

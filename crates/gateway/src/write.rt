@@ -48,7 +48,7 @@ pub fn write_reply<N: Line<W>, W: Swift>(
     ensures quiet_next { N.next_faults line.new ≡ N.next_faults line.old }
     ensures spent { N.spent line.new ≡ N.spent line.old }
     ensures tells { N.tells line.old → N.tells line.new }
-    ensures told { N.tells line.old → Writes (N.wire line.old) (W.called store.now) reply.now label.now method.now resource.now closing result (N.wire line.new) }
+    ensures told { N.tells line.old → Writes (N.wire line.old) (W.history store.now).called reply.now label.now method.now resource.now closing result (N.wire line.new) }
 {
     match print_reply(alloc, reply, label, method, resource, closing) {
         Ok(text) => match line.write(store, text.as_slice()) {
@@ -69,8 +69,8 @@ pub fn write_memory<N: Line<W>, W: Swift>(line: &mut N, store: &W, head: bool) -
     ensures quiet_next { N.next_faults line.new ≡ N.next_faults line.old }
     ensures spent { N.spent line.new ≡ N.spent line.old }
     ensures tells { N.tells line.old → N.tells line.new }
-    ensures told { N.tells line.old → result ≢ written.Failed → N.wire line.new ≡ with_piece (N.wire line.old) (W.called store.now) (memory_reply head) }
-    ensures told_err { N.tells line.old → result ≡ written.Failed → SendsPrefix (N.wire line.old) (W.called store.now) (memory_reply head) (N.wire line.new) }
+    ensures told { N.tells line.old → result ≢ written.Failed → N.wire line.new ≡ with_piece (N.wire line.old) (W.history store.now).called (memory_reply head) }
+    ensures told_err { N.tells line.old → result ≡ written.Failed → SendsPrefix (N.wire line.old) (W.history store.now).called (memory_reply head) (N.wire line.new) }
 {
     write_wanted(line, store, print_memory(head))
 }
