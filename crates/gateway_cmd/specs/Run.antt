@@ -3,7 +3,7 @@
 use Rattle.std.specs.Prelude.{◌≡◌, ℕ, ◌+◌, ◌-◌, Bool, true, false, List, [], ◌∷◌, ◌++◌, slice_set, if◌then◌else◌}
 use Rattle.gate_base.specs.Wire.{Wire}
 use Rattle.gateway.specs.declared.service.Service.{Service}
-use Rattle.swift_calls.specs.Tree.{Tree}
+use Rattle.swift_calls.specs.History.{History}
 use Rattle.gateway.specs.declared.ended.Ended.{Ended}
 use Rattle.gateway.specs.Exchange.{Turn}
 use Rattle.gateway.specs.Connection.{Tally, TalkOne, has_failed}
@@ -26,15 +26,15 @@ abbrev pub marks_after : List Bool → ℕ → Ended → List Bool
 marks_after marks begun ended = if has_failed ended then slice_set (marks ++ false ∷ []) (begun - 1) true else marks ++ false ∷ []
 
 -- the next connection was served
-pub record ServesNext (service : Service) (at : ℕ → Tree) (faults : ℕ → ℕ) (old : Place) (turns : List Turn) (new : Place) : Type 0 where
+pub record ServesNext (service : Service) (h : History) (old : Place) (turns : List Turn) (new : Place) : Type 0 where
   pub bytes : List ℕ
   pub ended : Ended
   pub waiting : old.waiting ≡ bytes ∷ new.waiting
   pub begun : new.begun ≡ old.begun + 1
   pub marks : new.marks ≡ marks_after old.marks new.begun ended
-  pub talk : TalkOne service at faults new.begun ended (record { rest = bytes; place = 0; tally = old.tally }) turns new.tally
+  pub talk : TalkOne service h new.begun ended (record { rest = bytes; place = 0; tally = old.tally }) turns new.tally
 
 -- any number of connections, each begun where the one before it ended, with the turns of all their requests
-pub data Talk (service : Service) (at : ℕ → Tree) (faults : ℕ → ℕ) : Place → List Turn → Place → Type 0 where
-  none : (place : Place) → Talk service at faults place [] place
-  more : (old middle new : Place) (turns next : List Turn) → Talk service at faults old turns middle → ServesNext service at faults middle next new → Talk service at faults old (turns ++ next) new
+pub data Talk (service : Service) (h : History) : Place → List Turn → Place → Type 0 where
+  none : (place : Place) → Talk service h place [] place
+  more : (old middle new : Place) (turns next : List Turn) → Talk service h old turns middle → ServesNext service h middle next new → Talk service h old (turns ++ next) new

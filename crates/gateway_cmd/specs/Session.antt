@@ -2,7 +2,7 @@
 use Rattle.std.specs.Prelude.{◌≡◌, ◌≤◌, ℕ, ◌-◌, true, false, List, ◌++◌, replicate, Option, None, Some, Result, Ok, Err}
 use Rattle.gate_base.specs.Wire.{Wire}
 use Rattle.s3_machine.specs.declared.operation.Settings.{Settings}
-use Rattle.swift_calls.specs.Tree.{Tree}
+use Rattle.swift_calls.specs.History.{History}
 use Rattle.sigv4.specs.Keys.{keys_of, are_keys}
 use Rattle.sigv4.specs.declared.keys.AccessKey.{AccessKey}
 use Rattle.sigv4.specs.declared.keys.KeysFault.{KeysFault}
@@ -28,9 +28,9 @@ Offers keys (Err (Twice n)) = are_keys (keys_of keys) ≡ false
 Offers keys (Err Memory) = Unit {0}
 
 -- the next connection was served, or nothing came between
-abbrev pub NextPlace : Service → (ℕ → Tree) → (ℕ → ℕ) → Place → Option Status → Place → Type 0
-NextPlace service at faults old None new = (turns : List Turn) × ServesNext service at faults old turns new
-NextPlace service at faults old (Some status) new = new ≡ old
+abbrev pub NextPlace : Service → History → Place → Option Status → Place → Type 0
+NextPlace service h old None new = (turns : List Turn) × ServesNext service h old turns new
+NextPlace service h old (Some status) new = new ≡ old
 
 -- connections began, and none of them has the mark of a failed line
 pub record Unmarked (old new : Wire) : Type 0 where

@@ -1,7 +1,7 @@
 //! A run but for its report: the words, and then the command that they name.
-ghost use Rattle.std.specs.Prelude.{◌≡◌, ◌≢◌, ◌≤◌, ◌++◌, ℕ, true, false, List, [], Some, None};
+ghost use Rattle.std.specs.Prelude.{◌≡◌, ◌≢◌, ◌≤◌, ◌++◌, ℕ, true, false, IsTrue, List, [], Some, None};
 ghost use Rattle.gate_base.specs.Causes.{Rose};
-ghost use Rattle.swift_calls.specs.History.{Kept};
+ghost use Rattle.swift_calls.specs.History.{present, Kept};
 ghost use Rattle.upload_records.specs.Sound.{Sound};
 ghost use Rattle.sigv4.specs.Keys.{keys_of, are_keys, secret_of};
 ghost use Rattle.signing.specs.Signing.{AnswersFirst};
@@ -49,18 +49,18 @@ pub fn attempt<N: Line<W>, W: Swift, C: Clock, D: Draws>(
     ensures idle { is_admitted words.now keys.now ≡ false → (line.new ≡ line.old) × (store.new ≡ store.old) × (clock.new ≡ clock.old) × (draws.new ≡ draws.old) }
     ensures unmarked { serves words.now ≡ true → N.tells line.old → (Rose (N.faults line.old) (N.faults line.new) → ⊥) → Unmarked (N.wire line.old) (N.wire line.new) }
     ensures tells_line { N.tells line.old → N.tells line.new }
-    ensures tells_store { W.tells store.old → W.tells store.new }
+    ensures tells_store { IsTrue (W.history store.old).tells → IsTrue (W.history store.new).tells }
     ensures tells_clock { C.tells clock.old → C.tells clock.new }
     ensures tells_draws { D.tells draws.old → D.tells draws.new }
-    ensures ordered { W.called store.old ≤ W.called store.new }
-    ensures kept { W.tells store.old → Kept (W.called store.old) (W.tree_at store.old) (W.tree_at store.new) (W.faults_at store.old) (W.faults_at store.new) }
+    ensures ordered { (W.history store.old).called ≤ (W.history store.new).called }
+    ensures kept { IsTrue (W.history store.old).tells → Kept (W.history store.old).called (W.history store.old) (W.history store.new) }
     ensures told { (region : List ℕ) → command_of words.now ≡ Some (commands.Session region)
-        → N.tells line.old → W.tells store.old → C.tells clock.old → D.tells draws.old → Sound (W.tree_at store.new (W.called store.old))
+        → N.tells line.old → IsTrue (W.history store.old).tells → C.tells clock.old → D.tells draws.old → Sound (present (W.history store.old))
         → (turns : List Turn)
-        × Talk (service_of region keys.now) (W.tree_at store.new) (W.faults_at store.new)
-        (place_of (N.wire line.old) (tally (W.called store.old) (C.moments clock.old) (D.draws draws.old) (N.wire line.old).sent))
+        × Talk (service_of region keys.now) (W.history store.new)
+        (place_of (N.wire line.old) (tally (W.history store.old).called (C.moments clock.old) (D.draws draws.old) (N.wire line.old).sent))
         turns
-        (place_of (N.wire line.new) (tally (W.called store.new) (C.moments clock.new) (D.draws draws.new) (N.wire line.new).sent)) }
+        (place_of (N.wire line.new) (tally (W.history store.new).called (C.moments clock.new) (D.draws draws.new) (N.wire line.new).sent)) }
     ensures told_signed { (id region secret : List ℕ) → command_of words.now ≡ Some (commands.Sign id region)
         → are_keys (keys_of keys.now) ≡ true → secret_of id (keys_of keys.now) ≡ Some secret → N.tells line.old → result ≢ ended.Plain status.Memory
         → (signing : Signing) × AnswersFirst secret region (N.wire line.old).waiting signing × (result ≡ end_of signing) }
@@ -95,18 +95,18 @@ fn perform<N: Line<W>, W: Swift, C: Clock, D: Draws>(
     ensures idle { is_possible (Some command) keys.now ≡ false → (line.new ≡ line.old) × (store.new ≡ store.old) × (clock.new ≡ clock.old) × (draws.new ≡ draws.old) }
     ensures unmarked { is_serving (Some command) ≡ true → N.tells line.old → (Rose (N.faults line.old) (N.faults line.new) → ⊥) → Unmarked (N.wire line.old) (N.wire line.new) }
     ensures tells_line { N.tells line.old → N.tells line.new }
-    ensures tells_store { W.tells store.old → W.tells store.new }
+    ensures tells_store { IsTrue (W.history store.old).tells → IsTrue (W.history store.new).tells }
     ensures tells_clock { C.tells clock.old → C.tells clock.new }
     ensures tells_draws { D.tells draws.old → D.tells draws.new }
-    ensures ordered { W.called store.old ≤ W.called store.new }
-    ensures kept { W.tells store.old → Kept (W.called store.old) (W.tree_at store.old) (W.tree_at store.new) (W.faults_at store.old) (W.faults_at store.new) }
+    ensures ordered { (W.history store.old).called ≤ (W.history store.new).called }
+    ensures kept { IsTrue (W.history store.old).tells → Kept (W.history store.old).called (W.history store.old) (W.history store.new) }
     ensures told { (region : List ℕ) → command ≡ commands.Session region
-        → N.tells line.old → W.tells store.old → C.tells clock.old → D.tells draws.old → Sound (W.tree_at store.new (W.called store.old))
+        → N.tells line.old → IsTrue (W.history store.old).tells → C.tells clock.old → D.tells draws.old → Sound (present (W.history store.old))
         → (turns : List Turn)
-        × Talk (service_of region keys.now) (W.tree_at store.new) (W.faults_at store.new)
-        (place_of (N.wire line.old) (tally (W.called store.old) (C.moments clock.old) (D.draws draws.old) (N.wire line.old).sent))
+        × Talk (service_of region keys.now) (W.history store.new)
+        (place_of (N.wire line.old) (tally (W.history store.old).called (C.moments clock.old) (D.draws draws.old) (N.wire line.old).sent))
         turns
-        (place_of (N.wire line.new) (tally (W.called store.new) (C.moments clock.new) (D.draws draws.new) (N.wire line.new).sent)) }
+        (place_of (N.wire line.new) (tally (W.history store.new).called (C.moments clock.new) (D.draws draws.new) (N.wire line.new).sent)) }
     ensures told_signed { (id region secret : List ℕ) → command ≡ commands.Sign id region
         → are_keys (keys_of keys.now) ≡ true → secret_of id (keys_of keys.now) ≡ Some secret → N.tells line.old → result ≢ ended.Plain status.Memory
         → (signing : Signing) × AnswersFirst secret region (N.wire line.old).waiting signing × (result ≡ end_of signing) }

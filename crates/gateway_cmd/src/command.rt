@@ -1,8 +1,8 @@
-ghost use Rattle.std.specs.Prelude.{◌≡◌, ◌≢◌, ◌<◌, ◌≤◌, ◌⊎◌, ◌++◌, ℕ, true, false, List, [], Some};
+ghost use Rattle.std.specs.Prelude.{◌≡◌, ◌≢◌, ◌<◌, ◌≤◌, ◌⊎◌, ◌++◌, ℕ, true, false, IsTrue, List, [], Some};
 ghost use Rattle.gate_base.specs.Causes.{Rose};
-ghost use Rattle.swift_calls.specs.History.{budget, Kept, NoneFails};
+ghost use Rattle.swift_calls.specs.History.{budget, present, Kept, NoneFails};
 ghost use Rattle.upload_records.specs.Sound.{Sound};
-ghost use Rattle.recovery.specs.Turns.{never};
+ghost use Rattle.recovery.specs.Turns.{calm};
 ghost use Rattle.sigv4.specs.Keys.{keys_of, are_keys, secret_of};
 ghost use Rattle.signing.specs.Signing.{AnswersFirst};
 ghost use Rattle.signing.specs.declared.first.Signing.{Signing};
@@ -64,41 +64,41 @@ pub fn run<N: Line<W>, R: Sink, W: Swift, C: Clock, D: Draws>(
 
     // What tells goes on to, and what the store told of its calls before the run stays.
     ensures tells_line { N.tells line.old → N.tells line.new }
-    ensures tells_store { W.tells store.old → W.tells store.new }
+    ensures tells_store { IsTrue (W.history store.old).tells → IsTrue (W.history store.new).tells }
     ensures tells_clock { C.tells clock.old → C.tells clock.new }
     ensures tells_draws { D.tells draws.old → D.tells draws.new }
-    ensures ordered { W.called store.old ≤ W.called store.new }
-    ensures kept { W.tells store.old → Kept (W.called store.old) (W.tree_at store.old) (W.tree_at store.new) (W.faults_at store.old) (W.faults_at store.new) }
+    ensures ordered { (W.history store.old).called ≤ (W.history store.new).called }
+    ensures kept { IsTrue (W.history store.old).tells → Kept (W.history store.old).called (W.history store.old) (W.history store.new) }
 
     // Where the store's count of faults did not rise and calls are left, no call failed; where the line's did not, no
     // connection failed.
-    ensures undisturbed { W.tells store.old → W.called store.new < budget → (Rose (W.faults store.old) (W.faults store.new) → ⊥)
-        → NoneFails (W.faults_at store.new) (W.called store.old) (W.called store.new) }
+    ensures undisturbed { IsTrue (W.history store.old).tells → (W.history store.new).called < budget → (Rose (W.history store.old).faults (W.history store.new).faults → ⊥)
+        → NoneFails (W.history store.new) (W.history store.old).called (W.history store.new).called }
     ensures unmarked { serves words.now ≡ true → N.tells line.old → (Rose (N.faults line.old) (N.faults line.new) → ⊥) → Unmarked (N.wire line.old) (N.wire line.new) }
 
     // Where line, store, clock and draws tell, and the account is sound at entry, the run of a session is a talk: the
     // requests of its connections in order, each with its turn; and at each number of calls the account is sound, and it
     // is that at the entry or stands for the state before or after the one request that has the number.
     ensures told { (region : List ℕ) → command_of words.now ≡ Some (commands.Session region)
-        → N.tells line.old → W.tells store.old → C.tells clock.old → D.tells draws.old → Sound (W.tree_at store.old (W.called store.old))
+        → N.tells line.old → IsTrue (W.history store.old).tells → C.tells clock.old → D.tells draws.old → Sound (present (W.history store.old))
         → (turns : List Turn)
-        × Talk (service_of region keys.now) (W.tree_at store.new) (W.faults_at store.new)
-        (place_of (N.wire line.old) (tally (W.called store.old) (C.moments clock.old) (D.draws draws.old) (N.wire line.old).sent))
+        × Talk (service_of region keys.now) (W.history store.new)
+        (place_of (N.wire line.old) (tally (W.history store.old).called (C.moments clock.old) (D.draws draws.old) (N.wire line.old).sent))
         turns
-        (place_of (N.wire line.new) (tally (W.called store.new) (C.moments clock.new) (D.draws draws.new) (N.wire line.new).sent))
-        × StandsThroughout (W.tree_at store.new) turns (W.called store.old) (W.called store.new)
-        × Follows (W.called store.old) turns (W.called store.new) }
+        (place_of (N.wire line.new) (tally (W.history store.new).called (C.moments clock.new) (D.draws draws.new) (N.wire line.new).sent))
+        × StandsThroughout (W.history store.new) turns (W.history store.old).called (W.history store.new).called
+        × Follows (W.history store.old).called turns (W.history store.new).called }
 
     // Where no call failed besides, the talk is one over a history in which none did: no request is answered
     // ServiceUnavailable.
     ensures told_undisturbed { (region : List ℕ) → command_of words.now ≡ Some (commands.Session region)
-        → N.tells line.old → W.tells store.old → C.tells clock.old → D.tells draws.old → Sound (W.tree_at store.old (W.called store.old))
-        → W.called store.new < budget → (Rose (W.faults store.old) (W.faults store.new) → ⊥)
+        → N.tells line.old → IsTrue (W.history store.old).tells → C.tells clock.old → D.tells draws.old → Sound (present (W.history store.old))
+        → (W.history store.new).called < budget → (Rose (W.history store.old).faults (W.history store.new).faults → ⊥)
         → (turns : List Turn)
-        × Talk (service_of region keys.now) (W.tree_at store.new) never
-        (place_of (N.wire line.old) (tally (W.called store.old) (C.moments clock.old) (D.draws draws.old) (N.wire line.old).sent))
+        × Talk (service_of region keys.now) (calm (W.history store.new))
+        (place_of (N.wire line.old) (tally (W.history store.old).called (C.moments clock.old) (D.draws draws.old) (N.wire line.old).sent))
         turns
-        (place_of (N.wire line.new) (tally (W.called store.new) (C.moments clock.new) (D.draws draws.new) (N.wire line.new).sent)) }
+        (place_of (N.wire line.new) (tally (W.history store.new).called (C.moments clock.new) (D.draws draws.new) (N.wire line.new).sent)) }
 
     // What is signed is the line's first request, by the secret of the key.
     ensures told_signed { (id region secret : List ℕ) → command_of words.now ≡ Some (commands.Sign id region)

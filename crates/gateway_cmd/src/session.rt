@@ -1,7 +1,7 @@
 //! The command `session`: the connections of the line, in turn.
-ghost use Rattle.std.specs.Prelude.{◌≡◌, ◌≢◌, ◌<◌, ◌≤◌, ◌-◌, ◌^◌, ℕ, List, [], None, Some};
+ghost use Rattle.std.specs.Prelude.{◌≡◌, ◌≢◌, ◌<◌, ◌≤◌, ◌-◌, ◌^◌, ℕ, IsTrue, List, [], None, Some};
 ghost use Rattle.gate_base.specs.Causes.{Rose};
-ghost use Rattle.swift_calls.specs.History.{Kept};
+ghost use Rattle.swift_calls.specs.History.{present, Kept};
 ghost use Rattle.upload_records.specs.Sound.{Sound};
 ghost use Rattle.gateway.specs.Exchange.{Turn};
 ghost use Rattle.gateway.specs.Connection.{tally};
@@ -32,17 +32,17 @@ pub fn session<N: Line<W>, W: Swift, C: Clock, D: Draws>(
     ensures unmarked { N.tells line.old → (Rose (N.faults line.old) (N.faults line.new) → ⊥) → Unmarked (N.wire line.old) (N.wire line.new) }
 
     ensures tells_line { N.tells line.old → N.tells line.new }
-    ensures tells_store { W.tells store.old → W.tells store.new }
+    ensures tells_store { IsTrue (W.history store.old).tells → IsTrue (W.history store.new).tells }
     ensures tells_clock { C.tells clock.old → C.tells clock.new }
     ensures tells_draws { D.tells draws.old → D.tells draws.new }
-    ensures ordered { W.called store.old ≤ W.called store.new }
-    ensures kept { W.tells store.old → Kept (W.called store.old) (W.tree_at store.old) (W.tree_at store.new) (W.faults_at store.old) (W.faults_at store.new) }
+    ensures ordered { (W.history store.old).called ≤ (W.history store.new).called }
+    ensures kept { IsTrue (W.history store.old).tells → Kept (W.history store.old).called (W.history store.old) (W.history store.new) }
 
-    ensures told { N.tells line.old → W.tells store.old → C.tells clock.old → D.tells draws.old → Sound (W.tree_at store.new (W.called store.old))
-        → (turns : List Turn) × Talk service.now (W.tree_at store.new) (W.faults_at store.new)
-        (place_of (N.wire line.old) (tally (W.called store.old) (C.moments clock.old) (D.draws draws.old) (N.wire line.old).sent))
+    ensures told { N.tells line.old → IsTrue (W.history store.old).tells → C.tells clock.old → D.tells draws.old → Sound (present (W.history store.old))
+        → (turns : List Turn) × Talk service.now (W.history store.new)
+        (place_of (N.wire line.old) (tally (W.history store.old).called (C.moments clock.old) (D.draws draws.old) (N.wire line.old).sent))
         turns
-        (place_of (N.wire line.new) (tally (W.called store.new) (C.moments clock.new) (D.draws draws.new) (N.wire line.new).sent)) }
+        (place_of (N.wire line.new) (tally (W.history store.new).called (C.moments clock.new) (D.draws draws.new) (N.wire line.new).sent)) }
 {
     'connections: loop {
         match serve_another(alloc, service, line, store, clock, draws) {
@@ -70,18 +70,18 @@ fn serve_another<N: Line<W>, W: Swift, C: Clock, D: Draws>(
     ensures unmarked { N.tells line.old → (Rose (N.faults line.old) (N.faults line.new) → ⊥) → Unmarked (N.wire line.old) (N.wire line.new) }
 
     ensures tells_line { N.tells line.old → N.tells line.new }
-    ensures tells_store { W.tells store.old → W.tells store.new }
+    ensures tells_store { IsTrue (W.history store.old).tells → IsTrue (W.history store.new).tells }
     ensures tells_clock { C.tells clock.old → C.tells clock.new }
     ensures tells_draws { D.tells draws.old → D.tells draws.new }
-    ensures ordered { W.called store.old ≤ W.called store.new }
-    ensures kept { W.tells store.old → Kept (W.called store.old) (W.tree_at store.old) (W.tree_at store.new) (W.faults_at store.old) (W.faults_at store.new) }
+    ensures ordered { (W.history store.old).called ≤ (W.history store.new).called }
+    ensures kept { IsTrue (W.history store.old).tells → Kept (W.history store.old).called (W.history store.old) (W.history store.new) }
 
     ensures done { N.tells line.old → result ≡ Some status.Done → (N.wire line.new).waiting ≡ [] }
-    ensures told { N.tells line.old → W.tells store.old → C.tells clock.old → D.tells draws.old → Sound (W.tree_at store.new (W.called store.old))
-        → NextPlace service.now (W.tree_at store.new) (W.faults_at store.new)
-        (place_of (N.wire line.old) (tally (W.called store.old) (C.moments clock.old) (D.draws draws.old) (N.wire line.old).sent))
+    ensures told { N.tells line.old → IsTrue (W.history store.old).tells → C.tells clock.old → D.tells draws.old → Sound (present (W.history store.old))
+        → NextPlace service.now (W.history store.new)
+        (place_of (N.wire line.old) (tally (W.history store.old).called (C.moments clock.old) (D.draws draws.old) (N.wire line.old).sent))
         result
-        (place_of (N.wire line.new) (tally (W.called store.new) (C.moments clock.new) (D.draws draws.new) (N.wire line.new).sent)) }
+        (place_of (N.wire line.new) (tally (W.history store.new).called (C.moments clock.new) (D.draws draws.new) (N.wire line.new).sent)) }
 {
     match line.next() {
         Ok(true) => {

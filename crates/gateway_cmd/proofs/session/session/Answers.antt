@@ -1,4 +1,4 @@
-use Rattle.std.proofs.Common.{◌∙◌, [], refl, arith}
+use Rattle.std.proofs.Common.{◌∙◌, [], refl, sym, subst, arith}
 use Rattle.swift_calls.specs.History.{kept_trans}
 use Rattle.upload_records.specs.Sound.{Sound}
 use Rattle.gateway.specs.Connection.{tally}
@@ -25,11 +25,12 @@ pub returns-in-Some-clause-told : goal.returns-in-Some-clause-told
 returns-in-Some-clause-told g c = λ line store clock draws sound.
     let i = c.connections.invariant in
     let s = c.in-Some.ensures in
-    let present : Place = (place_of (g.N.Line.wire c.connections.line) (tally (g.W.Counted.called c.connections.store) (g.C.Clock.moments c.connections.clock) (g.D.Draws.draws c.connections.draws) (g.N.Line.wire c.connections.line).sent)) in
-    let next : Place = (place_of (g.N.Line.wire c.serve_another.new.line) (tally (g.W.Counted.called c.serve_another.new.store) (g.C.Clock.moments c.serve_another.new.clock) (g.D.Draws.draws c.serve_another.new.draws) (g.N.Line.wire c.serve_another.new.line).sent)) in
-    let step = λ (sound_now : Sound (g.W.Swift.tree_at c.serve_another.new.store (g.W.Counted.called c.connections.store))).
+    let present : Place = (place_of (g.N.Line.wire c.connections.line) (tally (g.W.Swift.history c.connections.store).called (g.C.Clock.moments c.connections.clock) (g.D.Draws.draws c.connections.draws) (g.N.Line.wire c.connections.line).sent)) in
+    let next : Place = (place_of (g.N.Line.wire c.serve_another.new.line) (tally (g.W.Swift.history c.serve_another.new.store).called (g.C.Clock.moments c.serve_another.new.clock) (g.D.Draws.draws c.serve_another.new.draws) (g.N.Line.wire c.serve_another.new.line).sent)) in
+    let step = λ (sound_now : Sound ((g.W.Swift.history c.connections.store).tree_at (g.W.Swift.history c.connections.store).called)).
     s.told (i.tells_line line) (i.tells_store store) (i.tells_clock clock) (i.tells_draws draws) sound_now in
-    served_all _ (place_of (g.N.Line.wire c.args.line.now) (tally (g.W.Counted.called c.args.store.now) (g.C.Clock.moments c.args.clock.now) (g.D.Draws.draws c.args.draws.now) (g.N.Line.wire c.args.line.now).sent)) present _ _ _ _ i.ordered (s.kept (i.tells_store store)) (i.served line store clock draws) next c.in-Some.status step sound
+    served_all _ (place_of (g.N.Line.wire c.args.line.now) (tally (g.W.Swift.history c.args.store.now).called (g.C.Clock.moments c.args.clock.now) (g.D.Draws.draws c.args.draws.now) (g.N.Line.wire c.args.line.now).sent)) present _ _ i.ordered (s.kept (i.tells_store store)) (i.served line store clock draws) next c.in-Some.status step
+    (subst Sound (sym ((kept_trans i.ordered (i.kept store) (s.kept (i.tells_store store))).accounts _ (omega arith))) sound)
 
 pub returns-in-Some-clause-unmarked : goal.returns-in-Some-clause-unmarked
 returns-in-Some-clause-unmarked g c = λ tells still.
@@ -56,9 +57,9 @@ connections-preserved g c =
       ordered = (let a = i.ordered in let b = s.ordered in omega arith);
       kept = λ tells. kept_trans i.ordered (i.kept tells) (s.kept (i.tells_store tells));
       served = λ line store clock draws.
-          let present : Place = (place_of (g.N.Line.wire c.connections.line) (tally (g.W.Counted.called c.connections.store) (g.C.Clock.moments c.connections.clock) (g.D.Draws.draws c.connections.draws) (g.N.Line.wire c.connections.line).sent)) in
-          let next : Place = (place_of (g.N.Line.wire c.serve_another.new.line) (tally (g.W.Counted.called c.serve_another.new.store) (g.C.Clock.moments c.serve_another.new.clock) (g.D.Draws.draws c.serve_another.new.draws) (g.N.Line.wire c.serve_another.new.line).sent)) in
-          let step = λ (sound_now : Sound (g.W.Swift.tree_at c.serve_another.new.store (g.W.Counted.called c.connections.store))).
+          let present : Place = (place_of (g.N.Line.wire c.connections.line) (tally (g.W.Swift.history c.connections.store).called (g.C.Clock.moments c.connections.clock) (g.D.Draws.draws c.connections.draws) (g.N.Line.wire c.connections.line).sent)) in
+          let next : Place = (place_of (g.N.Line.wire c.serve_another.new.line) (tally (g.W.Swift.history c.serve_another.new.store).called (g.C.Clock.moments c.serve_another.new.clock) (g.D.Draws.draws c.serve_another.new.draws) (g.N.Line.wire c.serve_another.new.line).sent)) in
+          let step = λ (sound_now : Sound ((g.W.Swift.history c.connections.store).tree_at (g.W.Swift.history c.connections.store).called)).
           s.told (i.tells_line line) (i.tells_store store) (i.tells_clock clock) (i.tells_draws draws) sound_now in
-          served_more _ (place_of (g.N.Line.wire c.args.line.now) (tally (g.W.Counted.called c.args.store.now) (g.C.Clock.moments c.args.clock.now) (g.D.Draws.draws c.args.draws.now) (g.N.Line.wire c.args.line.now).sent)) present _ _ _ _ i.ordered (s.kept (i.tells_store store)) (i.served line store clock draws) next step;
+          served_more _ (place_of (g.N.Line.wire c.args.line.now) (tally (g.W.Swift.history c.args.store.now).called (g.C.Clock.moments c.args.clock.now) (g.D.Draws.draws c.args.draws.now) (g.N.Line.wire c.args.line.now).sent)) present _ _ i.ordered (s.kept (i.tells_store store)) (i.served line store clock draws) next step;
     }

@@ -1,3 +1,4 @@
+use Rattle.std.specs.Prelude.{IsTrue}
 use Rattle.std.proofs.Common.{◌≡◌, ◌≤◌, ◌-◌, ◌^◌}
 use Rattle.gate_base.specs.Causes.{Rose}
 use Rattle.swift_calls.specs.History.{Kept}
@@ -13,15 +14,15 @@ invariant-connections g l = record {
   line_faults : g.N.Line.faults l.initial.line ≤ g.N.Line.faults l.line;
   unmarked : g.N.Line.tells l.initial.line → (Rose (g.N.Line.faults l.initial.line) (g.N.Line.faults l.line) → ⊥) → Unmarked (g.N.Line.wire l.initial.line) (g.N.Line.wire l.line);
   tells_line : g.N.Line.tells l.initial.line → g.N.Line.tells l.line;
-  tells_store : g.W.Swift.tells l.initial.store → g.W.Swift.tells l.store;
+  tells_store : IsTrue (g.W.Swift.history l.initial.store).tells → IsTrue (g.W.Swift.history l.store).tells;
   tells_clock : g.C.Clock.tells l.initial.clock → g.C.Clock.tells l.clock;
   tells_draws : g.D.Draws.tells l.initial.draws → g.D.Draws.tells l.draws;
-  ordered : g.W.Counted.called l.initial.store ≤ g.W.Counted.called l.store;
-  kept : g.W.Swift.tells l.initial.store → Kept (g.W.Counted.called l.initial.store) (g.W.Swift.tree_at l.initial.store) (g.W.Swift.tree_at l.store) (g.W.Swift.faults_at l.initial.store) (g.W.Swift.faults_at l.store);
-  served : g.N.Line.tells l.initial.line → g.W.Swift.tells l.initial.store → g.C.Clock.tells l.initial.clock → g.D.Draws.tells l.initial.draws
-      → Served l.service (g.W.Swift.tree_at l.store) (g.W.Swift.faults_at l.store)
-      (place_of (g.N.Line.wire l.initial.line) (tally (g.W.Counted.called l.initial.store) (g.C.Clock.moments l.initial.clock) (g.D.Draws.draws l.initial.draws) (g.N.Line.wire l.initial.line).sent))
-      (place_of (g.N.Line.wire l.line) (tally (g.W.Counted.called l.store) (g.C.Clock.moments l.clock) (g.D.Draws.draws l.draws) (g.N.Line.wire l.line).sent));
+  ordered : (g.W.Swift.history l.initial.store).called ≤ (g.W.Swift.history l.store).called;
+  kept : IsTrue (g.W.Swift.history l.initial.store).tells → Kept (g.W.Swift.history l.initial.store).called (g.W.Swift.history l.initial.store) (g.W.Swift.history l.store);
+  served : g.N.Line.tells l.initial.line → IsTrue (g.W.Swift.history l.initial.store).tells → g.C.Clock.tells l.initial.clock → g.D.Draws.tells l.initial.draws
+      → Served l.service (g.W.Swift.history l.store)
+      (place_of (g.N.Line.wire l.initial.line) (tally (g.W.Swift.history l.initial.store).called (g.C.Clock.moments l.initial.clock) (g.D.Draws.draws l.initial.draws) (g.N.Line.wire l.initial.line).sent))
+      (place_of (g.N.Line.wire l.line) (tally (g.W.Swift.history l.store).called (g.C.Clock.moments l.clock) (g.D.Draws.draws l.draws) (g.N.Line.wire l.line).sent));
 }
 
 abbrev pub decreases-connections : goal.decreases-connections
