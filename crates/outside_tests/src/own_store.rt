@@ -1,5 +1,5 @@
 //! A store that gives the answers of a list in turn, whatever it is asked, and tells nothing.
-ghost use Rattle.std.specs.Prelude.{◌≡◌};
+ghost use Rattle.std.specs.Prelude.{◌≡◌, false, refl};
 ghost use Rattle.std.specs.FinMap.{empty};
 
 use gate_base::{Bytes, Counted, List, Memory};
@@ -45,17 +45,11 @@ impl Counted for OwnStore {
 }
 
 impl Swift for OwnStore {
-    ghost tells = { λ _. ⊥ };
+    ghost history = { λ store. record { tells = false; called = store.made; faults = 0; tree_at = λ _. empty; faults_at = λ _. 0 } };
 
-    ghost faults = { λ _. 0 };
+    ghost counted = { λ store. refl };
 
-    ghost tree_at = { λ _ _. empty };
-
-    ghost faults_at = { λ _ _. 0 };
-
-    ghost counts_match = { λ store tells left. absurd tells };
-
-    ghost faults_rise = { λ store tells j k order within. absurd tells };
+    ghost is_history = { λ store. record { last = λ tells left. absurd tells; rise = λ tells j k order within. absurd tells } };
 
     /// After the last answer memory is wanted.
     fn call(&mut self, _request: &SwiftRequest) -> Result<SwiftReply, SwiftFault> {
