@@ -1,6 +1,7 @@
 //! A store that gives the answers of a list in turn, whatever it is asked, and tells nothing.
 ghost use Rattle.std.specs.Prelude.{◌≡◌, false, refl};
 ghost use Rattle.std.specs.FinMap.{empty};
+ghost use Rattle.std.proofs.Common.{lit≤};
 
 use gate_base::{Bytes, Counted, List, Memory};
 use std::alloc::Global;
@@ -49,7 +50,7 @@ impl Swift for OwnStore {
 
     ghost counted = { λ store. refl };
 
-    ghost is_history = { λ store. record { last = λ tells left. absurd tells; rise = λ tells j k order within. absurd tells } };
+    ghost is_history = { λ store. record { last = λ tells left. refl; rise = λ tells j k order within. lit≤ tt } };
 
     /// After the last answer memory is wanted.
     fn call(&mut self, _request: &SwiftRequest) -> Result<SwiftReply, SwiftFault> {
