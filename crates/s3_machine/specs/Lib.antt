@@ -1,4 +1,5 @@
 pub mod ETag
+pub mod Finish
 pub mod Laws
 pub mod Limits
 pub mod Native

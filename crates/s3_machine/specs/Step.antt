@@ -1,7 +1,7 @@
 -- One step of the S3 service: what an operation is answered, and the state after it. The refusals are tried in
 -- the order given, and a refused step leaves the state. Source: Amazon S3 API Reference and this profile.
-use Rattle.std.specs.Prelude.{◌≡◌, ◌<◌, ◌≤◌, ℕ, Bool, true, false, not, List, [], length, Option, Some, None}
-use Rattle.std.specs.FinMap.{get, insert, remove, empty}
+use Rattle.std.specs.Prelude.{◌≡◌, ◌<◌, ◌≤◌, ℕ, nat_eq, Bool, true, false, not, List, [], length, Option, Some, None}
+use Rattle.std.specs.FinMap.{get, insert, remove, empty, len}
 use Rattle.gate_base.specs.declared.page.Caller.{Caller}
 use Rattle.gate_base.specs.declared.page.Caller.TheVariants.{Owner, Anonymous}
 use Rattle.gate_base.specs.declared.page.Pair.{Pair}
@@ -68,6 +68,14 @@ in_readable old caller key f b = unless (not (may_read caller b.acl)) AccessDeni
 -- a bucket as it is made: nothing in it
 abbrev pub new_bucket : ℕ → Acl → Bucket
 new_bucket moment acl = record { created = moment; acl = acl; objects = empty; uploads = empty; kept = empty }
+
+-- a bucket with its access control list replaced
+abbrev pub with_acl : Acl → Bucket → Bucket
+with_acl acl b = record b { acl = acl }
+
+-- a bucket without an object; uploads and completions don't count
+abbrev pub is_bare : Bucket → Bool
+is_bare b = nat_eq (len b.objects) 0
 
 -- CreateBucket, by what stands under the name: a bucket that is there stays as it is, in every region
 abbrev pub creates : Option Bucket → State → List ℕ → Acl → ℕ → Outcome

@@ -1,12 +1,13 @@
--- The S3 state that an account stands for. It is a total function: what doesn't read as a bucket, an object, an
--- upload or a completion isn't there. Source: this profile.
-use Rattle.std.specs.Prelude.{ℕ, List, cond, Option, None, Some}
+-- The S3 state that an account stands for: what its containers hold, and over it the completion that is sealed. It is a
+-- total function: what doesn't read as a bucket, an object, an upload or a completion isn't there. Source: this profile.
+use Rattle.std.specs.Prelude.{◌≡◌, ℕ, List, cond, Option, None, Some}
 use Rattle.std.specs.Option.{unwrap_or}
 use Rattle.std.specs.FinMap.{get}
 use Rattle.gate_base.specs.Maps.{Names, picked}
 use Rattle.gate_base.specs.declared.page.Pair.{Pair}
 use Rattle.s3_names.specs.Bucket.{is_bucket}
 use Rattle.s3_machine.specs.State.{Object, Upload, Completion, Bucket, State}
+use Rattle.s3_machine.specs.Finish.{Finished, finished}
 use Rattle.swift_calls.specs.Tree.{File, Folder, Tree, files}
 use Rattle.swift_calls.specs.Bodies.{Look, bytes_of}
 use Rattle.swift_marks.specs.declared.tag.Tag.{Tag}
@@ -28,6 +29,11 @@ object_by (Some tag) (Some meta) (Some bytes) = Some (record { bytes = bytes; et
 -- the object that a file of a bucket stands for, its parts looked up in the container beside it
 abbrev pub object_of : Names File → List ℕ → File → Option Object
 object_of segments key file = object_by (read_tag file.content_type) (unpacked file.meta) (bytes_of (within segments) file.content)
+
+-- an object of a bucket that may be there
+abbrev pub object_at : Option Bucket → List ℕ → Option Object
+object_at None key = None
+object_at (Some b) key = get b.objects key
 
 -- the open upload that a record stands for
 abbrev pub upload_of : Names File → List ℕ → File → Option Upload
@@ -54,6 +60,25 @@ bucket_of tree name folder = cond (is_bucket name) (Some (bucket_from (files tre
 unfoldable pub plain : Tree → State
 plain tree = picked (bucket_of tree) tree
 
--- the state that an account stands for
+-- ---- a completion that is sealed and not yet finished
+
+-- the completion that is sealed on an account: none is by what is built
+unfoldable pub sealed_of : Tree → Option Finished
+sealed_of tree = None
+
+-- a sealed completion counts as finished
+abbrev pub laid : Option Finished → State → State
+laid None state = state
+laid (Some f) state = finished f state
+
+-- no completion is sealed
+abbrev pub IsUnsealed : Tree → Type 0
+IsUnsealed tree = sealed_of tree ≡ None
+
+-- a store on whose account no completion is sealed, so that operations may be answered
+pub record IsSettled (tree : Tree) : Type 0 where
+  pub none : IsUnsealed tree
+
+-- the state that an account stands for: its buckets, and over them the completion that is sealed
 unfoldable pub native : Tree → State
-native tree = plain tree
+native tree = laid (sealed_of tree) (plain tree)

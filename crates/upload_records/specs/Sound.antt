@@ -1,5 +1,5 @@
 -- What holds of each account that only the gateway writes. Source: this profile.
-use Rattle.std.specs.Prelude.{◌≡◌, ◌⊎◌, ◌<◌, ◌≤◌, ◌^◌, ℕ, List, true, false, length, Contains, IsUtf8, Option, Some, None}
+use Rattle.std.specs.Prelude.{◌≡◌, ◌⊎◌, ◌<◌, ◌≤◌, ◌^◌, ℕ, List, true, false, length, Contains, IsUtf8, is_some, Option, Some, None}
 use Rattle.std.specs.Option.{option_map}
 use Rattle.std.specs.FinMap.{get}
 use Rattle.gate_base.specs.Maps.{Names}
@@ -56,10 +56,10 @@ pub record IsPlainObject (file : File) : Type 0 where
   pub packed : unpacked file.meta ≡ Some meta
   pub described : is_proper_meta meta ≡ true
 
--- an object of a bucket, beside which stand these segments in the container of that name
-pub record IsObject (segments : Names File) (folder key : List ℕ) (file : File) : Type 0 where
-  pub keyed : is_key key ≡ true
-  pub plain : IsPlainObject file
+-- an object of a bucket, beside which stand these segments in the container of that name, by the form of its file: put
+-- in one piece
+pub data IsObject (segments : Names File) (folder key : List ℕ) (file : File) : Type 0 where
+  in_one_piece : is_key key ≡ true → IsPlainObject file → IsObject segments folder key file
 
 -- a bucket: its objects, the records and the segments beside it, and the id of a completion that is sealed in it
 pub record SoundBucket (folder : List ℕ) (objects records segments : Names File) (sealed : Option ℕ) : Type 0 where
@@ -84,7 +84,13 @@ pub record IsStored (name : List ℕ) (file : File) : Type 0 where
   pub named : IsFileName name
   pub sized : size_of file.content < 2 ^ 63
 
+-- a bucket is where its container is
+abbrev pub IsThere : Tree → List ℕ → Type 0
+IsThere tree bucket = is_some (get tree bucket) ≡ true
+
+-- an account that only the gateway writes. Of the files beside a bucket and in the gateway's own container nothing is asked
+-- but a name and a size that a store takes
 pub record Sound (tree : Tree) : Type 0 where
   pub folders : SoundFolders (heads tree)
-  pub buckets : (bucket : List ℕ) → is_bucket bucket ≡ true → bucket_sound tree bucket
+  pub buckets : (bucket : List ℕ) → is_bucket bucket ≡ true → IsThere tree bucket → bucket_sound tree bucket
   pub stored : (folder name : List ℕ) (file : File) → look tree folder name ≡ Some file → IsStored name file

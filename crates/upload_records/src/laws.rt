@@ -1,8 +1,7 @@
 //! Laws of the definitions, each the contract of a function that does nothing.
-ghost use Rattle.std.specs.Prelude.{◌≡◌};
-ghost use Rattle.upload_records.specs.Laws.{BucketMade, BucketThere, EmptySound, ObjectFound, ObjectGone, ObjectPut, ReadsAreQuiet};
+ghost use Rattle.upload_records.specs.Laws.{AclReplaced, BucketBare, BucketGone, BucketMade, BucketThere, EmptySound, ObjectFound, ObjectGone, ObjectPut, ReadsAreQuiet};
 
-/// The PUT of the container of a bucket that isn't there makes the bucket, and leaves the account sound.
+/// The PUT of the container of a bucket that isn't there makes the bucket, and leaves the account sound and settled.
 pub fn law_bucket_made()
     ensures { BucketMade }
 {}
@@ -12,17 +11,32 @@ pub fn law_bucket_there()
     ensures { BucketThere }
 {}
 
-/// The empty account is sound, and stands for the state without a bucket.
+/// A bucket has no object exactly where its container has none.
+pub fn law_bucket_bare()
+    ensures { BucketBare }
+{}
+
+/// The DELETE of a bucket's container that has no object takes the bucket away, and leaves the account sound and settled.
+pub fn law_bucket_gone()
+    ensures { BucketGone }
+{}
+
+/// The POST of a bucket's container replaces who may read it, and leaves the account sound and settled.
+pub fn law_acl_replaced()
+    ensures { AclReplaced }
+{}
+
+/// The empty account is sound, no completion is sealed on it, and it stands for the state without a bucket.
 pub fn law_empty_sound()
     ensures { EmptySound }
 {}
 
-/// The PUT of an object's file into a bucket puts the object, and leaves the account sound.
+/// The PUT of an object's file into a bucket puts the object, and leaves the account sound and settled.
 pub fn law_object_put()
     ensures { ObjectPut }
 {}
 
-/// The DELETE of an object's file takes the object away, and leaves the account sound.
+/// The DELETE of an object's file takes the object away, and leaves the account sound and settled.
 pub fn law_object_gone()
     ensures { ObjectGone }
 {}
@@ -32,7 +46,7 @@ pub fn law_object_found()
     ensures { ObjectFound }
 {}
 
-/// A call that only reads leaves the account sound, and standing for the same state.
+/// A call that only reads is quiet: it leaves the account sound, and standing for the same state.
 pub fn law_reads_are_quiet()
     ensures { ReadsAreQuiet }
 {}

@@ -5,4 +5,4 @@ use Rattle.upload_records.specs.Sound.{Sound}
 use Rattle.upload_records.proofs.laws.law_reads_are_quiet.Goals as goal
 
 pub returns : goal.returns
-returns c = λ tree request reads sound. (subst Sound (sym (reads_leave request tree reads)) sound, ap native (reads_leave request tree reads))
+returns c = λ tree request reads sound. record { sound = subst Sound (sym (reads_leave request tree reads)) sound; same = ap native (reads_leave request tree reads) }

@@ -1,0 +1,5 @@
+use Rattle.upload_records.proofs.Buckets.{acl_replaced}
+use Rattle.upload_records.proofs.laws.law_acl_replaced.Goals as goal
+
+pub returns : goal.returns
+returns c = acl_replaced
