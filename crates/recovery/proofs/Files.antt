@@ -4,7 +4,7 @@ use Rattle.std.specs.Prelude.{◌≡◌, ◌<◌, ◌≤◌, ℕ, ◌&&◌, cond
 use Rattle.std.specs.Option.{option_map}
 use Rattle.std.specs.FinMap.{get}
 use Rattle.std.proofs.Common.{refl, sym, ap, subst, ◌∙◌, arith}
-use Rattle.gate_base.specs.Maps.{by_name, adjust_stays, remove_missing, some_value}
+use Rattle.gate_base.specs.Maps.{some_value}
 use Rattle.gate_base.specs.Told.{moment_limit}
 use Rattle.gate_base.specs.declared.page.Pair.{Pair}
 use Rattle.s3_names.specs.Bucket.{is_bucket}
@@ -14,9 +14,8 @@ use Rattle.s3_names.specs.declared.acl.Acl.{Acl}
 use Rattle.s3_machine.specs.declared.operation.ObjectHead.{ObjectHead}
 use Rattle.s3_machine.specs.ETag.{body_etag}
 use Rattle.s3_machine.specs.Limits.{most_body_bytes}
-use Rattle.s3_machine.specs.Step.{IsProperContent, head_of, drop_object}
-use Rattle.swift_calls.specs.declared.account.Content.TheVariants.{Plain}
-use Rattle.swift_calls.specs.Tree.{File, Folder, Tree, look, put_file}
+use Rattle.s3_machine.specs.Step.{IsProperContent, head_of}
+use Rattle.swift_calls.specs.Tree.{File, Folder, Tree, files, look}
 use Rattle.swift_calls.specs.Bodies.{bytes_of, etag_text}
 use Rattle.swift_calls.specs.Bodies as bodies
 use Rattle.swift_calls.specs.Step.{Answer, swift_step, head_reply, get_reply, body_reply, delete_object}
@@ -28,11 +27,14 @@ use Rattle.swift_marks.specs.Tag.{tag_text}
 use Rattle.swift_marks.specs.Pack.{pack_of}
 use Rattle.swift_marks.proofs.TagLaws.{tag_text_reads}
 use Rattle.swift_marks.proofs.PackLaws.{pack_unpacks}
-use Rattle.upload_records.specs.Native.{native}
-use Rattle.upload_records.specs.Sound.{Sound, IsPlainObject, IsStored}
-use Rattle.upload_records.specs.BucketLaws.{native_there}
-use Rattle.upload_records.specs.ObjectLaws.{FindsObject, object_at, object_in, found, native_put, native_removed, sound_put, sound_removed}
-use Rattle.recovery.specs.Calls.{TellsBucket, TellsObject, TellsBytes, acl_of_bucket, bytes_in, Any, HasBucket, puts_object, drops_object}
+use Rattle.upload_records.specs.Marks.{segments_name}
+use Rattle.upload_records.specs.Native.{IsSettled, native}
+use Rattle.upload_records.specs.Sound.{Sound, IsPlainObject, in_one_piece, IsStored}
+use Rattle.upload_records.specs.Laws.{ChangesBy, FindsObject, file_put, object_in}
+use Rattle.upload_records.proofs.Buckets.{native_there}
+use Rattle.upload_records.proofs.Objects.{plain_object, found, object_put, object_gone}
+use Rattle.upload_records.proofs.Off.{settled_put_file, settled_delete_file}
+use Rattle.recovery.specs.Calls.{TellsBucket, TellsObject, TellsBytes, acl_of_bucket, bytes_in, Any, Becomes, HasBucket, puts_object, drops_object}
 use Rattle.recovery.specs.declared.fault.PlanFault.TheVariants.{Inconsistent}
 use Rattle.recovery.specs.Due.{known, head_by, head_due, bytes_due, stored_due, gone_due, plain_tag, put_of}
 use Rattle.recovery.proofs.Etags.{etag_agrees}
@@ -50,46 +52,46 @@ module _ (tree : Tree) (bucket key : List ℕ) where
   head_told_by : (o : Option File) → FindsObject tree bucket key o → (reply : SwiftReply) → reply ≡ head_reply o
       → (told : Option ObjectHead) × (head_due reply ≡ Ok told) × TellsObject bucket key (native tree) told
   head_told_by None none reply e = (None, ap head_due e, ap (option_map head_of) none)
-  head_told_by (Some file) (plain, is) reply e = (
+  head_told_by (Some file) (in_one_piece keyed plain, o, reads, is) reply e = (
     Some (head_of (object_in plain)),
     ap head_due e
         ∙ (λ i. known (head_by (bodies.head_of (record { content_type = file.content_type; meta = file.meta; content = plain.own i })) (plain.tagged i) (plain.packed i)))
         ∙ ap (λ t. known (cond t (Some (head_of (object_in plain))) None)) (plain_agrees plain.bytes plain.sized),
-    ap (option_map head_of) is,
+    ap (option_map head_of) (is ∙ sym reads ∙ plain_object (files tree (segments_name bucket)) key file plain),
   )
 
   bytes_told_by : (o : Option File) → FindsObject tree bucket key o → (reply : SwiftReply) → reply ≡ get_reply (look tree) None o
       → (told : Option (List ℕ)) × (bytes_due reply ≡ Ok told) × TellsBytes bucket key (native tree) told
   bytes_told_by None none reply e = (None, ap bytes_due e, ap (option_map bytes_in) none)
-  bytes_told_by (Some file) (plain, is) reply e = (
+  bytes_told_by (Some file) (in_one_piece keyed plain, o, reads, is) reply e = (
     Some plain.bytes,
     ap bytes_due e ∙ (λ i. bytes_due (body_reply (bodies.head_of file) None (bytes_of (look tree) (plain.own i)))),
-    ap (option_map bytes_in) is,
+    ap (option_map bytes_in) (is ∙ sym reads ∙ plain_object (files tree (segments_name bucket)) key file plain),
   )
 
-module _ (tree : Tree) (container name bucket key : List ℕ) (named : container ≡ bucket) (under : name ≡ key) (is : is_bucket bucket ≡ true) (sound : Sound tree) where
+module _ (tree : Tree) (container name bucket key : List ℕ) (named : container ≡ bucket) (under : name ≡ key) (is : is_bucket bucket ≡ true) (sound : Sound tree) (settled : IsSettled tree) where
   same_file : look tree container name ≡ look tree bucket key
   same_file = λ i. look tree (named i) (under i)
 
   head_tells : (reply : SwiftReply) → reply ≡ (swift_step (HeadObject container name) tree).reply → (told : Option ObjectHead) × (head_due reply ≡ Ok told) × TellsObject bucket key (native tree) told
-  head_tells reply replied = head_told_by tree bucket key (look tree bucket key) (found tree bucket key is sound) reply (replied ∙ ap head_reply same_file)
+  head_tells reply replied = head_told_by tree bucket key (look tree bucket key) (found tree bucket key is sound settled) reply (replied ∙ ap head_reply same_file)
 
   get_tells : (reply : SwiftReply) → reply ≡ (swift_step (GetObject container name None) tree).reply → (told : Option (List ℕ)) × (bytes_due reply ≡ Ok told) × TellsBytes bucket key (native tree) told
-  get_tells reply replied = bytes_told_by tree bucket key (look tree bucket key) (found tree bucket key is sound) reply (replied ∙ ap (get_reply (look tree) None) same_file)
+  get_tells reply replied = bytes_told_by tree bucket key (look tree bucket key) (found tree bucket key is sound settled) reply (replied ∙ ap (get_reply (look tree) None) same_file)
 
 module _ {container name bucket key : List ℕ} (named : container ≡ bucket) (under : name ≡ key) (is : is_bucket bucket ≡ true) where
   -- HEAD of an object's file tells of its head
   pub head_reads : IsReading (HeadObject container name) head_due (TellsObject bucket key)
   head_reads = record {
     leaves = λ tree. refl;
-    tells = λ tree sound reply replied. head_tells tree container name bucket key named under is sound reply replied;
+    tells = λ tree sound settled reply replied. head_tells tree container name bucket key named under is sound settled reply replied;
   }
 
   -- GET of it tells of its bytes
   pub get_reads : IsReading (GetObject container name None) bytes_due (TellsBytes bucket key)
   get_reads = record {
     leaves = λ tree. refl;
-    tells = λ tree sound reply replied. get_tells tree container name bucket key named under is sound reply replied;
+    tells = λ tree sound settled reply replied. get_tells tree container name bucket key named under is sound settled reply replied;
   }
 
 -- ---- PUT
@@ -104,23 +106,23 @@ pub record IsPutOf (request : SwiftRequest) (bucket key content_type : List ℕ)
   pub below : moment < moment_limit
 
 -- the file of an object as it is put
-abbrev file_put : List ℕ → List Pair → List ℕ → ℕ → File
-file_put content_type meta body moment = record { content_type = tag_text (plain_tag content_type (body_etag body) moment); meta = pack_of meta; content = Plain body }
+abbrev file_of_put : List ℕ → List Pair → List ℕ → ℕ → File
+file_of_put content_type meta body moment = file_put (tag_text (plain_tag content_type (body_etag body) moment)) (pack_of meta) body
 
 is_there : {X Y : Type 0} (f : X → Y) (o : Option X) (y : Y) → option_map f o ≡ Some y → is_some o ≡ true
 is_there f None y e = cc
 is_there f (Some x) y e = refl
 
 -- a bucket that is there has its container
-container_there : (tree : Tree) (bucket : List ℕ) (acl : Acl) → is_bucket bucket ≡ true → TellsBucket bucket (native tree) (Some acl) → (folder : Folder) × (get tree bucket ≡ Some folder)
-container_there tree bucket acl is told = some_value (get tree bucket) (sym (native_there tree bucket is) ∙ is_there acl_of_bucket (get (native tree) bucket) acl told)
+container_there : (tree : Tree) (bucket : List ℕ) (acl : Acl) → is_bucket bucket ≡ true → IsSettled tree → TellsBucket bucket (native tree) (Some acl) → (folder : Folder) × (get tree bucket ≡ Some folder)
+container_there tree bucket acl is settled told = some_value (get tree bucket) (sym (native_there tree bucket is settled) ∙ is_there acl_of_bucket (get (native tree) bucket) acl told)
 
 module _ (tree : Tree) (request : SwiftRequest) (bucket key content_type : List ℕ) (meta : List Pair) (body : List ℕ) (moment : ℕ)
-    (put : IsPutOf request bucket key content_type meta body moment) (sound : Sound tree) (acl : Acl) (told : TellsBucket bucket (native tree) (Some acl)) where
+    (put : IsPutOf request bucket key content_type meta body moment) (sound : Sound tree) (settled : IsSettled tree) (acl : Acl) (told : TellsBucket bucket (native tree) (Some acl)) where
   there : (folder : Folder) × (get tree bucket ≡ Some folder)
-  there = container_there tree bucket acl put.is told
+  there = container_there tree bucket acl put.is settled told
 
-  abbrev plain_file : IsPlainObject (file_put content_type meta body moment)
+  abbrev plain_file : IsPlainObject (file_of_put content_type meta body moment)
   plain_file = record {
     bytes = body;
     content_type = content_type;
@@ -133,7 +135,7 @@ module _ (tree : Tree) (request : SwiftRequest) (bucket key content_type : List 
     described = put.content.described;
   }
 
-  stored : IsStored key (file_put content_type meta body moment)
+  stored : IsStored key (file_of_put content_type meta body moment)
   stored =
       let name_is = object_name key put.keyed in
       let sized = put.content.sized in
@@ -142,66 +144,56 @@ module _ (tree : Tree) (request : SwiftRequest) (bucket key content_type : List 
         sized = (omega (arith, sized));
       }
 
-  answered : swift_step request tree ≡ store.put_object (Some there.0) bucket key (file_put content_type meta body moment) tree
-  answered = ap (λ r. swift_step r tree) put.same ∙ ap (λ o. store.put_object o bucket key (file_put content_type meta body moment) tree) there.1
+  answered : swift_step request tree ≡ store.put_object (Some there.0) bucket key (file_of_put content_type meta body moment) tree
+  answered = ap (λ r. swift_step r tree) put.same ∙ ap (λ o. store.put_object o bucket key (file_of_put content_type meta body moment) tree) there.1
 
-  -- the object is put
-  put_effect : Effect tree request (puts_object bucket key content_type meta body moment)
+  -- the object is put, and the store says so
+  put_effect : Effect tree request (stored_due (body_etag body)) (Becomes (puts_object bucket key content_type meta body moment))
   put_effect =
-      let new_tree : (swift_step request tree).tree ≡ put_file bucket key (file_put content_type meta body moment) tree = ap (λ (a : Answer). a.tree) answered in
+      let done : ChangesBy tree (put_of bucket key content_type meta body moment) (puts_object bucket key content_type meta body moment)
+      = object_put tree bucket key (tag_text (plain_tag content_type (body_etag body) moment)) (pack_of meta) body plain_file put.is put.keyed stored sound settled in
+      let same : (swift_step request tree).tree ≡ (swift_step (put_of bucket key content_type meta body moment) tree).tree = ap (λ r. (swift_step r tree).tree) put.same in
       record {
-        sound = sound;
-        after = subst Sound (sym new_tree) (sound_put tree bucket key (file_put content_type meta body moment) put.is sound (record { keyed = put.keyed; plain = plain_file }) stored);
-        state = ap native new_tree ∙ native_put tree bucket key (file_put content_type meta body moment) plain_file put.is;
+        told = tt;
+        says = ap (λ (a : Answer). stored_due (body_etag body) a.reply) answered ∙ ap (λ t. cond t (Ok tt) (Err Inconsistent)) (etag_agrees body);
+        after = subst Sound (sym same) done.sound;
+        state = ap native same ∙ done.state;
       }
-
-  -- and the store says so
-  put_is_due : (reply : SwiftReply) → reply ≡ (swift_step request tree).reply → stored_due (body_etag body) reply ≡ Ok tt
-  put_is_due reply replied = ap (stored_due (body_etag body)) (replied ∙ ap (λ (a : Answer). a.reply) answered) ∙ ap (λ t. cond t (Ok tt) (Err Inconsistent)) (etag_agrees body)
 
 -- PUT of an object's file puts the object, into a bucket that is there
 pub puts : {request : SwiftRequest} {bucket key content_type : List ℕ} {meta : List Pair} {body : List ℕ} {moment : ℕ} → IsPutOf request bucket key content_type meta body moment
-    → IsWriting request (stored_due (body_etag body)) (HasBucket bucket) (puts_object bucket key content_type meta body moment)
+    → IsWriting request (stored_due (body_etag body)) (HasBucket bucket) (Becomes (puts_object bucket key content_type meta body moment))
 puts {request = request} {bucket = bucket} {key = key} {content_type = content_type} {meta = meta} {body = body} {moment = moment} put = record {
-  effect = λ tree sound has. put_effect tree request bucket key content_type meta body moment put sound has.0 has.1;
-  says = λ tree sound has reply replied. put_is_due tree request bucket key content_type meta body moment put sound has.0 has.1 reply replied;
+  effect = λ tree sound settled has. put_effect tree request bucket key content_type meta body moment put sound settled has.0 has.1;
+  settled = λ tree settled. subst (λ r. IsSettled (swift_step r tree).tree) (sym put.same) (settled_put_file tree bucket put.is settled key (tag_text (plain_tag content_type (body_etag body) moment)) (pack_of meta) body);
 }
 
 -- ---- DELETE
-
--- what stands under no key stays as it is
-none_dropped : (tree : Tree) (bucket key : List ℕ) → object_at (get (native tree) bucket) key ≡ None → native tree ≡ drops_object bucket key (native tree)
-none_dropped tree bucket key none =
-    sym (adjust_stays by_name bucket (drop_object key) (native tree) (λ b is i. record b { objects = remove_missing by_name b.objects key (ap (λ o. object_at o key) (sym is) ∙ none) i }))
-
-deleted_by : (tree : Tree) (bucket key : List ℕ) → is_bucket bucket ≡ true → Sound tree → (o : Option File) → FindsObject tree bucket key o
-    → Sound (delete_object o bucket key tree).tree × (native (delete_object o bucket key tree).tree ≡ drops_object bucket key (native tree))
-deleted_by tree bucket key is sound None none = (sound, none_dropped tree bucket key none)
-deleted_by tree bucket key is sound (Some file) finds = (sound_removed tree bucket key is sound, native_removed tree bucket key is)
 
 gone_by : (tree : Tree) (bucket key : List ℕ) (o : Option File) → gone_due (delete_object o bucket key tree).reply ≡ Ok tt
 gone_by tree bucket key None = refl
 gone_by tree bucket key (Some file) = refl
 
-module _ (tree : Tree) (container name bucket key : List ℕ) (named : container ≡ bucket) (under : name ≡ key) (is : is_bucket bucket ≡ true) (sound : Sound tree) where
-  deleted : swift_step (DeleteObject container name) tree ≡ delete_object (look tree bucket key) bucket key tree
-  deleted = λ i. delete_object (look tree (named i) (under i)) (named i) (under i) tree
+module _ (tree : Tree) (container name bucket key : List ℕ) (named : container ≡ bucket) (under : name ≡ key) (is : is_bucket bucket ≡ true) where
+  same_step : swift_step (DeleteObject container name) tree ≡ swift_step (DeleteObject bucket key) tree
+  same_step = λ i. swift_step (DeleteObject (named i) (under i)) tree
 
-  delete_effect : Effect tree (DeleteObject container name) (drops_object bucket key)
-  delete_effect =
-      let both = deleted_by tree bucket key is sound (look tree bucket key) (found tree bucket key is sound) in
+  delete_effect : Sound tree → IsSettled tree → Effect tree (DeleteObject container name) gone_due (Becomes (drops_object bucket key))
+  delete_effect sound settled =
+      let done = object_gone tree bucket key is sound settled in
       record {
-        sound = sound;
-        after = subst Sound (sym (ap (λ (a : Answer). a.tree) deleted)) both.0;
-        state = ap (λ (a : Answer). native a.tree) deleted ∙ both.1;
+        told = tt;
+        says = ap (λ (a : Answer). gone_due a.reply) same_step ∙ gone_by tree bucket key (look tree bucket key);
+        after = subst Sound (sym (ap (λ (a : Answer). a.tree) same_step)) done.sound;
+        state = ap (λ (a : Answer). native a.tree) same_step ∙ done.state;
       }
 
-  delete_is_due : (reply : SwiftReply) → reply ≡ (swift_step (DeleteObject container name) tree).reply → gone_due reply ≡ Ok tt
-  delete_is_due reply replied = ap gone_due (replied ∙ ap (λ (a : Answer). a.reply) deleted) ∙ gone_by tree bucket key (look tree bucket key)
+  delete_settled : IsSettled tree → IsSettled (swift_step (DeleteObject container name) tree).tree
+  delete_settled settled = subst IsSettled (sym (ap (λ (a : Answer). a.tree) same_step)) (settled_delete_file tree bucket is settled key)
 
 -- DELETE of an object's file deletes the object
-pub deletes : {container name bucket key : List ℕ} → container ≡ bucket → name ≡ key → is_bucket bucket ≡ true → IsWriting (DeleteObject container name) gone_due Any (drops_object bucket key)
+pub deletes : {container name bucket key : List ℕ} → container ≡ bucket → name ≡ key → is_bucket bucket ≡ true → IsWriting (DeleteObject container name) gone_due Any (Becomes (drops_object bucket key))
 deletes {container = container} {name = name} {bucket = bucket} {key = key} named under is = record {
-  effect = λ tree sound any. delete_effect tree container name bucket key named under is sound;
-  says = λ tree sound any reply replied. delete_is_due tree container name bucket key named under is sound reply replied;
+  effect = λ tree sound settled any. delete_effect tree container name bucket key named under is sound settled;
+  settled = λ tree settled. delete_settled tree container name bucket key named under is settled;
 }

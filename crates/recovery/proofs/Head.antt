@@ -10,9 +10,10 @@ use Rattle.swift_calls.specs.Step.{head_container, swift_step}
 use Rattle.swift_calls.specs.declared.calls.SwiftRequest.TheVariants.{HeadContainer}
 use Rattle.swift_calls.specs.declared.calls.SwiftReply.{SwiftReply}
 use Rattle.swift_calls.specs.declared.calls.SwiftReply.TheVariants.{Readers}
-use Rattle.upload_records.specs.Native.{native}
+use Rattle.upload_records.specs.Native.{IsSettled, native}
 use Rattle.upload_records.specs.Sound.{Sound, head_of}
-use Rattle.upload_records.specs.BucketLaws.{acl_of_folder, native_acl}
+use Rattle.upload_records.proofs.Buckets.{native_acl}
+use Rattle.upload_records.proofs.Plain.{acl_of_folder}
 use Rattle.recovery.specs.Calls.{TellsBucket}
 use Rattle.recovery.specs.Due.{bucket_due}
 use Rattle.recovery.proofs.One.{IsReading}
@@ -34,17 +35,17 @@ due_by : (o : Option Folder) (tree : Tree) (reply : SwiftReply) → IsTimed o �
 due_by None tree reply timed e = ap bucket_due e
 due_by (Some folder) tree reply timed e = ap bucket_due e ∙ ap (λ created. bucket_due (Readers folder.readers created)) timed.1
 
-head_tells : (tree : Tree) (name bucket : List ℕ) → name ≡ bucket → is_bucket bucket ≡ true → Sound tree → (reply : SwiftReply) → reply ≡ (swift_step (HeadContainer name) tree).reply
+head_tells : (tree : Tree) (name bucket : List ℕ) → name ≡ bucket → is_bucket bucket ≡ true → Sound tree → IsSettled tree → (reply : SwiftReply) → reply ≡ (swift_step (HeadContainer name) tree).reply
     → (told : Option Acl) × (bucket_due reply ≡ Ok told) × TellsBucket bucket (native tree) told
-head_tells tree name bucket named is sound reply replied = (
+head_tells tree name bucket named is sound settled reply replied = (
   option_map acl_of_folder (get tree name),
   due_by (get tree name) tree reply (timed_by tree bucket is sound (get tree name) (ap (get tree) (sym named))) replied,
-  native_acl tree bucket is ∙ ap (λ n. option_map acl_of_folder (get tree n)) (sym named),
+  native_acl tree bucket is settled ∙ ap (λ n. option_map acl_of_folder (get tree n)) (sym named),
 )
 
 -- HEAD of a bucket's container tells who may read the bucket
 pub head_reads : {name bucket : List ℕ} → name ≡ bucket → is_bucket bucket ≡ true → IsReading (HeadContainer name) bucket_due (TellsBucket bucket)
 head_reads {name = name} {bucket = bucket} named is = record {
   leaves = λ tree. leaves_by (get tree name) tree;
-  tells = λ tree sound reply replied. head_tells tree name bucket named is sound reply replied;
+  tells = λ tree sound settled reply replied. head_tells tree name bucket named is sound settled reply replied;
 }

@@ -1,6 +1,8 @@
+pub mod Agree
 pub mod Calm
 pub mod Causes
 pub mod Dates
+pub mod Drop
 pub mod Etags
 pub mod Faults
 pub mod Files
@@ -9,4 +11,5 @@ pub mod Head
 pub mod Names
 pub mod One
 pub mod Put
+pub mod Settling
 pub mod Undisturbed

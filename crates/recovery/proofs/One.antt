@@ -6,19 +6,19 @@ use Rattle.std.proofs.lemmas.Bool.{cases_lt}
 use Rattle.s3_machine.specs.State.{State}
 use Rattle.swift_calls.specs.Tree.{Tree}
 use Rattle.swift_calls.specs.Step.{swift_step}
-use Rattle.swift_calls.specs.History.{History, present, CountsFaults, Either, Called, Replied, Calls, counts_near, kept_refl}
+use Rattle.swift_calls.specs.History.{History, budget, present, CountsFaults, Either, Called, Replied, Lost, Calls, counts_near, kept_refl}
 use Rattle.swift_calls.specs.declared.calls.SwiftRequest.{SwiftRequest}
 use Rattle.swift_calls.specs.declared.calls.SwiftReply.{SwiftReply}
 use Rattle.swift_calls.specs.declared.calls.SwiftFault.{SwiftFault}
 use Rattle.swift_calls.specs.declared.calls.SwiftFault.TheVariants.{Failed, Memory}
-use Rattle.upload_records.specs.Native.{native}
+use Rattle.upload_records.specs.Native.{IsSettled, native}
 use Rattle.upload_records.specs.Sound.{Sound}
 use Rattle.recovery.specs.declared.fault.PlanFault.{PlanFault}
 use Rattle.recovery.specs.declared.fault.PlanFault.TheVariants as fault
 use Rattle.recovery.specs.Fault.{plan_fault, CausesFault}
 use Rattle.recovery.specs.Due.{Gives}
-use Rattle.recovery.specs.Turns.{Quiet}
-use Rattle.recovery.specs.Calls.{Grows, Reads, Asks, Commits, QuietOrCommits, Writes, Changes}
+use Rattle.recovery.specs.Quiet.{Quiet, LastFailed, was_lost, had_none}
+use Rattle.recovery.specs.Calls.{Bound, always, by_account, GoesOn, Met, Grows, Given, Keeps, Tells, Asks, Commits, Writes, Changes}
 use Rattle.recovery.proofs.Causes.{due_cause}
 use Rattle.recovery.proofs.Faults.{err_is}
 
@@ -38,20 +38,31 @@ stays {h = h} {p = p} {q = q} ordered near same sound = record {
     here k from to = elim (near_one k near from to) [ inl e ↦ ap h.tree_at e | inr e ↦ ap h.tree_at e ∙ same ]
 
 -- no call was made
-none_made : {h : History} {p q : ℕ} → q ≡ p → Sound (h.tree_at p) → Quiet h p q
+pub none_made : {h : History} {p q : ℕ} → q ≡ p → Sound (h.tree_at p) → Quiet h p q
 none_made {h = h} same sound = stays (omega arith) (omega arith) (ap h.tree_at same) sound
 
 -- ---- how the history goes on
 
 -- no call was made
-pub grows_none : (most : ℕ) (h : History) → Grows most h h
-grows_none most h = record { calls = record { ordered = omega arith; most = omega arith }; tells = λ tells. tells; kept = λ tells. kept_refl h.called h }
+pub goes_none : (h : History) → GoesOn h h
+goes_none h = record { ordered = omega arith; faults = omega arith; tells = λ tells. tells; kept = λ tells. kept_refl h.called h }
+
+pub grows_none : (most : Bound) (given : Tree → Type 0) (h : History) → Grows most given h h
+grows_none (always n) given h = record { on = goes_none h; calls = omega arith }
+grows_none (by_account n) given h = record { on = goes_none h; calls = λ met. omega arith }
+
+-- no call makes the count of faults fall
+faults_near : (before now : ℕ) (result : Result SwiftReply SwiftFault) → CountsFaults before now result → before ≤ now
+faults_near before now (Ok reply) counts = omega arith
+faults_near before now (Err Failed) counts = omega arith
+faults_near before now (Err Memory) counts = omega arith
 
 -- one call was
-pub grows_one : {old new : History} {request : SwiftRequest} {result : Result SwiftReply SwiftFault} → Calls old new request result → Grows 1 old new
-grows_one {old = old} {new = new} {result = result} calls =
-    let near = counts_near old.called new.called result calls.counts in
-    record { calls = record { ordered = near.0; most = near.1 }; tells = calls.tells; kept = calls.kept }
+pub goes_one : {old new : History} {request : SwiftRequest} {result : Result SwiftReply SwiftFault} → Calls old new request result → GoesOn old new
+goes_one {old = old} {new = new} {result = result} calls = record { ordered = (counts_near old.called new.called result calls.counts).0; faults = faults_near old.faults new.faults result calls.faults; tells = calls.tells; kept = calls.kept }
+
+pub grows_one : {old new : History} {request : SwiftRequest} {result : Result SwiftReply SwiftFault} (given : Tree → Type 0) → Calls old new request result → Grows (always 1) given old new
+grows_one {old = old} {new = new} {result = result} given calls = record { on = goes_one calls; calls = (counts_near old.called new.called result calls.counts).1 }
 
 -- the account at the number before the call is the one that it found
 found : {old new : History} {request : SwiftRequest} {result : Result SwiftReply SwiftFault} → Calls old new request result → IsTrue old.tells → new.tree_at old.called ≡ present old
@@ -61,117 +72,178 @@ fault_cause : (T : Type 0) (before now : ℕ) (fault : SwiftFault) → CountsFau
 fault_cause T before now Failed counts = counts
 fault_cause T before now Memory counts = counts
 
+-- ---- a call leaves the account settled
+
+-- the request leaves each settled account settled
+abbrev pub LeavesSettled : SwiftRequest → Type 0
+LeavesSettled request = (tree : Tree) → IsSettled tree → IsSettled (swift_step request tree).tree
+
+module _ (h : History) (p q : ℕ) (request : SwiftRequest) (leaves : LeavesSettled request) (settled : IsSettled (h.tree_at p)) where
+  settled_done : h.tree_at q ≡ (swift_step request (h.tree_at p)).tree → IsSettled (h.tree_at q)
+  settled_done done = subst IsSettled (sym done) (leaves (h.tree_at p) settled)
+
+  settled_same : h.tree_at q ≡ h.tree_at p → IsSettled (h.tree_at q)
+  settled_same same = subst IsSettled (sym same) settled
+
+  settled_either : Either h p q request → IsSettled (h.tree_at q)
+  settled_either (inl same) = settled_same same
+  settled_either (inr done) = settled_done done
+
+  settled_after : (result : Result SwiftReply SwiftFault) → Called h p q request result → IsSettled (h.tree_at q)
+  settled_after (Ok reply) c = settled_done c.tree
+  settled_after (Err Failed) (inl c) = settled_either c.either
+  settled_after (Err Failed) (inr (spent, same)) = settled_same (ap h.tree_at same)
+  settled_after (Err Memory) (inl c) = settled_either c.either
+  settled_after (Err Memory) (inr same) = settled_same (ap h.tree_at same)
+
+pub stays_settled : {old new : History} {request : SwiftRequest} {result : Result SwiftReply SwiftFault} → LeavesSettled request → Calls old new request result
+    → IsTrue old.tells → IsSettled (present old) → IsSettled (present new)
+stays_settled {old = old} {new = new} {request = request} {result = result} leaves calls tells settled =
+    settled_after new old.called new.called request leaves (subst IsSettled (sym (found calls tells)) settled) result (calls.told tells)
+
+-- ---- a call that failed
+
+lost_last : {h : History} {p q : ℕ} {request : SwiftRequest} → Lost h p q request → LastFailed h p q
+lost_last {p = p} c = was_lost p (omega arith) c.next refl c.rose
+
+spent_last : {h : History} {p q : ℕ} → budget ≤ p → q ≡ p → LastFailed h p q
+spent_last {h = h} spent same = had_none (omega arith) (ap h.faults_at same) (ap (λ k. native (h.tree_at k)) same)
+
 -- ---- a call that tells of the state
 
--- over each sound account the request leaves it, and its answer comes to what P says
+-- over each sound and settled account the request leaves it, and its answer comes to what P says
 pub record IsReading {T : Type 0} (request : SwiftRequest) (due : SwiftReply → Result T PlanFault) (P : State → T → Type 0) : Type 0 where
   pub leaves : (tree : Tree) → (swift_step request tree).tree ≡ tree
-  pub tells : (tree : Tree) → Sound tree → (reply : SwiftReply) → reply ≡ (swift_step request tree).reply → (told : T) × (due reply ≡ Ok told) × P (native tree) told
+  pub tells : (tree : Tree) → Sound tree → IsSettled tree → (reply : SwiftReply) → reply ≡ (swift_step request tree).reply → (told : T) × (due reply ≡ Ok told) × P (native tree) told
 
-module _ {T : Type 0} {request : SwiftRequest} {due : SwiftReply → Result T PlanFault} {P : State → T → Type 0} (reading : IsReading request due P) (h : History) (p q : ℕ) (sound : Sound (h.tree_at p)) where
+module _ {T : Type 0} {request : SwiftRequest} {due : SwiftReply → Result T PlanFault} {P : State → T → Type 0} (reading : IsReading request due P) (h : History) (p q : ℕ)
+    (sound : Sound (h.tree_at p)) (settled : IsSettled (h.tree_at p)) where
   left : Either h p q request → h.tree_at q ≡ h.tree_at p
   left (inl same) = same
   left (inr done) = done ∙ reading.leaves (h.tree_at p)
 
-  unread : (fault : SwiftFault) → Called h p q request (Err fault) → Reads h p q P (Err (plan_fault fault))
-  unread Failed (inl c) = let next = c.next in (stays (omega arith) (omega arith) (left c.either) sound, inl c.rose)
-  unread Failed (inr (spent, same)) = (none_made same sound, inr spent)
+  unread : (fault : SwiftFault) → Called h p q request (Err fault) → Keeps h p q (Tells P) (Err (plan_fault fault))
+  unread Failed (inl c) = let next = c.next in (stays (omega arith) (omega arith) (left c.either) sound, lost_last c)
+  unread Failed (inr (spent, same)) = (none_made same sound, spent_last spent same)
   unread Memory (inl c) = let next = c.next in (stays (omega arith) (omega arith) (left c.either) sound, c.quiet)
   unread Memory (inr same) = (none_made same sound, ap h.faults_at same)
 
-  read : (reply : SwiftReply) (result : Result T PlanFault) → Replied h p q request reply → Gives result (due reply) → Reads h p q P result
+  read : (reply : SwiftReply) (result : Result T PlanFault) → Replied h p q request reply → Gives result (due reply) → Keeps h p q (Tells P) result
   read reply result c (inl wanted) =
-      subst (Reads h p q P) (sym wanted) (let next = c.next in (stays (omega arith) (omega arith) (c.tree ∙ reading.leaves (h.tree_at p)) sound, c.quiet))
+      subst (Keeps h p q (Tells P)) (sym wanted) (let next = c.next in (stays (omega arith) (omega arith) (c.tree ∙ reading.leaves (h.tree_at p)) sound, c.quiet))
   read reply result c (inr is) =
-      let told = reading.tells (h.tree_at p) sound reply c.reply in
-      subst (Reads h p q P) (sym (is ∙ told.1)) (let next = c.next in (stays (omega arith) (omega arith) (c.tree ∙ reading.leaves (h.tree_at p)) sound, c.quiet, told.2))
+      let told = reading.tells (h.tree_at p) sound settled reply c.reply in
+      let same = c.tree ∙ reading.leaves (h.tree_at p) in
+      subst (Keeps h p q (Tells P)) (sym (is ∙ told.1)) (let next = c.next in (stays (omega arith) (omega arith) same sound, c.quiet, record { of_state = told.2; same = same }))
 
 -- memory was wanted before the call
-pub not_asked : {T : Type 0} {P : State → T → Type 0} (most : ℕ) (h : History) (result : Result T PlanFault) → IsErrAnd result (λ e. e ≡ fault.Memory) → Asks most h h P result
-not_asked {P = P} most h result is =
-    subst (Asks most h h P) (sym (err_is result fault.Memory is)) (record { grows = grows_none most h; cause = refl; told = λ tells sound. (none_made refl sound, refl) })
+pub not_asked : {T : Type 0} {given : Tree → Type 0} {P : Tree → Tree → T → Type 0} (most : Bound) (h : History) (result : Result T PlanFault) → IsErrAnd result (λ e. e ≡ fault.Memory) → Asks most h h given P result
+not_asked {given = given} {P = P} most h result is =
+    subst (Asks most h h given P) (sym (err_is result fault.Memory is)) (record { grows = grows_none most given h; cause = refl; told = λ met. (none_made refl met.sound, refl); settled = λ tells settled. settled })
+
+-- a request that leaves each account leaves it settled
+leaves_settled : {T : Type 0} {request : SwiftRequest} {due : SwiftReply → Result T PlanFault} {P : State → T → Type 0} → IsReading request due P → LeavesSettled request
+leaves_settled reading tree settled = subst IsSettled (sym (reading.leaves tree)) settled
 
 -- it was not answered
 pub asked_in_vain : {T : Type 0} {old new : History} {request : SwiftRequest} {due : SwiftReply → Result T PlanFault} {P : State → T → Type 0} {fault : SwiftFault} → IsReading request due P
-    → Calls old new request (Err fault) → (result : Result T PlanFault) → IsErrAnd result (λ e. e ≡ plan_fault fault) → Asks 1 old new P result
-asked_in_vain {T = T} {old = old} {new = new} {P = P} {fault = fault} reading calls result is = subst (Asks 1 old new P) (sym (err_is result (plan_fault fault) is)) (record {
-  grows = grows_one calls;
+    → Calls old new request (Err fault) → (result : Result T PlanFault) → IsErrAnd result (λ e. e ≡ plan_fault fault) → Asks (always 1) old new IsSettled (Tells P) result
+asked_in_vain {T = T} {old = old} {new = new} {P = P} {fault = fault} reading calls result is = subst (Asks (always 1) old new IsSettled (Tells P)) (sym (err_is result (plan_fault fault) is)) (record {
+  grows = grows_one IsSettled calls;
   cause = fault_cause T old.faults new.faults fault calls.faults;
-  told = λ tells sound. unread reading new old.called new.called (subst Sound (sym (found calls tells)) sound) fault (calls.told tells);
+  told = λ met.
+      let same = sym (found calls met.tells) in
+      unread reading new old.called new.called (subst Sound same met.sound) (subst IsSettled same met.has) fault (calls.told met.tells);
+  settled = stays_settled (leaves_settled reading) calls;
 })
 
 -- it was answered
 pub asked : {T : Type 0} {old new : History} {request : SwiftRequest} {due : SwiftReply → Result T PlanFault} {P : State → T → Type 0} {reply : SwiftReply} → IsReading request due P
-    → Calls old new request (Ok reply) → (result : Result T PlanFault) → Gives result (due reply) → result ≢ Err fault.Failed → Asks 1 old new P result
+    → Calls old new request (Ok reply) → (result : Result T PlanFault) → Gives result (due reply) → result ≢ Err fault.Failed → Asks (always 1) old new IsSettled (Tells P) result
 asked {old = old} {new = new} {reply = reply} reading calls result gives own = record {
-  grows = grows_one calls;
+  grows = grows_one IsSettled calls;
   cause = due_cause old.faults new.faults result calls.faults own;
-  told = λ tells sound. read reading new old.called new.called (subst Sound (sym (found calls tells)) sound) reply result (calls.told tells) gives;
+  told = λ met.
+      let same = sym (found calls met.tells) in
+      read reading new old.called new.called (subst Sound same met.sound) (subst IsSettled same met.has) reply result (calls.told met.tells) gives;
+  settled = stays_settled (leaves_settled reading) calls;
 }
 
--- ---- a call that changes the state
+-- ---- a call that may change the state
 
--- the effect of the request on this account is the change by f, and leaves it sound
-pub record Effect (tree : Tree) (request : SwiftRequest) (f : State → State) : Type 0 where
-  pub sound : Sound tree
+-- the effect of the request on this account is one that S allows where this is told, which its answer comes to; and it leaves the account sound
+pub record Effect {T : Type 0} (tree : Tree) (request : SwiftRequest) (due : SwiftReply → Result T PlanFault) (S : T → State → State → Type 0) : Type 0 where
+  pub told : T
+  pub says : due (swift_step request tree).reply ≡ Ok told
   pub after : Sound (swift_step request tree).tree
-  pub state : native (swift_step request tree).tree ≡ f (native tree)
+  pub state : S told (native tree) (native (swift_step request tree).tree)
 
--- over each sound account of which the given holds, the request changes the state by f, and its answer says so
-pub record IsWriting (request : SwiftRequest) (due : SwiftReply → Result (Unit {0}) PlanFault) (given : State → Type 0) (f : State → State) : Type 0 where
-  pub effect : (tree : Tree) → Sound tree → given (native tree) → Effect tree request f
-  pub says : (tree : Tree) → Sound tree → given (native tree) → (reply : SwiftReply) → reply ≡ (swift_step request tree).reply → due reply ≡ Ok tt
+-- over each sound and settled account of which the given holds, the request has such an effect, and it leaves accounts settled
+pub record IsWriting {T : Type 0} (request : SwiftRequest) (due : SwiftReply → Result T PlanFault) (given : State → Type 0) (S : T → State → State → Type 0) : Type 0 where
+  pub effect : (tree : Tree) → Sound tree → IsSettled tree → given (native tree) → Effect tree request due S
+  pub settled : LeavesSettled request
 
-module _ (h : History) (p q : ℕ) (request : SwiftRequest) (f : State → State) (effect : Effect (h.tree_at p) request f) where
-  commits : q ≡ p + 1 → h.tree_at q ≡ (swift_step request (h.tree_at p)).tree → Commits h p q (f (native (h.tree_at p)))
+module _ {T : Type 0} (h : History) (p q : ℕ) (request : SwiftRequest) (due : SwiftReply → Result T PlanFault) (S : T → State → State → Type 0)
+    (sound : Sound (h.tree_at p)) (effect : Effect (h.tree_at p) request due S) where
+  commits : q ≡ p + 1 → h.tree_at q ≡ (swift_step request (h.tree_at p)).tree → Commits h p q (S effect.told)
   commits one done = record {
-    one = one;
-    sound_before = effect.sound;
-    sound_after = subst Sound (sym done) effect.after;
-    made = ap native done ∙ effect.state;
+    last = p;
+    quiet = none_made refl sound;
+    no_fault = refl;
+    next = one;
+    sound = subst Sound (sym done) effect.after;
+    made = subst (λ tree. S effect.told (native (h.tree_at p)) (native tree)) (sym done) effect.state;
   }
 
   -- it was answered
-  written : (reply : SwiftReply) → Replied h p q request reply → Writes h p q f (Ok tt)
+  written : (reply : SwiftReply) → Replied h p q request reply → Writes h p q S (Ok effect.told)
   written reply c = (commits c.next c.tree, c.quiet)
 
-  either : q ≡ p + 1 → Either h p q request → QuietOrCommits h p q f
-  either one (inl same) = inl (stays (omega arith) (omega arith) same effect.sound)
-  either one (inr done) = inr (commits one done)
+  lost_by : (c : Lost h p q request) → Either h p q request → Writes h p q S (Err fault.Failed)
+  lost_by c (inl same) = let next = c.next in inl (stays (omega arith) (omega arith) same sound, lost_last c)
+  lost_by c (inr done) = inr ((effect.told, commits c.next done), c.rose)
 
-  unwritten : (fault : SwiftFault) → Called h p q request (Err fault) → Writes h p q f (Err (plan_fault fault))
-  unwritten Failed (inl c) = (either c.next c.either, inl c.rose)
-  unwritten Failed (inr (spent, same)) = (inl (none_made same effect.sound), inr spent)
-  unwritten Memory (inl c) = (either c.next c.either, c.quiet)
-  unwritten Memory (inr same) = (inl (none_made same effect.sound), ap h.faults_at same)
+  unread_by : q ≡ p + 1 → h.faults_at q ≡ h.faults_at p → Either h p q request → Writes h p q S (Err fault.Memory)
+  unread_by next quiet (inl same) = (inl (stays (omega arith) (omega arith) same sound), quiet)
+  unread_by next quiet (inr done) = (inr (effect.told, commits next done), quiet)
+
+  unwritten : (fault : SwiftFault) → Called h p q request (Err fault) → Writes h p q S (Err (plan_fault fault))
+  unwritten Failed (inl c) = lost_by c c.either
+  unwritten Failed (inr (spent, same)) = inl (none_made same sound, spent_last spent same)
+  unwritten Memory (inl c) = unread_by c.next c.quiet c.either
+  unwritten Memory (inr same) = (inl (none_made same sound), ap h.faults_at same)
 
 -- memory was wanted before the call
-pub not_sent : {given : State → Type 0} {f : State → State} (h : History) (result : Result (Unit {0}) PlanFault) → IsErrAnd result (λ e. e ≡ fault.Memory) → Changes h h given f result
-not_sent {given = given} {f = f} h result is =
-    subst (Changes h h given f) (sym (err_is result fault.Memory is)) (record { grows = grows_none 1 h; cause = refl; told = λ tells sound has. (inl (none_made refl sound), refl) })
+pub not_sent : {T : Type 0} {given : Tree → Type 0} {S : T → State → State → Type 0} (h : History) (result : Result T PlanFault) → IsErrAnd result (λ e. e ≡ fault.Memory) → Changes (always 1) h h given S result
+not_sent {given = given} {S = S} h result is =
+    subst (Changes (always 1) h h given S) (sym (err_is result fault.Memory is)) (record { grows = grows_none (always 1) given h; cause = refl; told = λ met. (inl (none_made refl met.sound), refl); settled = λ tells settled. settled })
 
 -- what is given of the account that the call found
-effect_found : {old new : History} {request : SwiftRequest} {result : Result SwiftReply SwiftFault} {due : SwiftReply → Result (Unit {0}) PlanFault} {given : State → Type 0} {f : State → State} → IsWriting request due given f
-    → Calls old new request result → IsTrue old.tells → Sound (present old) → given (native (present old)) → Effect (new.tree_at old.called) request f
-effect_found {request = request} {f = f} writing calls tells sound has = subst (λ tree. Effect tree request f) (sym (found calls tells)) (writing.effect _ sound has)
+effect_found : {T : Type 0} {old new : History} {request : SwiftRequest} {result : Result SwiftReply SwiftFault} {due : SwiftReply → Result T PlanFault} {given : State → Type 0} {S : T → State → State → Type 0}
+    → IsWriting request due given S → Calls old new request result → Met (Given given) old → Effect (new.tree_at old.called) request due S
+effect_found {request = request} {due = due} {S = S} writing calls met =
+    subst (λ tree. Effect tree request due S) (sym (found calls met.tells)) (writing.effect _ met.sound met.has.settled met.has.state)
 
 -- it was not answered
-pub sent_in_vain : {old new : History} {request : SwiftRequest} {due : SwiftReply → Result (Unit {0}) PlanFault} {given : State → Type 0} {f : State → State} {fault : SwiftFault} → IsWriting request due given f
-    → Calls old new request (Err fault) → (result : Result (Unit {0}) PlanFault) → IsErrAnd result (λ e. e ≡ plan_fault fault) → Changes old new given f result
-sent_in_vain {old = old} {new = new} {request = request} {given = given} {f = f} {fault = fault} writing calls result is = subst (Changes old new given f) (sym (err_is result (plan_fault fault) is)) (record {
-  grows = grows_one calls;
-  cause = fault_cause (Unit {0}) old.faults new.faults fault calls.faults;
-  told = λ tells sound has. unwritten new old.called new.called request f (effect_found writing calls tells sound has) fault (calls.told tells);
+pub sent_in_vain : {T : Type 0} {old new : History} {request : SwiftRequest} {due : SwiftReply → Result T PlanFault} {given : State → Type 0} {S : T → State → State → Type 0} {fault : SwiftFault}
+    → IsWriting request due given S → Calls old new request (Err fault) → (result : Result T PlanFault) → IsErrAnd result (λ e. e ≡ plan_fault fault) → Changes (always 1) old new (Given given) S result
+sent_in_vain {T = T} {old = old} {new = new} {request = request} {due = due} {given = given} {S = S} {fault = fault} writing calls result is = subst (Changes (always 1) old new (Given given) S) (sym (err_is result (plan_fault fault) is)) (record {
+  grows = grows_one (Given given) calls;
+  cause = fault_cause T old.faults new.faults fault calls.faults;
+  told = λ met. unwritten new old.called new.called request due S (subst Sound (sym (found calls met.tells)) met.sound) (effect_found writing calls met) fault (calls.told met.tells);
+  settled = stays_settled writing.settled calls;
 })
 
 -- it was answered
-pub sent : {old new : History} {request : SwiftRequest} {due : SwiftReply → Result (Unit {0}) PlanFault} {given : State → Type 0} {f : State → State} {reply : SwiftReply} → IsWriting request due given f
-    → Calls old new request (Ok reply) → (result : Result (Unit {0}) PlanFault) → result ≡ due reply → result ≢ Err fault.Failed → Changes old new given f result
-sent {old = old} {new = new} {request = request} {f = f} {reply = reply} writing calls result is own = record {
-  grows = grows_one calls;
+pub sent : {T : Type 0} {old new : History} {request : SwiftRequest} {due : SwiftReply → Result T PlanFault} {given : State → Type 0} {S : T → State → State → Type 0} {reply : SwiftReply}
+    → IsWriting request due given S → Calls old new request (Ok reply) → (result : Result T PlanFault) → result ≡ due reply → result ≢ Err fault.Failed → Changes (always 1) old new (Given given) S result
+sent {old = old} {new = new} {request = request} {due = due} {given = given} {S = S} {reply = reply} writing calls result is own = record {
+  grows = grows_one (Given given) calls;
   cause = due_cause old.faults new.faults result calls.faults own;
-  told = λ tells sound has.
-      let replied = calls.told tells in
-      let says = writing.says _ sound has reply (replied.reply ∙ ap (λ t. (swift_step request t).reply) (found calls tells)) in
-      subst (Writes new old.called new.called f) (sym (is ∙ says)) (written new old.called new.called request f (effect_found writing calls tells sound has) reply replied);
+  told = λ met.
+      let replied = calls.told met.tells in
+      let effect = effect_found writing calls met in
+      subst (Writes new old.called new.called S) (sym (is ∙ ap due replied.reply ∙ effect.says))
+      (written new old.called new.called request due S (subst Sound (sym (found calls met.tells)) met.sound) effect reply replied);
+  settled = stays_settled writing.settled calls;
 }

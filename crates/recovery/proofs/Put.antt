@@ -1,21 +1,20 @@
 -- What PUT of a bucket's container does to the state, where the bucket is missing.
 use Rattle.std.specs.Prelude.{◌≡◌, ◌<◌, ℕ, true, false, List, Option, Some, None, is_some, Ok}
-use Rattle.std.specs.FinMap.{get, insert}
+use Rattle.std.specs.FinMap.{get}
 use Rattle.std.proofs.Common.{refl, sym, ap, subst, ◌∙◌}
 use Rattle.gate_base.specs.Told.{moment_limit}
 use Rattle.s3_names.specs.declared.acl.Acl.{Acl}
 use Rattle.s3_names.specs.Bucket.{is_bucket}
-use Rattle.swift_calls.specs.Tree.{Folder, Tree, new_folder}
-use Rattle.swift_calls.specs.Step.{put_container, swift_step}
+use Rattle.swift_calls.specs.Tree.{Folder, Tree}
+use Rattle.swift_calls.specs.Step.{Answer, put_container, swift_step}
 use Rattle.swift_calls.specs.declared.account.ReadList.{ReadList}
 use Rattle.swift_calls.specs.declared.calls.SwiftRequest.TheVariants.{PutContainer}
-use Rattle.swift_calls.specs.declared.calls.SwiftReply.{SwiftReply}
-use Rattle.swift_calls.specs.declared.calls.SwiftReply.TheVariants.{Made}
 use Rattle.upload_records.specs.Marks.{readers_of}
-use Rattle.upload_records.specs.Native.{native}
+use Rattle.upload_records.specs.Native.{IsSettled, native}
 use Rattle.upload_records.specs.Sound.{Sound}
-use Rattle.upload_records.specs.BucketLaws.{native_there, native_made, sound_made}
-use Rattle.recovery.specs.Calls.{LacksBucket, makes_bucket}
+use Rattle.upload_records.proofs.Buckets.{native_there, bucket_made}
+use Rattle.upload_records.proofs.Off.{settled_put}
+use Rattle.recovery.specs.Calls.{Becomes, LacksBucket, makes_bucket}
 use Rattle.recovery.specs.Due.{made_due}
 use Rattle.recovery.proofs.One.{Effect, IsWriting}
 
@@ -31,39 +30,35 @@ none_of None e = refl
 none_of (Some x) e = cc
 
 -- a bucket that is missing has no container
-no_container : (tree : Tree) (bucket : List ℕ) → is_bucket bucket ≡ true → get (native tree) bucket ≡ None → get tree bucket ≡ None
-no_container tree bucket is missing = none_of (get tree bucket) (sym (native_there tree bucket is) ∙ ap is_some missing)
+no_container : (tree : Tree) (bucket : List ℕ) → is_bucket bucket ≡ true → IsSettled tree → get (native tree) bucket ≡ None → get tree bucket ≡ None
+no_container tree bucket is settled missing = none_of (get tree bucket) (sym (native_there tree bucket is settled) ∙ ap is_some missing)
 
-put_new : (o : Option Folder) (name : List ℕ) (readers : ReadList) (created : Option ℕ) (tree : Tree) → o ≡ None → (put_container o name readers created tree).tree ≡ insert tree name (new_folder readers created)
-put_new o name readers created tree none = ap (λ v. (put_container v name readers created tree).tree) none
+put_replies : (o : Option Folder) (name : List ℕ) (readers : ReadList) (created : Option ℕ) (tree : Tree) → o ≡ None → made_due (put_container o name readers created tree).reply ≡ Ok tt
+put_replies o name readers created tree none = ap (λ v. made_due (put_container v name readers created tree).reply) none
 
-put_replies : (o : Option Folder) (name : List ℕ) (readers : ReadList) (created : Option ℕ) (tree : Tree) → o ≡ None → (put_container o name readers created tree).reply ≡ Made
-put_replies o name readers created tree none = ap (λ v. (put_container v name readers created tree).reply) none
+module _ (tree : Tree) (name bucket : List ℕ) (readers : ReadList) (acl : Acl) (moment : ℕ) (put : IsPutOf name bucket readers acl moment) where
+  same_step : swift_step (PutContainer name readers (Some moment)) tree ≡ swift_step (PutContainer bucket (readers_of acl) (Some moment)) tree
+  same_step = λ i. swift_step (PutContainer (put.named i) (put.listed i) (Some moment)) tree
 
-module _ (tree : Tree) (name bucket : List ℕ) (readers : ReadList) (acl : Acl) (moment : ℕ)
-    (put : IsPutOf name bucket readers acl moment) (sound : Sound tree) (missing : get (native tree) bucket ≡ None) where
-  no_folder : get tree name ≡ None
-  no_folder = ap (get tree) put.named ∙ no_container tree bucket put.is missing
+  -- the bucket is made, and the store says so
+  put_effect : Sound tree → IsSettled tree → get (native tree) bucket ≡ None → Effect tree (PutContainer name readers (Some moment)) made_due (Becomes (makes_bucket bucket acl moment))
+  put_effect sound settled missing =
+      let none : get tree bucket ≡ None = no_container tree bucket put.is settled missing in
+      let done = bucket_made tree bucket acl moment put.is put.below sound settled none in
+      record {
+        told = tt;
+        says = ap (λ (a : Answer). made_due a.reply) same_step ∙ put_replies (get tree bucket) bucket (readers_of acl) (Some moment) tree none;
+        after = subst Sound (sym (ap (λ (a : Answer). a.tree) same_step)) done.sound;
+        state = ap (λ (a : Answer). native a.tree) same_step ∙ done.state;
+      }
 
-  new_tree : (swift_step (PutContainer name readers (Some moment)) tree).tree ≡ insert tree bucket (new_folder (readers_of acl) (Some moment))
-  new_tree = put_new (get tree name) name readers (Some moment) tree no_folder ∙ (λ i. insert tree (put.named i) (new_folder (put.listed i) (Some moment)))
-
-  -- the bucket is made
-  put_effect : Effect tree (PutContainer name readers (Some moment)) (makes_bucket bucket acl moment)
-  put_effect = record {
-    sound = sound;
-    after = subst Sound (sym new_tree) (sound_made tree bucket acl moment put.is put.below sound);
-    state = ap native new_tree ∙ native_made tree bucket acl moment put.is;
-  }
-
-  -- a new container is answered `Made`
-  put_is_due : (reply : SwiftReply) → reply ≡ (swift_step (PutContainer name readers (Some moment)) tree).reply → made_due reply ≡ Ok tt
-  put_is_due reply replied = ap made_due (replied ∙ put_replies (get tree name) name readers (Some moment) tree no_folder)
+  put_settled : IsSettled tree → IsSettled (swift_step (PutContainer name readers (Some moment)) tree).tree
+  put_settled settled = subst IsSettled (sym (ap (λ (a : Answer). a.tree) same_step)) (settled_put tree bucket put.is settled (readers_of acl) (Some moment))
 
 -- PUT of a bucket's container makes a bucket that is missing
 pub puts : {name bucket : List ℕ} {readers : ReadList} {acl : Acl} {moment : ℕ} → IsPutOf name bucket readers acl moment
-    → IsWriting (PutContainer name readers (Some moment)) made_due (LacksBucket bucket) (makes_bucket bucket acl moment)
+    → IsWriting (PutContainer name readers (Some moment)) made_due (LacksBucket bucket) (Becomes (makes_bucket bucket acl moment))
 puts {name = name} {bucket = bucket} {readers = readers} {acl = acl} {moment = moment} put = record {
-  effect = λ tree sound missing. put_effect tree name bucket readers acl moment put sound missing;
-  says = λ tree sound missing reply replied. put_is_due tree name bucket readers acl moment put sound missing reply replied;
+  effect = λ tree sound settled missing. put_effect tree name bucket readers acl moment put sound settled missing;
+  settled = λ tree settled. put_settled tree name bucket readers acl moment put settled;
 }

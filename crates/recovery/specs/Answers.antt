@@ -1,6 +1,6 @@
 -- What the calls of one operation may amount to. It stands between two numbers of calls, over an account that is
 -- sound at the first. Source: this profile.
-use Rattle.std.specs.Prelude.{◌≡◌, ◌<◌, ◌⊎◌, ℕ}
+use Rattle.std.specs.Prelude.{◌≡◌, ◌<◌, ◌≤◌, ◌⊎◌, ℕ, Bool, true}
 use Rattle.s3_machine.specs.declared.code.Code.TheVariants.{ServiceUnavailable}
 use Rattle.s3_machine.specs.declared.operation.Label.{Label}
 use Rattle.s3_machine.specs.declared.operation.Settings.{Settings}
@@ -13,37 +13,96 @@ use Rattle.s3_machine.specs.Step.{S3Step}
 use Rattle.swift_calls.specs.Tree.{Tree}
 use Rattle.swift_calls.specs.History.{History, budget, NoneFails}
 use Rattle.upload_records.specs.Native.{native}
-use Rattle.recovery.specs.Turns.{Turns, OldBefore, calm, LastFailed}
+use Rattle.upload_records.specs.Sound.{Sound}
+use Rattle.recovery.specs.Calls.{Bound, always}
+use Rattle.recovery.specs.Quiet.{OldBefore, calm, LastFailed}
 
--- the new state is the old one, or the one that the service's step gives
-abbrev pub OldOrStepped : Settings → State → Op → Label → State → Type 0
-OldOrStepped settings old op label new = (new ≡ old) ⊎ ((reply : Reply) × S3Step settings old op label reply new)
+-- ---- the steps of an operation
 
--- the service's own answer; or ServiceUnavailable, where the last call failed and no earlier one did; or the word that memory was wanted
-pub data AnswersBy (settings : Settings) (h : History) (p q : ℕ) (op : Op) (label : Label) (reply : Reply) : Type 0 where
-  machine : S3Step settings (native (h.tree_at p)) op label reply (native (h.tree_at q)) → AnswersBy settings h p q op label reply
-  unavailable : reply ≡ Refused ServiceUnavailable → LastFailed h p q → OldBefore h p q → OldOrStepped settings (native (h.tree_at p)) op label (native (h.tree_at q)) → AnswersBy settings h p q op label reply
-  memory : reply ≡ Memory → OldBefore h p q → OldOrStepped settings (native (h.tree_at p)) op label (native (h.tree_at q)) → AnswersBy settings h p q op label reply
+-- the id that a step gives to a new upload, by the account as the operation began: no operation gives one
+abbrev pub GivesId : Op → Label → Tree → ℕ → Type 0
+GivesId op label old id = Unit {0}
+
+-- how many steps the account takes for an operation: one
+abbrev pub steps_of : Op → ℕ
+steps_of op = 1
+
+-- the service's step from the account as the operation began
+pub record Stepped (settings : Settings) (old : Tree) (op : Op) (label : Label) (reply : Reply) (new : State) : Type 0 where
+  pub step : S3Step settings (native old) op label reply new
+  pub id : GivesId op label old step.id
+
+-- the state after the first n steps of an operation: none was taken, or all of them
+pub data IsStage (settings : Settings) (old : Tree) (op : Op) (label : Label) (n : ℕ) (new : State) : Type 0 where
+  before_step : n ≡ 0 → new ≡ native old → IsStage settings old op label n new
+  after_step : n ≡ steps_of op → (reply : Reply) → Stepped settings old op label reply new → IsStage settings old op label n new
+
+-- from p to q the account is sound, and its state goes through the first `takes` steps of the operation, the last of them at t; where
+-- it takes none, t is any number between
+pub record Passes (settings : Settings) (h : History) (p t q : ℕ) (op : Op) (label : Label) (takes : ℕ) : Type 0 where
+  pub after_p : p ≤ t
+  pub up_to_q : t ≤ q
+  -- how many steps were taken by the number k
+  pub stage : ℕ → ℕ
+  pub rises : (j k : ℕ) → p ≤ j → j ≤ k → k ≤ q → stage j ≤ stage k
+  pub before : 0 < takes → (k : ℕ) → p ≤ k → k < t → stage k < takes
+  pub since : (k : ℕ) → t ≤ k → k ≤ q → stage k ≡ takes
+  pub is : (k : ℕ) → p ≤ k → k ≤ q → IsStage settings (h.tree_at p) op label (stage k) (native (h.tree_at k))
+  pub sound : (k : ℕ) → p ≤ k → k ≤ q → Sound (h.tree_at k)
+
+-- ---- what it is answered
+
+-- what ServiceUnavailable says of the state before q: it was the old one
+abbrev pub OldIfFailed : Op → History → ℕ → ℕ → Type 0
+OldIfFailed op h p q = OldBefore h p q
+
+-- what the word that memory was wanted says of it: the same
+abbrev pub OldIfWanted : Op → History → ℕ → ℕ → Type 0
+OldIfWanted op h p q = OldBefore h p q
+
+-- what the reply says of the account beside the state: nothing
+abbrev pub SaysBeside : Op → History → ℕ → ℕ → Reply → Type 0
+SaysBeside op h p q reply = Unit {0}
+
+-- the service's own answer, after its step; or ServiceUnavailable, where the last call failed and no earlier one did; or the
+-- word that memory was wanted
+pub data AnswersBy (settings : Settings) (h : History) (p q : ℕ) (op : Op) (label : Label) (takes : ℕ) (reply : Reply) : Type 0 where
+  machine : takes ≡ steps_of op → Stepped settings (h.tree_at p) op label reply (native (h.tree_at q)) → AnswersBy settings h p q op label takes reply
+  unavailable : reply ≡ Refused ServiceUnavailable → LastFailed h p q → OldIfFailed op h p q → AnswersBy settings h p q op label takes reply
+  memory : reply ≡ Memory → OldIfWanted op h p q → AnswersBy settings h p q op label takes reply
+
+-- and the state goes through the steps that are taken, sound at each number; t is the operation's turning point
+pub record Answers (settings : Settings) (h : History) (p t q : ℕ) (op : Op) (label : Label) (takes : ℕ) (reply : Reply) : Type 0 where
+  pub passes : Passes settings h p t q op label takes
+  pub by : AnswersBy settings h p q op label takes reply
+  pub beside : SaysBeside op h p q reply
+
+-- ---- what the laws say
 
 -- where no call failed, it is the service's own answer, or the word that memory was wanted
 abbrev pub AnsweredUndisturbed : Type 0
-AnsweredUndisturbed = (settings : Settings) (h : History) (p q : ℕ) (op : Op) (label : Label) (reply : Reply) → NoneFails h p q → AnswersBy settings h p q op label reply
-    → S3Step settings (native (h.tree_at p)) op label reply (native (h.tree_at q)) ⊎ (reply ≡ Memory)
+AnsweredUndisturbed = (settings : Settings) (h : History) (p q : ℕ) (op : Op) (label : Label) (takes : ℕ) (reply : Reply) → p ≤ q → NoneFails h p q → AnswersBy settings h p q op label takes reply
+    → Stepped settings (h.tree_at p) op label reply (native (h.tree_at q)) ⊎ (reply ≡ Memory)
 
 -- over a history in which no call failed, with calls left, no operation is answered ServiceUnavailable
 abbrev pub NeverUnavailable : Type 0
-NeverUnavailable = (settings : Settings) (h : History) (p q : ℕ) (op : Op) (label : Label) (reply : Reply) → q < budget → AnswersBy settings (calm h) p q op label reply
-    → S3Step settings (native (h.tree_at p)) op label reply (native (h.tree_at q)) ⊎ (reply ≡ Memory)
+NeverUnavailable = (settings : Settings) (h : History) (p q : ℕ) (op : Op) (label : Label) (takes : ℕ) (reply : Reply) → p ≤ q → q < budget → AnswersBy settings (calm h) p q op label takes reply
+    → Stepped settings (h.tree_at p) op label reply (native (h.tree_at q)) ⊎ (reply ≡ Memory)
 
--- and the account turns once, from the old state to the new one, sound at each number
-pub record Answers (settings : Settings) (h : History) (p t q : ℕ) (op : Op) (label : Label) (reply : Reply) : Type 0 where
-  pub turns : Turns h p t q
-  pub by : AnswersBy settings h p q op label reply
+-- ---- how many calls it makes
 
 -- the greatest number of calls of an operation, by the account as it began
-abbrev pub most_calls : Op → Tree → ℕ
-most_calls (CreateBucket bucket acl) tree = 2
-most_calls (PutObject bucket key acl content_type meta body) tree = 2
-most_calls (GetObject bucket key) tree = 3
-most_calls (HeadObject bucket key) tree = 2
-most_calls (DeleteObject bucket key) tree = 2
+abbrev pub most_calls : Op → Tree → Bound
+most_calls (CreateBucket bucket acl) tree = always 2
+most_calls (PutObject bucket key acl content_type meta body) tree = always 2
+most_calls (GetObject bucket key) tree = always 3
+most_calls (HeadObject bucket key) tree = always 2
+most_calls (DeleteObject bucket key) tree = always 2
+
+-- whether no call follows the one that commits, so that none fails under a reply of the service
+abbrev pub ends_by_commit : Op → Bool
+ends_by_commit op = true
+
+-- the greatest number of calls by which a store is settled, by the account as it began
+abbrev pub most_settling : Tree → Bound
+most_settling tree = always 5

@@ -1,69 +1,114 @@
--- What the calls of an operation mean for the S3 state: some tell of it and leave it, and one changes it. Source: this profile.
-use Rattle.std.specs.Prelude.{◌≡◌, ◌⊎◌, ◌≤◌, ℕ, ◌+◌, IsTrue, List, Option, None, Some, Result, Ok, Err}
+-- What the calls of an operation mean for the S3 state: some leave it and tell of it, and one changes it. Source: this profile.
+use Rattle.std.specs.Prelude.{◌≡◌, ◌⊎◌, ◌≤◌, ℕ, ◌+◌, Bool, true, false, IsTrue, is_some, List, Option, None, Some, Result, Ok, Err}
 use Rattle.std.specs.Option.{option_map}
-use Rattle.std.specs.FinMap.{get, insert}
+use Rattle.std.specs.FinMap.{get, insert, remove}
+use Rattle.gate_base.specs.Causes.{Rose}
 use Rattle.gate_base.specs.Maps.{adjust}
 use Rattle.gate_base.specs.declared.page.Pair.{Pair}
 use Rattle.s3_names.specs.declared.acl.Acl.{Acl}
 use Rattle.s3_machine.specs.declared.operation.ObjectHead.{ObjectHead}
 use Rattle.s3_machine.specs.State.{Object, Bucket, State}
-use Rattle.s3_machine.specs.Step.{new_bucket, new_object, head_of, put_object, drop_object}
-use Rattle.swift_calls.specs.History.{History, present, Kept, FailedBetween}
-use Rattle.upload_records.specs.Native.{native}
-use Rattle.upload_records.specs.ObjectLaws.{object_at}
+use Rattle.s3_machine.specs.Step.{new_bucket, is_bare, with_acl, new_object, head_of, put_object, drop_object}
+use Rattle.swift_calls.specs.Tree.{Tree}
+use Rattle.swift_calls.specs.History.{History, present, Kept}
+use Rattle.upload_records.specs.Native.{object_at, IsSettled, native}
 use Rattle.upload_records.specs.Sound.{Sound}
+use Rattle.recovery.specs.declared.bucket.Dropped.{Dropped}
+use Rattle.recovery.specs.declared.bucket.Dropped.TheVariants.{Gone, Full, Missing}
 use Rattle.recovery.specs.declared.fault.PlanFault.{PlanFault}
 use Rattle.recovery.specs.declared.fault.PlanFault.TheVariants.{Failed, Memory, Inconsistent}
 use Rattle.recovery.specs.Fault.{CausesFault}
-use Rattle.recovery.specs.Turns.{Quiet}
+use Rattle.recovery.specs.Quiet.{Quiet, LastFailed}
 
--- at most n calls were made
-pub record Within (n p q : ℕ) : Type 0 where
-  pub ordered : p ≤ q
-  pub most : q ≤ p + n
-
--- at most so many calls were made, and the history went on
-pub record Grows (most : ℕ) (old new : History) : Type 0 where
-  pub calls : Within most old.called new.called
+-- calls were made, and the history went on
+pub record GoesOn (old new : History) : Type 0 where
+  pub ordered : old.called ≤ new.called
+  pub faults : old.faults ≤ new.faults
   pub tells : IsTrue old.tells → IsTrue new.tells
   pub kept : IsTrue old.tells → Kept old.called old new
 
--- a call that leaves the state told of it what P says
-abbrev pub Reads : {T : Type 0} → History → ℕ → ℕ → (State → T → Type 0) → Result T PlanFault → Type 0
-Reads h p q P (Ok told) = Quiet h p q × (h.faults_at q ≡ h.faults_at p) × P (native (h.tree_at p)) told
-Reads h p q P (Err Failed) = Quiet h p q × FailedBetween h p q
-Reads h p q P (Err Memory) = Quiet h p q × (h.faults_at q ≡ h.faults_at p)
-Reads h p q P (Err Inconsistent) = ⊥
+-- how many calls are made at most: over every store, or by the account, where the store tells it and it is sound
+pub data Bound : Type 0 where
+  always : ℕ → Bound
+  by_account : ℕ → Bound
 
--- calls that leave the state told of it what P says; for want of memory, or where the store failed, they told nothing
-pub record Asks {T : Type 0} (most : ℕ) (old new : History) (P : State → T → Type 0) (result : Result T PlanFault) : Type 0 where
-  pub grows : Grows most old new
+abbrev pub amount : Bound → ℕ
+amount (always n) = n
+amount (by_account n) = n
+
+-- from p to q no more calls are made than that, where the premises of a bound by the account hold
+abbrev pub IsWithin : Bound → Type 0 → ℕ → ℕ → Type 0
+IsWithin (always n) premises p q = q ≤ p + n
+IsWithin (by_account n) premises p q = premises → q ≤ p + n
+
+-- the store tells, its account is sound, and this is given of it
+pub record Met (given : Tree → Type 0) (h : History) : Type 0 where
+  pub tells : IsTrue h.tells
+  pub sound : Sound (present h)
+  pub has : given (present h)
+
+-- the history went on, by at most so many calls
+pub record Grows (most : Bound) (given : Tree → Type 0) (old new : History) : Type 0 where
+  pub on : GoesOn old new
+  pub calls : IsWithin most (Met given old) old.called new.called
+
+-- ---- where the store tells, and its account is sound
+
+-- what is given of the account that the calls begin on: no completion is sealed, and this of the state
+pub record Given (P : State → Type 0) (tree : Tree) : Type 0 where
+  pub settled : IsSettled tree
+  pub state : P (native tree)
+
+-- calls that leave the state, whether they write or not: answered, P says it of the account before and after them; for
+-- want of memory, or where the store failed, they told nothing
+abbrev pub Keeps : {T : Type 0} → History → ℕ → ℕ → (Tree → Tree → T → Type 0) → Result T PlanFault → Type 0
+Keeps h p q P (Ok told) = Quiet h p q × (h.faults_at q ≡ h.faults_at p) × P (h.tree_at p) (h.tree_at q) told
+Keeps h p q P (Err Failed) = Quiet h p q × LastFailed h p q
+Keeps h p q P (Err Memory) = Quiet h p q × (h.faults_at q ≡ h.faults_at p)
+Keeps h p q P (Err Inconsistent) = ⊥
+
+-- what is told is of the state, and the account is left as it is
+pub record Tells {T : Type 0} (P : State → T → Type 0) (old new : Tree) (told : T) : Type 0 where
+  pub of_state : P (native old) told
+  pub same : new ≡ old
+
+-- the last call before q had its effect: S allows the state after it by the state at p, and it may be the same. The calls before
+-- it left the state, and none of them failed
+pub record Commits (h : History) (p q : ℕ) (S : State → State → Type 0) : Type 0 where
+  pub last : ℕ
+  pub quiet : Quiet h p last
+  pub no_fault : h.faults_at last ≡ h.faults_at p
+  pub next : q ≡ last + 1
+  pub sound : Sound (h.tree_at q)
+  pub made : S (native (h.tree_at p)) (native (h.tree_at q))
+
+-- the last call had its effect, whatever it would have told
+abbrev pub CommitsUntold : {T : Type 0} → History → ℕ → ℕ → (T → State → State → Type 0) → Type 0
+CommitsUntold {T = T} h p q S = (told : T) × Commits h p q (S told)
+
+-- calls of which the last may change the state: what is told says how, by the state before and the state after. Where a call
+-- failed, the state stayed, or the last one took its effect and was counted as failed
+abbrev pub Writes : {T : Type 0} → History → ℕ → ℕ → (T → State → State → Type 0) → Result T PlanFault → Type 0
+Writes h p q S (Ok told) = Commits h p q (S told) × (h.faults_at q ≡ h.faults_at p)
+Writes h p q S (Err Failed) = (Quiet h p q × LastFailed h p q) ⊎ (CommitsUntold h p q S × Rose (h.faults_at p) (h.faults_at q))
+Writes h p q S (Err Memory) = (Quiet h p q ⊎ CommitsUntold h p q S) × (h.faults_at q ≡ h.faults_at p)
+Writes h p q S (Err Inconsistent) = ⊥
+
+-- ---- a function that makes calls, over every store
+
+-- calls that leave the state, where this is given of the account that they begin on
+pub record Asks {T : Type 0} (most : Bound) (old new : History) (given : Tree → Type 0) (P : Tree → Tree → T → Type 0) (result : Result T PlanFault) : Type 0 where
+  pub grows : Grows most given old new
   pub cause : CausesFault old.faults new.faults result
-  pub told : IsTrue old.tells → Sound (present old) → Reads new old.called new.called P result
+  pub told : Met given old → Keeps new old.called new.called P result
+  pub settled : IsTrue old.tells → IsSettled (present old) → IsSettled (present new)
 
--- one call took the account from one sound state to another
-pub record Commits (h : History) (p q : ℕ) (new : State) : Type 0 where
-  pub one : q ≡ p + 1
-  pub sound_before : Sound (h.tree_at p)
-  pub sound_after : Sound (h.tree_at q)
-  pub made : native (h.tree_at q) ≡ new
-
--- the state stayed, or one call changed it by f
-abbrev pub QuietOrCommits : History → ℕ → ℕ → (State → State) → Type 0
-QuietOrCommits h p q f = Quiet h p q ⊎ Commits h p q (f (native (h.tree_at p)))
-
--- a call that changes the state by f changed it, or it isn't known whether it did
-abbrev pub Writes : History → ℕ → ℕ → (State → State) → Result (Unit {0}) PlanFault → Type 0
-Writes h p q f (Ok done) = Commits h p q (f (native (h.tree_at p))) × (h.faults_at q ≡ h.faults_at p)
-Writes h p q f (Err Failed) = QuietOrCommits h p q f × FailedBetween h p q
-Writes h p q f (Err Memory) = QuietOrCommits h p q f × (h.faults_at q ≡ h.faults_at p)
-Writes h p q f (Err Inconsistent) = ⊥
-
--- a call that changes the state by f, where what is given holds of the state
-pub record Changes (old new : History) (given : State → Type 0) (f : State → State) (result : Result (Unit {0}) PlanFault) : Type 0 where
-  pub grows : Grows 1 old new
+-- calls of which the last may change the state, where this is given of the account that they begin on
+pub record Changes {T : Type 0} (most : Bound) (old new : History) (given : Tree → Type 0) (S : T → State → State → Type 0) (result : Result T PlanFault) : Type 0 where
+  pub grows : Grows most given old new
   pub cause : CausesFault old.faults new.faults result
-  pub told : IsTrue old.tells → Sound (present old) → given (native (present old)) → Writes new old.called new.called f result
+  pub told : Met given old → Writes new old.called new.called S result
+  pub settled : IsTrue old.tells → IsSettled (present old) → IsSettled (present new)
 
 -- ---- what is told, and what is changed
 
@@ -97,9 +142,24 @@ HasBucket name state = (acl : Acl) × TellsBucket name state (Some acl)
 abbrev pub LacksBucket : List ℕ → State → Type 0
 LacksBucket name state = get state name ≡ None
 
+-- a change that tells nothing
+abbrev pub Becomes : (State → State) → Unit {0} → State → State → Type 0
+Becomes f done old new = new ≡ f old
+
 -- a bucket is made
 abbrev pub makes_bucket : List ℕ → Acl → ℕ → State → State
 makes_bucket name acl moment state = insert state name (new_bucket moment acl)
+
+-- a bucket is deleted, or it has an object, or it is missing
+abbrev pub DropsBucket : List ℕ → Dropped → State → State → Type 0
+DropsBucket name Gone old new = (option_map is_bare (get old name) ≡ Some true) × (new ≡ remove old name)
+DropsBucket name Full old new = (option_map is_bare (get old name) ≡ Some false) × (new ≡ old)
+DropsBucket name Missing old new = (get old name ≡ None) × (new ≡ old)
+
+-- the access control list of a bucket is replaced, or the bucket is missing
+abbrev pub SetsAcl : List ℕ → Acl → Bool → State → State → Type 0
+SetsAcl name acl true old new = (is_some (get old name) ≡ true) × (new ≡ adjust name (with_acl acl) old)
+SetsAcl name acl false old new = (get old name ≡ None) × (new ≡ old)
 
 -- an object is put into a bucket, as one whose body came at a moment
 abbrev pub puts_object : List ℕ → List ℕ → List ℕ → List Pair → List ℕ → ℕ → State → State

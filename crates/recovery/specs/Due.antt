@@ -1,6 +1,6 @@
 -- What an answer of the store comes to, by the call that it answers. Over a sound account no other answer comes than
 -- one that tells of the state. Source: Object Storage API v1 and this profile.
-use Rattle.std.specs.Prelude.{◌≡◌, ◌⊎◌, ◌<◌, ◌^◌, ℕ, Bool, cond, not, ◌&&◌, nat_le, List, bytes_eq, Option, None, Some, is_none, Result, Ok, Err}
+use Rattle.std.specs.Prelude.{◌≡◌, ◌⊎◌, ◌<◌, ◌^◌, ℕ, Bool, true, false, cond, not, ◌&&◌, nat_le, List, bytes_eq, Option, None, Some, is_none, Result, Ok, Err}
 use Rattle.gate_base.specs.Told.{moment_limit}
 use Rattle.gate_base.specs.declared.page.Pair.{Pair}
 use Rattle.s3_names.specs.declared.acl.Acl.{Acl}
@@ -16,6 +16,8 @@ use Rattle.swift_marks.specs.declared.tag.Tag.{Tag}
 use Rattle.swift_marks.specs.Tag.{read_tag, tag_text}
 use Rattle.swift_marks.specs.Pack.{unpacked, pack_of}
 use Rattle.upload_records.specs.Marks.{acl_of}
+use Rattle.recovery.specs.declared.bucket.Dropped.{Dropped}
+use Rattle.recovery.specs.declared.bucket.Dropped.TheVariants as dropped
 use Rattle.recovery.specs.declared.fault.PlanFault.{PlanFault}
 use Rattle.recovery.specs.declared.fault.PlanFault.TheVariants as fault
 
@@ -138,6 +140,36 @@ made_due (Readers readers created) = Err fault.Inconsistent
 made_due (Names items) = Err fault.Inconsistent
 made_due (Head head) = Err fault.Inconsistent
 made_due (Bytes head body) = Err fault.Inconsistent
+
+-- DELETE of a bucket's container
+abbrev pub dropped_due : SwiftReply → Result Dropped PlanFault
+dropped_due Gone = Ok dropped.Gone
+dropped_due NotEmpty = Ok dropped.Full
+dropped_due NotFound = Ok dropped.Missing
+dropped_due Made = Err fault.Inconsistent
+dropped_due There = Err fault.Inconsistent
+dropped_due (Stored etag) = Err fault.Inconsistent
+dropped_due Unsatisfiable = Err fault.Inconsistent
+dropped_due (Containers names) = Err fault.Inconsistent
+dropped_due (Readers readers created) = Err fault.Inconsistent
+dropped_due (Names items) = Err fault.Inconsistent
+dropped_due (Head head) = Err fault.Inconsistent
+dropped_due (Bytes head body) = Err fault.Inconsistent
+
+-- POST of a bucket's container: whether it is there
+abbrev pub set_due : SwiftReply → Result Bool PlanFault
+set_due Gone = Ok true
+set_due NotFound = Ok false
+set_due Made = Err fault.Inconsistent
+set_due There = Err fault.Inconsistent
+set_due NotEmpty = Err fault.Inconsistent
+set_due (Stored etag) = Err fault.Inconsistent
+set_due Unsatisfiable = Err fault.Inconsistent
+set_due (Containers names) = Err fault.Inconsistent
+set_due (Readers readers created) = Err fault.Inconsistent
+set_due (Names items) = Err fault.Inconsistent
+set_due (Head head) = Err fault.Inconsistent
+set_due (Bytes head body) = Err fault.Inconsistent
 
 -- ---- what is put
 

@@ -1,7 +1,7 @@
-pub mod Agree
 pub mod Answers
 pub mod Calls
 pub mod Due
 pub mod Fault
 pub mod Lent
-pub mod Turns
+pub mod Quiet
+pub mod Settling

@@ -2,10 +2,11 @@
 ghost use Rattle.std.specs.Prelude.{◌≡◌, ◌<◌, true};
 ghost use Rattle.gate_base.specs.Told.{moment_limit};
 ghost use Rattle.s3_names.specs.Bucket.{is_bucket};
-ghost use Rattle.recovery.specs.Calls.{Asks, Changes, TellsBucket, LacksBucket, makes_bucket};
+ghost use Rattle.upload_records.specs.Native.{IsSettled};
+ghost use Rattle.recovery.specs.Calls.{always, Any, Asks, Becomes, Changes, DropsBucket, Given, LacksBucket, SetsAcl, Tells, TellsBucket, makes_bucket};
 ghost use Rattle.recovery.specs.Lent.{Stays};
 
-use crate::due::{bucket_in, made_in};
+use crate::due::{bucket_in, dropped_in, made_in, set_in};
 use crate::{PlanFault, Settled};
 use gate_base::{Bytes, Copying};
 use s3_names::Acl;
@@ -23,7 +24,7 @@ pub fn head_bucket<W: Swift>(
 ) -> Result<Option<Acl>, PlanFault>
     requires { is_bucket bucket.now ≡ true }
     ensures stays { Stays state.old state.new }
-    ensures asks { Asks 1 (W.history state.old.store.now) (W.history state.new.store.now) (TellsBucket bucket.now) result }
+    ensures asks { Asks (always 1) (W.history state.old.store.now) (W.history state.new.store.now) IsSettled (Tells (TellsBucket bucket.now)) result }
 {
     let request = SwiftRequest::HeadContainer {
         container: bucket.copy()?,
@@ -47,7 +48,7 @@ pub fn make_bucket<W: Swift>(
     requires name { is_bucket bucket.now ≡ true }
     requires moment { moment < moment_limit }
     ensures stays { Stays state.old state.new }
-    ensures changes { Changes (W.history state.old.store.now) (W.history state.new.store.now) (LacksBucket bucket.now) (makes_bucket bucket.now acl moment) result }
+    ensures changes { Changes (always 1) (W.history state.old.store.now) (W.history state.new.store.now) (Given (LacksBucket bucket.now)) (Becomes (makes_bucket bucket.now acl moment)) result }
 {
     let request = SwiftRequest::PutContainer {
         container: bucket.copy()?,
@@ -56,4 +57,56 @@ pub fn make_bucket<W: Swift>(
     };
     let reply = state.store.call(&request)?;
     made_in(&reply)
+}
+
+/// What became of a bucket that was to be deleted.
+#[derive(Clone, Copy, Debug, PartialEq, Eq)]
+pub enum Dropped {
+    /// It is gone, with its uploads and completions.
+    Gone,
+    /// It has an object, and stays.
+    Full,
+    /// It wasn't there.
+    Missing,
+}
+
+#[tactic(auto, using(crate::proofs::Names::container_name))]
+/// Deletes a bucket that has no object, by DELETE of its container (Object Storage API v1, "Delete container"): the one
+/// call that commits. At most one call. After Ok the S3 state is as the answer says. After Failed, which comes only where
+/// the store's count of faults rose, and after Memory the state is the old one or one of those that an answer tells.
+/// Inconsistent never comes over a told sound account.
+pub fn drop_bucket<W: Swift>(
+    state: &mut Settled<'_, W>,
+    bucket: &Bytes,
+) -> Result<Dropped, PlanFault>
+    requires { is_bucket bucket.now ≡ true }
+    ensures stays { Stays state.old state.new }
+    ensures changes { Changes (always 1) (W.history state.old.store.now) (W.history state.new.store.now) (Given Any) (DropsBucket bucket.now) result }
+{
+    let request = SwiftRequest::DeleteContainer {
+        container: bucket.copy()?,
+    };
+    let reply = state.store.call(&request)?;
+    dropped_in(&reply)
+}
+
+#[tactic(auto, using(crate::proofs::Names::container_name))]
+/// Replaces the access control list of a bucket, by POST of its container (Object Storage API v1, "Create, update, or
+/// delete container metadata"): the one call that commits. At most one call. After Ok the answer says whether the bucket
+/// is there, and if so the S3 state has its new list. The faults are those of [`drop_bucket`].
+pub fn set_acl<W: Swift>(
+    state: &mut Settled<'_, W>,
+    bucket: &Bytes,
+    acl: Acl,
+) -> Result<bool, PlanFault>
+    requires { is_bucket bucket.now ≡ true }
+    ensures stays { Stays state.old state.new }
+    ensures changes { Changes (always 1) (W.history state.old.store.now) (W.history state.new.store.now) (Given Any) (SetsAcl bucket.now acl) result }
+{
+    let request = SwiftRequest::PostContainer {
+        container: bucket.copy()?,
+        readers: readers(acl),
+    };
+    let reply = state.store.call(&request)?;
+    set_in(&reply)
 }

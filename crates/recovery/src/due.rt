@@ -1,9 +1,9 @@
 //! What an answer of the store comes to.
 ghost use Rattle.std.specs.Prelude.{◌≡◌, ◌≢◌, Err, IfOk};
-ghost use Rattle.recovery.specs.Due.{Gives, agrees, bucket_due, bytes_due, gone_due, head_due, head_from, known, IsShownHead, made_due, stored_due};
+ghost use Rattle.recovery.specs.Due.{Gives, agrees, bucket_due, bytes_due, dropped_due, gone_due, head_due, head_from, known, IsShownHead, made_due, set_due, stored_due};
 ghost use Rattle.recovery.specs.declared.fault.PlanFault.TheVariants as fault;
 
-use crate::PlanFault;
+use crate::{Dropped, PlanFault};
 use gate_base::Bytes;
 use s3_machine::{MOST_BODY_BYTES, ObjectHead};
 use s3_names::Acl;
@@ -168,6 +168,48 @@ pub(crate) fn made_in(reply: &SwiftReply) -> Result<(), PlanFault>
         | SwiftReply::Stored { .. }
         | SwiftReply::NotFound
         | SwiftReply::NotEmpty
+        | SwiftReply::Unsatisfiable
+        | SwiftReply::Containers(_)
+        | SwiftReply::Readers { .. }
+        | SwiftReply::Names(_)
+        | SwiftReply::Head(_)
+        | SwiftReply::Bytes { .. } => Err(PlanFault::Inconsistent),
+    }
+}
+
+/// The answer to DELETE of a bucket's container.
+pub(crate) fn dropped_in(reply: &SwiftReply) -> Result<Dropped, PlanFault>
+    ensures due { result ≡ dropped_due reply.now }
+    ensures own { result ≢ Err fault.Failed }
+{
+    match reply {
+        SwiftReply::Gone => Ok(Dropped::Gone),
+        SwiftReply::NotEmpty => Ok(Dropped::Full),
+        SwiftReply::NotFound => Ok(Dropped::Missing),
+        SwiftReply::Made
+        | SwiftReply::There
+        | SwiftReply::Stored { .. }
+        | SwiftReply::Unsatisfiable
+        | SwiftReply::Containers(_)
+        | SwiftReply::Readers { .. }
+        | SwiftReply::Names(_)
+        | SwiftReply::Head(_)
+        | SwiftReply::Bytes { .. } => Err(PlanFault::Inconsistent),
+    }
+}
+
+/// The answer to POST of a bucket's container.
+pub(crate) fn set_in(reply: &SwiftReply) -> Result<bool, PlanFault>
+    ensures due { result ≡ set_due reply.now }
+    ensures own { result ≢ Err fault.Failed }
+{
+    match reply {
+        SwiftReply::Gone => Ok(true),
+        SwiftReply::NotFound => Ok(false),
+        SwiftReply::Made
+        | SwiftReply::There
+        | SwiftReply::NotEmpty
+        | SwiftReply::Stored { .. }
         | SwiftReply::Unsatisfiable
         | SwiftReply::Containers(_)
         | SwiftReply::Readers { .. }

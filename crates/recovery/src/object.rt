@@ -9,7 +9,8 @@ ghost use Rattle.swift_calls.specs.Step.{Fit};
 ghost use Rattle.swift_marks.specs.Tag.{has_text, tag_text};
 ghost use Rattle.s3_names.specs.Meta.{names_ascend};
 ghost use Rattle.recovery.specs.Due.{IsShownHead, plain_tag, put_of};
-ghost use Rattle.recovery.specs.Calls.{Asks, Changes, Any, HasBucket, TellsBytes, TellsObject, drops_object, puts_object};
+ghost use Rattle.upload_records.specs.Native.{IsSettled};
+ghost use Rattle.recovery.specs.Calls.{always, Any, Asks, Becomes, Changes, Given, HasBucket, Tells, TellsBytes, TellsObject, drops_object, puts_object};
 ghost use Rattle.recovery.specs.Lent.{Stays};
 
 use crate::due::{bytes_in, gone_in, head_in, stored_in};
@@ -35,7 +36,7 @@ pub fn head_object<W: Swift>(
     requires name { is_bucket bucket.now ≡ true }
     requires key { is_key key.now ≡ true }
     ensures stays { Stays state.old state.new }
-    ensures asks { Asks 1 (W.history state.old.store.now) (W.history state.new.store.now) (TellsObject bucket.now key.now) result }
+    ensures asks { Asks (always 1) (W.history state.old.store.now) (W.history state.new.store.now) IsSettled (Tells (TellsObject bucket.now key.now)) result }
     ensures shown { IfOk result IsShownHead }
 {
     let container = bucket.copy()?;
@@ -56,7 +57,7 @@ pub fn get_object<W: Swift>(
     requires name { is_bucket bucket.now ≡ true }
     requires key { is_key key.now ≡ true }
     ensures stays { Stays state.old state.new }
-    ensures asks { Asks 1 (W.history state.old.store.now) (W.history state.new.store.now) (TellsBytes bucket.now key.now) result }
+    ensures asks { Asks (always 1) (W.history state.old.store.now) (W.history state.new.store.now) IsSettled (Tells (TellsBytes bucket.now key.now)) result }
 {
     let container = bucket.copy()?;
     let name = key.copy()?;
@@ -89,7 +90,7 @@ pub fn put_object<W: Swift>(
     requires content { IsProperContent content_type.now meta.now body.now }
     requires moment { moment < moment_limit }
     ensures stays { Stays state.old state.new }
-    ensures changes { Changes (W.history state.old.store.now) (W.history state.new.store.now) (HasBucket bucket.now) (puts_object bucket.now key.now content_type.now meta.now body.now moment) result }
+    ensures changes { Changes (always 1) (W.history state.old.store.now) (W.history state.new.store.now) (Given (HasBucket bucket.now)) (Becomes (puts_object bucket.now key.now content_type.now meta.now body.now moment)) result }
 {
     let etag = body_etag(body.as_slice());
     let request = put_request(alloc, bucket, key, content_type, meta, body, &etag, moment)?;
@@ -156,7 +157,7 @@ pub fn delete_object<W: Swift>(
     requires name { is_bucket bucket.now ≡ true }
     requires key { is_key key.now ≡ true }
     ensures stays { Stays state.old state.new }
-    ensures changes { Changes (W.history state.old.store.now) (W.history state.new.store.now) Any (drops_object bucket.now key.now) result }
+    ensures changes { Changes (always 1) (W.history state.old.store.now) (W.history state.new.store.now) (Given Any) (Becomes (drops_object bucket.now key.now)) result }
 {
     let container = bucket.copy()?;
     let name = key.copy()?;

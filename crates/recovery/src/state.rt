@@ -1,8 +1,18 @@
 //! The store as an operation finds it: a completion may be sealed on it, or none is.
-ghost use Rattle.std.specs.Prelude.{◌≡◌, Ok};
+ghost use Rattle.std.specs.Prelude.{◌≡◌};
+ghost use Rattle.recovery.specs.Settling.{Settles};
 
 use s3_machine::Settings;
 use swift_calls::Swift;
+
+/// What is known of a store between two operations.
+#[derive(Clone, Copy, Debug, PartialEq, Eq)]
+pub enum Known {
+    /// No completion is sealed on its account.
+    Settled,
+    /// One may be.
+    Unsure,
+}
 
 /// A store of which it isn't known whether a completion is sealed on it. It has no call that answers an operation.
 #[derive(Drop)]
@@ -11,7 +21,8 @@ pub struct Unsure<'a, W: Swift> {
     settings: &'a Settings,
 }
 
-/// A store that is settled: on its account no completion is sealed. Operations are answered over it alone.
+/// A store as an operation is answered over it. That no completion is sealed on its account is what the clauses of its calls
+/// ask for; the type keeps nothing of it.
 #[derive(Drop)]
 pub struct Settled<'a, W: Swift> {
     pub(crate) store: &'a mut W,
@@ -39,13 +50,15 @@ impl<'a, W: Swift> Unsure<'a, W> {
         Unsure { store, settings }
     }
 
-    /// Settles the store, so that it can be held as [`Settled`]. No completion is ever sealed by what is built, so it
-    /// makes no call and is always Ok.
+    /// Settles the store, so that it can be held as [`Settled`]: a sealed completion is finished, by at most five calls,
+    /// and the S3 state stays. Failed comes only where the store's count of faults rose; Memory where memory was wanted;
+    /// Inconsistent never over a told sound account. After a fault a completion may still be sealed.
+    ///
+    /// Nothing that is built seals a completion, so it makes no call and is Ok.
     pub fn settle(&mut self) -> Result<(), SettleFault>
         ensures same { self.new.store.ghost_name ≡ self.old.store.ghost_name }
-        ensures store { self.new.store.now ≡ self.old.store.now }
         ensures settings { self.new.settings.now ≡ self.old.settings.now }
-        ensures always { result ≡ Ok tt }
+        ensures settles { Settles (W.history self.old.store.now) (W.history self.new.store.now) result }
     {
         Ok(())
     }
@@ -75,7 +88,7 @@ impl<'a, W: Swift> Unsure<'a, W> {
 }
 
 impl<'a, W: Swift> Settled<'a, W> {
-    /// A store that was settled. It takes no memory.
+    /// A store that is known to be settled ([`Known::Settled`]). It takes no memory.
     pub fn hold(store: &'a mut W, settings: &'a Settings) -> Settled<'a, W>
         ensures same { result.store.ghost_name ≡ store.entry.ghost_name }
         ensures store { result.store.now ≡ store.old }

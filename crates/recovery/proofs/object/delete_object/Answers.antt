@@ -2,6 +2,9 @@ use Rattle.recovery.proofs.Files.{deletes}
 use Rattle.recovery.proofs.One.{not_sent, sent_in_vain, sent}
 use Rattle.recovery.proofs.object.delete_object.Goals as goal
 
+pub returns-in_err-container-clause-changes : goal.returns-in_err-container-clause-changes
+returns-in_err-container-clause-changes g c = not_sent _ _ c.from_residual.ensures.1
+
 pub returns-in_err-name-clause-changes : goal.returns-in_err-name-clause-changes
 returns-in_err-name-clause-changes g c = not_sent _ _ c.from_residual-in_err-name.ensures.1
 

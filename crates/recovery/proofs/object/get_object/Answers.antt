@@ -3,6 +3,9 @@ use Rattle.recovery.proofs.Files.{get_reads}
 use Rattle.recovery.proofs.One.{not_asked, asked_in_vain, asked}
 use Rattle.recovery.proofs.object.get_object.Goals as goal
 
+pub returns-in_err-container-clause-asks : goal.returns-in_err-container-clause-asks
+returns-in_err-container-clause-asks g c = not_asked _ _ _ c.from_residual.ensures.1
+
 pub returns-in_err-name-clause-asks : goal.returns-in_err-name-clause-asks
 returns-in_err-name-clause-asks g c = not_asked _ _ _ c.from_residual-in_err-name.ensures.1
 

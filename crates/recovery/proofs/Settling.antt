@@ -1,0 +1,19 @@
+-- A store on whose account nothing is ever sealed is settled without a call.
+use Rattle.std.specs.Prelude.{Ok}
+use Rattle.std.proofs.Common.{refl}
+use Rattle.swift_calls.specs.History.{History, present}
+use Rattle.upload_records.proofs.Settled.{settled_always}
+use Rattle.recovery.specs.Answers.{most_settling}
+use Rattle.recovery.specs.Settling.{Anything, Settles}
+use Rattle.recovery.proofs.One.{none_made, grows_none}
+
+pub settles_idle : (h : History) → Settles h h (Ok tt)
+settles_idle h = record {
+  asks = record {
+    grows = grows_none (most_settling (present h)) Anything h;
+    cause = refl;
+    told = λ met. (none_made refl met.sound, refl, settled_always (present h));
+    settled = λ tells settled. settled;
+  };
+  done = λ tells ok. settled_always (present h);
+}
