@@ -1,48 +1,46 @@
 -- What the calls of a plan amount to at each of its ends: after a call that tells of the state, and after the call
 -- that changes it.
-use Rattle.std.specs.Prelude.{◌≡◌, ◌≢◌, ◌≤◌, ℕ, ◌+◌, Result, Ok, Err, IfOk}
+use Rattle.std.specs.Prelude.{◌≡◌, ◌≢◌, ◌≤◌, ◌⊎◌, ℕ, ◌+◌, Bool, true, false, Result, Ok, Err, IfOk}
 use Rattle.std.specs.Result.{IsErrAnd}
 use Rattle.std.proofs.Common.{refl, sym, ap, subst, ◌∙◌, inl, inr, arith}
-use Rattle.std.proofs.lemmas.Bool.{cases_lt}
+use Rattle.gate_base.specs.Causes.{Rose}
 use Rattle.s3_machine.specs.declared.operation.Label.{Label}
 use Rattle.s3_machine.specs.declared.operation.Settings.{Settings}
 use Rattle.s3_machine.specs.declared.operation.Op.{Op}
 use Rattle.s3_machine.specs.declared.operation.Reply.{Reply}
 use Rattle.s3_machine.specs.State.{State}
 use Rattle.s3_machine.specs.Step.{S3Step}
-use Rattle.swift_calls.specs.History.{History, FailedBetween, kept_trans}
-use Rattle.upload_records.specs.Native.{native}
-use Rattle.upload_records.specs.Sound.{Sound}
+use Rattle.swift_calls.specs.Tree.{Tree}
+use Rattle.swift_calls.specs.History.{History, present, kept_trans}
+use Rattle.upload_records.specs.Native.{IsSettled, native}
 use Rattle.recovery.specs.declared.fault.PlanFault.{PlanFault}
 use Rattle.recovery.specs.declared.fault.PlanFault.TheVariants.{Failed, Memory, Inconsistent}
+use Rattle.recovery.specs.declared.state.Known.TheVariants.{Settled}
 use Rattle.recovery.specs.Fault.{CausesFault}
-use Rattle.recovery.specs.Turns.{Quiet, Turns, OldBefore, LastFailed}
-use Rattle.recovery.specs.Calls.{Within, Grows, Reads, Asks, Commits, QuietOrCommits, Writes, Changes, Any}
-use Rattle.recovery.specs.Answers.{machine, unavailable, memory}
-use Rattle.recovery.specs.Agree.{quiet_agree, turns_quiet, answers_after}
+use Rattle.recovery.specs.Quiet.{Quiet, OldBefore, LastFailed, was_lost}
+use Rattle.recovery.specs.Calls.{Bound, always, by_account, IsWithin, Met, GoesOn, Grows, Given, Keeps, Tells, Asks, Commits, CommitsUntold, Writes, Changes, Any}
+use Rattle.recovery.specs.Answers.{Stepped, machine, unavailable, memory, ends_by_commit}
+use Rattle.recovery.proofs.Agree.{quiet_agree, passes_still, passes_at_once, passes_once, same_ids, answers_after}
 use Rattle.recovery.proofs.Causes.{due_cause}
-use Rattle.recovery.proofs.One.{grows_none}
-use Rattle.planner.specs.Plan.{reply_of, IsOwnReply, Ends, ended, Plans, Answered}
+use Rattle.recovery.proofs.One.{none_made, grows_none}
+use Rattle.planner.specs.Plan.{reply_of, IsOwnReply, Ends, ended, CausesEnd, Plans, Answered}
 use Rattle.planner.proofs.Replies.{rose_of, steady_of, consistent_of, showable_of}
 
 -- quiet calls leave the old state at each number
 old_quiet : {h : History} {p q : ℕ} → Quiet h p q → OldBefore h p q
 old_quiet quiet = λ k from to. quiet.same k from (omega arith)
 
--- at most one call, and it failed
-one_failed : {h : History} {p q : ℕ} → Within 1 p q → FailedBetween h p q → LastFailed h p q
-one_failed {p = p} near failed = record { last = p; after_p = omega arith; before_q = near.ordered; one = near.most; quiet = refl; failed = failed }
-
 err_is : (end : Result Reply PlanFault) → IsErrAnd end (λ e. e ≡ Memory) → end ≡ Err Memory
 err_is (Ok reply) is = absurd is
 err_is (Err e) is = ap Err is
 
 module _ (settings : Settings) (h : History) (p q : ℕ) (op : Op) (label : Label) where
-  -- quiet calls of which the last one failed
+  -- quiet calls, and one failed
   quiet_failed : Quiet h p q → LastFailed h p q → Ends settings h p q op label (Err Failed)
   quiet_failed quiet failed = record {
     turn = p;
-    answers = record { turns = turns_quiet quiet; by = unavailable refl failed (old_quiet quiet) (inl (quiet.same q quiet.ordered (omega arith))) };
+    takes = 0;
+    answers = record { passes = passes_still quiet; by = unavailable refl failed (old_quiet quiet); beside = tt };
     consistent = λ e. cc;
   }
 
@@ -50,142 +48,174 @@ module _ (settings : Settings) (h : History) (p q : ℕ) (op : Op) (label : Labe
   quiet_memory : Quiet h p q → Ends settings h p q op label (Err Memory)
   quiet_memory quiet = record {
     turn = p;
-    answers = record { turns = turns_quiet quiet; by = memory refl (old_quiet quiet) (inl (quiet.same q quiet.ordered (omega arith))) };
+    takes = 0;
+    answers = record { passes = passes_still quiet; by = memory refl (old_quiet quiet); beside = tt };
     consistent = λ e. cc;
   }
 
-  -- quiet calls, and the step of the service leaves the state
+  -- what was read is answered, after quiet calls: a step that leaves the state, at the last number
   quiet_step : (reply : Reply) → Quiet h p q → S3Step settings (native (h.tree_at p)) op label reply (native (h.tree_at p)) → Ends settings h p q op label (Ok reply)
-  quiet_step reply quiet step = record {
-    turn = p;
-    answers = record { turns = turns_quiet quiet; by = machine (subst (S3Step settings (native (h.tree_at p)) op label reply) (sym (quiet.same q quiet.ordered (omega arith))) step) };
-    consistent = λ e. cc;
-  }
+  quiet_step reply quiet step =
+      let stepped : Stepped settings (h.tree_at p) op label reply (native (h.tree_at p)) = record { step = step; id = tt } in
+      record {
+        turn = p;
+        takes = 1;
+        answers = record {
+          passes = passes_at_once quiet stepped;
+          by = machine refl (subst (Stepped settings (h.tree_at p) op label reply) (sym (quiet.same q quiet.ordered (omega arith))) stepped);
+          beside = tt;
+        };
+        consistent = λ e. cc;
+      }
 
-  module _ {T : Type 0} (P : State → T → Type 0) where
-    -- the call told nothing
-    not_read : (fault : PlanFault) → Within 1 p q → Reads h p q P (Err fault) → Ends settings h p q op label (Err fault)
-    not_read Failed near (quiet, failed) = quiet_failed quiet (one_failed near failed)
-    not_read Memory near (quiet, same) = quiet_memory quiet
-    not_read Inconsistent near never = absurd never
+  module _ {T : Type 0} (P : Tree → Tree → T → Type 0) where
+    -- the calls told nothing
+    not_read : (fault : PlanFault) → Keeps h p q P (Err fault) → Ends settings h p q op label (Err fault)
+    not_read Failed (quiet, failed) = quiet_failed quiet failed
+    not_read Memory (quiet, same) = quiet_memory quiet
+    not_read Inconsistent never = absurd never
 
-    -- what it told is answered
-    is_read : {value : T} (told : T) → value ≡ told → (reply : Reply) → Reads h p q P (Ok value) → (P (native (h.tree_at p)) told → S3Step settings (native (h.tree_at p)) op label reply (native (h.tree_at p))) → Ends settings h p q op label (Ok reply)
-    is_read told same reply reads step = quiet_step reply reads.0 (step (subst (P (native (h.tree_at p))) same reads.2))
+  module _ {T : Type 0} (S : T → State → State → Type 0) (reply : T → Reply) (step : (told : T) (new : State) → S told (native (h.tree_at p)) new → S3Step settings (native (h.tree_at p)) op label (reply told) new) where
+    stepped : (told : T) → Commits h p q (S told) → Stepped settings (h.tree_at p) op label (reply told) (native (h.tree_at q))
+    stepped told done = record { step = step told (native (h.tree_at q)) done.made; id = tt }
 
-  -- no call was made, and memory was wanted
-  none_read : q ≡ p → Sound (h.tree_at p) → Ends settings h p q op label (Err Memory)
-  none_read none sound = quiet_memory (record {
-    ordered = omega arith;
-    same = λ k from to. let e : k ≡ p = omega arith in ap (λ k. native (h.tree_at k)) e;
-    sound = λ k from to. let e : k ≡ p = omega arith in subst (λ k. Sound (h.tree_at k)) (sym e) sound;
-  })
+    old_before : {told : T} → Commits h p q (S told) → OldBefore h p q
+    old_before done = λ k from to. let next = done.next in done.quiet.same k from (omega arith)
 
-  -- no call was made, and the step of the service leaves the state
-  none_needed : (reply : Reply) → q ≡ p → Sound (h.tree_at p) → S3Step settings (native (h.tree_at p)) op label reply (native (h.tree_at p)) → Ends settings h p q op label (Ok reply)
-  none_needed reply none sound step = quiet_step reply (record {
-    ordered = omega arith;
-    same = λ k from to. let e : k ≡ p = omega arith in ap (λ k. native (h.tree_at k)) e;
-    sound = λ k from to. let e : k ≡ p = omega arith in subst (λ k. Sound (h.tree_at k)) (sym e) sound;
-  }) step
+    last_lost : {told : T} → Commits h p q (S told) → Rose (h.faults_at p) (h.faults_at q) → LastFailed h p q
+    last_lost done rose = let ordered = done.quiet.ordered in was_lost done.last ordered done.next done.no_fault (subst (λ n. Rose n (h.faults_at q)) (sym done.no_fault) rose)
 
-  module _ (f : State → State) (reply : Reply) (step : S3Step settings (native (h.tree_at p)) op label reply (f (native (h.tree_at p)))) where
-    turns_once : Commits h p q (f (native (h.tree_at p))) → Turns h p q q
-    turns_once done =
-        let one = done.one in
-        record {
-          after_p = omega arith;
-          up_to_q = omega arith;
-          before = λ k from to. let e : k ≡ p = omega arith in ap (λ k. native (h.tree_at k)) e;
-          since = λ k from to. let e : k ≡ q = omega arith in ap (λ k. native (h.tree_at k)) e;
-          sound = λ k from to. elim (cases_lt k q) as (λ _. Sound (h.tree_at k)) [
-            | inl near ↦ let e : k ≡ p = omega arith in subst (λ k. Sound (h.tree_at k)) (sym e) done.sound_before
-            | inr far ↦ let e : k ≡ q = omega arith in subst (λ k. Sound (h.tree_at k)) (sym e) done.sound_after
-          ];
-        }
-
-    old_before : Commits h p q (f (native (h.tree_at p))) → OldBefore h p q
-    old_before done = λ k from to. let one = done.one in let e : k ≡ p = omega arith in ap (λ k. native (h.tree_at k)) e
-
-    stepped : Commits h p q (f (native (h.tree_at p))) → S3Step settings (native (h.tree_at p)) op label reply (native (h.tree_at q))
-    stepped done = subst (S3Step settings (native (h.tree_at p)) op label reply) (sym done.made) step
-
-    write_failed : Within 1 p q → FailedBetween h p q → QuietOrCommits h p q f → Ends settings h p q op label (Err Failed)
-    write_failed near failed (inl quiet) = quiet_failed quiet (one_failed near failed)
-    write_failed near failed (inr done) = record {
+    commit_failed : CommitsUntold h p q S → Rose (h.faults_at p) (h.faults_at q) → Ends settings h p q op label (Err Failed)
+    commit_failed (told, done) rose = record {
       turn = q;
-      answers = record { turns = turns_once done; by = unavailable refl (one_failed near failed) (old_before done) (inr (reply, stepped done)) };
+      takes = 1;
+      answers = record { passes = passes_once done (stepped told done); by = unavailable refl (last_lost done rose) (old_before done); beside = tt };
       consistent = λ e. cc;
     }
 
-    write_memory : QuietOrCommits h p q f → Ends settings h p q op label (Err Memory)
+    write_memory : Quiet h p q ⊎ CommitsUntold h p q S → Ends settings h p q op label (Err Memory)
     write_memory (inl quiet) = quiet_memory quiet
-    write_memory (inr done) = record {
+    write_memory (inr (told, done)) = record {
       turn = q;
-      answers = record { turns = turns_once done; by = memory refl (old_before done) (inr (reply, stepped done)) };
+      takes = 1;
+      answers = record { passes = passes_once done (stepped told done); by = memory refl (old_before done); beside = tt };
       consistent = λ e. cc;
     }
 
-    -- the call that changes the state ended
-    is_written : (end : Result (Unit {0}) PlanFault) → Within 1 p q → Writes h p q f end → Ends settings h p q op label (ended end reply)
-    is_written (Ok done) near (commits, same) = record {
+    -- the call that may change the state ended
+    is_written : (end : Result T PlanFault) → Writes h p q S end → Ends settings h p q op label (ended end reply)
+    is_written (Ok told) (done, same) = record {
       turn = q;
-      answers = record { turns = turns_once commits; by = machine (stepped commits) };
+      takes = 1;
+      answers = record { passes = passes_once done (stepped told done); by = machine refl (stepped told done); beside = tt };
       consistent = λ e. cc;
     }
-    is_written (Err Failed) near (either, failed) = write_failed near failed either
-    is_written (Err Memory) near (either, same) = write_memory either
-    is_written (Err Inconsistent) near never = absurd never
+    is_written (Err Failed) (inl (quiet, failed)) = quiet_failed quiet failed
+    is_written (Err Failed) (inr (done, rose)) = commit_failed done rose
+    is_written (Err Memory) (either, same) = write_memory either
+    is_written (Err Inconsistent) never = absurd never
 
 -- ---- the shapes of a plan
 
--- more calls are allowed than were made
-grows_more : {n most : ℕ} {a b : History} → n ≤ most → Grows n a b → Grows most a b
-grows_more more grows =
-    let ordered = grows.calls.ordered in
-    let near = grows.calls.most in
-    record { calls = record { ordered = ordered; most = omega arith }; tells = grows.tells; kept = grows.kept }
+-- one bound is no narrower than another
+abbrev pub IsWider : Bound → Bound → Type 0
+IsWider (always n) (always most) = n ≤ most
+IsWider (always n) (by_account most) = n ≤ most
+IsWider (by_account n) (always most) = ⊥
+IsWider (by_account n) (by_account most) = n ≤ most
 
--- a call, and then more
-grows_trans : {m most : ℕ} {a b c : History} → 1 + m ≤ most → Grows 1 a b → Grows m b c → Grows most a c
-grows_trans within first then =
-    let first_ordered = first.calls.ordered in
-    let first_near = first.calls.most in
-    let ordered = then.calls.ordered in
-    let near = then.calls.most in
+-- a call, and then what the second bound allows
+abbrev pub IsOneMore : Bound → Bound → Type 0
+IsOneMore (always n) (always most) = 1 + n ≤ most
+IsOneMore (always n) (by_account most) = 1 + n ≤ most
+IsOneMore (by_account n) (always most) = ⊥
+IsOneMore (by_account n) (by_account most) = 1 + n ≤ most
+
+-- more calls are allowed than were made, under premises that say more
+within_more : (n most : Bound) {P Q : Type 0} (p q : ℕ) → IsWider n most → (Q → P) → IsWithin n P p q → IsWithin most Q p q
+within_more (always n) (always most) p q wider from within = omega arith
+within_more (always n) (by_account most) p q wider from within = λ met. omega arith
+within_more (by_account n) (always most) p q wider from within = absurd wider
+within_more (by_account n) (by_account most) p q wider from within = λ met. let near = within (from met) in omega arith
+
+grows_more : {n most : Bound} {given given' : Tree → Type 0} {a b : History} → IsWider n most → (Met given' a → Met given a) → Grows n given a b → Grows most given' a b
+grows_more {n = n} {most = most} {a = a} {b = b} wider from grows = record { on = grows.on; calls = within_more n most a.called b.called wider from grows.calls }
+
+goes_trans : {a b c : History} → GoesOn a b → GoesOn b c → GoesOn a c
+goes_trans first then =
+    let first_ordered = first.ordered in
+    let ordered = then.ordered in
+    let first_faults = first.faults in
+    let faults = then.faults in
     record {
-      calls = record { ordered = omega arith; most = omega arith };
+      ordered = omega arith;
+      faults = omega arith;
       tells = λ tells. then.tells (first.tells tells);
       kept = λ tells. kept_trans first_ordered (first.kept tells) (then.kept (first.tells tells));
     }
 
-module _ {settings : Settings} {given : State → Type 0} {op : Op} {label : Label} {most : ℕ} where
+within_trans : (m most : Bound) {P Q : Type 0} (p q r : ℕ) → IsOneMore m most → (Q → P) → q ≤ p + 1 → IsWithin m P q r → IsWithin most Q p r
+within_trans (always m) (always most) p q r more from first within = omega arith
+within_trans (always m) (by_account most) p q r more from first within = λ met. omega arith
+within_trans (by_account m) (always most) p q r more from first within = absurd more
+within_trans (by_account m) (by_account most) p q r more from first within = λ met. let near = within (from met) in omega arith
+
+-- the cause of an end after a call that left the count of faults
+cause_from : (t : Bool) (before middle now : ℕ) (end : Result Reply PlanFault) → middle ≡ before → CausesEnd t middle now end → CausesEnd t before now end
+cause_from t before middle now end same cause = subst (λ n. CausesEnd t n now end) same cause
+
+cause_of : (t : Bool) (before now : ℕ) (end : Result Reply PlanFault) → CausesFault before now end → CausesEnd t before now end
+cause_of true before now end cause = cause
+cause_of false before now end cause = λ is. subst (CausesFault before now) is cause
+
+-- the account is settled, of which something is given
+met_settled : {given : State → Type 0} {h : History} → Met (Given given) h → Met IsSettled h
+met_settled met = record { tells = met.tells; sound = met.sound; has = met.has.settled }
+
+-- after a call that told of the state the rest of a plan begins on an account of which is given what it asks
+met_after : {given more : State → Type 0} {T : Type 0} {P : State → T → Type 0} {a b : History} {value told : T} → value ≡ told → Asks (always 1) a b IsSettled (Tells P) (Ok value)
+    → ((state : State) → given state → P state told → more state) → Met (Given given) a → Met (Given more) b
+met_after {given = given} {more = more} {P = P} {a = a} {b = b} is asks gives met =
+    let ordered = asks.grows.on.ordered in
+    let reads = asks.told (met_settled met) in
+    let from : b.tree_at a.called ≡ present a = (asks.grows.on.kept met.tells).accounts a.called (omega arith) in
+    let known = gives _ (subst (λ tree. given (native tree)) (sym from) met.has.state) (subst (P (native (b.tree_at a.called))) is reads.2.of_state) in
+    record {
+      tells = asks.grows.on.tells met.tells;
+      sound = reads.0.sound b.called ordered (omega arith);
+      has = record { settled = asks.settled met.tells met.has.settled; state = subst (λ tree. more (native tree)) (sym reads.2.same) known };
+    }
+
+module _ {settings : Settings} {given : State → Type 0} {op : Op} {label : Label} {most : Bound} where
   -- no call is needed
-  pub needs_none : (h : History) {reply : Reply} → IsOwnReply reply → ((state : State) → given state → S3Step settings state op label reply state) → Plans most h h settings given op label (Ok reply)
+  pub needs_none : (h : History) {reply : Reply} → IsOwnReply reply → ((state : State) → given state → S3Step settings state op label reply state) → Plans most h h settings (Given given) op label Settled (Ok reply)
   needs_none h {reply = reply} own step = record {
-    grows = grows_none most h;
-    cause = refl;
+    grows = grows_none most (Given given) h;
+    cause = cause_of (ends_by_commit op) h.faults h.faults (Ok reply) refl;
     own = own;
-    told = λ tells sound has. none_needed settings h h.called h.called op label reply refl sound (step _ has);
+    told = λ met. quiet_step settings h h.called h.called op label reply (none_made refl met.sound) (step _ met.has.state);
+    knows = λ tells settled is. settled;
   }
 
   -- memory was wanted before a call
-  pub wants_memory : (h : History) (end : Result Reply PlanFault) → IsErrAnd end (λ e. e ≡ Memory) → Plans most h h settings given op label end
-  wants_memory h end is = subst (Plans most h h settings given op label) (sym (err_is end is)) (record {
-    grows = grows_none most h;
-    cause = refl;
+  pub wants_memory : (h : History) (end : Result Reply PlanFault) → IsErrAnd end (λ e. e ≡ Memory) → Plans most h h settings (Given given) op label Settled end
+  wants_memory h end is = subst (Plans most h h settings (Given given) op label Settled) (sym (err_is end is)) (record {
+    grows = grows_none most (Given given) h;
+    cause = cause_of (ends_by_commit op) h.faults h.faults (Err Memory) refl;
     own = tt;
-    told = λ tells sound has. none_read settings h h.called h.called op label refl sound;
+    told = λ met. quiet_memory settings h h.called h.called op label (none_made refl met.sound);
+    knows = λ tells settled is. settled;
   })
 
-  module _ {T : Type 0} {P : State → T → Type 0} {a b : History} (within : 1 ≤ most) where
-    -- the last call told nothing
-    pub told_nothing : {fault : PlanFault} → Asks 1 a b P (Err fault) → Plans most a b settings given op label (Err fault)
+  module _ {T : Type 0} {P : State → T → Type 0} {a b : History} (within : IsWider (always 1) most) where
+    -- the call told nothing
+    pub told_nothing : {fault : PlanFault} → Asks (always 1) a b IsSettled (Tells P) (Err fault) → Plans most a b settings (Given given) op label Settled (Err fault)
     told_nothing {fault = fault} asks = record {
-      grows = grows_more within asks.grows;
-      cause = cause_same fault asks.cause;
+      grows = grows_more within met_settled asks.grows;
+      cause = cause_of (ends_by_commit op) a.faults b.faults (Err fault) (cause_same fault asks.cause);
       own = tt;
-      told = λ tells sound has. not_read settings b a.called b.called op label P fault asks.grows.calls (asks.told tells sound);
+      told = λ met. not_read settings b a.called b.called op label (Tells P) fault (asks.told (met_settled met));
+      knows = λ tells settled is. asks.settled tells settled;
     }
       where
         cause_same : (fault : PlanFault) → CausesFault {T = T} a.faults b.faults (Err fault) → CausesFault {T = Reply} a.faults b.faults (Err fault)
@@ -193,82 +223,95 @@ module _ {settings : Settings} {given : State → Type 0} {op : Op} {label : Lab
         cause_same Memory cause = cause
         cause_same Inconsistent cause = cause
 
-    -- by what the last call told the plan ends
-    pub ends_by : {value : T} (told : T) → value ≡ told → (end : Result Reply PlanFault) → Asks 1 a b P (Ok value) → IfOk end IsOwnReply → end ≢ Err Failed
-        → ((state : State) → given state → P state told → (reply : Reply) × (end ≡ Ok reply) × S3Step settings state op label reply state) → Plans most a b settings given op label end
+    -- by what the call told the plan ends
+    pub ends_by : {value : T} (told : T) → value ≡ told → (end : Result Reply PlanFault) → Asks (always 1) a b IsSettled (Tells P) (Ok value) → IfOk end IsOwnReply → end ≢ Err Failed
+        → ((state : State) → given state → P state told → (reply : Reply) × (end ≡ Ok reply) × S3Step settings state op label reply state) → Plans most a b settings (Given given) op label Settled end
     ends_by told is end asks own no_failure step = record {
-      grows = grows_more within asks.grows;
-      cause = due_cause a.faults b.faults end asks.cause no_failure;
+      grows = grows_more within met_settled asks.grows;
+      cause = cause_of (ends_by_commit op) a.faults b.faults end (due_cause a.faults b.faults end asks.cause no_failure);
       own = own;
-      told = λ tells sound has.
-          let kept = asks.grows.kept tells in
-          let reads = asks.told tells sound in
-          let from = kept.accounts a.called (omega arith) in
-          let does = step _ (subst (λ tree. given (native tree)) (sym from) has) (subst (P (native (b.tree_at a.called))) is reads.2) in
-          subst (Ends settings b a.called b.called op label) (sym does.1) (is_read settings b a.called b.called op label P told is does.0 reads (λ known. does.2));
+      told = λ met.
+          let reads = asks.told (met_settled met) in
+          let from : b.tree_at a.called ≡ present a = (asks.grows.on.kept met.tells).accounts a.called (omega arith) in
+          let does = step _ (subst (λ tree. given (native tree)) (sym from) met.has.state) (subst (P (native (b.tree_at a.called))) is reads.2.of_state) in
+          subst (Ends settings b a.called b.called op label) (sym does.1) (quiet_step settings b a.called b.called op label does.0 reads.0 does.2);
+      knows = λ tells settled is. asks.settled tells settled;
     }
 
     -- what it told is answered
-    pub answers : {value : T} (told : T) → value ≡ told → (reply : Reply) → Asks 1 a b P (Ok value) → IsOwnReply reply
-        → ((state : State) → given state → P state told → S3Step settings state op label reply state) → Plans most a b settings given op label (Ok reply)
+    pub answers : {value : T} (told : T) → value ≡ told → (reply : Reply) → Asks (always 1) a b IsSettled (Tells P) (Ok value) → IsOwnReply reply
+        → ((state : State) → given state → P state told → S3Step settings state op label reply state) → Plans most a b settings (Given given) op label Settled (Ok reply)
     answers told is reply asks own step = ends_by told is (Ok reply) asks own (λ e. cc) (λ state has known. (reply, refl, step state has known))
 
   -- a call told of the state, and the rest of the plan goes on
-  pub goes_on : {T : Type 0} {P : State → T → Type 0} {a b c : History} {m : ℕ} {now : Settings} {more : State → Type 0} {end : Result Reply PlanFault} {value : T} → 1 + m ≤ most → (told : T) → value ≡ told → now ≡ settings
-      → Asks 1 a b P (Ok value) → Plans m b c now more op label end → ((state : State) → given state → P state told → more state) → Plans most a c settings given op label end
-  goes_on {P = P} {a = a} {b = b} {c = c} {more = more} {end = end} within told is same asks rest gives = record {
-    grows = grows_trans within asks.grows rest.grows;
-    cause = cause_after end rest.cause;
+  pub goes_on : {T : Type 0} {P : State → T → Type 0} {a b c : History} {m : Bound} {now : Settings} {more : State → Type 0} {end : Result Reply PlanFault} {value : T} → IsOneMore m most → (told : T) → value ≡ told → now ≡ settings
+      → Asks (always 1) a b IsSettled (Tells P) (Ok value) → Plans m b c now (Given more) op label Settled end → ((state : State) → given state → P state told → more state) → Plans most a c settings (Given given) op label Settled end
+  goes_on {P = P} {a = a} {b = b} {c = c} {m = m} {more = more} {end = end} within told is same asks rest gives = record {
+    grows = record { on = goes_trans asks.grows.on rest.grows.on; calls = within_trans m most a.called b.called c.called within (met_after is asks gives) asks.grows.calls rest.grows.calls };
+    cause = cause_from (ends_by_commit op) a.faults b.faults c.faults end asks.cause rest.cause;
     own = rest.own;
-    told = λ tells sound has.
-        let ordered = asks.grows.calls.ordered in
-        let kept = asks.grows.kept tells in
-        let reads = asks.told tells sound in
-        let quiet = reads.0 in
-        let stood = quiet.same b.called ordered (omega arith) in
-        let from = kept.accounts a.called (omega arith) in
-        let known = gives _ (subst (λ tree. given (native tree)) (sym from) has) (subst (P (native (b.tree_at a.called))) is reads.2) in
-        let ends = subst (λ s. Ends s c b.called c.called op label end) same (rest.told (asks.grows.tells tells) (quiet.sound b.called ordered (omega arith)) (subst more (sym stood) known)) in
-        let later = rest.grows.kept (asks.grows.tells tells) in
-        let before = quiet_agree later quiet in
-        record { turn = ends.turn; answers = answers_after before (later.counts b.called (omega arith) ∙ reads.1 ∙ sym (later.counts a.called (omega arith))) ends.answers; consistent = ends.consistent };
+    told = λ met.
+        let reads = asks.told (met_settled met) in
+        let ends = subst (λ s. Ends s c b.called c.called op label end) same (rest.told (met_after is asks gives met)) in
+        let later = rest.grows.on.kept (asks.grows.on.tells met.tells) in
+        let ordered = asks.grows.on.ordered in
+        let unchanged : c.tree_at b.called ≡ c.tree_at a.called = later.accounts b.called (omega arith) ∙ reads.2.same ∙ sym (later.accounts a.called (omega arith)) in
+        record {
+          turn = ends.turn;
+          takes = ends.takes;
+          answers = answers_after (quiet_agree later reads.0) (same_ids op label unchanged) (later.counts b.called (omega arith) ∙ reads.1 ∙ sym (later.counts a.called (omega arith))) ends.answers;
+          consistent = ends.consistent;
+        };
+    knows = λ tells settled is. rest.knows (asks.grows.on.tells tells) (asks.settled tells settled) is;
   }
-    where
-      cause_after : (end : Result Reply PlanFault) → CausesFault b.faults c.faults end → CausesFault a.faults c.faults end
-      cause_after end cause = subst (λ n. CausesFault n c.faults end) asks.cause cause
 
-  -- the call that changes the state is the last one
-  pub commits : {given' : State → Type 0} {f : State → State} {a b : History} {end : Result (Unit {0}) PlanFault} (reply : Reply) → 1 ≤ most → Changes a b given' f end → IsOwnReply reply
-      → ((state : State) → given state → given' state × S3Step settings state op label reply (f state)) → Plans most a b settings given op label (ended end reply)
-  commits {f = f} {a = a} {b = b} {end = end} reply within changes own step = record {
-    grows = grows_more within changes.grows;
-    cause = cause_ended end changes.cause;
+  -- the call that changes the state is the last one, and its answer says how
+  pub commits : {T : Type 0} {given' : State → Type 0} {S : T → State → State → Type 0} {a b : History} {end : Result T PlanFault} (reply : T → Reply) → IsWider (always 1) most → Changes (always 1) a b (Given given') S end
+      → ((told : T) → IsOwnReply (reply told)) → ((state : State) → given state → given' state) → ((state : State) (told : T) (new : State) → given state → S told state new → S3Step settings state op label (reply told) new)
+      → Plans most a b settings (Given given) op label Settled (ended end reply)
+  commits {T = T} {given' = given'} {S = S} {a = a} {b = b} {end = end} reply within changes own gives step = record {
+    grows = grows_more within met_given changes.grows;
+    cause = cause_of (ends_by_commit op) a.faults b.faults (ended end reply) (cause_ended end changes.cause);
     own = own_ended end;
-    told = λ tells sound has.
-        let kept = changes.grows.kept tells in
-        let from = kept.accounts a.called (omega arith) in
-        let does = step _ has in
-        let here : S3Step settings (native (b.tree_at a.called)) op label reply (f (native (b.tree_at a.called))) = subst (λ tree. S3Step settings (native tree) op label reply (f (native tree))) (sym from) does.1 in
-        is_written settings b a.called b.called op label f reply here end changes.grows.calls (changes.told tells sound does.0);
+    told = λ met.
+        let from : b.tree_at a.called ≡ present a = (changes.grows.on.kept met.tells).accounts a.called (omega arith) in
+        let here : given (native (b.tree_at a.called)) = subst (λ tree. given (native tree)) (sym from) met.has.state in
+        is_written settings b a.called b.called op label S reply (λ told new does. step _ told new here does) end (changes.told (met_given met));
+    knows = λ tells settled is. changes.settled tells settled;
   }
     where
-      cause_ended : (end : Result (Unit {0}) PlanFault) → CausesFault a.faults b.faults end → CausesFault a.faults b.faults (ended end reply)
+      met_given : Met (Given given) a → Met (Given given') a
+      met_given met = record { tells = met.tells; sound = met.sound; has = record { settled = met.has.settled; state = gives _ met.has.state } }
+
+      cause_ended : (end : Result T PlanFault) → CausesFault a.faults b.faults end → CausesFault a.faults b.faults (ended end reply)
       cause_ended (Ok done) cause = cause
       cause_ended (Err Failed) cause = cause
       cause_ended (Err Memory) cause = cause
       cause_ended (Err Inconsistent) cause = cause
 
-      own_ended : (end : Result (Unit {0}) PlanFault) → IfOk (ended end reply) IsOwnReply
-      own_ended (Ok done) = own
+      own_ended : (end : Result T PlanFault) → IfOk (ended end reply) IsOwnReply
+      own_ended (Ok told) = own told
       own_ended (Err fault) = tt
 
+-- a change that tells nothing is a step to the state that it gives
+pub becomes : {settings : Settings} {op : Op} {label : Label} {reply : Reply} {old new changed : State} → S3Step settings old op label reply changed → new ≡ changed → S3Step settings old op label reply new
+becomes {settings = settings} {op = op} {label = label} {reply = reply} {old = old} step is = subst (S3Step settings old op label reply) (sym is) step
+
 -- the reply by the end of a whole plan
-pub answered_by : {most : ℕ} {a b : History} {settings : Settings} {op : Op} {label : Label} {end : Result Reply PlanFault} → Plans most a b settings Any op label end → Answered most a b settings op label (reply_of end)
-answered_by {a = a} {b = b} {end = end} plans = record {
-  grows = plans.grows;
+pub answered_by : {most : Bound} {a b : History} {settings : Settings} {op : Op} {label : Label} {end : Result Reply PlanFault} → Plans most a b settings (Given Any) op label Settled end → Answered most a b settings op label Settled (reply_of end)
+answered_by {most = most} {a = a} {b = b} {op = op} {end = end} plans = record {
+  grows = record { on = plans.grows.on; calls = within_same most a.called b.called any plans.grows.calls };
   showable = showable_of end plans.own;
-  unavailable = rose_of a.faults b.faults end plans.own plans.cause;
-  steady = steady_of a.faults b.faults end plans.cause;
-  told = λ tells sound. let ends = plans.told tells sound tt in (ends.turn, ends.answers);
-  consistent = λ tells sound. consistent_of end plans.own (plans.told tells sound tt).consistent;
+  unavailable = rose_of (ends_by_commit op) a.faults b.faults end plans.own plans.cause;
+  steady = steady_of (ends_by_commit op) a.faults b.faults end plans.cause;
+  told = λ met. let ends = plans.told (any met) in (ends.turn, ends.takes, ends.answers);
+  consistent = λ met. consistent_of end plans.own (plans.told (any met)).consistent;
+  knows = plans.knows;
 }
+  where
+    any : Met IsSettled a → Met (Given Any) a
+    any met = record { tells = met.tells; sound = met.sound; has = record { settled = met.has; state = tt } }
+
+    within_same : (most : Bound) {P Q : Type 0} (p q : ℕ) → (Q → P) → IsWithin most P p q → IsWithin most Q p q
+    within_same (always n) p q from within = within
+    within_same (by_account n) p q from within = λ met. within (from met)

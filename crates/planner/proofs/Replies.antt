@@ -1,5 +1,5 @@
 -- What the end of a plan says of its reply.
-use Rattle.std.specs.Prelude.{◌≡◌, ◌≢◌, ℕ, List, Result, Ok, Err, IfOk}
+use Rattle.std.specs.Prelude.{◌≡◌, ◌≢◌, ℕ, Bool, true, false, List, Result, Ok, Err, IfOk}
 use Rattle.std.proofs.Common.{refl}
 use Rattle.gate_base.specs.Causes.{Rose}
 use Rattle.s3_machine.specs.declared.code.Code.TheVariants.{BucketAlreadyOwnedByYou, InconsistentStore, ServiceUnavailable}
@@ -9,7 +9,7 @@ use Rattle.recovery.specs.Fault.{CausesFault}
 use Rattle.recovery.specs.declared.fault.PlanFault.{PlanFault}
 use Rattle.recovery.specs.declared.fault.PlanFault.TheVariants.{Failed, Memory, Inconsistent}
 use Rattle.s3_machine.specs.Shown.{IsShowable}
-use Rattle.planner.specs.Plan.{reply_of, IsOwnReply}
+use Rattle.planner.specs.Plan.{reply_of, IsOwnReply, CausesEnd}
 
 -- the replies of CreateBucket that are its own
 pub owned_is_own : IsOwnReply (Refused BucketAlreadyOwnedByYou)
@@ -18,17 +18,22 @@ owned_is_own = record { showable = tt; no_memory = λ e. cc; no_failure = λ e. 
 pub made_is_own : (bucket : List ℕ) → IsOwnReply (Made bucket)
 made_is_own bucket = record { showable = tt; no_memory = λ e. cc; no_failure = λ e. cc; no_inconsistency = λ e. cc }
 
-pub rose_of : (before now : ℕ) (end : Result Reply PlanFault) → IfOk end IsOwnReply → CausesFault before now end → reply_of end ≡ Refused ServiceUnavailable → Rose before now
-rose_of before now (Ok reply) own cause is = absurd (own.no_failure is)
-rose_of before now (Err Failed) own cause is = cause
-rose_of before now (Err Memory) own cause is = cc
-rose_of before now (Err Inconsistent) own cause is = cc
+pub rose_of : (t : Bool) (before now : ℕ) (end : Result Reply PlanFault) → IfOk end IsOwnReply → CausesEnd t before now end → reply_of end ≡ Refused ServiceUnavailable → Rose before now
+rose_of t before now (Ok reply) own cause is = absurd (own.no_failure is)
+rose_of true before now (Err Failed) own cause is = cause
+rose_of false before now (Err Failed) own cause is = cause refl
+rose_of t before now (Err Memory) own cause is = cc
+rose_of t before now (Err Inconsistent) own cause is = cc
 
-pub steady_of : (before now : ℕ) (end : Result Reply PlanFault) → CausesFault before now end → reply_of end ≢ Refused ServiceUnavailable → now ≡ before
-steady_of before now (Ok reply) cause not = cause
-steady_of before now (Err Failed) cause not = absurd (not refl)
-steady_of before now (Err Memory) cause not = cause
-steady_of before now (Err Inconsistent) cause not = cause
+steady_by : (before now : ℕ) (end : Result Reply PlanFault) → CausesFault before now end → reply_of end ≢ Refused ServiceUnavailable → now ≡ before
+steady_by before now (Ok reply) cause not = cause
+steady_by before now (Err Failed) cause not = absurd (not refl)
+steady_by before now (Err Memory) cause not = cause
+steady_by before now (Err Inconsistent) cause not = cause
+
+pub steady_of : (t : Bool) (before now : ℕ) (end : Result Reply PlanFault) → CausesEnd t before now end → t ≡ true → reply_of end ≢ Refused ServiceUnavailable → now ≡ before
+steady_of true before now end cause is not = steady_by before now end cause not
+steady_of false before now end cause is not = cc
 
 pub consistent_of : (end : Result Reply PlanFault) → IfOk end IsOwnReply → end ≢ Err Inconsistent → reply_of end ≢ Refused InconsistentStore
 consistent_of (Ok reply) own not = own.no_inconsistency

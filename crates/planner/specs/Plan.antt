@@ -1,5 +1,5 @@
 -- What a plan comes to. Source: this profile.
-use Rattle.std.specs.Prelude.{◌≡◌, ◌≢◌, ℕ, IsTrue, Result, Ok, Err, IfOk}
+use Rattle.std.specs.Prelude.{◌≡◌, ◌≢◌, ℕ, Bool, true, false, IsTrue, Result, Ok, Err, IfOk}
 use Rattle.gate_base.specs.Causes.{Rose}
 use Rattle.s3_machine.specs.declared.code.Code.TheVariants.{InconsistentStore, ServiceUnavailable}
 use Rattle.s3_machine.specs.declared.operation.Label.{Label}
@@ -8,12 +8,13 @@ use Rattle.s3_machine.specs.declared.operation.Op.{Op}
 use Rattle.s3_machine.specs.declared.operation.Reply.{Reply}
 use Rattle.s3_machine.specs.declared.operation.Reply.TheVariants.{Refused, Memory}
 use Rattle.s3_machine.specs.Shown.{IsShowable}
-use Rattle.s3_machine.specs.State.{State}
+use Rattle.swift_calls.specs.Tree.{Tree}
 use Rattle.swift_calls.specs.History.{History, present}
-use Rattle.upload_records.specs.Native.{native}
-use Rattle.upload_records.specs.Sound.{Sound}
-use Rattle.recovery.specs.Answers.{Answers}
-use Rattle.recovery.specs.Calls.{Grows}
+use Rattle.upload_records.specs.Native.{IsSettled}
+use Rattle.recovery.specs.Answers.{Answers, ends_by_commit}
+use Rattle.recovery.specs.Calls.{Bound, Met, Grows}
+use Rattle.recovery.specs.Settling.{IsKnown}
+use Rattle.recovery.specs.declared.state.Known.{Known}
 use Rattle.recovery.specs.Fault.{CausesFault}
 use Rattle.recovery.specs.declared.fault.PlanFault.{PlanFault}
 use Rattle.recovery.specs.declared.fault.PlanFault.TheVariants as fault
@@ -35,26 +36,35 @@ pub record IsOwnReply (reply : Reply) : Type 0 where
 -- the calls of a plan, or of the rest of one, amount to the operation
 pub record Ends (settings : Settings) (h : History) (p q : ℕ) (op : Op) (label : Label) (end : Result Reply PlanFault) : Type 0 where
   pub turn : ℕ
-  pub answers : Answers settings h p turn q op label (reply_of end)
+  pub takes : ℕ
+  pub answers : Answers settings h p turn q op label takes (reply_of end)
   pub consistent : end ≢ Err fault.Inconsistent
 
--- the end of a plan whose reply was made before its last call
-abbrev pub ended : Result (Unit {0}) PlanFault → Reply → Result Reply PlanFault
-ended (Ok done) reply = Ok reply
+-- the end of a plan whose reply was made before its last call, by what that told
+abbrev pub ended : {T : Type 0} → Result T PlanFault → (T → Reply) → Result Reply PlanFault
+ended (Ok told) reply = Ok (reply told)
 ended (Err f) reply = Err f
 
--- a plan, or the rest of one, where what is given holds of the state
-pub record Plans (most : ℕ) (old new : History) (settings : Settings) (given : State → Type 0) (op : Op) (label : Label) (end : Result Reply PlanFault) : Type 0 where
-  pub grows : Grows most old new
-  pub cause : CausesFault old.faults new.faults end
-  pub own : IfOk end IsOwnReply
-  pub told : IsTrue old.tells → Sound (present old) → given (native (present old)) → Ends settings new old.called new.called op label end
+-- the causes of a plan's end over every store: by the count of faults, where its last call is the one that commits; and else
+-- at least that a plan which Failed ended had a call that failed
+abbrev pub CausesEnd : Bool → ℕ → ℕ → Result Reply PlanFault → Type 0
+CausesEnd true before now end = CausesFault before now end
+CausesEnd false before now end = end ≡ Err fault.Failed → Rose before now
 
--- an operation was answered
-pub record Answered (most : ℕ) (old new : History) (settings : Settings) (op : Op) (label : Label) (reply : Reply) : Type 0 where
-  pub grows : Grows most old new
+-- a plan, or the rest of one, where this is given of the account that it begins on
+pub record Plans (most : Bound) (old new : History) (settings : Settings) (given : Tree → Type 0) (op : Op) (label : Label) (after : Known) (end : Result Reply PlanFault) : Type 0 where
+  pub grows : Grows most given old new
+  pub cause : CausesEnd (ends_by_commit op) old.faults new.faults end
+  pub own : IfOk end IsOwnReply
+  pub told : Met given old → Ends settings new old.called new.called op label end
+  pub knows : IsTrue old.tells → IsSettled (present old) → IsKnown after (present new)
+
+-- an operation was answered on a settled store, of which this is known after it
+pub record Answered (most : Bound) (old new : History) (settings : Settings) (op : Op) (label : Label) (known : Known) (reply : Reply) : Type 0 where
+  pub grows : Grows most IsSettled old new
   pub showable : IsShowable reply
   pub unavailable : reply ≡ Refused ServiceUnavailable → Rose old.faults new.faults
-  pub steady : reply ≢ Refused ServiceUnavailable → new.faults ≡ old.faults
-  pub told : IsTrue old.tells → Sound (present old) → (t : ℕ) × Answers settings new old.called t new.called op label reply
-  pub consistent : IsTrue old.tells → Sound (present old) → reply ≢ Refused InconsistentStore
+  pub steady : ends_by_commit op ≡ true → reply ≢ Refused ServiceUnavailable → new.faults ≡ old.faults
+  pub told : Met IsSettled old → (t : ℕ) × (takes : ℕ) × Answers settings new old.called t new.called op label takes reply
+  pub consistent : Met IsSettled old → reply ≢ Refused InconsistentStore
+  pub knows : IsTrue old.tells → IsSettled (present old) → IsKnown known (present new)

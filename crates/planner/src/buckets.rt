@@ -3,8 +3,9 @@ ghost use Rattle.std.specs.Prelude.{◌≡◌, ◌<◌, true, None};
 ghost use Rattle.gate_base.specs.Told.{moment_limit};
 ghost use Rattle.s3_names.specs.Bucket.{is_bucket};
 ghost use Rattle.s3_machine.specs.declared.operation.Op.TheVariants.{CreateBucket};
-ghost use Rattle.recovery.specs.Calls.{Any, TellsBucket};
+ghost use Rattle.recovery.specs.Calls.{always, Any, Given, TellsBucket};
 ghost use Rattle.recovery.specs.Lent.{Stays};
+ghost use Rattle.recovery.specs.declared.state.Known.TheVariants as known;
 ghost use Rattle.planner.specs.Plan.{Plans};
 
 use crate::end::reply_after;
@@ -25,8 +26,8 @@ pub(crate) fn create_bucket<W: Swift>(
     requires name { is_bucket bucket.now ≡ true }
     requires moment { label.now.moment < moment_limit }
     ensures stays { Stays state.old state.new }
-    ensures plans { Plans 2 (W.history state.old.store.now) (W.history state.new.store.now) state.old.settings.now
-        Any (CreateBucket bucket.now acl) label.now result }
+    ensures plans { Plans (always 2) (W.history state.old.store.now) (W.history state.new.store.now) state.old.settings.now
+        (Given Any) (CreateBucket bucket.now acl) label.now known.Settled result }
 {
     match head_bucket(state, bucket) {
         Ok(None) => make_missing(state, bucket, acl, label),
@@ -45,8 +46,8 @@ fn make_missing<W: Swift>(
     requires name { is_bucket bucket.now ≡ true }
     requires moment { label.now.moment < moment_limit }
     ensures stays { Stays state.old state.new }
-    ensures plans { Plans 1 (W.history state.old.store.now) (W.history state.new.store.now) state.old.settings.now
-        (λ s. TellsBucket bucket.now s None) (CreateBucket bucket.now acl) label.now result }
+    ensures plans { Plans (always 1) (W.history state.old.store.now) (W.history state.new.store.now) state.old.settings.now
+        (Given (λ s. TellsBucket bucket.now s None)) (CreateBucket bucket.now acl) label.now known.Settled result }
 {
     let reply = Reply::Made {
         bucket: bucket.copy()?,

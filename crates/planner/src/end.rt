@@ -6,7 +6,7 @@ use s3_machine::Reply;
 
 /// The end of a plan after its last call.
 pub(crate) fn reply_after(end: Result<(), PlanFault>, reply: Reply) -> Result<Reply, PlanFault>
-    ensures { result ≡ ended end reply }
+    ensures { result ≡ ended end (λ done. reply) }
 {
     match end {
         Ok(()) => Ok(reply),

@@ -3,10 +3,11 @@ ghost use Rattle.std.specs.Prelude.{◌≡◌, ◌≢◌, ◌<◌, Some, IfOk, E
 ghost use Rattle.gate_base.specs.Told.{moment_limit};
 ghost use Rattle.s3_machine.specs.Step.{IsPlace, IsProperContent};
 ghost use Rattle.s3_machine.specs.declared.operation.Op.TheVariants.{PutObject, GetObject, HeadObject, DeleteObject};
-ghost use Rattle.recovery.specs.Calls.{Any, TellsBucket};
+ghost use Rattle.recovery.specs.Calls.{always, Any, Given, TellsBucket};
 ghost use Rattle.recovery.specs.Due.{IsShownHead};
 ghost use Rattle.recovery.specs.Lent.{Stays};
 ghost use Rattle.recovery.specs.declared.fault.PlanFault.TheVariants.{Failed};
+ghost use Rattle.recovery.specs.declared.state.Known.TheVariants as known;
 ghost use Rattle.planner.specs.Plan.{Plans, IsOwnReply};
 ghost use Rattle.planner.specs.Objects.{TellsReadable, headed_reply, whole_end};
 
@@ -35,8 +36,8 @@ pub(crate) fn put_object<W: Swift>(
     requires content { IsProperContent content_type.now meta.now body.now }
     requires moment { label.now.moment < moment_limit }
     ensures stays { Stays state.old state.new }
-    ensures plans { Plans 2 (W.history state.old.store.now) (W.history state.new.store.now) state.old.settings.now
-        Any (PutObject bucket.now key.now acl content_type.now meta.now body.now) label.now result }
+    ensures plans { Plans (always 2) (W.history state.old.store.now) (W.history state.new.store.now) state.old.settings.now
+        (Given Any) (PutObject bucket.now key.now acl content_type.now meta.now body.now) label.now known.Settled result }
 {
     match head_bucket(state, bucket) {
         Ok(None) => Ok(Reply::Refused(Code::NoSuchBucket)),
@@ -75,8 +76,8 @@ fn put_into<W: Swift>(
     requires content { IsProperContent content_type.now meta.now body.now }
     requires moment { label.now.moment < moment_limit }
     ensures stays { Stays state.old state.new }
-    ensures plans { Plans 1 (W.history state.old.store.now) (W.history state.new.store.now) state.old.settings.now
-        (λ s. TellsBucket bucket.now s (Some list)) (PutObject bucket.now key.now acl content_type.now meta.now body.now) label.now result }
+    ensures plans { Plans (always 1) (W.history state.old.store.now) (W.history state.new.store.now) state.old.settings.now
+        (Given (λ s. TellsBucket bucket.now s (Some list))) (PutObject bucket.now key.now acl content_type.now meta.now body.now) label.now known.Settled result }
 {
     if is_other_acl(acl, list) {
         return Ok(Reply::Refused(Code::NotImplemented));
@@ -110,8 +111,8 @@ pub(crate) fn get_object<W: Swift>(
 ) -> Result<Reply, PlanFault>
     requires place { IsPlace bucket.now key.now }
     ensures stays { Stays state.old state.new }
-    ensures plans { Plans 3 (W.history state.old.store.now) (W.history state.new.store.now) state.old.settings.now
-        Any (GetObject bucket.now key.now) label.now result }
+    ensures plans { Plans (always 3) (W.history state.old.store.now) (W.history state.new.store.now) state.old.settings.now
+        (Given Any) (GetObject bucket.now key.now) label.now known.Settled result }
 {
     match head_bucket(state, bucket) {
         Ok(None) => Ok(Reply::Refused(Code::NoSuchBucket)),
@@ -131,8 +132,8 @@ fn get_within<W: Swift>(
 ) -> Result<Reply, PlanFault>
     requires place { IsPlace bucket.now key.now }
     ensures stays { Stays state.old state.new }
-    ensures plans { Plans 2 (W.history state.old.store.now) (W.history state.new.store.now) state.old.settings.now
-        (λ s. TellsBucket bucket.now s (Some list)) (GetObject bucket.now key.now) label.now result }
+    ensures plans { Plans (always 2) (W.history state.old.store.now) (W.history state.new.store.now) state.old.settings.now
+        (Given (λ s. TellsBucket bucket.now s (Some list))) (GetObject bucket.now key.now) label.now known.Settled result }
 {
     if !may_read(label.caller, list) {
         return Ok(Reply::Refused(Code::AccessDenied));
@@ -156,8 +157,8 @@ fn get_bytes<W: Swift>(
     requires place { IsPlace bucket.now key.now }
     requires shown { IsShownHead (Some head) }
     ensures stays { Stays state.old state.new }
-    ensures plans { Plans 1 (W.history state.old.store.now) (W.history state.new.store.now) state.old.settings.now
-        (TellsReadable bucket.now key.now label.now.caller list head) (GetObject bucket.now key.now) label.now result }
+    ensures plans { Plans (always 1) (W.history state.old.store.now) (W.history state.new.store.now) state.old.settings.now
+        (Given (TellsReadable bucket.now key.now label.now.caller list head)) (GetObject bucket.now key.now) label.now known.Settled result }
 {
     match recovery::get_object(state, bucket, key) {
         Ok(Some(body)) => whole(head, body),
@@ -197,8 +198,8 @@ pub(crate) fn head_object<W: Swift>(
 ) -> Result<Reply, PlanFault>
     requires place { IsPlace bucket.now key.now }
     ensures stays { Stays state.old state.new }
-    ensures plans { Plans 2 (W.history state.old.store.now) (W.history state.new.store.now) state.old.settings.now
-        Any (HeadObject bucket.now key.now) label.now result }
+    ensures plans { Plans (always 2) (W.history state.old.store.now) (W.history state.new.store.now) state.old.settings.now
+        (Given Any) (HeadObject bucket.now key.now) label.now known.Settled result }
 {
     match head_bucket(state, bucket) {
         Ok(None) => Ok(Reply::Refused(Code::NoSuchBucket)),
@@ -218,8 +219,8 @@ fn head_within<W: Swift>(
 ) -> Result<Reply, PlanFault>
     requires place { IsPlace bucket.now key.now }
     ensures stays { Stays state.old state.new }
-    ensures plans { Plans 1 (W.history state.old.store.now) (W.history state.new.store.now) state.old.settings.now
-        (λ s. TellsBucket bucket.now s (Some list)) (HeadObject bucket.now key.now) label.now result }
+    ensures plans { Plans (always 1) (W.history state.old.store.now) (W.history state.new.store.now) state.old.settings.now
+        (Given (λ s. TellsBucket bucket.now s (Some list))) (HeadObject bucket.now key.now) label.now known.Settled result }
 {
     if !may_read(label.caller, list) {
         return Ok(Reply::Refused(Code::AccessDenied));
@@ -257,8 +258,8 @@ pub(crate) fn delete_object<W: Swift>(
 ) -> Result<Reply, PlanFault>
     requires place { IsPlace bucket.now key.now }
     ensures stays { Stays state.old state.new }
-    ensures plans { Plans 2 (W.history state.old.store.now) (W.history state.new.store.now) state.old.settings.now
-        Any (DeleteObject bucket.now key.now) label.now result }
+    ensures plans { Plans (always 2) (W.history state.old.store.now) (W.history state.new.store.now) state.old.settings.now
+        (Given Any) (DeleteObject bucket.now key.now) label.now known.Settled result }
 {
     match head_bucket(state, bucket) {
         Ok(None) => Ok(Reply::Refused(Code::NoSuchBucket)),
@@ -277,8 +278,8 @@ fn delete_from<W: Swift>(
 ) -> Result<Reply, PlanFault>
     requires place { IsPlace bucket.now key.now }
     ensures stays { Stays state.old state.new }
-    ensures plans { Plans 1 (W.history state.old.store.now) (W.history state.new.store.now) state.old.settings.now
-        (λ s. TellsBucket bucket.now s (Some list)) (DeleteObject bucket.now key.now) label.now result }
+    ensures plans { Plans (always 1) (W.history state.old.store.now) (W.history state.new.store.now) state.old.settings.now
+        (Given (λ s. TellsBucket bucket.now s (Some list))) (DeleteObject bucket.now key.now) label.now known.Settled result }
 {
     reply_after(recovery::delete_object(state, bucket, key), Reply::Gone)
 }

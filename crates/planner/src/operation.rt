@@ -3,7 +3,8 @@ ghost use Rattle.std.specs.Prelude.{◌≡◌};
 ghost use Rattle.s3_machine.specs.Step.{IsProper};
 ghost use Rattle.swift_calls.specs.History.{present};
 ghost use Rattle.recovery.specs.Answers.{most_calls};
-ghost use Rattle.recovery.specs.Calls.{Any};
+ghost use Rattle.recovery.specs.declared.state.Known.TheVariants as known;
+ghost use Rattle.recovery.specs.Calls.{Any, Given};
 ghost use Rattle.recovery.specs.Lent.{Stays};
 ghost use Rattle.planner.specs.Plan.{reply_of, Plans, Answered};
 
@@ -15,8 +16,8 @@ use std::alloc::Global;
 use swift_calls::Swift;
 
 /// Answers one operation of Amazon S3. The reply is the service's own, and then the state is as its step leaves it. Or
-/// it is ServiceUnavailable, exactly where the store's count of faults rose in this call: the last call failed, no
-/// earlier one did, and the state is the old one or the step's. Or it is `Memory`, where memory was wanted, with the
+/// it is ServiceUnavailable, only where the store's count of faults rose in this call: the last call failed, no earlier
+/// one did, and the state is the old one or the step's. Or it is `Memory`, where memory was wanted, with the
 /// same two states. Or it is InconsistentStore, never over a told sound account. No call is repeated.
 pub fn answer<W: Swift>(alloc: Global, state: &mut Settled<'_, W>, op: &Op, label: &Label) -> Reply
     requires { IsProper op.now label.now }
@@ -24,7 +25,7 @@ pub fn answer<W: Swift>(alloc: Global, state: &mut Settled<'_, W>, op: &Op, labe
 
     // The calls amount to the operation, with one turn of the account from the old state to the new one.
     ensures answered { Answered (most_calls op.now (present (W.history state.old.store.now))) (W.history state.old.store.now) (W.history state.new.store.now)
-        state.old.settings.now op.now label.now result }
+        state.old.settings.now op.now label.now known.Settled result }
 {
     reply_to(plan(alloc, state, op, label))
 }
@@ -39,7 +40,7 @@ fn plan<W: Swift>(
     requires { IsProper op.now label.now }
     ensures stays { Stays state.old state.new }
     ensures plans { Plans (most_calls op.now (present (W.history state.old.store.now))) (W.history state.old.store.now) (W.history state.new.store.now) state.old.settings.now
-        Any op.now label.now result }
+        (Given Any) op.now label.now known.Settled result }
 {
     match op {
         Op::CreateBucket { bucket, acl } => create_bucket(state, bucket, *acl, label),

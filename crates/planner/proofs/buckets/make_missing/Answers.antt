@@ -1,13 +1,14 @@
 use Rattle.std.proofs.Common.{sym, subst, lit≤, rules}
 use Rattle.planner.specs.Plan.{Plans}
-use Rattle.planner.proofs.Ends.{wants_memory, commits}
+use Rattle.planner.proofs.Ends.{wants_memory, commits, becomes}
 use Rattle.planner.proofs.CreateBucket.{steps_made, missing_of}
 use Rattle.planner.proofs.buckets.make_missing.Goals as goal
 
 pub returns-clause-plans : goal.returns-clause-plans
 returns-clause-plans g c =
-    subst (Plans _ _ _ _ _ _ _) (sym c.reply_after.ensures)
-    (commits _ (lit≤ tt) c.make_bucket.ensures.changes (search rules) (λ state missing. (missing_of _ state missing, steps_made _ state _ _ _ _ c.in_ok-copy.ensures missing)))
+    subst (Plans _ _ _ _ _ _ _ _) (sym c.reply_after.ensures)
+    (commits _ (lit≤ tt) c.make_bucket.ensures.changes (λ done. search rules) (λ state missing. missing_of _ state missing)
+    (λ state done new missing is. becomes (steps_made _ state _ _ _ _ c.in_ok-copy.ensures missing) is))
 
 pub returns-in_err-copy-clause-plans : goal.returns-in_err-copy-clause-plans
 returns-in_err-copy-clause-plans g c = wants_memory _ _ c.from_residual.ensures.1

@@ -1,10 +1,10 @@
 use Rattle.std.proofs.Common.{sym, subst, lit≤, rules}
 use Rattle.planner.specs.Plan.{Plans}
-use Rattle.planner.proofs.Ends.{commits}
+use Rattle.planner.proofs.Ends.{commits, becomes}
 use Rattle.planner.proofs.Steps.{deletes}
 use Rattle.planner.proofs.objects.delete_from.Goals as goal
 
 pub returns-clause-plans : goal.returns-clause-plans
 returns-clause-plans g c =
-    subst (Plans _ _ _ _ _ _ _) (sym c.reply_after.ensures)
-    (commits _ (lit≤ tt) c.delete_object.ensures.changes (search rules) (λ state there. (tt, deletes _ state _ _ _ _ there)))
+    subst (Plans _ _ _ _ _ _ _ _) (sym c.reply_after.ensures)
+    (commits _ (lit≤ tt) c.delete_object.ensures.changes (λ done. search rules) (λ state there. tt) (λ state done new there is. becomes (deletes _ state _ _ _ _ there) is))

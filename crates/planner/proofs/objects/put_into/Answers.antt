@@ -1,7 +1,7 @@
 use Rattle.std.proofs.Common.{sym, ap, subst, ◌∙◌, lit≤, rules}
 use Rattle.s3_machine.specs.ETag.{body_etag}
 use Rattle.planner.specs.Plan.{Plans}
-use Rattle.planner.proofs.Ends.{needs_none, wants_memory, commits}
+use Rattle.planner.proofs.Ends.{needs_none, wants_memory, commits, becomes}
 use Rattle.planner.proofs.Steps.{put_other, put_stored}
 use Rattle.planner.proofs.objects.put_into.Goals as goal
 
@@ -13,10 +13,7 @@ returns-in_err-from_slice-clause-plans g c = wants_memory _ _ c.from_residual.en
 
 pub returns-clause-plans : goal.returns-clause-plans
 returns-clause-plans g c =
-    subst (Plans _ _ _ _ _ _ _) (sym c.reply_after.ensures)
-    (commits _ (lit≤ tt) c.put_object.ensures.changes (search rules)
-    (λ state there. (
-      (c.args.list, there),
-      put_stored c.args.state.now.settings.now state c.args.bucket.now c.args.key.now c.args.label.now _ there c.args.acl c.args.content_type.now c.args.meta.now c.args.body.now _
-          (sym c.is_other_acl.ensures ∙ c.if-is_other_acl.false) (c.in_ok-from_slice.ensures ∙ c.body_etag.ensures ∙ ap body_etag c.as_slice.ensures),
-    )))
+    subst (Plans _ _ _ _ _ _ _ _) (sym c.reply_after.ensures)
+    (commits _ (lit≤ tt) c.put_object.ensures.changes (λ done. search rules) (λ state there. (c.args.list, there))
+    (λ state done new there is. becomes (put_stored c.args.state.now.settings.now state c.args.bucket.now c.args.key.now c.args.label.now _ there c.args.acl c.args.content_type.now c.args.meta.now c.args.body.now _
+    (sym c.is_other_acl.ensures ∙ c.if-is_other_acl.false) (c.in_ok-from_slice.ensures ∙ c.body_etag.ensures ∙ ap body_etag c.as_slice.ensures)) is))
