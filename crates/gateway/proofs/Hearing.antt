@@ -2,7 +2,7 @@
 use Rattle.std.proofs.Common.{◌≡◌, ◌≢◌, ℕ, Bool, true, false, cond, List, [], Option, None, Some, Result, Ok, Err, codes, refl, sym, ap}
 use Rattle.gate_base.specs.declared.page.Caller.{Caller}
 use Rattle.gate_base.specs.declared.page.Caller.TheVariants.{Owner, Anonymous}
-use Rattle.s3_machine.specs.declared.code.Code.TheVariants.{AccessDenied, AuthorizationHeaderMalformed, InvalidAccessKeyId, InvalidRequest, NotImplemented, RequestTimeTooSkewed, SignatureDoesNotMatch, XAmzContentSHA256Mismatch}
+use Rattle.s3_machine.specs.declared.code.Code.TheVariants.{AccessDenied, AuthorizationHeaderMalformed, InvalidAccessKeyId, InvalidRequest, InvalidURI, NotImplemented, RequestTimeTooSkewed, SignatureDoesNotMatch, XAmzContentSHA256Mismatch}
 use Rattle.s3_machine.specs.declared.operation.Settings.{Settings}
 use Rattle.s3_names.specs.declared.fault.NameFault.{NameFault}
 use Rattle.s3_names.specs.declared.target.Target.{Target}
@@ -21,8 +21,9 @@ use Rattle.gateway.specs.declared.heard.Heard.{Heard}
 use Rattle.gateway.specs.declared.meant.Meant.TheVariants.{Refused, Memory}
 use Rattle.gateway.specs.declared.service.Service.{Service}
 use Rattle.gateway.specs.Request.{raw_path, end_after, refused_by, admitted, sender_of, sender, signed_at, understood, request_of, refused_request, code_of}
-use Rattle.gateway.specs.Heard.{Is, IsProperCode, IsProperMeant}
-use Rattle.gateway.proofs.Proper.{is_store_fault, proper_code, meaning_known}
+use Rattle.gateway.specs.Heard.{Is, IsProperMeant}
+use Rattle.gateway.specs.Proper.{IsProperCode}
+use Rattle.gateway.proofs.Proper.{is_store_fault, proper_code, meaning_known, meaning_proper}
 
 -- ---- signatures
 
@@ -111,6 +112,14 @@ understood_known service moment message (Ok target) =
     admitted_known service.settings message target (signed_at service moment message target) (signed_known service.keys service.settings.region message target moment)
 understood_known service moment message (Err fault) = λ e. cc
 
+admitted_proper : (settings : Settings) (message : Message) (target : Target) (verdict : Result Caller Refusal) → IsProperMeant (admitted settings message target verdict)
+admitted_proper settings message target (Ok caller) = meaning_proper settings message target caller
+admitted_proper settings message target (Err refusal) = refused_proper refusal
+
+understood_proper : (service : Service) (moment : ℕ) (message : Message) (read : Result Target NameFault) → IsProperMeant (understood service moment message read)
+understood_proper service moment message (Ok target) = admitted_proper service.settings message target (signed_at service moment message target)
+understood_proper service moment message (Err fault) = proper_code InvalidURI refl
+
 pub message_is : (heard : Heard) (service : Service) (moment : ℕ) (message : Message)
     → (heard.means ≢ Memory → heard.caller ≡ sender service moment message (target_of message.target))
     → heard.method.now ≡ message.method → heard.resource.now ≡ raw_path message.target
@@ -120,7 +129,11 @@ message_is heard service moment message caller method resource means end = recor
   caller = caller;
   method = method;
   resource = resource;
-  understands = record { meant = understood_known service moment message (target_of message.target); same = means };
+  understands = record {
+    meant = understood_known service moment message (target_of message.target);
+    proper = understood_proper service moment message (target_of message.target);
+    same = means;
+  };
   end = end;
 }
 
@@ -145,6 +158,6 @@ refused_is heard kind place head caller method resource means end = record {
   caller = λ _. caller;
   method = method;
   resource = resource;
-  understands = record { meant = λ e. cc; same = λ _. means };
+  understands = record { meant = λ e. cc; proper = code_is_proper kind; same = λ _. means };
   end = end;
 }

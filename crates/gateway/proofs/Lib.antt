@@ -1,9 +1,15 @@
 pub mod Hearing
 pub mod JoinLemmas
+pub mod Living
 pub mod Looping
+pub mod Map
+pub mod Operating
+pub mod Order
+pub mod Passing
 pub mod Pieces
 pub mod Proper
 pub mod Replying
 pub mod Serving
+pub mod Standing
 pub mod Statuses
 pub mod Turning

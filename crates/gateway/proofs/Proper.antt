@@ -1,5 +1,5 @@
 -- A request means an operation that keeps the limits, or a code that is none for a store that failed.
-use Rattle.std.proofs.Common.{◌≡◌, ◌≢◌, ◌≤◌, ℕ, Bool, true, false, not, ◌&&◌, cond, nat_lt, List, [], ◌∷◌, length, Option, Some, None, find, refl, sym, ◌∙◌, ap, subst, arith}
+use Rattle.std.proofs.Common.{◌≡◌, ◌≢◌, ◌≤◌, ℕ, Bool, true, false, not, ◌&&◌, cond, nat_lt, List, [], ◌∷◌, length, Option, Some, None, find, refl, ap, subst, arith}
 use Rattle.std.proofs.lemmas.Bool.{and_parts, not-false}
 use Rattle.std.proofs.lemmas.Bool.Decides.{nat_tests}
 use Rattle.gate_base.specs.declared.page.Caller.{Caller}
@@ -7,20 +7,20 @@ use Rattle.s3_names.specs.declared.target.Target.{Target}
 use Rattle.s3_names.specs.Bucket.{is_bucket}
 use Rattle.s3_names.specs.Key.{is_key}
 use Rattle.s3_machine.specs.declared.code.Code.{Code}
-use Rattle.s3_machine.specs.declared.code.Code.TheVariants.{AccessDenied, BadDigest, EntityTooLarge, InvalidArgument, InvalidBucketName, InvalidDigest, InvalidStorageClass, InvalidURI, KeyTooLongError, MetadataTooLarge, MethodNotAllowed, NotImplemented, ServiceUnavailable, InconsistentStore}
+use Rattle.s3_machine.specs.declared.code.Code.TheVariants.{MethodNotAllowed, NotImplemented, ServiceUnavailable, InconsistentStore}
 use Rattle.s3_machine.specs.declared.operation.Settings.{Settings}
 use Rattle.s3_machine.specs.Limits.{most_body_bytes}
-use Rattle.s3_machine.specs.Step.{IsPlace, IsProperContent}
+use Rattle.s3_machine.specs.Step.{IsPlace}
 use Rattle.http_wire.specs.declared.message.Message.{Message}
 use Rattle.gateway.specs.declared.meant.Meant.{Meant}
-use Rattle.gateway.specs.declared.meant.Meant.TheVariants.{Op, Refused, Memory}
+use Rattle.gateway.specs.declared.meant.Meant.TheVariants.{Refused, Memory}
 use Rattle.gateway.specs.declared.rows.Level.{Level}
 use Rattle.gateway.specs.declared.rows.Level.TheVariants.{Service, Bucket, Key}
 use Rattle.gateway.specs.declared.rows.Row.{Row}
-use Rattle.gateway.specs.declared.rows.Row.TheVariants.{ListBuckets, CreateBucket, PutBucketAcl, DeleteBucket, HeadBucket, GetLocation, GetBucketAcl, ListObjects, ListObjectsV2, ListUploads, PutObject, GetObject, HeadObject, DeleteObject, GetObjectAcl, CreateUpload, UploadPart, ListParts, CompleteUpload, AbortUpload}
+use Rattle.gateway.specs.declared.rows.Row.TheVariants.{CreateBucket, PutObject, GetObject, HeadObject, DeleteObject}
 use Rattle.gateway.specs.Rows.{rows, shape_of, level_of, is_same_level, is_same_set, fits}
-use Rattle.gateway.specs.Content.{taken_type, taken_meta}
-use Rattle.gateway.specs.Heard.{IsProperCode, IsProperMeant}
+use Rattle.gateway.specs.Heard.{IsProperMeant}
+use Rattle.gateway.specs.Proper.{IsProperCode}
 use Rattle.gateway.specs.Meaning.{Reason, first_refusal, target_reasons, reasons, row_of, judged, op_of, meaning_of}
 
 -- ---- the reasons

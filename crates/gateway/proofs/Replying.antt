@@ -1,66 +1,148 @@
 -- What a request means, and what it is answered.
-use Rattle.std.proofs.Common.{◌≡◌, ◌≢◌, ◌≤◌, ℕ, ◌+◌, refl, sym, ap, subst, ◌∙◌, inl, arith}
+use Rattle.std.specs.Prelude.{◌≡◌, ◌≢◌, ℕ, Bool, true, false, [], ◌∷◌, Option}
+use Rattle.std.proofs.Common.{refl, sym, ap, subst, ◌∙◌, inl, inr, arith}
 use Rattle.gate_base.specs.declared.page.Caller.{Caller}
 use Rattle.s3_machine.specs.declared.code.Code.{Code}
+use Rattle.s3_machine.specs.declared.code.Code.TheVariants.{ServiceUnavailable}
 use Rattle.s3_machine.specs.declared.operation.Label.{Label}
 use Rattle.s3_machine.specs.declared.operation.Settings.{Settings}
 use Rattle.s3_machine.specs.declared.operation.Op.{Op}
 use Rattle.s3_machine.specs.declared.operation.Reply.{Reply}
 use Rattle.s3_machine.specs.declared.operation.Reply.TheVariants as answer
 use Rattle.swift_calls.specs.History.{History}
-use Rattle.upload_records.specs.Native.{native}
-use Rattle.upload_records.specs.Sound.{Sound}
-use Rattle.recovery.specs.Turns.{Quiet}
-use Rattle.recovery.specs.Agree.{turns_quiet}
-use Rattle.recovery.specs.Answers.{Answers, memory, most_calls}
+use Rattle.recovery.specs.declared.state.Known.{Known}
+use Rattle.recovery.specs.declared.state.Known.TheVariants as known
+use Rattle.recovery.specs.Answers.{memory}
+use Rattle.recovery.specs.Calls.{Met}
+use Rattle.recovery.specs.Settling.{IsKnown}
+use Rattle.recovery.proofs.Agree.{passes_still}
+use Rattle.recovery.proofs.One.{none_made}
 use Rattle.gateway.specs.declared.meant.Meant.{Meant}
 use Rattle.gateway.specs.declared.meant.Meant.TheVariants as meant
-use Rattle.gateway.specs.Heard.{Understands}
+use Rattle.gateway.specs.Heard.{IsProperMeant, Understands}
+use Rattle.gateway.specs.Proper.{IsProperCode}
 use Rattle.gateway.specs.Request.{Request}
 use Rattle.gateway.specs.Connection.{sent_by}
-use Rattle.gateway.specs.Exchange.{Replies, refused, answered}
+use Rattle.gateway.specs.Exchange.{Asked, asked_by, mark, Turn, Spans, Performs, unsettled, answered, refused, performed, refused_any, performed_any, RepliesBy, RepliesDue, Where, IsCaused, Operated}
+use Rattle.gateway.specs.Stands.{TurnPasses, Stands}
+use Rattle.gateway.proofs.Order.{follows_none, spans_follow}
+use Rattle.gateway.proofs.Passing.{performs_pass, all_pass_none, all_pass_one}
 
--- a reply is due, and it is the one that is given, unless memory was wanted
-abbrev pub IsReplied : Settings → History → ℕ → ℕ → Request → Label → Reply → Type 0
-IsReplied settings h p q request label given =
-    (t : ℕ) × (due : Reply) × Replies settings h p t q request label due × (given ≢ answer.Memory → given ≡ due)
+-- ---- the account
 
--- one number alone
-pub still : (h : History) (p : ℕ) → Sound (h.tree_at p) → Quiet h p p
-still h p sound = record {
-  ordered = omega arith;
-  same = λ k from to. let e : k ≡ p = omega arith in ap (λ j. native (h.tree_at j)) e;
-  sound = λ k from to. let e : p ≡ k = omega arith in subst (λ j. Sound (h.tree_at j)) e sound;
-}
+-- a turn in which the calls are made between two numbers
+abbrev pub turn_between : ℕ → ℕ → Option Asked → Turn
+turn_between p q asked = record { from = p; begins = p; turned = p; to = q; asked = asked; takes = 0 }
 
-pub replies_op : (settings : Settings) (h : History) (p q : ℕ) (request : Request) (label : Label) (means : Meant) (op : Op) (given : Reply)
-    → means ≡ meant.Op op → Understands means request → (means ≢ meant.Memory → label.caller ≡ request.caller) → ((t : ℕ) × Answers settings h p t q op label given) → q ≤ p + most_calls op (h.tree_at p)
-    → IsReplied settings h p q request (sent_by request.caller label) given
-replies_op settings h p q request label means op given e u from a bound =
-    let not_memory : means ≢ meant.Memory = λ m. (let no : meant.Op op ≡ meant.Memory = sym e ∙ m in cc) in
-    let same : label.caller ≡ request.caller = from not_memory in
-    let P : Caller → Type 0 = λ caller. Answers settings h p a.0 q op (sent_by caller label) given in
-    let own : P request.caller = subst P same a.1 in
-    (a.0, given, answered op (sym (u.same not_memory) ∙ e) own bound, λ _. refl)
+-- the account goes through the steps of an operation
+pub operated_stands : {settings : Settings} {op : Op} {label : Label} {old new : History} {was now : Known} {reply : Reply} → Operated settings op label old new was now reply → Stands settings was now old new
+operated_stands {settings = settings} {new = new} operated met =
+    let told = operated.told met in
+    let turn = told.0 in
+    let spans = told.1 in
+    record {
+      turns = turn ∷ [];
+      follows = spans_follow spans;
+      passes = all_pass_one settings new turn (subst (TurnPasses settings new turn) (sym spans.asked) (performs_pass spans told.2));
+      known = operated.known met.tells met.has;
+    }
 
-pub replies_refused : (settings : Settings) (h : History) (p : ℕ) (request : Request) (label : Label) (means : Meant) (code : Code)
-    → means ≡ meant.Refused code → Understands means request → Sound (h.tree_at p)
-    → IsReplied settings h p p request label (answer.Refused code)
-replies_refused settings h p request label means code e u sound =
-    let not_memory : means ≢ meant.Memory = λ m. (let no : meant.Refused code ≡ meant.Memory = sym e ∙ m in cc) in
-    (p, answer.Refused code, refused code (sym (u.same not_memory) ∙ e) refl sound refl refl, λ _. refl)
+-- no call was made
+pub stands_still : (settings : Settings) (was : Known) (h : History) → Stands settings was was h h
+stands_still settings was h met = record { turns = []; follows = follows_none refl; passes = all_pass_none settings h; known = met.has }
 
-replies_none : (settings : Settings) (h : History) (p : ℕ) (request : Request) (label : Label) (means : Meant)
-    → request.means ≡ means → means ≢ meant.Memory → Sound (h.tree_at p) → (t : ℕ) × (due : Reply) × Replies settings h p t p request label due
-replies_none settings h p request label (meant.Op op) e known sound =
-    (p, answer.Memory, answered op e (record { turns = turns_quiet (still h p sound); by = memory refl (λ k from to. absurd (omega arith)) (inl refl) }) (omega arith))
-replies_none settings h p request label (meant.Refused code) e known sound =
-    (p, answer.Refused code, refused code e refl sound refl refl)
-replies_none settings h p request label meant.Memory e known sound = absurd (known refl)
+-- ---- a reply that is due
+
+module _ (settings : Settings) (old new : History) (was now : Known) (request : Request) (label : Label) where
+  due_op : (all : Bool) {op : Op} {given : Reply} → request.means ≡ meant.Op op → Operated settings op (sent_by request.caller label) old new was now given → Where all (Met (IsKnown was) old)
+      → RepliesDue (RepliesBy all settings new) (mark old was) (mark new now) request (sent_by request.caller label) given
+  due_op true {op = op} {given = given} is own met =
+      let told = own.told met in
+      record {
+        turn = told.0;
+        due = given;
+        spans = subst (Spans (mark old was) told.0 (mark new now)) (sym (ap (λ m. asked_by m (sent_by request.caller label)) is)) told.1;
+        replies = performed op is told.2 own.caused (own.known met.tells met.has);
+        same = λ _. refl;
+      }
+  due_op false {op = op} {given = given} is own met = record {
+    turn = turn_between old.called new.called (asked_by request.means (sent_by request.caller label));
+    due = given;
+    spans = record { from = refl; settles = omega arith; first = omega arith; last = own.on.ordered; to = refl; asked = refl; faults = own.on.faults };
+    replies = performed_any op is own.caused;
+    same = λ _. refl;
+  }
+
+  -- to an operation
+  pub replied_op : (all : Bool) (means : Meant) (op : Op) (given : Reply) → means ≡ meant.Op op → Understands means request → (means ≢ meant.Memory → label.caller ≡ request.caller)
+      → Operated settings op label old new was now given → Where all (Met (IsKnown was) old)
+      → RepliesDue (RepliesBy all settings new) (mark old was) (mark new now) request (sent_by request.caller label) given
+  replied_op all means op given e understands from operated met =
+      let not_memory : means ≢ meant.Memory = λ m. (let no : meant.Op op ≡ meant.Memory = sym e ∙ m in cc) in
+      let P : Caller → Type 0 = λ caller. Operated settings op (sent_by caller label) old new was now given in
+      let own : P request.caller = subst P (from not_memory) operated in
+      due_op all (sym (understands.same not_memory) ∙ e) own met
+
+-- where no call is made
+spans_still : (h : History) (was : Known) (asked : Option Asked) → Spans (mark h was) (turn_between h.called h.called asked) (mark h was) asked
+spans_still h was asked = record { from = refl; settles = omega arith; first = omega arith; last = omega arith; to = refl; asked = refl; faults = omega arith }
+
+-- a request whose code is known has it
+pub code_meant : (request : Request) (means : Meant) (code : Code) → means ≡ meant.Refused code → Understands means request → request.means ≡ meant.Refused code
+code_meant request means code e understands = sym (understands.same (λ m. (let no : meant.Refused code ≡ meant.Memory = sym e ∙ m in cc))) ∙ e
+
+-- a request that has a code of its own
+module _ (settings : Settings) (h : History) (was : Known) (request : Request) (label : Label) where
+  by_code : (all : Bool) {code : Code} → request.means ≡ meant.Refused code → IsProperCode code → Where all (Met (IsKnown was) h)
+      → RepliesBy all settings h (mark h was) (turn_between h.called h.called (asked_by request.means label)) (mark h was) request label (answer.Refused code)
+  by_code true {code = code} is proper met = refused code is refl proper met.sound refl refl
+  by_code false {code = code} is proper met = refused_any code is refl proper refl
+
+  pub replied_refused : (all : Bool) (code : Code) → request.means ≡ meant.Refused code → IsProperCode code → Where all (Met (IsKnown was) h)
+      → RepliesDue (RepliesBy all settings h) (mark h was) (mark h was) request label (answer.Refused code)
+  replied_refused all code is proper met = record {
+    turn = turn_between h.called h.called (asked_by request.means label);
+    due = answer.Refused code;
+    spans = spans_still h was (asked_by request.means label);
+    replies = by_code all is proper met;
+    same = λ _. refl;
+  }
+
+-- the word that memory was wanted is one that may be said to an operation, whatever is known of the store
+wanted_caused : (h : History) (was : Known) (op : Op) → IsCaused (mark h was) (mark h was) op answer.Memory
+wanted_caused h was op = record { unavailable = λ is. absurd (let no : answer.Memory ≡ answer.Refused ServiceUnavailable = is in cc); unsure = λ is. inl (is, inr (inr refl)) }
+
+wanted_performs : (settings : Settings) (h : History) (was : Known) (op : Op) (label : Label) (asked : Option Asked) → Met (IsKnown was) h
+    → Performs settings h (mark h was) (turn_between h.called h.called asked) (mark h was) op label answer.Memory
+wanted_performs settings h known.Settled op label asked met = answered
+    (record { needs_none = λ is. refl; quiet = none_made refl met.sound; no_fault = refl; within = omega arith; settled = met.has refl })
+    (record { passes = passes_still (none_made refl met.sound); by = memory refl (λ k from to. absurd (omega arith)); beside = tt })
+    (omega arith)
+wanted_performs settings h known.Unsure op label asked met = unsettled
+    (record { needs_some = refl; quiet = none_made refl met.sound; within = omega arith; says = inr refl })
+    refl refl
 
 -- memory was wanted before any call
-pub replies_memory : (settings : Settings) (h : History) (p : ℕ) (request : Request) (label : Label)
-    → request.means ≢ meant.Memory → Sound (h.tree_at p) → IsReplied settings h p p request label answer.Memory
-replies_memory settings h p request label known sound =
-    let due = replies_none settings h p request label request.means refl known sound in
-    (due.0, due.1, due.2, λ not. absurd (not refl))
+module _ (settings : Settings) (h : History) (was : Known) (request : Request) (label : Label) where
+  wanted_op : (all : Bool) (op : Op) → request.means ≡ meant.Op op → Where all (Met (IsKnown was) h)
+      → RepliesBy all settings h (mark h was) (turn_between h.called h.called (asked_by request.means label)) (mark h was) request label answer.Memory
+  wanted_op true op is met = performed op is (wanted_performs settings h was op label (asked_by request.means label) met) (wanted_caused h was op) met.has
+  wanted_op false op is met = performed_any op is (wanted_caused h was op)
+
+  by_means : (all : Bool) (means : Meant) → request.means ≡ means → request.means ≢ meant.Memory → IsProperMeant request.means → Where all (Met (IsKnown was) h)
+      → RepliesDue (RepliesBy all settings h) (mark h was) (mark h was) request label answer.Memory
+  by_means all (meant.Op op) is some proper met = record {
+    turn = turn_between h.called h.called (asked_by request.means label);
+    due = answer.Memory;
+    spans = spans_still h was (asked_by request.means label);
+    replies = wanted_op all op is met;
+    same = λ _. refl;
+  }
+  by_means all (meant.Refused code) is some proper met =
+      let due = replied_refused settings h was request label all code is (subst IsProperMeant is proper) met in
+      record { turn = due.turn; due = due.due; spans = due.spans; replies = due.replies; same = λ not. absurd (not refl) }
+  by_means all meant.Memory is some proper met = absurd (some is)
+
+  pub replied_memory : (all : Bool) → Understands meant.Memory request → Where all (Met (IsKnown was) h)
+      → RepliesDue (RepliesBy all settings h) (mark h was) (mark h was) request label answer.Memory
+  replied_memory all understands met = by_means all request.means refl understands.meant understands.proper met

@@ -5,10 +5,8 @@ use Rattle.std.proofs.lemmas.List.Elements.{All-nil, All-cons}
 use Rattle.gate_base.specs.declared.outside.Piece.{Piece}
 use Rattle.gate_base.specs.Wire.{Wire, with_piece, SendsPrefix}
 use Rattle.s3_machine.specs.declared.operation.Label.{Label}
-use Rattle.s3_machine.specs.declared.operation.Settings.{Settings}
 use Rattle.s3_machine.specs.declared.operation.Reply.{Reply}
 use Rattle.s3_machine.specs.declared.operation.Reply.TheVariants as answer
-use Rattle.swift_calls.specs.History.{History}
 use Rattle.http_wire.specs.Front.{is_head}
 use Rattle.http_wire.specs.Print.{memory_reply}
 use Rattle.gate_base.specs.declared.page.Caller.{Caller}
@@ -16,21 +14,13 @@ use Rattle.gateway.specs.declared.ended.Ended.{Ended}
 use Rattle.gateway.specs.declared.ended.Ended.TheVariants as ended
 use Rattle.gateway.specs.declared.heard.Heard.{Heard}
 use Rattle.gateway.specs.declared.meant.Meant.TheVariants as meant
-use Rattle.gateway.specs.declared.service.Service.{Service}
-use Rattle.gateway.specs.Heard.{Is}
+use Rattle.gateway.specs.Heard.{Is, Understands}
 use Rattle.gateway.specs.declared.turn.Turned.TheVariants.{Served, Broken}
 use Rattle.gateway.specs.Request.{Request, reply_text, print}
-use Rattle.gateway.specs.Exchange.{Replies, refused, answered, printed, wanted, Sends, SendsPart, IsPiece}
+use Rattle.gateway.specs.Exchange.{Mark, Turn, RepliesDue, printed, wanted, Sends, SendsPart, IsPiece}
 use Rattle.gateway.specs.Connection.{LabelGiven, sent_by, tally}
 use Rattle.gateway.specs.Turned.{TurnsOnce}
 use Rattle.gateway.specs.Write.{IsText}
-use Rattle.gateway.proofs.Replying.{IsReplied}
-
--- the turn stands between the numbers
-pub replies_order : (settings : Settings) (h : History) (p t q : ℕ) (request : Request) (label : Label) (due : Reply)
-    → Replies settings h p t q request label due → (p ≤ t) × (t ≤ q)
-replies_order settings h p t q request label due (refused code means is sound turned one) = (omega arith, omega arith)
-replies_order settings h p t q request label due (answered op means answers bound) = (answers.turns.after_p, answers.turns.up_to_q)
 
 only : (connection t q : ℕ) (bytes : List ℕ) → t ≤ q → All (IsPiece connection t q) (record { connection = connection; at = q; bytes = bytes } ∷ [])
 only connection t q bytes near =
@@ -65,81 +55,89 @@ part_of t q bytes wire wire' near (inr (n, e)) = record {
   each = only wire.begun t q (take n bytes) near;
 }
 
-module _ (service : Service) (h : History) (p q : ℕ) (moments draws moments' draws' : List ℕ) (wire wire' : Wire) (asks : ℕ → Request) (label : Label) (given : Reply)
-    (labels : LabelGiven moments draws moments' draws' (asks label.moment).caller label) (replied : IsReplied service.settings h p q (asks label.moment) label given) where
-  pub turn_whole : given ≢ answer.Memory → wire' ≡ with_piece wire q (print given label (asks label.moment))
-      → TurnsOnce service h wire.begun (tally p moments draws wire.sent) (tally q moments' draws' wire'.sent) asks (Served (asks label.moment).end)
+module _ {R : Mark → Turn → Mark → Request → Label → Reply → Type 0} (old new : Mark) (moments draws moments' draws' : List ℕ) (wire wire' : Wire) (asks : ℕ → Request) (label : Label) (given : Reply)
+    (labels : LabelGiven moments draws moments' draws' (asks label.moment).caller label) (replied : RepliesDue R old new (asks label.moment) label given) where
+  near : replied.turn.turned ≤ new.number
+  near = let last = replied.spans.last in let to = replied.spans.to in omega arith
+
+  pub turn_whole : given ≢ answer.Memory → wire' ≡ with_piece wire new.number (print given label (asks label.moment))
+      → TurnsOnce R wire.begun (tally old moments draws wire.sent) (tally new moments' draws' wire'.sent) asks (Served (asks label.moment).end)
   turn_whole known wrote =
       let request = asks label.moment in
-      let near = replies_order service.settings h p replied.0 q request label replied.1 replied.2 in
-      let same : given ≡ replied.1 = replied.3 known in (
-        replied.0,
-        label,
-        labels,
-        record {
-          reply = replied.1;
+      let same : given ≡ replied.due = replied.same known in
+      record {
+        turn = replied.turn;
+        label = label;
+        labels = labels;
+        exchange = record {
+          reply = replied.due;
           bytes = print given label request;
-          replies = replied.2;
+          spans = replied.spans;
+          replies = replied.replies;
           due = printed (λ e. known (same ∙ e)) (λ i. print (same i) label request) refl;
-          sends = one_piece replied.0 q (print given label request) wire wire' near.1 wrote;
-        },
-      )
+          sends = one_piece replied.turn.turned new.number (print given label request) wire wire' near wrote;
+        };
+      }
 
-  pub turn_wanted : wire' ≡ with_piece wire q (memory_reply (is_head (asks label.moment).method))
-      → TurnsOnce service h wire.begun (tally p moments draws wire.sent) (tally q moments' draws' wire'.sent) asks (Served (Some ended.Memory))
+  pub turn_wanted : wire' ≡ with_piece wire new.number (memory_reply (is_head (asks label.moment).method))
+      → TurnsOnce R wire.begun (tally old moments draws wire.sent) (tally new moments' draws' wire'.sent) asks (Served (Some ended.Memory))
   turn_wanted wrote =
       let request = asks label.moment in
-      let near = replies_order service.settings h p replied.0 q request label replied.1 replied.2 in (
-        replied.0,
-        label,
-        labels,
-        record {
-          reply = replied.1;
+      record {
+        turn = replied.turn;
+        label = label;
+        labels = labels;
+        exchange = record {
+          reply = replied.due;
           bytes = memory_reply (is_head request.method);
-          replies = replied.2;
+          spans = replied.spans;
+          replies = replied.replies;
           due = wanted refl refl;
-          sends = one_piece replied.0 q (memory_reply (is_head request.method)) wire wire' near.1 wrote;
-        },
-      )
+          sends = one_piece replied.turn.turned new.number (memory_reply (is_head request.method)) wire wire' near wrote;
+        };
+      }
 
-  pub turn_broken : (bytes : List ℕ) → IsText given label (asks label.moment).method (asks label.moment).resource (is_some (asks label.moment).end) bytes → SendsPrefix wire q bytes wire'
-      → TurnsOnce service h wire.begun (tally p moments draws wire.sent) (tally q moments' draws' wire'.sent) asks Broken
+  pub turn_broken : (bytes : List ℕ) → IsText given label (asks label.moment).method (asks label.moment).resource (is_some (asks label.moment).end) bytes → SendsPrefix wire new.number bytes wire'
+      → TurnsOnce R wire.begun (tally old moments draws wire.sent) (tally new moments' draws' wire'.sent) asks Broken
   turn_broken bytes (inl text) part =
       let request = asks label.moment in
-      let near = replies_order service.settings h p replied.0 q request label replied.1 replied.2 in
-      let same : given ≡ replied.1 = replied.3 text.0 in (
-        replied.0,
-        label,
-        labels,
-        record {
-          reply = replied.1;
+      let same : given ≡ replied.due = replied.same text.0 in
+      record {
+        turn = replied.turn;
+        label = label;
+        labels = labels;
+        exchange = record {
+          reply = replied.due;
           end = request.end;
           bytes = bytes;
-          replies = replied.2;
+          spans = replied.spans;
+          replies = replied.replies;
           due = printed (λ e. text.0 (same ∙ e)) (text.1 ∙ (λ i. print (same i) label request)) refl;
-          sends = part_of replied.0 q bytes wire wire' near.1 part;
-        },
-      )
+          sends = part_of replied.turn.turned new.number bytes wire wire' near part;
+        };
+      }
   turn_broken bytes (inr text) part =
       let request = asks label.moment in
-      let near = replies_order service.settings h p replied.0 q request label replied.1 replied.2 in (
-        replied.0,
-        label,
-        labels,
-        record {
-          reply = replied.1;
+      record {
+        turn = replied.turn;
+        label = label;
+        labels = labels;
+        exchange = record {
+          reply = replied.due;
           end = Some ended.Memory;
           bytes = bytes;
-          replies = replied.2;
+          spans = replied.spans;
+          replies = replied.replies;
           due = wanted text refl;
-          sends = part_of replied.0 q bytes wire wire' near.1 part;
-        },
-      )
+          sends = part_of replied.turn.turned new.number bytes wire wire' near part;
+        };
+      }
 
 -- the same, of a request as the code holds it: the code's label has the caller of the request, unless memory was wanted
-module _ (service : Service) (h : History) (p q : ℕ) (moments draws moments' draws' : List ℕ) (wire wire' : Wire) (asks : ℕ → Request) (next label : Label) (given : Reply)
+module _ {R : Mark → Turn → Mark → Request → Label → Reply → Type 0} (old new : Mark) (moments draws moments' draws' : List ℕ) (wire wire' : Wire) (asks : ℕ → Request) (next label : Label) (given : Reply)
     (heard : Heard) (is : Is heard (asks next.moment)) (own : label ≡ sent_by heard.caller next) (labels : (from : Caller) → LabelGiven moments draws moments' draws' from (sent_by from next))
-    (known : heard.means ≡ meant.Memory → given ≡ answer.Memory) (replied : IsReplied service.settings h p q (asks next.moment) (sent_by (asks next.moment).caller label) given) where
+    (known : heard.means ≡ meant.Memory → given ≡ answer.Memory)
+    (told : (request : Request) → Understands heard.means request → (heard.means ≢ meant.Memory → label.caller ≡ request.caller) → RepliesDue R old new request (sent_by request.caller label) given) where
   abbrev due_label : Label
   due_label = sent_by (asks next.moment).caller next
 
@@ -147,24 +145,24 @@ module _ (service : Service) (h : History) (p q : ℕ) (moments draws moments' d
   same_label : given ≢ answer.Memory → label ≡ due_label
   same_label other = own ∙ (λ i. sent_by (is.caller (λ e. other (known e)) i) next)
 
-  due_replied : IsReplied service.settings h p q (asks next.moment) due_label given
+  due_replied : RepliesDue R old new (asks next.moment) due_label given
   due_replied =
-      let P : Label → Type 0 = λ l. IsReplied service.settings h p q (asks next.moment) (sent_by (asks next.moment).caller l) given in
-      subst P own replied
+      let P : Label → Type 0 = λ l. RepliesDue R old new (asks next.moment) (sent_by (asks next.moment).caller l) given in
+      subst P own (told (asks next.moment) is.understands (λ some. ap (λ l. l.caller) own ∙ is.caller some))
 
-  pub heard_whole : (closing : Bool) → closing ≡ is_some heard.end → given ≢ answer.Memory → wire' ≡ with_piece wire q (reply_text given label heard.method.now heard.resource.now closing)
-      → TurnsOnce service h wire.begun (tally p moments draws wire.sent) (tally q moments' draws' wire'.sent) asks (Served heard.end)
+  pub heard_whole : (closing : Bool) → closing ≡ is_some heard.end → given ≢ answer.Memory → wire' ≡ with_piece wire new.number (reply_text given label heard.method.now heard.resource.now closing)
+      → TurnsOnce R wire.begun (tally old moments draws wire.sent) (tally new moments' draws' wire'.sent) asks (Served heard.end)
   heard_whole closing ends other wrote =
       let same : reply_text given label heard.method.now heard.resource.now closing ≡ print given due_label (asks next.moment)
       = ap (reply_text given label heard.method.now heard.resource.now) ends ∙ (λ i. reply_text given (same_label other i) (is.method i) (is.resource i) (is_some (is.end i))) in
-      let done = turn_whole service h p q moments draws moments' draws' wire wire' asks due_label given (labels (asks next.moment).caller) due_replied other (wrote ∙ ap (with_piece wire q) same) in
-      let P : Option Ended → Type 0 = λ e. TurnsOnce service h wire.begun (tally p moments draws wire.sent) (tally q moments' draws' wire'.sent) asks (Served e) in
+      let done = turn_whole old new moments draws moments' draws' wire wire' asks due_label given (labels (asks next.moment).caller) due_replied other (wrote ∙ ap (with_piece wire new.number) same) in
+      let P : Option Ended → Type 0 = λ e. TurnsOnce R wire.begun (tally old moments draws wire.sent) (tally new moments' draws' wire'.sent) asks (Served e) in
       subst P (sym is.end) done
 
-  pub heard_wanted : wire' ≡ with_piece wire q (memory_reply (is_head heard.method.now))
-      → TurnsOnce service h wire.begun (tally p moments draws wire.sent) (tally q moments' draws' wire'.sent) asks (Served (Some ended.Memory))
-  heard_wanted wrote = turn_wanted service h p q moments draws moments' draws' wire wire' asks due_label given (labels (asks next.moment).caller) due_replied
-      (wrote ∙ ap (λ m. with_piece wire q (memory_reply (is_head m))) is.method)
+  pub heard_wanted : wire' ≡ with_piece wire new.number (memory_reply (is_head heard.method.now))
+      → TurnsOnce R wire.begun (tally old moments draws wire.sent) (tally new moments' draws' wire'.sent) asks (Served (Some ended.Memory))
+  heard_wanted wrote = turn_wanted old new moments draws moments' draws' wire wire' asks due_label given (labels (asks next.moment).caller) due_replied
+      (wrote ∙ ap (λ m. with_piece wire new.number (memory_reply (is_head m))) is.method)
 
   -- the text that was begun, of the label that is due
   due_text : (closing : Bool) (bytes : List ℕ) → closing ≡ is_some heard.end → IsText given label heard.method.now heard.resource.now closing bytes
@@ -176,7 +174,7 @@ module _ (service : Service) (h : History) (p q : ℕ) (moments draws moments' d
   due_text closing bytes ends (inr text) = inr (text ∙ ap (λ m. memory_reply (is_head m)) is.method)
 
   pub heard_broken : (closing : Bool) → closing ≡ is_some heard.end
-      → ((bytes : List ℕ) × IsText given label heard.method.now heard.resource.now closing bytes × SendsPrefix wire q bytes wire')
-      → TurnsOnce service h wire.begun (tally p moments draws wire.sent) (tally q moments' draws' wire'.sent) asks Broken
+      → ((bytes : List ℕ) × IsText given label heard.method.now heard.resource.now closing bytes × SendsPrefix wire new.number bytes wire')
+      → TurnsOnce R wire.begun (tally old moments draws wire.sent) (tally new moments' draws' wire'.sent) asks Broken
   heard_broken closing ends wrote =
-      turn_broken service h p q moments draws moments' draws' wire wire' asks due_label given (labels (asks next.moment).caller) due_replied wrote.0 (due_text closing wrote.0 ends wrote.1) wrote.2
+      turn_broken old new moments draws moments' draws' wire wire' asks due_label given (labels (asks next.moment).caller) due_replied wrote.0 (due_text closing wrote.0 ends wrote.1) wrote.2

@@ -1,12 +1,12 @@
--- One connection, from the bytes that are left of it to how it ends. The definitions take the history of the
--- store first, and then the number of the connection. Source: RFC 9112 section 9 and this profile.
+-- One connection, from the bytes that are left of it to how it ends. The definitions take first what is said of replies, and
+-- then the number of the connection. Source: RFC 9112 section 9 and this profile.
 use Rattle.std.specs.Prelude.{◌≡◌, ℕ, Bool, true, false, List, [], ◌∷◌, ◌++◌, drop, Option, None, Some}
 use Rattle.gate_base.specs.declared.outside.Piece.{Piece}
 use Rattle.gate_base.specs.declared.page.Caller.{Caller}
 use Rattle.gate_base.specs.Told.{GivesMoment, GivesDraw}
 use Rattle.s3_machine.specs.declared.operation.Label.{Label}
+use Rattle.s3_machine.specs.declared.operation.Reply.{Reply}
 use Rattle.gateway.specs.declared.service.Service.{Service}
-use Rattle.swift_calls.specs.History.{History}
 use Rattle.http_wire.specs.declared.message.Message.{Message}
 use Rattle.http_wire.specs.declared.message.Kind.{Kind}
 use Rattle.http_wire.specs.Front.{IsFront, asks, nothing, cut_short, refused}
@@ -15,24 +15,20 @@ use Rattle.http_wire.specs.Print.{memory_reply}
 use Rattle.gateway.specs.declared.ended.Ended.{Ended}
 use Rattle.gateway.specs.declared.ended.Ended.TheVariants.{End, Closed, CutShort, Refused, LineFailed, Memory}
 use Rattle.gateway.specs.Request.{Request, request_of, refused_request}
-use Rattle.gateway.specs.Exchange.{Turn, Exchange, CutExchange, Sends, SendsPart}
+use Rattle.gateway.specs.Exchange.{Mark, Turn, Exchange, CutExchange, Sends, SendsPart}
 
 -- what goes on from one connection to the next
 pub record Tally : Type 0 where
-  -- how many calls the store has counted
-  pub number : ℕ
+  -- the store
+  pub mark : Mark
   -- the moments and the draws still to come
   pub moments : List ℕ
   pub draws : List ℕ
   -- the pieces sent
   pub sent : List Piece
 
-abbrev pub tally : ℕ → List ℕ → List ℕ → List Piece → Tally
-tally number moments draws sent = record { number = number; moments = moments; draws = draws; sent = sent }
-
--- the numbers of a request between two tallies, whose turn was at t
-abbrev pub turn_of : Tally → ℕ → Tally → Turn
-turn_of old t new = record { from = old.number; turned = t; to = new.number }
+abbrev pub tally : Mark → List ℕ → List ℕ → List Piece → Tally
+tally mark moments draws sent = record { mark = mark; moments = moments; draws = draws; sent = sent }
 
 -- a point between two requests of a connection
 pub record Point : Type 0 where
@@ -64,60 +60,60 @@ sent_by caller label = record label { caller = caller }
 abbrev pub Labels : Tally → Tally → Caller → Label → Type 0
 Labels old new from label = LabelGiven old.moments old.draws new.moments new.draws from label
 
--- the next request was heard and answered in whole; its turn was at the number t
-pub record Serves (service : Service) (h : History) (connection : ℕ) (end : Option Ended) (old : Point) (t : ℕ) (new : Point) : Type 0 where
+-- the next request was heard and answered in whole
+pub record Serves (service : Service) (R : Mark → Turn → Mark → Request → Label → Reply → Type 0) (connection : ℕ) (end : Option Ended) (old : Point) (turn : Turn) (new : Point) : Type 0 where
   pub request : Request
   pub label : Label
   pub hears : Hears service label.moment old request new.rest new.place
   pub labels : Labels old.tally new.tally request.caller label
-  pub exchange : Exchange service.settings h connection (turn_of old.tally t new.tally) request label end old.tally.sent new.tally.sent
+  pub exchange : Exchange R connection old.tally.mark turn new.tally.mark request label end old.tally.sent new.tally.sent
 
 -- any number of requests, none of which ended the connection, with their turns
-pub data Exchanges (service : Service) (h : History) (connection : ℕ) : Point → List Turn → Point → Type 0 where
-  none : (point : Point) → Exchanges service h connection point [] point
-  more : (old middle new : Point) (turns : List Turn) (t : ℕ) → Exchanges service h connection old turns middle → Serves service h connection None middle t new
-      → Exchanges service h connection old (turns ++ turn_of middle.tally t new.tally ∷ []) new
+pub data Exchanges (service : Service) (R : Mark → Turn → Mark → Request → Label → Reply → Type 0) (connection : ℕ) : Point → List Turn → Point → Type 0 where
+  none : (point : Point) → Exchanges service R connection point [] point
+  more : (old middle new : Point) (turns : List Turn) (turn : Turn) → Exchanges service R connection old turns middle → Serves service R connection None middle turn new
+      → Exchanges service R connection old (turns ++ turn ∷ []) new
 
 -- the next request was heard and answered, and the line failed under its reply
-pub record Breaks (service : Service) (h : History) (connection : ℕ) (old : Point) (t : ℕ) (new : Tally) : Type 0 where
+pub record Breaks (service : Service) (R : Mark → Turn → Mark → Request → Label → Reply → Type 0) (connection : ℕ) (old : Point) (turn : Turn) (new : Tally) : Type 0 where
   pub request : Request
   pub label : Label
   pub rest : List ℕ
   pub place : ℕ
   pub hears : Hears service label.moment old request rest place
   pub labels : Labels old.tally new request.caller label
-  pub exchange : CutExchange service.settings h connection (turn_of old.tally t new) request label old.tally.sent new.sent
+  pub exchange : CutExchange R connection old.tally.mark turn new.mark request label old.tally.sent new.sent
 
 -- nothing but pieces came between
 pub record OnlySent (old new : Tally) : Type 0 where
-  pub number : new.number ≡ old.number
+  pub mark : new.mark ≡ old.mark
   pub moments : new.moments ≡ old.moments
   pub draws : new.draws ≡ old.draws
 
 -- how a connection ends, from the last point before its end, with the turn of a request that ends it
-pub data Ends (service : Service) (h : History) (connection : ℕ) (ended : Ended) (last : Point) (new : Tally) : List Turn → Type 0 where
+pub data Ends (service : Service) (R : Mark → Turn → Mark → Request → Label → Reply → Type 0) (connection : ℕ) (ended : Ended) (last : Point) (new : Tally) : List Turn → Type 0 where
   -- no byte is left
-  over : ended ≡ End → IsFront last.rest nothing → new ≡ last.tally → Ends service h connection ended last new []
+  over : ended ≡ End → IsFront last.rest nothing → new ≡ last.tally → Ends service R connection ended last new []
   -- the bytes end inside a head
-  cut : ended ≡ CutShort last.place → IsFront last.rest cut_short → new ≡ last.tally → Ends service h connection ended last new []
+  cut : ended ≡ CutShort last.place → IsFront last.rest cut_short → new ≡ last.tally → Ends service R connection ended last new []
   -- a reply ended it
-  served : (point : Point) (t : ℕ) → Serves service h connection (Some ended) last t point → new ≡ point.tally → Ends service h connection ended last new (turn_of last.tally t new ∷ [])
+  served : (point : Point) (turn : Turn) → Serves service R connection (Some ended) last turn point → new ≡ point.tally → Ends service R connection ended last new (turn ∷ [])
   -- memory was wanted while a request was read
-  unread : ended ≡ Memory → OnlySent last.tally new → Sends connection last.tally.number last.tally.number (memory_reply false) last.tally.sent new.sent → Ends service h connection ended last new []
+  unread : ended ≡ Memory → OnlySent last.tally new → Sends connection last.tally.mark.number last.tally.mark.number (memory_reply false) last.tally.sent new.sent → Ends service R connection ended last new []
   -- the line failed while a request was read
-  unheard : ended ≡ LineFailed → new ≡ last.tally → Ends service h connection ended last new []
+  unheard : ended ≡ LineFailed → new ≡ last.tally → Ends service R connection ended last new []
   -- memory was wanted while a request was read, and the line failed under the reply for that
-  untold : ended ≡ LineFailed → OnlySent last.tally new → SendsPart connection last.tally.number last.tally.number (memory_reply false) last.tally.sent new.sent → Ends service h connection ended last new []
+  untold : ended ≡ LineFailed → OnlySent last.tally new → SendsPart connection last.tally.mark.number last.tally.mark.number (memory_reply false) last.tally.sent new.sent → Ends service R connection ended last new []
   -- the line failed under the reply to a request
-  broken : (t : ℕ) → ended ≡ LineFailed → Breaks service h connection last t new → Ends service h connection ended last new (turn_of last.tally t new ∷ [])
+  broken : (turn : Turn) → ended ≡ LineFailed → Breaks service R connection last turn new → Ends service R connection ended last new (turn ∷ [])
 
 -- one connection: its requests in order, none skipped, with their turns, and its end
-pub record TalkOne (service : Service) (h : History) (connection : ℕ) (ended : Ended) (old : Point) (turns : List Turn) (new : Tally) : Type 0 where
+pub record TalkOne (service : Service) (R : Mark → Turn → Mark → Request → Label → Reply → Type 0) (connection : ℕ) (ended : Ended) (old : Point) (turns : List Turn) (new : Tally) : Type 0 where
   pub last : Point
   pub before : List Turn
   pub after : List Turn
-  pub exchanges : Exchanges service h connection old before last
-  pub ends : Ends service h connection ended last new after
+  pub exchanges : Exchanges service R connection old before last
+  pub ends : Ends service R connection ended last new after
   pub all : turns ≡ before ++ after
 
 -- whether the line failed under this connection

@@ -1,33 +1,145 @@
--- One request with its reply, between the numbers p and q of calls of the store. The definitions take the history
--- of the store first. Source: this profile.
-use Rattle.std.specs.Prelude.{◌≡◌, ◌≢◌, ◌≤◌, ℕ, ◌+◌, List, [], ◌∷◌, ◌++◌, All, flat_map, Option, Some}
+-- One request with its reply. What is said of the reply is a relation of the marks before and after it. Source: this profile.
+use Rattle.std.specs.Prelude.{◌≡◌, ◌≢◌, ◌⊎◌, ◌≤◌, ℕ, ◌+◌, Bool, true, false, IsTrue, List, [], ◌∷◌, ◌++◌, All, flat_map, Option, Some, None}
+use Rattle.gate_base.specs.Causes.{Rose}
 use Rattle.gate_base.specs.declared.outside.Piece.{Piece}
 use Rattle.s3_machine.specs.declared.code.Code.{Code}
+use Rattle.s3_machine.specs.declared.code.Code.TheVariants.{ServiceUnavailable, InconsistentStore}
 use Rattle.s3_machine.specs.declared.operation.Label.{Label}
 use Rattle.s3_machine.specs.declared.operation.Settings.{Settings}
 use Rattle.s3_machine.specs.declared.operation.Op.{Op}
 use Rattle.s3_machine.specs.declared.operation.Reply.{Reply}
 use Rattle.s3_machine.specs.declared.operation.Reply.TheVariants.{Refused, Memory}
-use Rattle.swift_calls.specs.History.{History}
+use Rattle.s3_machine.specs.Shown.{IsShowable}
+use Rattle.swift_calls.specs.History.{History, present}
+use Rattle.upload_records.specs.Native.{IsSettled}
 use Rattle.upload_records.specs.Sound.{Sound}
-use Rattle.recovery.specs.Answers.{Answers, most_calls}
+use Rattle.recovery.specs.declared.state.Known.{Known}
+use Rattle.recovery.specs.declared.state.Known.TheVariants as known
+use Rattle.recovery.specs.Answers.{Answers, most_calls, most_settling}
+use Rattle.recovery.specs.Calls.{GoesOn, Met, amount}
+use Rattle.recovery.specs.Settling.{IsKnown}
+use Rattle.recovery.specs.Quiet.{Quiet, LastFailed}
 use Rattle.http_wire.specs.Front.{is_head}
 use Rattle.http_wire.specs.Print.{memory_reply}
 use Rattle.gateway.specs.declared.ended.Ended.{Ended}
 use Rattle.gateway.specs.declared.ended.Ended.TheVariants as ended
+use Rattle.gateway.specs.declared.meant.Meant.{Meant}
 use Rattle.gateway.specs.declared.meant.Meant.TheVariants as meant
 use Rattle.gateway.specs.Request.{Request, print}
+use Rattle.gateway.specs.Proper.{IsProperCode}
 
--- the numbers of one request: how many calls the store had counted before it, at its turn, and after it
+-- ---- between two requests
+
+-- the store between two requests: the calls that it has counted, the faults that it counts itself, whether it tells or not,
+-- and what is known of it
+pub record Mark : Type 0 where
+  pub number : ℕ
+  pub faults : ℕ
+  pub known : Known
+
+abbrev pub mark : History → Known → Mark
+mark h known = record { number = h.called; faults = h.faults; known = known }
+
+-- what is known of the account there is so
+abbrev pub IsKnownOf : History → Mark → Type 0
+IsKnownOf h m = IsKnown m.known (h.tree_at m.number)
+
+-- ---- one request
+
+-- an operation with its label
+pub record Asked : Type 0 where
+  pub op : Op
+  pub label : Label
+
+abbrev pub asked_by : Meant → Label → Option Asked
+asked_by (meant.Op op) label = Some (record { op = op; label = label })
+asked_by (meant.Refused code) label = None
+asked_by meant.Memory label = None
+
+-- the span of one request: how many calls the store had counted before it, as its operation began on a store that was
+-- settled by then, at its turning point, and after it; its operation, none where it has a code of its own; and how many of
+-- its operation's steps the account took
 pub record Turn : Type 0 where
   pub from : ℕ
+  pub begins : ℕ
   pub turned : ℕ
   pub to : ℕ
+  pub asked : Option Asked
+  pub takes : ℕ
 
--- the reply: the code of a request that is no operation, without any call; or what the operation is answered, with no more calls than it may make
-pub data Replies (settings : Settings) (h : History) (p t q : ℕ) (request : Request) (label : Label) (reply : Reply) : Type 0 where
-  refused : (code : Code) → request.means ≡ meant.Refused code → reply ≡ Refused code → Sound (h.tree_at p) → t ≡ p → q ≡ p → Replies settings h p t q request label reply
-  answered : (op : Op) → request.means ≡ meant.Op op → Answers settings h p t q op label reply → q ≤ p + most_calls op (h.tree_at p) → Replies settings h p t q request label reply
+-- the turn of a request that asks for this, between two marks
+pub record Spans (old : Mark) (turn : Turn) (new : Mark) (asks : Option Asked) : Type 0 where
+  pub from : turn.from ≡ old.number
+  pub settles : turn.from ≤ turn.begins
+  pub first : turn.begins ≤ turn.turned
+  pub last : turn.turned ≤ turn.to
+  pub to : turn.to ≡ new.number
+  pub asked : turn.asked ≡ asks
+  -- no call makes the count of faults fall
+  pub faults : old.faults ≤ new.faults
+
+-- the calls by which the store was settled before an operation, none where it was known to be: they left the state, none of
+-- them failed, and no completion is sealed after them
+pub record SettledBy (h : History) (was : Known) (from begins : ℕ) : Type 0 where
+  pub needs_none : was ≡ known.Settled → begins ≡ from
+  pub quiet : Quiet h from begins
+  pub no_fault : h.faults_at begins ≡ h.faults_at from
+  pub within : begins ≤ from + amount (most_settling (h.tree_at from))
+  pub settled : IsSettled (h.tree_at begins)
+
+-- the calls by which the store should have been settled: they left the state, and the last one failed, or memory was wanted
+pub record NotSettledBy (h : History) (was : Known) (from to : ℕ) (reply : Reply) : Type 0 where
+  pub needs_some : was ≡ known.Unsure
+  pub quiet : Quiet h from to
+  pub within : to ≤ from + amount (most_settling (h.tree_at from))
+  pub says : ((reply ≡ Refused ServiceUnavailable) × LastFailed h from to) ⊎ (reply ≡ Memory)
+
+-- the replies of a store that failed, or of a service that wanted memory
+abbrev pub IsFault : Reply → Type 0
+IsFault reply = (reply ≡ Refused ServiceUnavailable) ⊎ ((reply ≡ Refused InconsistentStore) ⊎ (reply ≡ Memory))
+
+-- an operation after which a completion may be sealed: none
+abbrev pub LeavesUnsure : Op → Mark → Mark → Reply → Type 0
+LeavesUnsure op old new reply = ⊥
+
+-- the causes of a reply to an operation, over every store: ServiceUnavailable comes only where the store's own count of faults
+-- rose; and the store isn't known to be settled afterwards only where it wasn't before and could not be, or the operation leaves it so
+pub record IsCaused (old new : Mark) (op : Op) (reply : Reply) : Type 0 where
+  pub unavailable : reply ≡ Refused ServiceUnavailable → Rose old.faults new.faults
+  pub unsure : new.known ≡ known.Unsure → ((old.known ≡ known.Unsure) × IsFault reply) ⊎ LeavesUnsure op old new reply
+
+-- what is said of the reply to an operation, over a store that tells: the store could not be settled; or it was, and the
+-- operation is answered, with no more calls than it may make
+pub data Performs (settings : Settings) (h : History) (old : Mark) (turn : Turn) (new : Mark) (op : Op) (label : Label) (reply : Reply) : Type 0 where
+  unsettled : NotSettledBy h old.known old.number new.number reply → turn.begins ≡ new.number → turn.takes ≡ 0 → Performs settings h old turn new op label reply
+  answered : SettledBy h old.known old.number turn.begins → Answers settings h turn.begins turn.turned new.number op label turn.takes reply
+      → new.number ≤ turn.begins + amount (most_calls op (h.tree_at turn.begins)) → Performs settings h old turn new op label reply
+
+-- what is said of the reply to a request, over a store that tells: the code of one that is no operation, without any call; or
+-- what its operation is answered
+pub data Replies (settings : Settings) (h : History) (old : Mark) (turn : Turn) (new : Mark) (request : Request) (label : Label) (reply : Reply) : Type 0 where
+  refused : (code : Code) → request.means ≡ meant.Refused code → reply ≡ Refused code → IsProperCode code → Sound (h.tree_at old.number) → new ≡ old → turn.takes ≡ 0 → Replies settings h old turn new request label reply
+  performed : (op : Op) → request.means ≡ meant.Op op → Performs settings h old turn new op label reply → IsCaused old new op reply → IsKnownOf h new → Replies settings h old turn new request label reply
+
+-- and over every store: the same code, without any call; or some reply to the operation
+pub data RepliesAny (old : Mark) (turn : Turn) (new : Mark) (request : Request) (label : Label) (reply : Reply) : Type 0 where
+  refused_any : (code : Code) → request.means ≡ meant.Refused code → reply ≡ Refused code → IsProperCode code → new ≡ old → RepliesAny old turn new request label reply
+  performed_any : (op : Op) → request.means ≡ meant.Op op → IsCaused old new op reply → RepliesAny old turn new request label reply
+
+-- what is said of replies: of a store that tells, or of every store
+abbrev pub RepliesBy : Bool → Settings → History → Mark → Turn → Mark → Request → Label → Reply → Type 0
+RepliesBy true settings h = Replies settings h
+RepliesBy false settings h = RepliesAny
+
+-- a reply other than ServiceUnavailable
+pub record Undisturbed (R : Mark → Turn → Mark → Request → Label → Reply → Type 0) (old : Mark) (turn : Turn) (new : Mark) (request : Request) (label : Label) (reply : Reply) : Type 0 where
+  pub replies : R old turn new request label reply
+  pub available : reply ≢ Refused ServiceUnavailable
+
+-- what is asked for it
+abbrev pub Where : Bool → Type 0 → Type 0
+Where true P = P
+Where false P = Unit {0}
 
 -- the bytes that are due, and how the connection ends after them: the reply in print, or the reply for want of memory, which ends it
 pub data Due (request : Request) (label : Label) (reply : Reply) (end : Option Ended) (bytes : List ℕ) : Type 0 where
@@ -60,19 +172,40 @@ pub record SendsPart (connection t q : ℕ) (bytes : List ℕ) (old new : List P
   pub part : joined pieces ++ unsent ≡ bytes
   pub each : All (IsPiece connection t q) pieces
 
--- a request was answered in whole
-pub record Exchange (settings : Settings) (h : History) (connection : ℕ) (turn : Turn) (request : Request) (label : Label) (end : Option Ended) (old new : List Piece) : Type 0 where
+-- a request was answered in whole; R says of its reply what is said of it
+pub record Exchange (R : Mark → Turn → Mark → Request → Label → Reply → Type 0) (connection : ℕ) (old : Mark) (turn : Turn) (new : Mark) (request : Request) (label : Label) (end : Option Ended) (sent sent' : List Piece) : Type 0 where
   pub reply : Reply
   pub bytes : List ℕ
-  pub replies : Replies settings h turn.from turn.turned turn.to request label reply
+  pub spans : Spans old turn new (asked_by request.means label)
+  pub replies : R old turn new request label reply
   pub due : Due request label reply end bytes
-  pub sends : Sends connection turn.turned turn.to bytes old new
+  pub sends : Sends connection turn.turned new.number bytes sent sent'
 
 -- a request was answered, and the line failed while the reply was written
-pub record CutExchange (settings : Settings) (h : History) (connection : ℕ) (turn : Turn) (request : Request) (label : Label) (old new : List Piece) : Type 0 where
+pub record CutExchange (R : Mark → Turn → Mark → Request → Label → Reply → Type 0) (connection : ℕ) (old : Mark) (turn : Turn) (new : Mark) (request : Request) (label : Label) (sent sent' : List Piece) : Type 0 where
   pub reply : Reply
   pub end : Option Ended
   pub bytes : List ℕ
-  pub replies : Replies settings h turn.from turn.turned turn.to request label reply
+  pub spans : Spans old turn new (asked_by request.means label)
+  pub replies : R old turn new request label reply
   pub due : Due request label reply end bytes
-  pub sends : SendsPart connection turn.turned turn.to bytes old new
+  pub sends : SendsPart connection turn.turned new.number bytes sent sent'
+
+-- ---- the functions that find a reply
+
+-- some reply is due, of which R says this, and unless memory was wanted it is the reply given
+pub record RepliesDue (R : Mark → Turn → Mark → Request → Label → Reply → Type 0) (old new : Mark) (request : Request) (label : Label) (given : Reply) : Type 0 where
+  pub turn : Turn
+  pub due : Reply
+  pub spans : Spans old turn new (asked_by request.means label)
+  pub replies : R old turn new request label due
+  pub same : given ≢ Memory → given ≡ due
+
+-- an operation was answered, over every store
+pub record Operated (settings : Settings) (op : Op) (label : Label) (old new : History) (was now : Known) (reply : Reply) : Type 0 where
+  pub on : GoesOn old new
+  pub showable : IsShowable reply
+  pub caused : IsCaused (mark old was) (mark new now) op reply
+  pub told : Met (IsKnown was) old
+      → (turn : Turn) × Spans (mark old was) turn (mark new now) (Some (record { op = op; label = label })) × Performs settings new (mark old was) turn (mark new now) op label reply
+  pub known : IsTrue old.tells → IsKnown was (present old) → IsKnown now (present new)

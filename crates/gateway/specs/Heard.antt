@@ -1,19 +1,11 @@
 -- A request as the code holds it, and the request that it is. Source: this profile.
-use Rattle.std.specs.Prelude.{◌≡◌, ◌≢◌, ℕ}
-use Rattle.s3_machine.specs.declared.code.Code.{Code}
-use Rattle.s3_machine.specs.declared.code.Code.TheVariants.{ServiceUnavailable, InconsistentStore}
+use Rattle.std.specs.Prelude.{◌≡◌, ◌≢◌}
 use Rattle.s3_machine.specs.Step.{IsProperOp}
-use Rattle.swift_calls.specs.Tree.{Tree}
-use Rattle.recovery.specs.Answers.{most_calls}
 use Rattle.gateway.specs.declared.heard.Heard.{Heard}
 use Rattle.gateway.specs.declared.meant.Meant.{Meant}
 use Rattle.gateway.specs.declared.meant.Meant.TheVariants.{Op, Refused, Memory}
+use Rattle.gateway.specs.Proper.{IsProperCode}
 use Rattle.gateway.specs.Request.{Request}
-
--- a code by which a request is refused is none for a store that failed
-pub record IsProperCode (code : Code) : Type 0 where
-  pub available : code ≢ ServiceUnavailable
-  pub consistent : code ≢ InconsistentStore
 
 -- an operation that is meant keeps the limits, and a code is none for a store that failed
 abbrev pub IsProperMeant : Meant → Type 0
@@ -21,15 +13,11 @@ IsProperMeant (Op op) = IsProperOp op
 IsProperMeant (Refused code) = IsProperCode code
 IsProperMeant Memory = Unit {0}
 
--- the greatest number of calls that it takes
-abbrev pub most_calls_of : Meant → Tree → ℕ
-most_calls_of (Op op) tree = most_calls op tree
-most_calls_of (Refused code) tree = 0
-most_calls_of Memory tree = 0
-
--- what was understood is what the request means, unless memory was wanted
+-- what was understood is what the request means, unless memory was wanted; and the request means an operation within the
+-- limits, or a proper code
 pub record Understands (means : Meant) (request : Request) : Type 0 where
   pub meant : request.means ≢ Memory
+  pub proper : IsProperMeant request.means
   pub same : means ≢ Memory → means ≡ request.means
 
 -- the code holds this request; who sent it is known unless memory was wanted

@@ -1,12 +1,14 @@
 -- One step of a connection: a request that was answered, or its end. Source: this profile.
 use Rattle.std.specs.Prelude.{◌≡◌, ℕ, Bool, false, List, if◌then◌else◌, Option, None, Some}
 use Rattle.gate_base.specs.Wire.{Wire, with_mark}
+use Rattle.s3_machine.specs.declared.operation.Label.{Label}
+use Rattle.s3_machine.specs.declared.operation.Reply.{Reply}
 use Rattle.gateway.specs.declared.service.Service.{Service}
-use Rattle.swift_calls.specs.History.{History}
 use Rattle.http_wire.specs.Print.{memory_reply}
 use Rattle.gateway.specs.declared.ended.Ended.{Ended}
 use Rattle.gateway.specs.declared.ended.Ended.TheVariants.{End, Closed, CutShort, Refused, LineFailed, Memory}
-use Rattle.gateway.specs.Exchange.{Turn, Sends, SendsPart}
+use Rattle.gateway.specs.Request.{Request}
+use Rattle.gateway.specs.Exchange.{Mark, Turn, Sends, SendsPart}
 use Rattle.gateway.specs.Connection.{Point, Serves, Ends, has_failed}
 
 -- whether the connection ended because the line failed
@@ -21,9 +23,9 @@ pub record OnlyServes (failed : Bool) (old new : Wire) : Type 0 where
   pub marks : new.marks ≡ (if failed then (with_mark old).marks else old.marks)
 
 -- a request was answered and the connection goes on, or it ended so
-abbrev pub NextOne : Service → History → ℕ → Point → Option Ended → Point → Type 0
-NextOne service h connection old None new = (t : ℕ) × Serves service h connection None old t new
-NextOne service h connection old (Some ended) new = (turns : List Turn) × Ends service h connection ended old new.tally turns
+abbrev pub NextOne : Service → (Mark → Turn → Mark → Request → Label → Reply → Type 0) → ℕ → Point → Option Ended → Point → Type 0
+NextOne service R connection old None new = (turn : Turn) × Serves service R connection None old turn new
+NextOne service R connection old (Some ended) new = (turns : List Turn) × Ends service R connection ended old new.tally turns
 
 -- the reply for want of memory was written, or the line failed under it
 abbrev pub EndsUnread : ℕ → Wire → Ended → Wire → Type 0

@@ -2,15 +2,14 @@
 use Rattle.std.specs.Prelude.{◌≡◌, ◌⊎◌, ℕ, false, Option, None, Some}
 use Rattle.gate_base.specs.Wire.{Wire}
 use Rattle.s3_machine.specs.declared.operation.Label.{Label}
-use Rattle.gateway.specs.declared.service.Service.{Service}
-use Rattle.swift_calls.specs.History.{History}
+use Rattle.s3_machine.specs.declared.operation.Reply.{Reply}
 use Rattle.gateway.specs.declared.ended.Ended.{Ended}
 use Rattle.gateway.specs.declared.ended.Ended.TheVariants.{LineFailed, Memory}
 use Rattle.gateway.specs.declared.turn.Turned.{Turned}
 use Rattle.gateway.specs.declared.turn.Turned.TheVariants.{Served, Broken}
 use Rattle.gateway.specs.Request.{Request}
-use Rattle.gateway.specs.Exchange.{Exchange, CutExchange}
-use Rattle.gateway.specs.Connection.{Tally, Labels, turn_of}
+use Rattle.gateway.specs.Exchange.{Mark, Turn, Exchange, CutExchange}
+use Rattle.gateway.specs.Connection.{Tally, Labels}
 use Rattle.gateway.specs.Serving.{has_ended_failed}
 
 -- only pieces and marks came to the line
@@ -29,17 +28,25 @@ abbrev pub IsServed : Turned → Type 0
 IsServed (Served ended) = has_ended_failed ended ≡ false
 IsServed Broken = Unit {0}
 
--- the request was answered, in whole or with a line that failed under the reply; what it asks is known at its moment
-abbrev pub TurnsOnce : Service → History → ℕ → Tally → Tally → (ℕ → Request) → Turned → Type 0
-TurnsOnce service h connection old new asks (Served end) =
-    (t : ℕ) × (label : Label) × Labels old new (asks label.moment).caller label × Exchange service.settings h connection (turn_of old t new) (asks label.moment) label end old.sent new.sent
-TurnsOnce service h connection old new asks Broken =
-    (t : ℕ) × (label : Label) × Labels old new (asks label.moment).caller label × CutExchange service.settings h connection (turn_of old t new) (asks label.moment) label old.sent new.sent
+-- the request was answered in whole, with this end of the connection; what it asks is known at its moment
+pub record AnswersWhole (R : Mark → Turn → Mark → Request → Label → Reply → Type 0) (connection : ℕ) (old new : Tally) (asks : ℕ → Request) (end : Option Ended) : Type 0 where
+  pub turn : Turn
+  pub label : Label
+  pub labels : Labels old new (asks label.moment).caller label
+  pub exchange : Exchange R connection old.mark turn new.mark (asks label.moment) label end old.sent new.sent
+
+-- the request was answered, and the line failed under the reply
+pub record AnswersCut (R : Mark → Turn → Mark → Request → Label → Reply → Type 0) (connection : ℕ) (old new : Tally) (asks : ℕ → Request) : Type 0 where
+  pub turn : Turn
+  pub label : Label
+  pub labels : Labels old new (asks label.moment).caller label
+  pub exchange : CutExchange R connection old.mark turn new.mark (asks label.moment) label old.sent new.sent
+
+abbrev pub TurnsOnce : (Mark → Turn → Mark → Request → Label → Reply → Type 0) → ℕ → Tally → Tally → (ℕ → Request) → Turned → Type 0
+TurnsOnce R connection old new asks (Served end) = AnswersWhole R connection old new asks end
+TurnsOnce R connection old new asks Broken = AnswersCut R connection old new asks
 
 -- the same, by how the connection ends after it, if it does
-abbrev pub TurnEnds : Service → History → ℕ → Tally → Tally → (ℕ → Request) → Option Ended → Type 0
-TurnEnds service h connection old new asks None =
-    (t : ℕ) × (label : Label) × Labels old new (asks label.moment).caller label × Exchange service.settings h connection (turn_of old t new) (asks label.moment) label None old.sent new.sent
-TurnEnds service h connection old new asks (Some ended) =
-    ((t : ℕ) × (label : Label) × Labels old new (asks label.moment).caller label × Exchange service.settings h connection (turn_of old t new) (asks label.moment) label (Some ended) old.sent new.sent)
-    ⊎ ((ended ≡ LineFailed) × (t : ℕ) × (label : Label) × Labels old new (asks label.moment).caller label × CutExchange service.settings h connection (turn_of old t new) (asks label.moment) label old.sent new.sent)
+abbrev pub TurnEnds : (Mark → Turn → Mark → Request → Label → Reply → Type 0) → ℕ → Tally → Tally → (ℕ → Request) → Option Ended → Type 0
+TurnEnds R connection old new asks None = AnswersWhole R connection old new asks None
+TurnEnds R connection old new asks (Some ended) = AnswersWhole R connection old new asks (Some ended) ⊎ ((ended ≡ LineFailed) × AnswersCut R connection old new asks)

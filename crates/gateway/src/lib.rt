@@ -9,6 +9,7 @@ mod hear;
 mod heard;
 mod join;
 mod label;
+mod laws;
 mod meant;
 mod query;
 mod received;
@@ -21,6 +22,7 @@ mod write;
 
 pub use ended::Ended;
 pub use heard::Heard;
+pub use laws::{law_many_runs, law_one_run, law_sent_is_counted, law_stands_all};
 pub use meant::{Meant, meaning};
 pub use serve::serve_connection;
 pub use service::Service;

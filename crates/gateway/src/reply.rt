@@ -1,31 +1,36 @@
-ghost use Rattle.std.specs.Prelude.{◌≡◌, ◌≢◌, ◌<◌, ℕ, IsTrue};
+ghost use Rattle.std.specs.Prelude.{◌≡◌, ◌≢◌, ◌<◌, Bool, Err};
 ghost use Rattle.gate_base.specs.Causes.{Rose};
 ghost use Rattle.gate_base.specs.Told.{moment_limit};
 ghost use Rattle.s3_machine.specs.declared.code.Code.TheVariants.{ServiceUnavailable};
 ghost use Rattle.s3_machine.specs.declared.operation.Reply.TheVariants as answer;
-ghost use Rattle.swift_calls.specs.History.{present};
-ghost use Rattle.upload_records.specs.Sound.{Sound};
 ghost use Rattle.s3_machine.specs.Shown.{IsShowable};
 ghost use Rattle.s3_machine.specs.Step.{IsProper};
+ghost use Rattle.swift_calls.specs.History.{present};
+ghost use Rattle.recovery.specs.declared.state.Known.TheVariants as known;
 ghost use Rattle.recovery.specs.Answers.{most_calls};
-ghost use Rattle.recovery.specs.Calls.{Grows};
-ghost use Rattle.planner.specs.Plan.{Answered};
+ghost use Rattle.recovery.specs.Calls.{GoesOn, Met};
+ghost use Rattle.recovery.specs.Settling.{IsKnown, Settles, settle_fault};
+ghost use Rattle.planner.specs.Plan.{reply_of, Answered};
 ghost use Rattle.gateway.specs.Connection.{sent_by};
 ghost use Rattle.gateway.specs.declared.meant.Meant.TheVariants as variant;
-ghost use Rattle.gateway.specs.Heard.{IsProperMeant, Understands, most_calls_of};
+ghost use Rattle.gateway.specs.Heard.{IsProperMeant, Understands};
 ghost use Rattle.gateway.specs.Request.{Request};
-ghost use Rattle.gateway.specs.Exchange.{Replies};
+ghost use Rattle.gateway.specs.Exchange.{mark, Operated, RepliesBy, RepliesDue, Where};
+ghost use Rattle.gateway.specs.Stands.{Stands};
 
 use crate::Meant;
-use recovery::{SettleFault, Settled, Unsure};
+use recovery::{Known, SettleFault, Settled, Unsure};
 use s3_machine::{Code, Label, Op, Reply, Settings};
 use std::alloc::Global;
 use swift_calls::Swift;
 
-/// The reply to what a request means: its code, without a call of the store; or what the operation is answered.
+/// The reply to what a request means: its code, without a call of the store; or what the operation is answered. `known` is
+/// what is known of the store as the request comes: whether a completion may be sealed on it. It goes from one request to
+/// the next. After the call it says what is known then.
 pub fn reply_to<W: Swift>(
     alloc: Global,
     store: &mut W,
+    known: &mut Known,
     settings: &Settings,
     means: &Meant,
     label: &Label,
@@ -34,26 +39,54 @@ pub fn reply_to<W: Swift>(
     requires moment { label.now.moment < moment_limit }
 
     ensures showable { IsShowable result }
-    ensures grows { Grows (most_calls_of means.now (present (W.history store.old))) (W.history store.old) (W.history store.new) }
+    ensures goes_on { GoesOn (W.history store.old) (W.history store.new) }
     ensures unavailable { result ≡ answer.Refused ServiceUnavailable → Rose (W.history store.old).faults (W.history store.new).faults }
-
     ensures wanted { means.now ≡ variant.Memory → result ≡ answer.Memory }
+    ensures stands { Stands settings.now known.old known.new (W.history store.old) (W.history store.new) }
 
     // Where memory was wanted, some reply is due, and it is not this one; then who sent the request may be unknown.
-    ensures told { IsTrue (W.history store.old).tells → Sound (present (W.history store.old)) → (request : Request) → Understands means.now request
+    ensures told { (all : Bool) → Where all (Met (IsKnown known.old) (W.history store.old)) → (request : Request) → Understands means.now request
         → (means.now ≢ variant.Memory → label.now.caller ≡ request.caller)
-        → (t : ℕ) × (due : _) × Replies settings.now (W.history store.new) (W.history store.old).called t (W.history store.new).called request (sent_by request.caller label.now) due
-        × (result ≢ answer.Memory → result ≡ due) }
+        → RepliesDue (RepliesBy all settings.now (W.history store.new)) (mark (W.history store.old) known.old) (mark (W.history store.new) known.new) request (sent_by request.caller label.now) result }
 {
     match means {
-        Meant::Op(op) => operate(alloc, store, settings, op, label),
+        Meant::Op(op) => operate(alloc, store, known, settings, op, label),
         Meant::Refused(code) => Reply::Refused(*code),
         Meant::Memory => Reply::Memory,
     }
 }
 
-/// Settles the store, and answers an operation over it.
+/// Settles the store where that is not known to be needless, and answers an operation over it.
 fn operate<W: Swift>(
+    alloc: Global,
+    store: &mut W,
+    known: &mut Known,
+    settings: &Settings,
+    op: &Op,
+    label: &Label,
+) -> Reply
+    requires { IsProper op.now label.now }
+    ensures { Operated settings.now op.now label.now (W.history store.old) (W.history store.new) known.old known.new result }
+{
+    match known {
+        Known::Settled => {}
+        Known::Unsure => match settle(store, settings) {
+            Ok(()) => *known = Known::Settled,
+            Err(fault) => return unsettled(fault),
+        },
+    }
+    perform(alloc, store, settings, op, label)
+}
+
+/// Settles a store.
+fn settle<W: Swift>(store: &mut W, settings: &Settings) -> Result<(), SettleFault>
+    ensures { Settles (W.history store.old) (W.history store.new) result }
+{
+    Unsure::open(store, settings).settle()
+}
+
+/// Answers an operation over a store that is settled.
+fn perform<W: Swift>(
     alloc: Global,
     store: &mut W,
     settings: &Settings,
@@ -61,12 +94,18 @@ fn operate<W: Swift>(
     label: &Label,
 ) -> Reply
     requires { IsProper op.now label.now }
-    ensures { Answered (most_calls op.now (present (W.history store.old))) (W.history store.old) (W.history store.new) settings.now op.now label.now result }
+    ensures { Answered (most_calls op.now (present (W.history store.old))) (W.history store.old) (W.history store.new) settings.now op.now label.now known.Settled result }
 {
-    match Unsure::open(store, settings).settle() {
-        Ok(()) => planner::answer(alloc, &mut Settled::hold(store, settings), op, label),
-        Err(SettleFault::Failed) => Reply::Refused(Code::ServiceUnavailable),
-        Err(SettleFault::Memory) => Reply::Memory,
-        Err(SettleFault::Inconsistent) => Reply::Refused(Code::InconsistentStore),
+    planner::answer(alloc, &mut Settled::hold(store, settings), op, label)
+}
+
+/// The reply to an operation whose store could not be settled.
+fn unsettled(fault: SettleFault) -> Reply
+    ensures { result ≡ reply_of (Err (settle_fault fault)) }
+{
+    match fault {
+        SettleFault::Failed => Reply::Refused(Code::ServiceUnavailable),
+        SettleFault::Memory => Reply::Memory,
+        SettleFault::Inconsistent => Reply::Refused(Code::InconsistentStore),
     }
 }

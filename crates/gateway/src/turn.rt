@@ -1,10 +1,12 @@
-ghost use Rattle.std.specs.Prelude.{◌≡◌, ◌≢◌, ◌≤◌, true, IsTrue};
+ghost use Rattle.std.specs.Prelude.{◌≡◌, ◌≢◌, Bool, true, IsTrue};
 ghost use Rattle.gate_base.specs.Causes.{Rose};
 ghost use Rattle.gate_base.specs.Wire.{with_mark};
-ghost use Rattle.swift_calls.specs.History.{present, Kept};
-ghost use Rattle.upload_records.specs.Sound.{Sound};
+ghost use Rattle.recovery.specs.Calls.{GoesOn, Met};
+ghost use Rattle.recovery.specs.Settling.{IsKnown};
 ghost use Rattle.gateway.specs.declared.turn.Turned.TheVariants as turned;
 ghost use Rattle.gateway.specs.Connection.{tally};
+ghost use Rattle.gateway.specs.Exchange.{mark, RepliesBy, Where};
+ghost use Rattle.gateway.specs.Stands.{Stands};
 ghost use Rattle.gateway.specs.Request.{asks_of, end_of};
 ghost use Rattle.gateway.specs.Turned.{TurnsOnce, OnlySends, EndsWith, IsServed};
 
@@ -15,6 +17,7 @@ use crate::reply::reply_to;
 use crate::write::{Written, write_reply};
 use crate::{Ended, Service};
 use gate_base::{Clock, Draws, Line};
+use recovery::Known;
 use std::alloc::Global;
 use swift_calls::Swift;
 
@@ -32,6 +35,7 @@ pub enum Turned {
 pub fn take_turn<N: Line<W>, W: Swift, C: Clock, D: Draws>(
     alloc: Global,
     store: &mut W,
+    known: &mut Known,
     service: &Service,
     line: &mut N,
     clock: &mut C,
@@ -49,26 +53,25 @@ pub fn take_turn<N: Line<W>, W: Swift, C: Clock, D: Draws>(
     ensures spent { N.spent line.new ≡ N.spent line.old }
 
     ensures tells_line { N.tells line.old → N.tells line.new }
-    ensures tells_store { IsTrue (W.history store.old).tells → IsTrue (W.history store.new).tells }
     ensures tells_clock { C.tells clock.old → C.tells clock.new }
     ensures tells_draws { D.tells draws.old → D.tells draws.new }
+    ensures goes_on { GoesOn (W.history store.old) (W.history store.new) }
+    ensures stands { Stands service.now.settings known.old known.new (W.history store.old) (W.history store.new) }
 
-    ensures ordered { (W.history store.old).called ≤ (W.history store.new).called }
-    ensures kept { IsTrue (W.history store.old).tells → Kept (W.history store.old).called (W.history store.old) (W.history store.new) }
     ensures only_sends { N.tells line.old → OnlySends (N.wire line.old) (N.wire line.new) }
     ensures marks { N.tells line.old → result ≢ turned.Broken → (N.wire line.new).marks ≡ (N.wire line.old).marks }
     ensures mark { N.tells line.old → result ≡ turned.Broken → (N.wire line.new).marks ≡ (with_mark (N.wire line.old)).marks }
 
-    ensures told { N.tells line.old → IsTrue (W.history store.old).tells → C.tells clock.old → D.tells draws.old → Sound (present (W.history store.old))
-        → TurnsOnce service.now (W.history store.new) (N.wire line.old).begun
-        (tally (W.history store.old).called (C.moments clock.old) (D.draws draws.old) (N.wire line.old).sent)
-        (tally (W.history store.new).called (C.moments clock.new) (D.draws draws.new) (N.wire line.new).sent)
+    ensures told { N.tells line.old → C.tells clock.old → D.tells draws.old → (all : Bool) → Where all (Met (IsKnown known.old) (W.history store.old))
+        → TurnsOnce (RepliesBy all service.now.settings (W.history store.new)) (N.wire line.old).begun
+        (tally (mark (W.history store.old) known.old) (C.moments clock.old) (D.draws draws.old) (N.wire line.old).sent)
+        (tally (mark (W.history store.new) known.new) (C.moments clock.new) (D.draws draws.new) (N.wire line.new).sent)
         (asks_of service.now received.now) result }
 {
     let next = next_label(clock, draws);
     let heard = hear(alloc, service, received, next.moment);
     let label = sent_by(heard.caller, next);
-    let reply = reply_to(alloc, store, &service.settings, &heard.means, &label);
+    let reply = reply_to(alloc, store, known, &service.settings, &heard.means, &label);
     match write_reply(
         alloc,
         line,

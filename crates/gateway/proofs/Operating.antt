@@ -1,0 +1,180 @@
+-- An operation: its store is settled where that is not known to be needless, and then it is answered.
+use Rattle.std.specs.Prelude.{◌≡◌, ◌≤◌, ◌⊎◌, ℕ, ◌+◌, IsTrue, Some, Result, Ok, Err}
+use Rattle.std.proofs.Common.{refl, sym, subst, inl, inr, arith}
+use Rattle.gate_base.specs.Causes.{Rose}
+use Rattle.s3_machine.specs.declared.code.Code.TheVariants.{ServiceUnavailable}
+use Rattle.s3_machine.specs.declared.operation.Label.{Label}
+use Rattle.s3_machine.specs.declared.operation.Settings.{Settings}
+use Rattle.s3_machine.specs.declared.operation.Op.{Op}
+use Rattle.s3_machine.specs.declared.operation.Reply.{Reply}
+use Rattle.s3_machine.specs.declared.operation.Reply.TheVariants as answer
+use Rattle.s3_machine.specs.Shown.{IsShowable}
+use Rattle.swift_calls.specs.Tree.{Tree}
+use Rattle.swift_calls.specs.History.{History, present, kept_trans}
+use Rattle.upload_records.specs.Native.{IsSettled}
+use Rattle.recovery.specs.declared.state.Known.{Known}
+use Rattle.recovery.specs.declared.state.Known.TheVariants as known
+use Rattle.recovery.specs.declared.state.SettleFault.{SettleFault}
+use Rattle.recovery.specs.declared.state.SettleFault.TheVariants.{Failed, Memory, Inconsistent}
+use Rattle.recovery.specs.Answers.{most_calls, most_settling}
+use Rattle.recovery.specs.Calls.{Bound, always, by_account, amount, IsWithin, GoesOn, Met, Keeps}
+use Rattle.recovery.specs.Fault.{CausesFault}
+use Rattle.recovery.specs.Quiet.{Quiet, LastFailed}
+use Rattle.recovery.specs.Settling.{IsKnown, settle_fault, as_plan, Anything, SettlesIt, Settles}
+use Rattle.recovery.proofs.One.{none_made, goes_none}
+use Rattle.planner.specs.Plan.{reply_of, Answered}
+use Rattle.gateway.specs.Exchange.{SettledBy, IsFault, unsettled, answered, Operated}
+use Rattle.gateway.proofs.Map.{settled_by_agree}
+
+-- ---- histories that go on
+
+pub goes_on_trans : {a b c : History} → GoesOn a b → GoesOn b c → GoesOn a c
+goes_on_trans first then = record {
+  ordered = (let near = first.ordered in let far = then.ordered in omega arith);
+  faults = (let near = first.faults in let far = then.faults in omega arith);
+  tells = λ tells. then.tells (first.tells tells);
+  kept = λ tells. kept_trans first.ordered (first.kept tells) (then.kept (first.tells tells));
+}
+
+-- the account that the history went on from
+pub from_present : {old new : History} → (on : GoesOn old new) → (tells : IsTrue old.tells) → new.tree_at old.called ≡ present old
+from_present {old = old} on tells = (on.kept tells).accounts old.called (omega arith)
+
+within_amount : {premises : Type 0} (most : Bound) (p q : ℕ) → IsWithin most premises p q → premises → q ≤ p + amount most
+within_amount (always n) p q within met = within
+within_amount (by_account n) p q within met = within met
+
+rose_later : (before then now : ℕ) → before ≤ then → Rose then now → Rose before now
+rose_later before then now near rose = omega arith
+
+-- ---- the store as the operation finds it
+
+-- it was settled
+pub record Readied (old middle : History) (was : Known) : Type 0 where
+  pub on : GoesOn old middle
+  pub by : Met (IsKnown was) old → SettledBy middle was old.called middle.called
+  pub settled : IsTrue old.tells → IsKnown was (present old) → IsSettled (present middle)
+
+-- it was known to be
+at_once : (h : History) → Readied h h known.Settled
+at_once h = record {
+  on = goes_none h;
+  by = λ met. record {
+    needs_none = λ is. refl;
+    quiet = none_made refl met.sound;
+    no_fault = refl;
+    within = omega arith;
+    settled = met.has refl;
+  };
+  settled = λ tells is. is refl;
+}
+
+pub readied_at_once : {old middle : History} {was : Known} → was ≡ known.Settled → middle ≡ old → Readied old middle was
+readied_at_once {old = old} is same = subst {A = History × Known} (λ x. Readied old x.0 x.1) (λ i. (sym same i, sym is i)) (at_once old)
+
+-- nothing is given of the account
+met_any : {given : Tree → Type 0} {h : History} → Met given h → Met Anything h
+met_any met = record { tells = met.tells; sound = met.sound; has = tt }
+
+-- no more calls than by which it may be settled
+settles_within : {old middle : History} {result : Result (Unit {0}) SettleFault} → Settles old middle result → Met (IsKnown known.Unsure) old → middle.called ≤ old.called + amount (most_settling (middle.tree_at old.called))
+settles_within {old = old} {middle = middle} settles met =
+    subst (λ tree. middle.called ≤ old.called + amount (most_settling tree)) (sym (from_present settles.asks.grows.on met.tells))
+    (within_amount (most_settling (present old)) old.called middle.called settles.asks.grows.calls (met_any met))
+
+by_settling : {old middle : History} → Settles old middle (Ok tt) → Readied old middle known.Unsure
+by_settling {old = old} {middle = middle} settles = record {
+  on = settles.asks.grows.on;
+  by = λ met.
+      let told = settles.asks.told (met_any met) in
+      record {
+        needs_none = λ is. absurd (let no : known.Unsure ≡ known.Settled = is in cc);
+        quiet = told.0;
+        no_fault = told.1;
+        within = settles_within settles met;
+        settled = told.2;
+      };
+  settled = λ tells is. settles.done tells refl;
+}
+
+pub readied_by : {old middle middle' : History} {was : Known} → was ≡ known.Unsure → middle' ≡ middle → Settles old middle (Ok tt) → Readied old middle' was
+readied_by {old = old} is same settles = subst {A = History × Known} (λ x. Readied old x.0 x.1) (λ i. (sym same i, sym is i)) (by_settling settles)
+
+-- ---- over a store that was settled
+
+pub operated_by : {settings : Settings} {op : Op} {label : Label} {old middle new : History} {was : Known} {reply : Reply} → Readied old middle was
+    → Answered (most_calls op (present middle)) middle new settings op label known.Settled reply → Operated settings op label old new was known.Settled reply
+operated_by {settings = settings} {op = op} {label = label} {old = old} {middle = middle} {new = new} {reply = reply} readied given = record {
+  on = goes_on_trans readied.on given.grows.on;
+  showable = given.showable;
+  caused = record {
+    unavailable = λ is. rose_later old.faults middle.faults new.faults readied.on.faults (given.unavailable is);
+    unsure = λ is. absurd (let no : known.Settled ≡ known.Unsure = is in cc);
+  };
+  told = λ met.
+      let by = readied.by met in
+      let tells = readied.on.tells met.tells in
+      let kept = given.grows.on.kept tells in
+      let ordered = given.grows.on.ordered in
+      let found : Met IsSettled middle = record { tells = tells; sound = by.quiet.sound middle.called by.quiet.ordered (omega arith); has = by.settled } in
+      let told = given.told found in
+      let first = readied.on.ordered in
+      let faults = (goes_on_trans readied.on given.grows.on).faults in (
+        record { from = old.called; begins = middle.called; turned = told.0; to = new.called; asked = Some (record { op = op; label = label }); takes = told.1 },
+        record { from = refl; settles = first; first = told.2.passes.after_p; last = told.2.passes.up_to_q; to = refl; asked = refl; faults = faults },
+        answered (settled_by_agree kept first (omega arith) by) told.2
+            (subst (λ tree. new.called ≤ middle.called + amount (most_calls op tree)) (sym (kept.accounts middle.called (omega arith))) (within_amount (most_calls op (present middle)) middle.called new.called given.grows.calls found)),
+      );
+  known = λ tells is. given.knows (readied.on.tells tells) (readied.settled tells is);
+}
+
+-- ---- over one that could not be settled
+
+-- what is answered then
+abbrev pub fault_reply : SettleFault → Reply
+fault_reply fault = reply_of (Err (settle_fault fault))
+
+fault_shown : (fault : SettleFault) → IsShowable (fault_reply fault)
+fault_shown Failed = tt
+fault_shown Memory = tt
+fault_shown Inconsistent = tt
+
+fault_known : (fault : SettleFault) → IsFault (fault_reply fault)
+fault_known Failed = inl refl
+fault_known Memory = inr (inr refl)
+fault_known Inconsistent = inr (inl refl)
+
+fault_cause : (fault : SettleFault) (before now : ℕ) → CausesFault before now (as_plan (Err fault)) → fault_reply fault ≡ answer.Refused ServiceUnavailable → Rose before now
+fault_cause Failed before now cause is = cause
+fault_cause Memory before now cause is = cc
+fault_cause Inconsistent before now cause is = cc
+
+fault_keeps : (fault : SettleFault) (h : History) (p q : ℕ) → Keeps h p q SettlesIt (as_plan (Err fault))
+    → Quiet h p q × (((fault_reply fault ≡ answer.Refused ServiceUnavailable) × LastFailed h p q) ⊎ (fault_reply fault ≡ answer.Memory))
+fault_keeps Failed h p q keeps = (keeps.0, inl (refl, keeps.1))
+fault_keeps Memory h p q keeps = (keeps.0, inr refl)
+fault_keeps Inconsistent h p q keeps = absurd keeps
+
+not_settled : {settings : Settings} {op : Op} {label : Label} {old new : History} (fault : SettleFault) → Settles old new (Err fault)
+    → Operated settings op label old new known.Unsure known.Unsure (fault_reply fault)
+not_settled {op = op} {label = label} {old = old} {new = new} fault settles = record {
+  on = settles.asks.grows.on;
+  showable = fault_shown fault;
+  caused = record {
+    unavailable = λ is. fault_cause fault old.faults new.faults settles.asks.cause is;
+    unsure = λ is. inl (refl, fault_known fault);
+  };
+  told = λ met.
+      let keeps = fault_keeps fault new old.called new.called (settles.asks.told (met_any met)) in
+      let ordered = settles.asks.grows.on.ordered in (
+        record { from = old.called; begins = new.called; turned = new.called; to = new.called; asked = Some (record { op = op; label = label }); takes = 0 },
+        record { from = refl; settles = ordered; first = omega arith; last = omega arith; to = refl; asked = refl; faults = settles.asks.grows.on.faults },
+        unsettled (record { needs_some = refl; quiet = keeps.0; within = settles_within settles met; says = keeps.1 }) refl refl,
+      );
+  known = λ tells had is. absurd (let no : known.Unsure ≡ known.Settled = is in cc);
+}
+
+pub operated_unsettled : {settings : Settings} {op : Op} {label : Label} {old new : History} {was : Known} {given : Reply} (fault : SettleFault) → was ≡ known.Unsure → given ≡ fault_reply fault → Settles old new (Err fault)
+    → Operated settings op label old new was was given
+operated_unsettled {settings = settings} {op = op} {label = label} {old = old} {new = new} fault is says settles =
+    subst {A = Known × Reply} (λ x. Operated settings op label old new x.0 x.0 x.1) (λ i. (sym is i, sym says i)) (not_settled fault settles)

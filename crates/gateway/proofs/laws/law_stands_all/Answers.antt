@@ -1,0 +1,5 @@
+use Rattle.gateway.proofs.Standing.{stands_throughout}
+use Rattle.gateway.proofs.laws.law_stands_all.Goals as goal
+
+pub returns : goal.returns
+returns c = stands_throughout
