@@ -1,10 +1,13 @@
--- How a run ended, by its exit status.
-use Rattle.std.proofs.Common.{◌≡◌, ◌≢◌, ◌⊎◌, ℕ, Bool, true, false, ◌∙◌, refl, sym, subst, inl, inr, arith}
+-- How a run ended, by its exit status, and by what was asked for.
+use Rattle.std.proofs.Common.{◌≡◌, ◌≢◌, ◌⊎◌, ℕ, true, false, List, Option, None, Some, ◌∙◌, refl, sym, subst, inl, inr, arith}
+use Rattle.gateway_words.specs.declared.command.Command.{Command}
+use Rattle.gateway_words.specs.declared.command.Command.TheVariants.{Session, Sign}
 use Rattle.gateway_cmd.specs.declared.status.Ended.{Ended}
 use Rattle.gateway_cmd.specs.declared.status.Ended.TheVariants.{Signed, Plain}
 use Rattle.gateway_cmd.specs.declared.status.Status.{Status}
 use Rattle.gateway_cmd.specs.declared.status.Status.TheVariants.{Done, Usage, Line, Request, Memory}
-use Rattle.gateway_cmd.specs.Report.{IsStatus, Exits, Fits, code_of, is_plain}
+use Rattle.gateway_cmd.specs.Report.{IsStatus, Exits, Task, nothing, to_serve, to_sign, task_of, is_possible, Fits, code_of, is_plain}
+use Rattle.gateway_cmd.specs.Session.{Serving, serving_of}
 
 pub exits_status : (ended : Ended) (n : ℕ) → Exits ended n → IsStatus n
 exits_status (Signed signed) n (inl zero) = inl zero
@@ -74,10 +77,32 @@ exits_done (Plain Request) n x e plain = absurd (omega arith)
 pub exits_other : (ended : Ended) (status : Status) (n : ℕ) → Exits ended n → (n ≡ code_of status → ⊥) → ended ≢ Plain status
 exits_other ended status n x other = λ e. other (subst (λ how. Exits how n) e x)
 
--- where the words ask for a session, or not, a run ends so
-pub fits_serving : (serving : Bool) (ended : Ended) → (serving ≡ true → is_plain ended ≡ true) → (serving ≡ false → ended ≢ Plain Done) → Fits serving ended
-fits_serving true ended plain other = plain refl
-fits_serving false ended plain other = other refl
+-- ---- what is asked for
+
+-- connections are served where that is asked for
+pub serving_task : (command : Option Command) (serving : Serving) → serving_of command ≡ Some serving → task_of command ≡ to_serve
+serving_task None serving is = cc
+serving_task (Some (Session region)) serving is = refl
+serving_task (Some (Sign id region)) serving is = cc
+
+-- words that are refused ask for nothing
+pub asks_nothing : (command : Option Command) (keys : List ℕ) → task_of command ≡ nothing → is_possible command keys ≡ false
+asks_nothing None keys is = refl
+asks_nothing (Some (Session region)) keys is = absurd (let no : to_serve ≡ nothing = is in cc)
+asks_nothing (Some (Sign id region)) keys is = absurd (let no : to_sign ≡ nothing = is in cc)
+
+-- where nothing is asked for, a run ends for want of memory, or with that report
+refused_ends : (ended : Ended) → (ended ≢ Plain Memory → ended ≡ Plain Usage) → ended ≢ Plain Done
+refused_ends ended refused done =
+    let other : ended ≢ Plain Memory = λ memory. (let no : Plain Done ≡ Plain Memory = sym done ∙ memory in cc) in
+    let no : Plain Done ≡ Plain Usage = sym done ∙ refused other in
+    cc
+
+-- by what is asked for, a run ends so
+pub fits_task : (task : Task) (ended : Ended) → (task ≡ to_serve → is_plain ended ≡ true) → (task ≡ to_sign → ended ≢ Plain Done) → (task ≡ nothing → ended ≢ Plain Memory → ended ≡ Plain Usage) → Fits task ended
+fits_task nothing ended serves signs refused = refused_ends ended (refused refl)
+fits_task to_serve ended serves signs refused = serves refl
+fits_task to_sign ended serves signs refused = signs refl
 
 -- a signature is reported, where a run that is to sign is done
 pub exits_signed : (ended : Ended) (n : ℕ) → Exits ended n → n ≡ 0 → ended ≢ Plain Done → is_plain ended ≡ false
@@ -88,7 +113,9 @@ exits_signed (Plain Line) n x e other = absurd (omega arith)
 exits_signed (Plain Memory) n x e other = absurd (omega arith)
 exits_signed (Plain Request) n x e other = absurd (omega arith)
 
--- a run without a session
-pub not_serving : (serving : Bool) (ended : Ended) → (serving ≡ true → is_plain ended ≡ true) → is_plain ended ≡ false → serving ≡ false
-not_serving true ended plain signed = absurd (let not : true ≡ false = sym (plain refl) ∙ signed in cc)
-not_serving false ended plain signed = refl
+-- a run with a signature was to sign
+pub signs_task : (task : Task) (ended : Ended) → (task ≡ to_serve → is_plain ended ≡ true) → (task ≡ nothing → ended ≢ Plain Memory → ended ≡ Plain Usage) → is_plain ended ≡ false → task ≡ to_sign
+signs_task nothing (Signed signed) serves refused other = absurd (let no : Signed signed ≡ Plain Usage = refused refl (λ e. cc) in cc)
+signs_task nothing (Plain status) serves refused other = absurd (let no : true ≡ false = other in cc)
+signs_task to_serve ended serves refused other = absurd (let no : true ≡ false = sym (serves refl) ∙ other in cc)
+signs_task to_sign ended serves refused other = refl

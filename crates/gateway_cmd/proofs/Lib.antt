@@ -1,3 +1,4 @@
+pub mod Talks
 pub mod Sessions
 pub mod Marks
 pub mod Refusing

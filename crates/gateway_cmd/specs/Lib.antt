@@ -2,4 +2,3 @@ pub mod Laws
 pub mod Report
 pub mod Run
 pub mod Session
-pub mod TalkLaws

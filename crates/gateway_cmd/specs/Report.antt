@@ -24,14 +24,19 @@ is_possible (Some (Sign id region)) keys = are_keys (keys_of keys) && is_some (s
 abbrev pub is_admitted : List (String Global) → List ℕ → Bool
 is_admitted words keys = is_possible (command_of words) keys
 
--- the command serves connections
-abbrev pub is_serving : Option Command → Bool
-is_serving None = false
-is_serving (Some (Session region)) = true
-is_serving (Some (Sign id region)) = false
+-- what is asked for: nothing where the words are refused
+pub data Task : Type 0 where
+  nothing : Task
+  to_serve : Task
+  to_sign : Task
 
-abbrev pub serves : List (String Global) → Bool
-serves words = is_serving (command_of words)
+abbrev pub task_of : Option Command → Task
+task_of None = nothing
+task_of (Some (Session region)) = to_serve
+task_of (Some (Sign id region)) = to_sign
+
+abbrev pub asked_for : List (String Global) → Task
+asked_for words = task_of (command_of words)
 
 abbrev pub code_of : Status → ℕ
 code_of Done = 0
@@ -71,10 +76,11 @@ abbrev pub is_plain : Ended → Bool
 is_plain (Signed signed) = false
 is_plain (Plain ended) = true
 
--- how a run may end by whether it serves: a session without a signature, and a run that is to sign not as a session does
-abbrev pub Fits : Bool → Ended → Type 0
-Fits true ended = is_plain ended ≡ true
-Fits false ended = ended ≢ Plain Done
+-- how a run may end by what is asked for: a session without a signature, and another run not as a session does
+abbrev pub Fits : Task → Ended → Type 0
+Fits nothing ended = ended ≢ Plain Done
+Fits to_serve ended = is_plain ended ≡ true
+Fits to_sign ended = ended ≢ Plain Done
 
 -- the exit status and the report of a run that ended so, where the report doesn't fail; the lines of a signature may find no memory
 abbrev pub Says : Ended → ℕ → List ℕ → Type 0

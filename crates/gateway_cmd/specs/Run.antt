@@ -1,13 +1,17 @@
--- A whole run: the connections of the line, in order, none skipped. The definitions take the history of the store
--- first. Source: this profile.
+-- A whole run: the connections of the line, in order, none skipped. Source: this profile.
 use Rattle.std.specs.Prelude.{◌≡◌, ℕ, ◌+◌, ◌-◌, Bool, true, false, List, [], ◌∷◌, ◌++◌, slice_set, if◌then◌else◌}
 use Rattle.gate_base.specs.Wire.{Wire}
+use Rattle.s3_machine.specs.declared.operation.Label.{Label}
+use Rattle.s3_machine.specs.declared.operation.Reply.{Reply}
+use Rattle.s3_machine.specs.declared.operation.Settings.{Settings}
+use Rattle.recovery.specs.declared.state.Known.{Known}
 use Rattle.gateway.specs.declared.service.Service.{Service}
 use Rattle.swift_calls.specs.History.{History}
 use Rattle.gateway.specs.declared.ended.Ended.{Ended}
-use Rattle.gateway.specs.Exchange.{Turn}
+use Rattle.gateway.specs.Request.{Request}
+use Rattle.gateway.specs.Exchange.{Mark, Turn, Replies, RepliesAny, RepliesBy}
 use Rattle.gateway.specs.Connection.{Tally, TalkOne, has_failed}
-pub use Rattle.gateway.specs.Stands.{Within, StandsAt, StandsThroughout, Follows}
+use Rattle.gateway.specs.Stands.{Follows, AllPass, StandsThroughout}
 
 -- a point between two connections
 pub record Place : Type 0 where
@@ -26,15 +30,48 @@ abbrev pub marks_after : List Bool → ℕ → Ended → List Bool
 marks_after marks begun ended = if has_failed ended then slice_set (marks ++ false ∷ []) (begun - 1) true else marks ++ false ∷ []
 
 -- the next connection was served
-pub record ServesNext (service : Service) (h : History) (old : Place) (turns : List Turn) (new : Place) : Type 0 where
+pub record ServesNext (service : Service) (R : Mark → Turn → Mark → Request → Label → Reply → Type 0) (old : Place) (turns : List Turn) (new : Place) : Type 0 where
   pub bytes : List ℕ
   pub ended : Ended
   pub waiting : old.waiting ≡ bytes ∷ new.waiting
   pub begun : new.begun ≡ old.begun + 1
   pub marks : new.marks ≡ marks_after old.marks new.begun ended
-  pub talk : TalkOne service h new.begun ended (record { rest = bytes; place = 0; tally = old.tally }) turns new.tally
+  pub talk : TalkOne service R new.begun ended (record { rest = bytes; place = 0; tally = old.tally }) turns new.tally
 
 -- any number of connections, each begun where the one before it ended, with the turns of all their requests
-pub data Talk (service : Service) (h : History) : Place → List Turn → Place → Type 0 where
-  none : (place : Place) → Talk service h place [] place
-  more : (old middle new : Place) (turns next : List Turn) → Talk service h old turns middle → ServesNext service h middle next new → Talk service h old (turns ++ next) new
+pub data Talk (service : Service) (R : Mark → Turn → Mark → Request → Label → Reply → Type 0) : Place → List Turn → Place → Type 0 where
+  none : (place : Place) → Talk service R place [] place
+  more : (old middle new : Place) (turns next : List Turn) → Talk service R old turns middle → ServesNext service R middle next new → Talk service R old (turns ++ next) new
+
+-- a talk by what is said of replies, of a store that tells or of every store; what is known of the store at its end is the
+-- run's own
+pub record Talked (all : Bool) (service : Service) (h : History) (old : Place) (new : Known → Place) : Type 0 where
+  pub known : Known
+  pub turns : List Turn
+  pub talk : Talk service (RepliesBy all service.settings h) old turns (new known)
+
+-- ---- what a run promises
+
+-- over every store: it is a talk, in which a request without an operation gets its code without a call
+pub record RunHeard (service : Service) (old : Place) (new : Known → Place) : Type 0 where
+  pub known : Known
+  pub turns : List Turn
+  pub talk : Talk service RepliesAny old turns (new known)
+  pub follows : Follows old.tally.mark.number turns (new known).tally.mark.number
+
+-- over a store that tells, whose account was sound at entry: it is a talk by the machine's replies, and at each number of
+-- calls the account is one that the request which has the number goes through
+pub record RunTold (service : Service) (h : History) (old : Place) (new : Known → Place) : Type 0 where
+  pub known : Known
+  pub turns : List Turn
+  pub talk : Talk service (Replies service.settings h) old turns (new known)
+  pub follows : Follows old.tally.mark.number turns (new known).tally.mark.number
+  pub passes : AllPass service.settings h turns
+  pub stands : StandsThroughout service.settings h turns old.tally.mark.number (new known).tally.mark.number
+
+-- over such a store, whatever the line tells: requests were answered, and the account went through their steps
+pub record RunStands (settings : Settings) (h : History) (entry exit : ℕ) : Type 0 where
+  pub turns : List Turn
+  pub follows : Follows entry turns exit
+  pub passes : AllPass settings h turns
+  pub stands : StandsThroughout settings h turns entry exit

@@ -1,26 +1,28 @@
 //! A run but for its report: the words, and then the command that they name.
-ghost use Rattle.std.specs.Prelude.{◌≡◌, ◌≢◌, ◌≤◌, ◌++◌, ℕ, true, false, IsTrue, List, [], Some, None};
+ghost use Rattle.std.specs.Prelude.{◌≡◌, ◌≢◌, ℕ, Bool, true, false, List, Some, None};
 ghost use Rattle.gate_base.specs.Causes.{Rose};
-ghost use Rattle.swift_calls.specs.History.{present, Kept};
-ghost use Rattle.upload_records.specs.Sound.{Sound};
+ghost use Rattle.recovery.specs.declared.state.Known.TheVariants.{Unsure};
+ghost use Rattle.recovery.specs.Calls.{GoesOn, Met};
+ghost use Rattle.recovery.specs.Settling.{Anything};
 ghost use Rattle.sigv4.specs.Keys.{keys_of, are_keys, secret_of};
 ghost use Rattle.signing.specs.Signing.{AnswersFirst};
 ghost use Rattle.signing.specs.declared.first.Signing.{Signing};
-ghost use Rattle.gateway.specs.Exchange.{Turn};
+ghost use Rattle.gateway.specs.Exchange.{mark, Where};
 ghost use Rattle.gateway.specs.Connection.{tally};
 ghost use Rattle.gateway_words.specs.Words.{command_of};
 ghost use Rattle.gateway_words.specs.declared.command.Command.TheVariants as commands;
-ghost use Rattle.gateway_cmd.specs.Report.{is_admitted, is_plain, is_possible, is_serving, serves, end_of};
+ghost use Rattle.gateway_cmd.specs.Report.{asked_for, is_admitted, is_plain, is_possible, task_of, to_serve, to_sign, end_of};
 ghost use Rattle.gateway_cmd.specs.declared.status.Ended.TheVariants as ended;
 ghost use Rattle.gateway_cmd.specs.declared.status.Status.TheVariants as status;
-ghost use Rattle.gateway_cmd.specs.Run.{place_of, Talk};
-ghost use Rattle.gateway_cmd.specs.Session.{service_of, Unmarked};
+ghost use Rattle.gateway_cmd.specs.Run.{place_of, RunStands, Talked};
+ghost use Rattle.gateway_cmd.specs.Session.{IsServedOut, Serving, service_of, serving_of, Unmarked};
 
 use crate::service::{read_keys, service};
 use crate::session::session;
 use crate::status::{Ended, Status};
 use gate_base::{Bytes, Clock, Draws, Line};
 use gateway_words::{Command, WordsFault, read_words};
+use recovery::Known;
 use signing::{Signing, sign_first};
 use sigv4::{Keys, KeysFault};
 use std::alloc::Global;
@@ -38,29 +40,27 @@ pub fn attempt<N: Line<W>, W: Swift, C: Clock, D: Draws>(
 ) -> Ended
     ensures usage { result ≡ ended.Plain status.Usage → is_admitted words.now keys.now ≡ false }
     ensures refused { is_admitted words.now keys.now ≡ false → result ≢ ended.Plain status.Memory → result ≡ ended.Plain status.Usage }
-    ensures line { serves words.now ≡ true → result ≡ ended.Plain status.Line → Rose (N.next_faults line.old) (N.next_faults line.new) }
-    ensures line_signing { serves words.now ≡ false → result ≡ ended.Plain status.Line → Rose (N.faults line.old) (N.faults line.new) }
+    ensures line { asked_for words.now ≡ to_serve → result ≡ ended.Plain status.Line → Rose (N.next_faults line.old) (N.next_faults line.new) }
+    ensures line_signing { asked_for words.now ≡ to_sign → result ≡ ended.Plain status.Line → Rose (N.faults line.old) (N.faults line.new) }
     ensures quiet { result ≢ ended.Plain status.Line → N.next_faults line.new ≡ N.next_faults line.old }
-    ensures done { serves words.now ≡ true → N.tells line.old → result ≡ ended.Plain status.Done → (N.wire line.new).waiting ≡ [] }
-    ensures plain { serves words.now ≡ true → is_plain result ≡ true }
-    ensures served { serves words.now ≡ false → result ≢ ended.Plain status.Done }
-    ensures apart { serves words.now ≡ false → (store.new ≡ store.old) × (clock.new ≡ clock.old) × (draws.new ≡ draws.old) }
-    ensures request { result ≡ ended.Plain status.Request → (is_admitted words.now keys.now ≡ true) × (serves words.now ≡ false) × (N.faults line.new ≡ N.faults line.old) }
+    ensures done { (serving : Serving) → serving_of (command_of words.now) ≡ Some serving → N.tells line.old → result ≡ ended.Plain status.Done → IsServedOut serving (N.wire line.old) (N.wire line.new) }
+    ensures plain { asked_for words.now ≡ to_serve → is_plain result ≡ true }
+    ensures served { asked_for words.now ≡ to_sign → result ≢ ended.Plain status.Done }
+    ensures apart { asked_for words.now ≡ to_sign → (store.new ≡ store.old) × (clock.new ≡ clock.old) × (draws.new ≡ draws.old) }
+    ensures request { result ≡ ended.Plain status.Request → (is_admitted words.now keys.now ≡ true) × (asked_for words.now ≡ to_sign) × (N.faults line.new ≡ N.faults line.old) }
     ensures idle { is_admitted words.now keys.now ≡ false → (line.new ≡ line.old) × (store.new ≡ store.old) × (clock.new ≡ clock.old) × (draws.new ≡ draws.old) }
-    ensures unmarked { serves words.now ≡ true → N.tells line.old → (Rose (N.faults line.old) (N.faults line.new) → ⊥) → Unmarked (N.wire line.old) (N.wire line.new) }
+    ensures unmarked { asked_for words.now ≡ to_serve → N.tells line.old → (Rose (N.faults line.old) (N.faults line.new) → ⊥) → Unmarked (N.wire line.old) (N.wire line.new) }
     ensures tells_line { N.tells line.old → N.tells line.new }
-    ensures tells_store { IsTrue (W.history store.old).tells → IsTrue (W.history store.new).tells }
     ensures tells_clock { C.tells clock.old → C.tells clock.new }
     ensures tells_draws { D.tells draws.old → D.tells draws.new }
-    ensures ordered { (W.history store.old).called ≤ (W.history store.new).called }
-    ensures kept { IsTrue (W.history store.old).tells → Kept (W.history store.old).called (W.history store.old) (W.history store.new) }
-    ensures told { (region : List ℕ) → command_of words.now ≡ Some (commands.Session region)
-        → N.tells line.old → IsTrue (W.history store.old).tells → C.tells clock.old → D.tells draws.old → Sound (present (W.history store.old))
-        → (turns : List Turn)
-        × Talk (service_of region keys.now) (W.history store.new)
-        (place_of (N.wire line.old) (tally (W.history store.old).called (C.moments clock.old) (D.draws draws.old) (N.wire line.old).sent))
-        turns
-        (place_of (N.wire line.new) (tally (W.history store.new).called (C.moments clock.new) (D.draws draws.new) (N.wire line.new).sent)) }
+    ensures goes_on { GoesOn (W.history store.old) (W.history store.new) }
+    ensures talked { (serving : Serving) → serving_of (command_of words.now) ≡ Some serving → N.tells line.old → C.tells clock.old → D.tells draws.old
+        → (all : Bool) → Where all (Met Anything (W.history store.old))
+        → Talked all (service_of serving keys.now) (W.history store.new)
+        (place_of (N.wire line.old) (tally (mark (W.history store.old) Unsure) (C.moments clock.old) (D.draws draws.old) (N.wire line.old).sent))
+        (λ known. place_of (N.wire line.new) (tally (mark (W.history store.new) known) (C.moments clock.new) (D.draws draws.new) (N.wire line.new).sent)) }
+    ensures stands { (serving : Serving) → serving_of (command_of words.now) ≡ Some serving → Met Anything (W.history store.old)
+        → RunStands serving.settings (W.history store.new) (W.history store.old).called (W.history store.new).called }
     ensures told_signed { (id region secret : List ℕ) → command_of words.now ≡ Some (commands.Sign id region)
         → are_keys (keys_of keys.now) ≡ true → secret_of id (keys_of keys.now) ≡ Some secret → N.tells line.old → result ≢ ended.Plain status.Memory
         → (signing : Signing) × AnswersFirst secret region (N.wire line.old).waiting signing × (result ≡ end_of signing) }
@@ -84,43 +84,38 @@ fn perform<N: Line<W>, W: Swift, C: Clock, D: Draws>(
 ) -> Ended
     ensures usage { result ≡ ended.Plain status.Usage → is_possible (Some command) keys.now ≡ false }
     ensures refused { is_possible (Some command) keys.now ≡ false → result ≢ ended.Plain status.Memory → result ≡ ended.Plain status.Usage }
-    ensures line { is_serving (Some command) ≡ true → result ≡ ended.Plain status.Line → Rose (N.next_faults line.old) (N.next_faults line.new) }
-    ensures line_signing { is_serving (Some command) ≡ false → result ≡ ended.Plain status.Line → Rose (N.faults line.old) (N.faults line.new) }
+    ensures line { task_of (Some command) ≡ to_serve → result ≡ ended.Plain status.Line → Rose (N.next_faults line.old) (N.next_faults line.new) }
+    ensures line_signing { task_of (Some command) ≡ to_sign → result ≡ ended.Plain status.Line → Rose (N.faults line.old) (N.faults line.new) }
     ensures quiet { result ≢ ended.Plain status.Line → N.next_faults line.new ≡ N.next_faults line.old }
-    ensures done { is_serving (Some command) ≡ true → N.tells line.old → result ≡ ended.Plain status.Done → (N.wire line.new).waiting ≡ [] }
-    ensures plain { is_serving (Some command) ≡ true → is_plain result ≡ true }
-    ensures served { is_serving (Some command) ≡ false → result ≢ ended.Plain status.Done }
-    ensures apart { is_serving (Some command) ≡ false → (store.new ≡ store.old) × (clock.new ≡ clock.old) × (draws.new ≡ draws.old) }
-    ensures request { result ≡ ended.Plain status.Request → (is_possible (Some command) keys.now ≡ true) × (is_serving (Some command) ≡ false) × (N.faults line.new ≡ N.faults line.old) }
+    ensures done { (serving : Serving) → serving_of (Some command) ≡ Some serving → N.tells line.old → result ≡ ended.Plain status.Done → IsServedOut serving (N.wire line.old) (N.wire line.new) }
+    ensures plain { task_of (Some command) ≡ to_serve → is_plain result ≡ true }
+    ensures served { task_of (Some command) ≡ to_sign → result ≢ ended.Plain status.Done }
+    ensures apart { task_of (Some command) ≡ to_sign → (store.new ≡ store.old) × (clock.new ≡ clock.old) × (draws.new ≡ draws.old) }
+    ensures request { result ≡ ended.Plain status.Request → (is_possible (Some command) keys.now ≡ true) × (task_of (Some command) ≡ to_sign) × (N.faults line.new ≡ N.faults line.old) }
     ensures idle { is_possible (Some command) keys.now ≡ false → (line.new ≡ line.old) × (store.new ≡ store.old) × (clock.new ≡ clock.old) × (draws.new ≡ draws.old) }
-    ensures unmarked { is_serving (Some command) ≡ true → N.tells line.old → (Rose (N.faults line.old) (N.faults line.new) → ⊥) → Unmarked (N.wire line.old) (N.wire line.new) }
+    ensures unmarked { task_of (Some command) ≡ to_serve → N.tells line.old → (Rose (N.faults line.old) (N.faults line.new) → ⊥) → Unmarked (N.wire line.old) (N.wire line.new) }
     ensures tells_line { N.tells line.old → N.tells line.new }
-    ensures tells_store { IsTrue (W.history store.old).tells → IsTrue (W.history store.new).tells }
     ensures tells_clock { C.tells clock.old → C.tells clock.new }
     ensures tells_draws { D.tells draws.old → D.tells draws.new }
-    ensures ordered { (W.history store.old).called ≤ (W.history store.new).called }
-    ensures kept { IsTrue (W.history store.old).tells → Kept (W.history store.old).called (W.history store.old) (W.history store.new) }
-    ensures told { (region : List ℕ) → command ≡ commands.Session region
-        → N.tells line.old → IsTrue (W.history store.old).tells → C.tells clock.old → D.tells draws.old → Sound (present (W.history store.old))
-        → (turns : List Turn)
-        × Talk (service_of region keys.now) (W.history store.new)
-        (place_of (N.wire line.old) (tally (W.history store.old).called (C.moments clock.old) (D.draws draws.old) (N.wire line.old).sent))
-        turns
-        (place_of (N.wire line.new) (tally (W.history store.new).called (C.moments clock.new) (D.draws draws.new) (N.wire line.new).sent)) }
+    ensures goes_on { GoesOn (W.history store.old) (W.history store.new) }
+    ensures talked { (serving : Serving) → serving_of (Some command) ≡ Some serving → N.tells line.old → C.tells clock.old → D.tells draws.old
+        → (all : Bool) → Where all (Met Anything (W.history store.old))
+        → Talked all (service_of serving keys.now) (W.history store.new)
+        (place_of (N.wire line.old) (tally (mark (W.history store.old) Unsure) (C.moments clock.old) (D.draws draws.old) (N.wire line.old).sent))
+        (λ known. place_of (N.wire line.new) (tally (mark (W.history store.new) known) (C.moments clock.new) (D.draws draws.new) (N.wire line.new).sent)) }
+    ensures stands { (serving : Serving) → serving_of (Some command) ≡ Some serving → Met Anything (W.history store.old)
+        → RunStands serving.settings (W.history store.new) (W.history store.old).called (W.history store.new).called }
     ensures told_signed { (id region secret : List ℕ) → command ≡ commands.Sign id region
         → are_keys (keys_of keys.now) ≡ true → secret_of id (keys_of keys.now) ≡ Some secret → N.tells line.old → result ≢ ended.Plain status.Memory
         → (signing : Signing) × AnswersFirst secret region (N.wire line.old).waiting signing × (result ≡ end_of signing) }
 {
     match read_keys(alloc, keys) {
         Ok(keys) => match command {
-            Command::Session { region } => Ended::Plain(session(
-                alloc,
-                &service(region, keys),
-                line,
-                store,
-                clock,
-                draws,
-            )),
+            Command::Session { region } => {
+                let service = service(region, keys);
+                let mut known = Known::Unsure;
+                Ended::Plain(session(alloc, &service, line, store, &mut known, clock, draws))
+            }
             Command::Sign { key, region } => sign(alloc, &keys, &key, &region, line, store),
         },
         Err(KeysFault::BadLine(_)) => Ended::Plain(Status::Usage),

@@ -1,9 +1,10 @@
 //! The command `session`: the connections of the line, in turn.
-ghost use Rattle.std.specs.Prelude.{◌≡◌, ◌≢◌, ◌<◌, ◌≤◌, ◌-◌, ◌^◌, ℕ, IsTrue, List, [], None, Some};
+ghost use Rattle.std.specs.Prelude.{◌≡◌, ◌≢◌, ◌<◌, ◌≤◌, ◌-◌, ◌^◌, Bool, List, [], None, Some};
 ghost use Rattle.gate_base.specs.Causes.{Rose};
-ghost use Rattle.swift_calls.specs.History.{present, Kept};
-ghost use Rattle.upload_records.specs.Sound.{Sound};
-ghost use Rattle.gateway.specs.Exchange.{Turn};
+ghost use Rattle.recovery.specs.Calls.{GoesOn, Met};
+ghost use Rattle.recovery.specs.Settling.{IsKnown};
+ghost use Rattle.gateway.specs.Exchange.{Turn, mark, RepliesBy, Where};
+ghost use Rattle.gateway.specs.Stands.{Stands};
 ghost use Rattle.gateway.specs.Connection.{tally};
 ghost use Rattle.gateway_cmd.specs.declared.status.Status.TheVariants as status;
 ghost use Rattle.gateway_cmd.specs.Run.{place_of, Talk};
@@ -12,6 +13,7 @@ ghost use Rattle.gateway_cmd.specs.Session.{NextPlace, Unmarked};
 use crate::status::Status;
 use gate_base::{Clock, Draws, Line};
 use gateway::{Service, serve_connection};
+use recovery::Known;
 use std::alloc::Global;
 use swift_calls::Swift;
 
@@ -21,6 +23,7 @@ pub fn session<N: Line<W>, W: Swift, C: Clock, D: Draws>(
     service: &Service,
     line: &mut N,
     store: &mut W,
+    known: &mut Known,
     clock: &mut C,
     draws: &mut D,
 ) -> Status
@@ -32,20 +35,19 @@ pub fn session<N: Line<W>, W: Swift, C: Clock, D: Draws>(
     ensures unmarked { N.tells line.old → (Rose (N.faults line.old) (N.faults line.new) → ⊥) → Unmarked (N.wire line.old) (N.wire line.new) }
 
     ensures tells_line { N.tells line.old → N.tells line.new }
-    ensures tells_store { IsTrue (W.history store.old).tells → IsTrue (W.history store.new).tells }
     ensures tells_clock { C.tells clock.old → C.tells clock.new }
     ensures tells_draws { D.tells draws.old → D.tells draws.new }
-    ensures ordered { (W.history store.old).called ≤ (W.history store.new).called }
-    ensures kept { IsTrue (W.history store.old).tells → Kept (W.history store.old).called (W.history store.old) (W.history store.new) }
+    ensures goes_on { GoesOn (W.history store.old) (W.history store.new) }
+    ensures stands { Stands service.now.settings known.old known.new (W.history store.old) (W.history store.new) }
 
-    ensures told { N.tells line.old → IsTrue (W.history store.old).tells → C.tells clock.old → D.tells draws.old → Sound (present (W.history store.old))
-        → (turns : List Turn) × Talk service.now (W.history store.new)
-        (place_of (N.wire line.old) (tally (W.history store.old).called (C.moments clock.old) (D.draws draws.old) (N.wire line.old).sent))
+    ensures told { N.tells line.old → C.tells clock.old → D.tells draws.old → (all : Bool) → Where all (Met (IsKnown known.old) (W.history store.old))
+        → (turns : List Turn) × Talk service.now (RepliesBy all service.now.settings (W.history store.new))
+        (place_of (N.wire line.old) (tally (mark (W.history store.old) known.old) (C.moments clock.old) (D.draws draws.old) (N.wire line.old).sent))
         turns
-        (place_of (N.wire line.new) (tally (W.history store.new).called (C.moments clock.new) (D.draws draws.new) (N.wire line.new).sent)) }
+        (place_of (N.wire line.new) (tally (mark (W.history store.new) known.new) (C.moments clock.new) (D.draws draws.new) (N.wire line.new).sent)) }
 {
     'connections: loop {
-        match serve_another(alloc, service, line, store, clock, draws) {
+        match serve_another(alloc, service, line, store, known, clock, draws) {
             Some(status) => return status,
             None => {}
         }
@@ -58,6 +60,7 @@ fn serve_another<N: Line<W>, W: Swift, C: Clock, D: Draws>(
     service: &Service,
     line: &mut N,
     store: &mut W,
+    known: &mut Known,
     clock: &mut C,
     draws: &mut D,
 ) -> Option<Status>
@@ -70,22 +73,21 @@ fn serve_another<N: Line<W>, W: Swift, C: Clock, D: Draws>(
     ensures unmarked { N.tells line.old → (Rose (N.faults line.old) (N.faults line.new) → ⊥) → Unmarked (N.wire line.old) (N.wire line.new) }
 
     ensures tells_line { N.tells line.old → N.tells line.new }
-    ensures tells_store { IsTrue (W.history store.old).tells → IsTrue (W.history store.new).tells }
     ensures tells_clock { C.tells clock.old → C.tells clock.new }
     ensures tells_draws { D.tells draws.old → D.tells draws.new }
-    ensures ordered { (W.history store.old).called ≤ (W.history store.new).called }
-    ensures kept { IsTrue (W.history store.old).tells → Kept (W.history store.old).called (W.history store.old) (W.history store.new) }
+    ensures goes_on { GoesOn (W.history store.old) (W.history store.new) }
+    ensures stands { Stands service.now.settings known.old known.new (W.history store.old) (W.history store.new) }
 
     ensures done { N.tells line.old → result ≡ Some status.Done → (N.wire line.new).waiting ≡ [] }
-    ensures told { N.tells line.old → IsTrue (W.history store.old).tells → C.tells clock.old → D.tells draws.old → Sound (present (W.history store.old))
-        → NextPlace service.now (W.history store.new)
-        (place_of (N.wire line.old) (tally (W.history store.old).called (C.moments clock.old) (D.draws draws.old) (N.wire line.old).sent))
+    ensures told { N.tells line.old → C.tells clock.old → D.tells draws.old → (all : Bool) → Where all (Met (IsKnown known.old) (W.history store.old))
+        → NextPlace service.now (RepliesBy all service.now.settings (W.history store.new))
+        (place_of (N.wire line.old) (tally (mark (W.history store.old) known.old) (C.moments clock.old) (D.draws draws.old) (N.wire line.old).sent))
         result
-        (place_of (N.wire line.new) (tally (W.history store.new).called (C.moments clock.new) (D.draws draws.new) (N.wire line.new).sent)) }
+        (place_of (N.wire line.new) (tally (mark (W.history store.new) known.new) (C.moments clock.new) (D.draws draws.new) (N.wire line.new).sent)) }
 {
     match line.next() {
         Ok(true) => {
-            let _ended = serve_connection(alloc, store, service, line, clock, draws);
+            let _ended = serve_connection(alloc, store, known, service, line, clock, draws);
             None
         }
         Ok(false) => Some(Status::Done),

@@ -1,5 +1,5 @@
-use Rattle.gateway_cmd.specs.TalkLaws.{talk_stands}
+use Rattle.gateway_cmd.proofs.Talks.{talk_pass, talk_stands}
 use Rattle.gateway_cmd.proofs.laws.law_talk_stands.Goals as goal
 
 pub returns : goal.returns
-returns c = λ service h old turns new talk sound. talk_stands talk sound
+returns c = λ service h old turns new talk sound. (talk_pass talk, talk_stands sound talk)
