@@ -6,6 +6,7 @@ use gate_base::{Bytes, Line, Memory, NoCount};
 use gateway::{Ended, Service, serve_connection};
 use gateway_cmd::run;
 use http_wire::{Got, ReadFault, Reader};
+use recovery::Known;
 use s3_machine::Settings;
 use sigv4::Keys;
 use std::alloc::Global;
@@ -79,8 +80,17 @@ pub(crate) fn serve<N: Line<OwnStore>>(
     store: &mut OwnStore,
 ) -> Option<Ended> {
     let mut draws = OwnDraws { last: 0 };
+    let mut known = Known::Unsure;
     match line.next() {
-        Ok(true) => Some(serve_connection(alloc, store, service, line, &mut OwnClock, &mut draws)),
+        Ok(true) => Some(serve_connection(
+            alloc,
+            store,
+            &mut known,
+            service,
+            line,
+            &mut OwnClock,
+            &mut draws,
+        )),
         _ => None,
     }
 }
