@@ -10,8 +10,15 @@ cd "$(dirname "$0")/.."
 exec python3 - "$@" <<'PYTHON'
 import os, shutil, subprocess, sys, tempfile
 
-# A name, the file below crates/, which occurrence of the old text, the old text, the new one.
+# A name, the file below crates/, which occurrence of the old text, the old text, the new one; and the files of cases that are
+# run, where it takes others.
 FAULTS = [
+    ("gate_base write: bytes are sent, and the write failed", "gate_base/src/line_memory.rt", 1, "Ok(()) => Ok(()),", "Ok(()) => Err(Failed),"),
+    ("gate_base draw: the last one again", "gate_base/src/told_memory.rt", 1, "None => draw.wrapping_add(1),", "None => draw,"),
+    ("gate_base begin: a connection is skipped", "gate_base/src/wire_memory.rt", 1, "match self.waiting.next() {", "match self.waiting.next().and(self.waiting.next()) {"),
+    ("gate_base take: a read gives half", "gate_base/src/wire_memory.rt", 1, "let count = most.min(buf.len().min(rest.len()));", "let count = most.min(buf.len().min(rest.len())) / 2;"),
+    ("swift_calls account_at: one call early", "swift_calls/src/replay.rt", 1, "for entry in &self.log[..k as usize] {", "for entry in &self.log[..(k as usize).saturating_sub(1)] {", ["sweeps.txt"]),
+    ("swift_calls go: a lost reply leaves the account", "swift_calls/src/replay.rt", 1, "                let _lost = serve(alloc, account, &self.request)?;", "                let _lost = self.request.copy()?;"),
     ("planner get_within: another code for a missing key", "planner/src/objects.rt", 1, "Code::NoSuchKey", "Code::NoSuchBucket"),
     ("planner get_bytes: a call repeated", "planner/src/objects.rt", 1, "    match recovery::get_object(state, bucket, key) {", "    let _ = recovery::get_object(state, bucket, key);\n    match recovery::get_object(state, bucket, key) {"),
     ("planner reply_of: a failed call is a refusal", "planner/src/operation.rt", 1, "Err(PlanFault::Failed) => Reply::Refused(Code::ServiceUnavailable)", "Err(PlanFault::Failed) => Reply::Refused(Code::AccessDenied)"),
@@ -31,7 +38,7 @@ FAULTS = [
 FILES = ["buckets.txt", "objects.txt", "faults.txt"]
 
 
-def tried(room, file, number, old, new):
+def tried(room, file, number, old, new, files=FILES):
     """The last lines of a run of conversations over the crates with the fault in them."""
     path = f"{room}/crates/{file}"
     text = open(path, encoding="utf-8").read()
@@ -41,13 +48,14 @@ def tried(room, file, number, old, new):
     with open(path, "w", encoding="utf-8") as it:
         it.write(old.join(places[:number]) + new + old.join(places[number:]))
     folder = f"{room}/crates/conversations"
-    data = [word for name in FILES for word in ("--data", f"{name}=data/{name}")]
-    ran = subprocess.run(["rt", "try", "--seconds", "300", *data, "--", *FILES], cwd=folder, stdin=subprocess.DEVNULL, capture_output=True, text=True, errors="replace")
+    data = [word for name in files for word in ("--data", f"{name}=data/{name}")]
+    ran = subprocess.run(["rt", "try", "--seconds", "300", *data, "--", *files], cwd=folder, stdin=subprocess.DEVNULL, capture_output=True, text=True, errors="replace")
     with open(path, "w", encoding="utf-8") as it:
         it.write(text)
     lines = (ran.stdout + ran.stderr).splitlines()
     counts = [line for line in lines if line.startswith("cases ")]
-    return "status=1" in lines[-1] and bool(counts), counts[0] if counts else "\n".join(lines[-5:])
+    # With a mismatch it ends with 1, and with 2 where a case can't be tried at all.
+    return any(f"status={status}" in line for status in (1, 2) for line in lines), counts[0] if counts else lines[0]
 
 
 def main():
