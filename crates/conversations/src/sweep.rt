@@ -2,6 +2,7 @@
 //! of its calls, and a new run looks at the account after each number of calls.
 use crate::entry::Case;
 use crate::given::Given;
+use crate::machine::Machine;
 use crate::pieces::{all_bytes, are_same, has_status, is_reply};
 use crate::running::{First, Losses, NO_LOSS, Ran, run_given, store_at};
 use crate::tally::Tally;
@@ -60,13 +61,35 @@ fn sweep_from(
     let store = &first.ran.store;
     let before = look(alloc, probe, store, store.calls())?;
     let after = look(alloc, probe, &ran.store, ran.store.calls())?;
-    compare_probe(alloc, case, "probe-before", &before, tally)?;
-    compare_probe(alloc, case, "probe-after", &after, tally)?;
-    follow_probes(
+    sweep_between(
         alloc, case, given, probe, first, ran, &before, &after, tally,
-    )?;
+    )
+}
+
+fn sweep_between(
+    alloc: Global,
+    case: &Case,
+    given: &Given,
+    probe: &Given,
+    first: &First,
+    ran: &Ran,
+    before: &Ran,
+    after: &Ran,
+    tally: &mut Tally,
+) -> Result<(), Fault> {
+    compare_probe(alloc, case, "probe-before", before, tally)?;
+    compare_probe(alloc, case, "probe-after", after, tally)?;
+    follow_probes(alloc, case, given, probe, first, ran, before, after, tally)?;
     sweep_by(
-        alloc, case, given, probe, store, ran, &before, &after, tally,
+        alloc,
+        case,
+        given,
+        probe,
+        &first.ran.store,
+        ran,
+        before,
+        after,
+        tally,
     )
 }
 
@@ -118,29 +141,37 @@ fn follow_probes(
     if case.has("nomodel") {
         return Ok(());
     }
+    follow_before(alloc, case, probe, first, before, tally)?;
     let mut machine = machine_after(alloc, case, first, tally)?;
-    machine.follow(
-        case,
-        "probe-before, by the machine",
-        probe,
-        before.line.pieces(),
-        tally,
-    )?;
+    follow_after(&mut machine, case, given, probe, ran, after, tally)
+}
+
+fn follow_before(
+    alloc: Global,
+    case: &Case,
+    probe: &Given,
+    first: &First,
+    before: &Ran,
+    tally: &mut Tally,
+) -> Result<(), Fault> {
     let mut machine = machine_after(alloc, case, first, tally)?;
-    machine.follow(
-        case,
-        "the request, by the machine",
-        given,
-        ran.line.pieces(),
-        tally,
-    )?;
-    machine.follow(
-        case,
-        "probe-after, by the machine",
-        probe,
-        after.line.pieces(),
-        tally,
-    )
+    let pieces = before.line.pieces();
+    machine.follow(case, "probe-before, by the machine", probe, pieces, tally)
+}
+
+fn follow_after(
+    machine: &mut Machine,
+    case: &Case,
+    given: &Given,
+    probe: &Given,
+    ran: &Ran,
+    after: &Ran,
+    tally: &mut Tally,
+) -> Result<(), Fault> {
+    let pieces = ran.line.pieces();
+    machine.follow(case, "the request, by the machine", given, pieces, tally)?;
+    let pieces = after.line.pieces();
+    machine.follow(case, "probe-after, by the machine", probe, pieces, tally)
 }
 
 /// The replies of a probe have the statuses behind a verb.
@@ -205,15 +236,67 @@ fn lose_calls(
 ) -> Result<(), Fault> {
     for call in 1..=calls {
         for loss in [Loss::Before, Loss::After, Loss::Stop] {
-            let ran = run_losing(alloc, given, first, call, loss)?;
-            let context = format!(in alloc; "{loss:?} at call {call}")?;
-            let context = context.as_str();
-            let done = is_done(ordinary, call, loss);
-            compare_losing(alloc, case, context, &ran, call, done, ordinary, tally)?;
-            look_at_each(alloc, case, context, probe, &ran, done, ordinary, tally)?;
+            lose_call(
+                alloc, case, given, probe, first, call, loss, ordinary, tally,
+            )?;
         }
     }
     Ok(())
+}
+
+fn lose_call(
+    alloc: Global,
+    case: &Case,
+    given: &Given,
+    probe: &Given,
+    first: &MemSwift,
+    call: u64,
+    loss: Loss,
+    ordinary: &Ordinary,
+    tally: &mut Tally,
+) -> Result<(), Fault> {
+    let ran = run_losing(alloc, given, first, call, loss)?;
+    compare_lost(alloc, case, probe, &ran, call, loss, ordinary, tally)
+}
+
+fn compare_lost(
+    alloc: Global,
+    case: &Case,
+    probe: &Given,
+    ran: &Ran,
+    call: u64,
+    loss: Loss,
+    ordinary: &Ordinary,
+    tally: &mut Tally,
+) -> Result<(), Fault> {
+    let context = format!(in alloc; "{loss:?} at call {call}")?;
+    let done = is_done(ordinary, call, loss);
+    compare_run(
+        alloc,
+        case,
+        context.as_str(),
+        probe,
+        ran,
+        call,
+        done,
+        ordinary,
+        tally,
+    )
+}
+
+fn compare_run(
+    alloc: Global,
+    case: &Case,
+    context: &str,
+    probe: &Given,
+    ran: &Ran,
+    call: u64,
+    done: bool,
+    ordinary: &Ordinary,
+    tally: &mut Tally,
+) -> Result<(), Fault> {
+    compare_losing(alloc, case, context, ran, call, done, ordinary, tally)?;
+    look_at_each(alloc, case, context, probe, ran, done, ordinary, tally)
 }
 
 fn run_losing(
@@ -309,18 +392,55 @@ fn look_at_each(
     tally: &mut Tally,
 ) -> Result<(), Fault> {
     for at in 0..=ran.store.calls() {
-        let seen = look(alloc, probe, &ran.store, at)?;
         let due = if done && ordinary.commit <= at {
             ordinary.after
         } else {
             ordinary.before
         };
-        if !are_same(seen.line.pieces(), due) {
-            let wanted = all_bytes(alloc, due)?;
-            let came = all_bytes(alloc, seen.line.pieces())?;
-            let context = format!(in alloc; "{context}, probe after {at} calls")?;
-            tally.mismatch(case, context.as_str(), wanted.as_slice(), came.as_slice())?;
-        }
+        look_at(alloc, case, context, probe, &ran.store, at, due, tally)?;
     }
     Ok(())
+}
+
+fn look_at(
+    alloc: Global,
+    case: &Case,
+    context: &str,
+    probe: &Given,
+    store: &MemSwift,
+    at: u64,
+    due: &[Piece],
+    tally: &mut Tally,
+) -> Result<(), Fault> {
+    let seen = look(alloc, probe, store, at)?;
+    compare_seen(alloc, case, context, seen.line.pieces(), at, due, tally)
+}
+
+fn compare_seen(
+    alloc: Global,
+    case: &Case,
+    context: &str,
+    seen: &[Piece],
+    at: u64,
+    due: &[Piece],
+    tally: &mut Tally,
+) -> Result<(), Fault> {
+    if are_same(seen, due) {
+        return Ok(());
+    }
+    let context = format!(in alloc; "{context}, probe after {at} calls")?;
+    tell_seen(alloc, case, context.as_str(), seen, due, tally)
+}
+
+fn tell_seen(
+    alloc: Global,
+    case: &Case,
+    context: &str,
+    seen: &[Piece],
+    due: &[Piece],
+    tally: &mut Tally,
+) -> Result<(), Fault> {
+    let wanted = all_bytes(alloc, due)?;
+    let came = all_bytes(alloc, seen)?;
+    tally.mismatch(case, context, wanted.as_slice(), came.as_slice())
 }
