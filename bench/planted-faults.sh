@@ -55,7 +55,7 @@ def tried(room, file, number, old, new, files=FILES):
     lines = (ran.stdout + ran.stderr).splitlines()
     counts = [line for line in lines if line.startswith("cases ")]
     # With a mismatch it ends with 1, and with 2 where a case can't be tried at all.
-    return any(f"status={status}" in line for status in (1, 2) for line in lines), counts[0] if counts else lines[0]
+    return any(f"status={status}" in line for status in (1, 2) for line in lines), counts[0] if counts else (lines or ["no answer"])[0]
 
 
 def main():
