@@ -5,6 +5,11 @@ use Rattle.std.specs.Prelude.{◌≡◌, ◌<◌, ◌≤◌, ℕ, ◌+◌, ◌-�
 abbrev pub Rose : ℕ → ℕ → Type 0
 Rose before now = max before (min (before + 1) (2 ^ 64 - 1)) ≤ now
 
+-- the count rose, if the call failed, and else it stayed
+abbrev pub RisesIf : Bool → ℕ → ℕ → Type 0
+RisesIf true before now = Rose before now
+RisesIf false before now = now ≡ before
+
 -- one of the 2^63 calls that there are was made
 abbrev pub Spends : ℕ → ℕ → Type 0
 Spends before now = (before < 2 ^ 63) × (now ≡ before + 1)

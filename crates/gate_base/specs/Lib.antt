@@ -1,4 +1,5 @@
 pub mod Causes
+pub mod Line
 pub mod ListTold
 pub mod Listed
 pub mod Maps

@@ -1,5 +1,6 @@
 -- What a clock and a source of draws in memory tell: the values still to come.
-use Rattle.std.specs.Prelude.{ℕ, List, [], ◌∷◌}
+use Rattle.std.specs.Prelude.{ℕ, true, List, [], ◌∷◌}
+use Rattle.gate_base.specs.Told.{SourceModel}
 use Rattle.std.specs.Vec.Iter.{into_iter_items}
 use Rattle.gate_base.specs.declared.told_memory.ListClock.{ListClock}
 use Rattle.gate_base.specs.declared.told_memory.ListDraws.{ListDraws}
@@ -14,3 +15,7 @@ draws_of draws = draws.next ∷ into_iter_items draws.later
 abbrev pub draws_from : List ℕ → List ℕ
 draws_from [] = 1 ∷ []
 draws_from (x ∷ xs) = x ∷ xs
+
+-- as any clock or source of draws shows itself: these values are still to come
+abbrev pub source_of : List ℕ → SourceModel
+source_of values = record { tells = true; values = values }

@@ -1,7 +1,8 @@
 -- What a line in memory shows of itself.
-use Rattle.std.specs.Prelude.{◌≡◌, ℕ, ◌+◌, ◌^◌, ◌≤◌, Bool, not, ◌&&◌, nat_le, nat_lt, List, length}
+use Rattle.std.specs.Prelude.{ℕ, ◌+◌, ◌^◌, Bool, true, not, ◌&&◌, nat_le, nat_lt, List, length}
 use Rattle.std.proofs.Common.{sym}
 use Rattle.gate_base.specs.Wire.{Wire}
+use Rattle.gate_base.specs.Line.{LineModel, IsLine}
 use Rattle.gate_base.specs.MemWire.{told_by}
 use Rattle.gate_base.specs.Listed.{is_next_listed, listed}
 use Rattle.gate_base.specs.declared.line_memory.MemLine.{MemLine}
@@ -55,10 +56,16 @@ begins_past line = not (is_to_fail line) && nat_lt 0 (length (wire_of line).wait
 abbrev pub reads_past : MemLine → Bool
 reads_past line = not (is_to_fail line) && nat_lt 0 (length (wire_of line).rest) && nat_le (2 ^ 63) (spent_of line)
 
--- each connection that has begun has its mark
-pub marks_begun : (line : MemLine) → length (wire_of line).marks ≡ (wire_of line).begun
-marks_begun line = sym line.wire.marks.ok.0
+-- as any line shows itself
+abbrev pub model_of : MemLine → LineModel
+model_of line = record {
+  is_open = is_open_of line;
+  faults = faults_of line;
+  next_faults = next_faults_of line;
+  spent = spent_of line;
+  tells = true;
+  wire = wire_of line;
+}
 
--- the faults of `next` are among the faults
-pub counts_next : (line : MemLine) → next_faults_of line ≤ faults_of line
-counts_next line = line.next_within
+pub is_line : (line : MemLine) → IsLine (model_of line)
+is_line line = record { marked = λ tells. sym line.wire.marks.ok.0; next_within = line.next_within }

@@ -1,5 +1,6 @@
 -- What a sink in memory shows of itself.
-use Rattle.std.specs.Prelude.{ℕ, ◌+◌, Bool, List}
+use Rattle.std.specs.Prelude.{ℕ, ◌+◌, Bool, true, List}
+use Rattle.gate_base.specs.Told.{SinkModel}
 use Rattle.gate_base.specs.Listed.{is_next_listed, listed}
 use Rattle.gate_base.specs.declared.sink_memory.MemSink.{MemSink}
 
@@ -26,3 +27,7 @@ faults_of sink = listed (fails_of sink) (made_of sink) + wanted_of sink
 -- the next call is to fail by its number
 abbrev pub is_to_fail : MemSink → Bool
 is_to_fail sink = is_next_listed (fails_of sink) (made_of sink)
+
+-- as any sink shows itself
+abbrev pub model_of : MemSink → SinkModel
+model_of sink = record { faults = faults_of sink; tells = true; bytes = bytes_of sink }

@@ -1,5 +1,7 @@
--- What a telling sink, clock and source of draws tell.
-use Rattle.std.specs.Prelude.{◌≡◌, ℕ, ◌+◌, ◌%◌, ◌^◌, List, [], ◌∷◌, ◌++◌, take}
+-- The ghost models of a sink, a clock and a source of draws, and what a call does to each. Source: this profile.
+use Rattle.std.specs.Prelude.{◌≡◌, ◌<◌, ℕ, ◌+◌, ◌%◌, ◌^◌, Bool, false, IsTrue, List, [], ◌∷◌, ◌++◌, take, Result, is_err, OnOk, OnErr}
+use Rattle.gate_base.specs.declared.faults.Failed.{Failed}
+use Rattle.gate_base.specs.Causes.{RisesIf}
 
 -- a `put` failed after the first n of the bytes
 abbrev pub PutsPrefix : List ℕ → List ℕ → List ℕ → Type 0
@@ -20,3 +22,41 @@ GivesDraw (x ∷ y ∷ ys) draw new = (draw ≡ x) × (new ≡ y ∷ ys)
 -- each moment of a clock is below this one, as `MOMENT_LIMIT` says
 abbrev pub moment_limit : ℕ
 moment_limit = 253402300800
+
+-- ---- a sink
+
+pub record SinkModel : Type 0 where
+  -- the calls that failed
+  pub faults : ℕ
+  -- whether the sink tells its contents, and these: the bytes put
+  pub tells : Bool
+  pub bytes : List ℕ
+
+-- `put` of these bytes
+pub record SinkPut (old : SinkModel) (bytes : List ℕ) (result : Result (Unit {0}) Failed) (new : SinkModel) : Type 0 where
+  pub faults : RisesIf (is_err result) old.faults new.faults
+  pub tells : IsTrue old.tells → IsTrue new.tells
+  pub told : IsTrue old.tells → OnOk result (new.bytes ≡ old.bytes ++ bytes)
+  pub told_err : IsTrue old.tells → OnErr result (PutsPrefix old.bytes bytes new.bytes)
+
+-- ---- a clock, a source of draws
+
+pub record SourceModel : Type 0 where
+  -- whether it tells its values, and these: those still to come
+  pub tells : Bool
+  pub values : List ℕ
+
+-- a source that tells nothing
+abbrev pub silent_source : SourceModel
+silent_source = record { tells = false; values = [] }
+
+-- `now` of a clock
+pub record ClockNow (old : SourceModel) (moment : ℕ) (new : SourceModel) : Type 0 where
+  pub limit : moment < moment_limit
+  pub tells : IsTrue old.tells → IsTrue new.tells
+  pub told : IsTrue old.tells → GivesMoment old.values moment new.values
+
+-- `draw` of a source of draws
+pub record DrawsDraw (old : SourceModel) (draw : ℕ) (new : SourceModel) : Type 0 where
+  pub tells : IsTrue old.tells → IsTrue new.tells
+  pub told : IsTrue old.tells → GivesDraw old.values draw new.values

@@ -1,7 +1,8 @@
-ghost use Rattle.std.specs.Prelude.{◌≡◌, ◌<◌, ◌≤◌, ◌+◌, true, false, not, ◌&&◌, ◌||◌, IsTrue, IsErr, is_err, IfOk, OnOk, OnErr};
-ghost use Rattle.std.specs.Prelude.{[], length, take, min};
-ghost use Rattle.gate_base.specs.Causes.{Rose, Spends, SpendsIf, one_more, one_more_if};
-ghost use Rattle.gate_base.specs.Wire.{empty, Begins, Takes, with_piece, with_mark, SendsPrefix};
+ghost use Rattle.std.specs.Prelude.{◌≡◌, ◌<◌, ◌≤◌, ◌+◌, false, not, ◌&&◌, ◌||◌, IsTrue, IsErr, is_err, IfOk, OnErr};
+ghost use Rattle.std.specs.Prelude.{[], length, min};
+ghost use Rattle.gate_base.specs.Causes.{one_more, one_more_if};
+ghost use Rattle.gate_base.specs.Wire.{empty, with_mark};
+ghost use Rattle.gate_base.specs.Line.{LineNext, LineRead, LineWrite, LineClose};
 ghost use Rattle.gate_base.specs.MemWire.{told_by};
 ghost use Rattle.gate_base.specs.Listed.{listed};
 
@@ -82,37 +83,16 @@ impl MemLine {
 }
 
 impl<C: Counted> Line<C> for MemLine {
-    ghost use Rattle.gate_base.specs.MemLine.{is_open_of, wire_of, piece_of, fails_of, made_of, spent_of, past_of};
-    ghost use Rattle.gate_base.specs.MemLine.{wanted_of, faults_of, next_faults_of, is_to_fail, begins_past, reads_past, marks_begun, counts_next};
+    ghost use Rattle.gate_base.specs.MemLine.{is_open_of, model_of, is_line, piece_of, fails_of, made_of, past_of, wanted_of};
+    ghost use Rattle.gate_base.specs.MemLine.{next_faults_of, wire_of, is_to_fail, begins_past, reads_past};
 
-    ghost is_open = { is_open_of };
+    ghost model = { model_of };
 
-    ghost faults = { faults_of };
-
-    ghost next_faults = { next_faults_of };
-
-    ghost spent = { spent_of };
-
-    ghost tells = { λ _. Unit {0} };
-
-    ghost wire = { wire_of };
-
-    ghost marked = { λ line tells. marks_begun line };
-
-    ghost next_within = { counts_next };
+    ghost is_line = { is_line };
 
     /// Failed exactly where the number of the call was given, or where a connection waits and no call is left.
     fn next(&mut self) -> Result<bool, Failed>
-        ensures open { IfOk result (λ begun. is_open_of self.new ≡ begun) }
-        ensures closed { OnErr result (is_open_of self.new ≡ false) }
-        ensures quiet { OnOk result (faults_of self.new ≡ faults_of self.old) }
-        ensures quiet_next { OnOk result (next_faults_of self.new ≡ next_faults_of self.old) }
-        ensures cause { OnErr result (Rose (faults_of self.old) (faults_of self.new)) }
-        ensures cause_next { OnErr result (Rose (next_faults_of self.old) (next_faults_of self.new)) }
-        ensures spent { IfOk result (λ begun. SpendsIf begun (spent_of self.old) (spent_of self.new)) }
-        ensures spent_err { OnErr result (spent_of self.new ≡ spent_of self.old) }
-        ensures told { IfOk result (λ begun. Begins begun (wire_of self.old) (wire_of self.new)) }
-        ensures told_err { OnErr result (wire_of self.new ≡ wire_of self.old) }
+        ensures does { LineNext (model_of self.old) result (model_of self.new) }
 
         ensures failed { is_err result ≡ (is_to_fail self.old || begins_past self.old) }
         ensures piece { piece_of self.new ≡ piece_of self.old }
@@ -144,16 +124,7 @@ impl<C: Counted> Line<C> for MemLine {
     fn read(&mut self, buf: &mut [u8]) -> Result<usize, Failed>
         requires open { IsTrue (is_open_of self.old) }
         requires room { 0 < length buf.old }
-        ensures open { is_open_of self.new ≡ true }
-        ensures within { IfOk result (λ count. count ≤ length buf.old) }
-        ensures quiet { OnOk result (faults_of self.new ≡ faults_of self.old) }
-        ensures quiet_next { next_faults_of self.new ≡ next_faults_of self.old }
-        ensures cause { OnErr result (Rose (faults_of self.old) (faults_of self.new)) }
-        ensures spent { IfOk result (λ count. 0 < count → Spends (spent_of self.old) (spent_of self.new)) }
-        ensures unspent { IfOk result (λ count. count ≡ 0 → spent_of self.new ≡ spent_of self.old) }
-        ensures spent_err { OnErr result (spent_of self.new ≡ spent_of self.old) }
-        ensures told { IfOk result (λ count. Takes (take count buf.new) (wire_of self.old) (wire_of self.new)) }
-        ensures told_err { OnErr result (wire_of self.new ≡ with_mark (wire_of self.old)) }
+        ensures does { LineRead (model_of self.old) (length buf.old) buf.new result (model_of self.new) }
 
         ensures count { IfOk result (λ count. count ≡ min (piece_of self.old)
             (min (length buf.old) (length (wire_of self.old).rest))) }
@@ -183,14 +154,9 @@ impl<C: Counted> Line<C> for MemLine {
     /// Failed exactly where the number of the call was given, or where memory was wanted. Then nothing is sent.
     fn write(&mut self, store: &C, bytes: &[u8]) -> Result<(), Failed>
         requires { IsTrue (is_open_of self.old) }
-        ensures open { is_open_of self.new ≡ true }
-        ensures quiet { OnOk result (faults_of self.new ≡ faults_of self.old) }
-        ensures quiet_next { next_faults_of self.new ≡ next_faults_of self.old }
-        ensures cause { OnErr result (Rose (faults_of self.old) (faults_of self.new)) }
-        ensures spent { spent_of self.new ≡ spent_of self.old }
-        ensures told { OnOk result (wire_of self.new ≡ with_piece (wire_of self.old) (C.called store.now) bytes.now) }
-        ensures told_err { OnErr result (wire_of self.new ≡ with_mark (wire_of self.old)) }
+        ensures does { LineWrite (model_of self.old) (C.called store.now) bytes.now result (model_of self.new) }
 
+        ensures unsent { OnErr result (wire_of self.new ≡ with_mark (wire_of self.old)) }
         ensures failed { IsTrue (is_to_fail self.old) → IsErr result }
         ensures piece { piece_of self.new ≡ piece_of self.old }
         ensures fails { fails_of self.new ≡ fails_of self.old }
@@ -213,10 +179,8 @@ impl<C: Counted> Line<C> for MemLine {
     }
 
     fn close(&mut self)
-        ensures closed { is_open_of self.new ≡ false }
-        ensures wire { wire_of self.new ≡ wire_of self.old }
-        ensures spent { spent_of self.new ≡ spent_of self.old }
-        ensures next_faults { next_faults_of self.new ≡ next_faults_of self.old }
+        ensures does { LineClose (model_of self.old) (model_of self.new) }
+
         ensures piece { piece_of self.new ≡ piece_of self.old }
         ensures fails { fails_of self.new ≡ fails_of self.old }
         ensures made { made_of self.new ≡ made_of self.old }

@@ -1,9 +1,9 @@
 //! Thin adapters over the real thing. They tell nothing of contents, and count each Failed that they answer in a
 //! `u64` that stays at its greatest value. Only the `main` of a program and tests make them.
 ghost use Rattle.std.specs.Prelude.{◌≡◌, false, []};
-ghost use Rattle.std.proofs.Common.{zero-le};
 ghost use Rattle.gate_base.specs.Causes.{Rose};
-ghost use Rattle.gate_base.specs.Wire.{empty};
+ghost use Rattle.gate_base.specs.Line.{silent_line, silent_is_line};
+ghost use Rattle.gate_base.specs.Told.{silent_source};
 
 use crate::{CALL_LIMIT, Clock, Counted, Draws, Failed, Line, MOMENT_LIMIT, NoCount, Sink};
 use std::io;
@@ -25,9 +25,7 @@ pub struct StdLine<R> {
 impl<R: Input + Print + Drop> StdLine<R> {
     /// No connection is open yet.
     pub fn new(rt: R) -> StdLine<R>
-        ensures closed { ⟦<StdLine<R> as Line<NoCount>>⟧.is_open result ≡ false }
-        ensures faults { ⟦<StdLine<R> as Line<NoCount>>⟧.faults result ≡ 0 }
-        ensures spent { ⟦<StdLine<R> as Line<NoCount>>⟧.spent result ≡ 0 }
+        ensures { ⟦<StdLine<R> as Line<NoCount>>⟧.model result ≡ silent_line false 0 0 }
     {
         StdLine {
             rt,
@@ -54,21 +52,9 @@ impl<R: Input + Print + Drop> StdLine<R> {
 }
 
 impl<R: Input + Print + Drop, C: Counted> Line<C> for StdLine<R> {
-    ghost is_open = { λ line. line.connected };
+    ghost model = { λ line. silent_line line.connected line.faults line.spent };
 
-    ghost faults = { λ line. line.faults };
-
-    ghost next_faults = { λ _. 0 };
-
-    ghost spent = { λ line. line.spent };
-
-    ghost tells = { λ _. ⊥ };
-
-    ghost wire = { λ _. empty };
-
-    ghost marked = { λ line tells. absurd tells };
-
-    ghost next_within = { λ _. zero-le };
+    ghost is_line = { λ line. silent_is_line line.connected line.faults line.spent };
 
     /// True once, and false from then on.
     fn next(&mut self) -> Result<bool, Failed> {
@@ -131,7 +117,7 @@ pub struct StdSink {
 impl StdSink {
     /// Standard output.
     pub fn output(rt: HostRuntime) -> StdSink
-        ensures { ⟦<StdSink as Sink>⟧.faults result ≡ 0 }
+        ensures { (⟦<StdSink as Sink>⟧.model result).faults ≡ 0 }
     {
         StdSink {
             stream: Stream::Output(rt.stdout()),
@@ -141,7 +127,7 @@ impl StdSink {
 
     /// Standard error.
     pub fn error(rt: HostRuntime) -> StdSink
-        ensures { ⟦<StdSink as Sink>⟧.faults result ≡ 0 }
+        ensures { (⟦<StdSink as Sink>⟧.model result).faults ≡ 0 }
     {
         StdSink {
             stream: Stream::Error(rt.stderr()),
@@ -151,11 +137,7 @@ impl StdSink {
 }
 
 impl Sink for StdSink {
-    ghost faults = { λ sink. sink.faults };
-
-    ghost tells = { λ _. ⊥ };
-
-    ghost put_bytes = { λ _. [] };
+    ghost model = { λ sink. record { faults = sink.faults; tells = false; bytes = [] } };
 
     fn put(&mut self, bytes: &[u8]) -> Result<(), Failed> {
         match self.stream.write_all(bytes) {
@@ -194,9 +176,7 @@ impl<R: RuntimeClock + Drop> SystemClock<R> {
 }
 
 impl<R: RuntimeClock + Drop> Clock for SystemClock<R> {
-    ghost tells = { λ _. ⊥ };
-
-    ghost moments = { λ _. [] };
+    ghost model = { λ _. silent_source };
 
     /// The last moment below the limit stands for each later one.
     fn now(&mut self) -> u64 {
@@ -220,9 +200,7 @@ impl<R: RandomSource + Drop> RandomDraws<R> {
 }
 
 impl<R: RandomSource + Drop> Draws for RandomDraws<R> {
-    ghost tells = { λ _. ⊥ };
-
-    ghost draws = { λ _. [] };
+    ghost model = { λ _. silent_source };
 
     /// 128 random bits. Where the runtime has none to give, the draw before plus one.
     fn draw(&mut self) -> u128 {

@@ -1,5 +1,6 @@
-ghost use Rattle.std.specs.Prelude.{◌≡◌, not, ◌&&◌, IsTrue, IsErr, is_err, OnOk, OnErr, [], ◌++◌};
-ghost use Rattle.gate_base.specs.Causes.{Rose, one_more, one_more_if};
+ghost use Rattle.std.specs.Prelude.{◌≡◌, not, ◌&&◌, IsTrue, IsErr, is_err, OnErr, []};
+ghost use Rattle.gate_base.specs.Causes.{one_more, one_more_if};
+ghost use Rattle.gate_base.specs.Told.{SinkPut};
 
 use crate::numbered::Numbered;
 use crate::{Bytes, Failed, List, Memory, Sink};
@@ -51,21 +52,15 @@ impl MemSink {
 }
 
 impl Sink for MemSink {
-    ghost use Rattle.gate_base.specs.MemSink.{bytes_of, fails_of, made_of, wanted_of, faults_of, is_to_fail};
+    ghost use Rattle.gate_base.specs.MemSink.{model_of, bytes_of, fails_of, made_of, wanted_of, is_to_fail};
 
-    ghost faults = { faults_of };
-
-    ghost tells = { λ _. Unit {0} };
-
-    ghost put_bytes = { bytes_of };
+    ghost model = { model_of };
 
     /// Failed exactly where the number of the call was given, or where memory was wanted. Then nothing is put.
     fn put(&mut self, bytes: &[u8]) -> Result<(), Failed>
-        ensures quiet { OnOk result (faults_of self.new ≡ faults_of self.old) }
-        ensures cause { OnErr result (Rose (faults_of self.old) (faults_of self.new)) }
-        ensures told { OnOk result (bytes_of self.new ≡ bytes_of self.old ++ bytes.now) }
-        ensures told_err { OnErr result (bytes_of self.new ≡ bytes_of self.old) }
+        ensures does { SinkPut (model_of self.old) bytes.now result (model_of self.new) }
 
+        ensures unput { OnErr result (bytes_of self.new ≡ bytes_of self.old) }
         ensures failed { IsTrue (is_to_fail self.old) → IsErr result }
         ensures fails { fails_of self.new ≡ fails_of self.old }
         ensures made { made_of self.new ≡ one_more (made_of self.old) }

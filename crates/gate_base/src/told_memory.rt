@@ -30,11 +30,9 @@ impl ListClock {
 }
 
 impl Clock for ListClock {
-    ghost use Rattle.gate_base.specs.ListTold.{moments_of};
+    ghost use Rattle.gate_base.specs.ListTold.{moments_of, source_of};
 
-    ghost tells = { λ _. Unit {0} };
-
-    ghost moments = { moments_of };
+    ghost model = { λ clock. source_of (moments_of clock) };
 
     fn now(&mut self) -> u64 {
         let moment = self.next;
@@ -70,11 +68,9 @@ impl ListDraws {
 }
 
 impl Draws for ListDraws {
-    ghost use Rattle.gate_base.specs.ListTold.{draws_of};
+    ghost use Rattle.gate_base.specs.ListTold.{draws_of, source_of};
 
-    ghost tells = { λ _. Unit {0} };
-
-    ghost draws = { draws_of };
+    ghost model = { λ draws. source_of (draws_of draws) };
 
     fn draw(&mut self) -> u128 {
         let draw = self.next;

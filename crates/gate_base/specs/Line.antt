@@ -1,0 +1,99 @@
+-- The ghost model of a line, and what each of its calls does to it. Source: this profile.
+use Rattle.std.specs.Prelude.{◌≡◌, ◌<◌, ◌≤◌, ℕ, Bool, true, false, IsTrue, List, length, take, if◌then◌else◌, Result, Ok, Err, is_err, IfOk, OnOk, OnErr}
+use Rattle.gate_base.specs.declared.faults.Failed.{Failed}
+use Rattle.gate_base.specs.Causes.{RisesIf, Spends, SpendsIf}
+use Rattle.std.proofs.Common.{zero-le}
+use Rattle.gate_base.specs.Wire.{Wire, empty, Begins, Takes, with_piece, with_mark, SendsPrefix}
+
+pub record LineModel : Type 0 where
+  -- whether a connection is open
+  pub is_open : Bool
+  -- the calls that failed, and of these those of `next`
+  pub faults : ℕ
+  pub next_faults : ℕ
+  -- how many calls of `next` answered true and of `read` gave bytes: at most 2^63
+  pub spent : ℕ
+  -- whether the line tells its contents, and these
+  pub tells : Bool
+  pub wire : Wire
+
+-- what stays of the wire while the open connection is served: all but the bytes left of it, the pieces sent, and the mark of a
+-- failure
+pub record WireServes (failed : Bool) (old new : Wire) : Type 0 where
+  pub waiting : new.waiting ≡ old.waiting
+  pub begun : new.begun ≡ old.begun
+  pub marks : new.marks ≡ (if failed then (with_mark old).marks else old.marks)
+
+-- the line after any number of reads and writes on the open connection. If `failed`, the last of them failed, and else none did
+pub record LineServes (failed : Bool) (old new : LineModel) : Type 0 where
+  pub is_open : new.is_open ≡ true
+  pub faults : RisesIf failed old.faults new.faults
+  pub next_faults : new.next_faults ≡ old.next_faults
+  pub spent : old.spent ≤ new.spent
+  pub tells : IsTrue old.tells → IsTrue new.tells
+  pub wire : IsTrue old.tells → WireServes failed old.wire new.wire
+
+-- `LineServes` without a write
+pub record OnlyReads (failed : Bool) (old new : LineModel) : Type 0 where
+  pub serves : LineServes failed old new
+  pub sent : IsTrue old.tells → new.wire.sent ≡ old.wire.sent
+
+-- `LineServes` without a read
+pub record OnlyWrites (failed : Bool) (old new : LineModel) : Type 0 where
+  pub serves : LineServes failed old new
+  pub spent : new.spent ≡ old.spent
+  pub rest : IsTrue old.tells → new.wire.rest ≡ old.wire.rest
+
+-- ---- one call
+
+-- whether another connection began
+abbrev pub does_begin : Result Bool Failed → Bool
+does_begin (Ok begun) = begun
+does_begin (Err fault) = false
+
+-- `next`: the present connection ended. Where the call failed, no other began
+pub record LineNext (old : LineModel) (result : Result Bool Failed) (new : LineModel) : Type 0 where
+  pub is_open : new.is_open ≡ does_begin result
+  pub faults : RisesIf (is_err result) old.faults new.faults
+  pub next_faults : RisesIf (is_err result) old.next_faults new.next_faults
+  pub spent : SpendsIf (does_begin result) old.spent new.spent
+  pub tells : IsTrue old.tells → IsTrue new.tells
+  pub told : IsTrue old.tells → IfOk result (λ begun. Begins begun old.wire new.wire)
+  pub told_err : IsTrue old.tells → OnErr result (new.wire ≡ old.wire)
+
+-- `read` into a buffer of so many bytes, which holds these now
+pub record LineRead (old : LineModel) (room : ℕ) (bytes : List ℕ) (result : Result ℕ Failed) (new : LineModel) : Type 0 where
+  pub within : IfOk result (λ count. count ≤ room)
+  pub reads : OnlyReads (is_err result) old new
+  pub spent : IfOk result (λ count. 0 < count → Spends old.spent new.spent)
+  pub unspent : IfOk result (λ count. count ≡ 0 → new.spent ≡ old.spent)
+  pub spent_err : OnErr result (new.spent ≡ old.spent)
+  pub told : IsTrue old.tells → IfOk result (λ count. Takes (take count bytes) old.wire new.wire)
+  pub told_err : IsTrue old.tells → OnErr result (new.wire ≡ with_mark old.wire)
+
+-- `write` of these bytes, when the store had counted so many calls
+pub record LineWrite (old : LineModel) (at : ℕ) (bytes : List ℕ) (result : Result (Unit {0}) Failed) (new : LineModel) : Type 0 where
+  pub writes : OnlyWrites (is_err result) old new
+  pub told : IsTrue old.tells → OnOk result (new.wire ≡ with_piece old.wire at bytes)
+  pub told_err : IsTrue old.tells → OnErr result (SendsPrefix old.wire at bytes new.wire)
+
+-- `close`: the present connection ended
+pub record LineClose (old new : LineModel) : Type 0 where
+  pub is_open : new.is_open ≡ false
+  pub faults : new.faults ≡ old.faults
+  pub next_faults : new.next_faults ≡ old.next_faults
+  pub spent : new.spent ≡ old.spent
+  pub tells : IsTrue old.tells → IsTrue new.tells
+  pub told : IsTrue old.tells → new.wire ≡ old.wire
+
+-- what holds of each line: each connection that has begun has its mark, and the faults of `next` are among the faults
+pub record IsLine (line : LineModel) : Type 0 where
+  pub marked : IsTrue line.tells → length line.wire.marks ≡ line.wire.begun
+  pub next_within : line.next_faults ≤ line.faults
+
+-- a line that tells nothing, and whose calls of `next` never fail, as standard streams are
+abbrev pub silent_line : Bool → ℕ → ℕ → LineModel
+silent_line is_open faults spent = record { is_open = is_open; faults = faults; next_faults = 0; spent = spent; tells = false; wire = empty }
+
+pub silent_is_line : (is_open : Bool) (faults spent : ℕ) → IsLine (silent_line is_open faults spent)
+silent_is_line is_open faults spent = record { marked = λ tells. cc; next_within = zero-le }
