@@ -1,6 +1,5 @@
 -- What a call of the reader gives, and what it does to the bytes that are left and to the line. Source: this profile.
 use Rattle.std.specs.Prelude.{◌≡◌, ◌⊎◌, ℕ, ◌+◌, ◌-◌, ◌*◌, ◌^◌, min, Bool, true, false, List, length, drop, Result, Ok, Err, ⊤}
-use Rattle.gate_base.specs.Wire.{Wire}
 use Rattle.http_wire.specs.declared.message.Got.{Got}
 use Rattle.http_wire.specs.declared.message.Got.TheVariants.{Request, End, CutShort, Refused}
 use Rattle.http_wire.specs.declared.message.ReadFault.{ReadFault}
@@ -47,23 +46,11 @@ OnRequest (Ok (CutShort place)) P = ⊤
 OnRequest (Ok (Refused kind place head)) P = ⊤
 OnRequest (Err fault) P = ⊤
 
--- P, unless the line failed
-abbrev pub UnlessFailed : {A : Type 0} → Result A ReadFault → Type 0 → Type 0
-UnlessFailed (Ok a) P = P
-UnlessFailed (Err Failed) P = ⊤
-UnlessFailed (Err Memory) P = P
-
--- P, if the line failed
-abbrev pub OnFailed : {A : Type 0} → Result A ReadFault → Type 0 → Type 0
-OnFailed (Ok a) P = ⊤
-OnFailed (Err Failed) P = P
-OnFailed (Err Memory) P = ⊤
-
--- only bytes of the present connection were read
-pub record OnlyReads (old new : Wire) : Type 0 where
-  pub waiting : new.waiting ≡ old.waiting
-  pub begun : new.begun ≡ old.begun
-  pub sent : new.sent ≡ old.sent
+-- whether the line failed
+abbrev pub is_failed : {A : Type 0} → Result A ReadFault → Bool
+is_failed (Ok a) = false
+is_failed (Err Failed) = true
+is_failed (Err Memory) = false
 
 -- what is left to do over a line: it falls at each request, so that a loop over requests ends. One read brings fewer bytes than the factor
 abbrev pub weight : ℕ → List ℕ → ℕ

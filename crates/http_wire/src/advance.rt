@@ -1,7 +1,6 @@
-ghost use Rattle.std.specs.Prelude.{true, ◌≡◌, ◌≤◌, ◌++◌, length, IsTrue, IfOk};
-ghost use Rattle.gate_base.specs.Causes.{Rose};
-ghost use Rattle.gate_base.specs.Wire.{with_mark};
-ghost use Rattle.http_wire.specs.Gives.{OnFailed, OnlyReads, UnlessFailed, weight};
+ghost use Rattle.std.specs.Prelude.{◌≡◌, ◌≤◌, ◌++◌, length, IsTrue, IfOk};
+ghost use Rattle.gate_base.specs.Line.{OnlyReads};
+ghost use Rattle.http_wire.specs.Gives.{is_failed, weight};
 ghost use Rattle.http_wire.specs.Seen.{AtEnd, IsFound, end_of, window};
 
 use crate::ReadFault;
@@ -49,21 +48,13 @@ pub(crate) fn advance<N: Line<C>, C: Counted>(
     line: &mut N,
     store: &C,
 ) -> Result<Found, ReadFault>
-    requires open { IsTrue (N.is_open line.old) }
+    requires open { IsTrue (N.model line.old).is_open }
     requires room { 8192 ≤ length headers.old }
-    ensures open { N.is_open line.new ≡ true }
-    ensures quiet { UnlessFailed result (N.faults line.new ≡ N.faults line.old) }
-    ensures cause { OnFailed result (Rose (N.faults line.old) (N.faults line.new)) }
-    ensures quiet_next { N.next_faults line.new ≡ N.next_faults line.old }
-    ensures spent { N.spent line.old ≤ N.spent line.new }
-    ensures weight { weight (N.spent line.new) pending.new.items ≤ weight (N.spent line.old) pending.old.items }
-    ensures tells { N.tells line.old → N.tells line.new }
-    ensures only_reads { N.tells line.old → OnlyReads (N.wire line.old) (N.wire line.new) }
-    ensures marks { N.tells line.old → UnlessFailed result ((N.wire line.new).marks ≡ (N.wire line.old).marks) }
-    ensures mark { N.tells line.old → OnFailed result ((N.wire line.new).marks ≡ (with_mark (N.wire line.old)).marks) }
-    ensures kept { N.tells line.old → pending.new.items ++ (N.wire line.new).rest ≡ pending.old.items ++ (N.wire line.old).rest }
+    ensures reads { OnlyReads (is_failed result) (N.model line.old) (N.model line.new) }
+    ensures weight { weight (N.model line.new).spent pending.new.items ≤ weight (N.model line.old).spent pending.old.items }
+    ensures kept { IsTrue (N.model line.old).tells → pending.new.items ++ (N.model line.new).wire.rest ≡ pending.old.items ++ (N.model line.old).wire.rest }
     ensures found { IfOk result (IsFound pending.new.items headers.new) }
-    ensures at_end { N.tells line.old → IfOk result (λ found. AtEnd found (N.wire line.new).rest) }
+    ensures at_end { IsTrue (N.model line.old).tells → IfOk result (λ found. AtEnd found (N.model line.new).wire.rest) }
 {
     'come: loop {
         match look(window(pending), headers) {

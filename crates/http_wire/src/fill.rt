@@ -1,8 +1,8 @@
 //! Reading from the line into a buffer.
-ghost use Rattle.std.specs.Prelude.{true, ◌≡◌, ◌≤◌, ◌<◌, ◌+◌, ◌++◌, [], length, take, IsTrue, IfOk, OnErr};
-ghost use Rattle.gate_base.specs.Causes.{Rose, Spends};
-ghost use Rattle.gate_base.specs.Wire.{with_mark};
-ghost use Rattle.http_wire.specs.Gives.{OnFailed, OnlyReads, UnlessFailed, weight};
+ghost use Rattle.std.specs.Prelude.{◌≡◌, ◌≤◌, ◌<◌, ◌+◌, ◌++◌, [], length, take, IsTrue, IfOk, OnErr};
+ghost use Rattle.gate_base.specs.Causes.{Spends};
+ghost use Rattle.gate_base.specs.Line.{OnlyReads};
+ghost use Rattle.http_wire.specs.Gives.{is_failed, weight};
 
 use crate::ReadFault;
 use gate_base::{Counted, Line};
@@ -16,22 +16,14 @@ pub(crate) fn fill<N: Line<C>, C: Counted>(
     line: &mut N,
     store: &C,
 ) -> Result<usize, ReadFault>
-    requires { IsTrue (N.is_open line.old) }
-    ensures open { N.is_open line.new ≡ true }
-    ensures quiet { UnlessFailed result (N.faults line.new ≡ N.faults line.old) }
-    ensures cause { OnFailed result (Rose (N.faults line.old) (N.faults line.new)) }
-    ensures quiet_next { N.next_faults line.new ≡ N.next_faults line.old }
-    ensures spent { N.spent line.old ≤ N.spent line.new }
-    ensures weight { weight (N.spent line.new) pending.new.items ≤ weight (N.spent line.old) pending.old.items }
+    requires { IsTrue (N.model line.old).is_open }
+    ensures reads { OnlyReads (is_failed result) (N.model line.old) (N.model line.new) }
+    ensures weight { weight (N.model line.new).spent pending.new.items ≤ weight (N.model line.old).spent pending.old.items }
     ensures falls { IfOk result (λ count. 0 < count
-        → weight (N.spent line.new) pending.new.items < weight (N.spent line.old) pending.old.items) }
+        → weight (N.model line.new).spent pending.new.items < weight (N.model line.old).spent pending.old.items) }
     ensures same { IfOk result (λ count. count ≡ 0 → pending.new.items ≡ pending.old.items) }
-    ensures tells { N.tells line.old → N.tells line.new }
-    ensures only_reads { N.tells line.old → OnlyReads (N.wire line.old) (N.wire line.new) }
-    ensures marks { N.tells line.old → UnlessFailed result ((N.wire line.new).marks ≡ (N.wire line.old).marks) }
-    ensures mark { N.tells line.old → OnFailed result ((N.wire line.new).marks ≡ (with_mark (N.wire line.old)).marks) }
-    ensures kept { N.tells line.old → pending.new.items ++ (N.wire line.new).rest ≡ pending.old.items ++ (N.wire line.old).rest }
-    ensures at_end { N.tells line.old → IfOk result (λ count. count ≡ 0 → (N.wire line.new).rest ≡ []) }
+    ensures kept { IsTrue (N.model line.old).tells → pending.new.items ++ (N.model line.new).wire.rest ≡ pending.old.items ++ (N.model line.old).wire.rest }
+    ensures at_end { IsTrue (N.model line.old).tells → IfOk result (λ count. count ≡ 0 → (N.model line.new).wire.rest ≡ []) }
 {
     let came = pending.len();
     pending.resize(came + READ_SIZE, 0)?;
@@ -55,25 +47,17 @@ pub(crate) fn read_room<N: Line<C>, C: Counted>(
     line: &mut N,
     store: &C,
 ) -> Result<usize, ReadFault>
-    requires open { IsTrue (N.is_open line.old) }
+    requires open { IsTrue (N.model line.old).is_open }
     requires room { came < length bytes.old.items }
-    ensures open { N.is_open line.new ≡ true }
-    ensures quiet { UnlessFailed result (N.faults line.new ≡ N.faults line.old) }
-    ensures cause { OnFailed result (Rose (N.faults line.old) (N.faults line.new)) }
-    ensures quiet_next { N.next_faults line.new ≡ N.next_faults line.old }
-    ensures spent { N.spent line.old ≤ N.spent line.new }
-    ensures spends { IfOk result (λ count. 0 < count → Spends (N.spent line.old) (N.spent line.new)) }
+    ensures reads { OnlyReads (is_failed result) (N.model line.old) (N.model line.new) }
+    ensures spends { IfOk result (λ count. 0 < count → Spends (N.model line.old).spent (N.model line.new).spent) }
     ensures length { length bytes.new.items ≡ length bytes.old.items }
     ensures within { IfOk result (λ count. came + count ≤ length bytes.old.items) }
     ensures front { take came bytes.new.items ≡ take came bytes.old.items }
-    ensures tells { N.tells line.old → N.tells line.new }
-    ensures only_reads { N.tells line.old → OnlyReads (N.wire line.old) (N.wire line.new) }
-    ensures marks { N.tells line.old → UnlessFailed result ((N.wire line.new).marks ≡ (N.wire line.old).marks) }
-    ensures mark { N.tells line.old → OnFailed result ((N.wire line.new).marks ≡ (with_mark (N.wire line.old)).marks) }
-    ensures kept { N.tells line.old → IfOk result (λ count.
-        take (came + count) bytes.new.items ++ (N.wire line.new).rest ≡ take came bytes.old.items ++ (N.wire line.old).rest) }
-    ensures kept_err { N.tells line.old → OnErr result ((N.wire line.new).rest ≡ (N.wire line.old).rest) }
-    ensures at_end { N.tells line.old → IfOk result (λ count. count ≡ 0 → (N.wire line.new).rest ≡ []) }
+    ensures kept { IsTrue (N.model line.old).tells → IfOk result (λ count.
+        take (came + count) bytes.new.items ++ (N.model line.new).wire.rest ≡ take came bytes.old.items ++ (N.model line.old).wire.rest) }
+    ensures kept_err { IsTrue (N.model line.old).tells → OnErr result ((N.model line.new).wire.rest ≡ (N.model line.old).wire.rest) }
+    ensures at_end { IsTrue (N.model line.old).tells → IfOk result (λ count. count ≡ 0 → (N.model line.new).wire.rest ≡ []) }
 {
     match line.read(&mut bytes[came..]) {
         Ok(count) => Ok(count),

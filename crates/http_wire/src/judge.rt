@@ -1,5 +1,5 @@
 //! Whether a whole head is accepted, and how long its body is.
-ghost use Rattle.std.specs.Prelude.{◌≡◌, ◌↔◌, ◌≤◌, [], length, IsTrue, position, codes, nat_lt};
+ghost use Rattle.std.specs.Prelude.{◌≡◌, ◌↔◌, ◌≤◌, [], length, IsTrue, IfOk, position, codes, nat_lt};
 ghost use Rattle.std.specs.List.{list_all, list_any};
 ghost use Rattle.http_wire.specs.Front.{has_name, values_of, is_digit, is_length, is_put, number_of, value_judged, length_judged, judge};
 
@@ -17,7 +17,8 @@ const BODY_LIMIT: usize = 16_777_216;
 
 /// How many bytes of body follow a head, or why it is refused.
 pub(crate) fn judge(message: &Message) -> Result<usize, Kind>
-    ensures { result ≡ judge message.now }
+    ensures value { result ≡ judge message.now }
+    ensures within { IfOk result (λ size. size ≤ 16777216) }
 {
     let headers = message.headers.as_slice();
     if is_long(headers) {
@@ -55,7 +56,8 @@ fn is_put(method: &[u8]) -> bool
 
 /// The same by the lengths that are given.
 fn judge_length(put: bool, headers: &[Pair]) -> Result<usize, Kind>
-    ensures { result ≡ length_judged put (values_of (codes "content-length") headers.now) }
+    ensures value { result ≡ length_judged put (values_of (codes "content-length") headers.now) }
+    ensures within { IfOk result (λ size. size ≤ 16777216) }
 {
     match place_of(headers, b"content-length") {
         Some(at) => {
@@ -71,7 +73,8 @@ fn judge_length(put: bool, headers: &[Pair]) -> Result<usize, Kind>
 
 /// The same by the one length.
 fn judge_value(value: &[u8]) -> Result<usize, Kind>
-    ensures { result ≡ value_judged value.now }
+    ensures value { result ≡ value_judged value.now }
+    ensures within { IfOk result (λ size. size ≤ 16777216) }
 {
     if !is_length(value) {
         return Err(Kind::BadLength);

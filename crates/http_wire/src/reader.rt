@@ -1,7 +1,6 @@
 ghost use Rattle.std.specs.Prelude.{◌≡◌, ◌≤◌, ◌<◌, ◌++◌, [], true, false, length, drop, IsTrue, IfOk, OnErr};
-ghost use Rattle.gate_base.specs.Causes.{Rose};
-ghost use Rattle.gate_base.specs.Wire.{with_mark};
-ghost use Rattle.http_wire.specs.Gives.{Gives, OnFailed, OnlyReads, OnRequest, UnlessFailed, ends, weight};
+ghost use Rattle.gate_base.specs.Line.{OnlyReads};
+ghost use Rattle.http_wire.specs.Gives.{Gives, OnRequest, ends, is_failed, weight};
 
 use crate::advance::{Found, HEAD_LIMIT, advance};
 use crate::fill::READ_SIZE;
@@ -66,33 +65,23 @@ impl Reader {
         line: &mut N,
         store: &C,
     ) -> Result<Got, ReadFault>
-        requires { IsTrue (N.is_open line.old) }
-        ensures open { N.is_open line.new ≡ true }
-
-        // Faults of the line.
-        ensures quiet { UnlessFailed result (N.faults line.new ≡ N.faults line.old) }
-        ensures cause { OnFailed result (Rose (N.faults line.old) (N.faults line.new)) }
-        ensures quiet_next { N.next_faults line.new ≡ N.next_faults line.old }
+        requires { IsTrue (N.model line.old).is_open }
+        ensures reads { OnlyReads (is_failed result) (N.model line.old) (N.model line.new) }
 
         // A loop over requests ends.
-        ensures spent { N.spent line.old ≤ N.spent line.new }
         ensures falls { OnRequest result
-            (weight (N.spent line.new) self.new.bytes < weight (N.spent line.old) self.old.bytes) }
+            (weight (N.model line.new).spent self.new.bytes < weight (N.model line.old).spent self.old.bytes) }
 
         // After any answer but a request it has ended, and then it gives End and touches nothing.
         ensures ends { self.new.ended ≡ ends result }
         ensures ended { self.old.ended ≡ true → (result ≡ Ok Got.End) × (line.new ≡ line.old) × (self.new ≡ self.old) }
 
         // Where the line tells: the answer is the front of all that is left, read or not.
-        ensures tells { N.tells line.old → N.tells line.new }
-        ensures told { N.tells line.old → IfOk result (λ got. Gives
-            self.old (self.old.bytes ++ (N.wire line.old).rest) got self.new (self.new.bytes ++ (N.wire line.new).rest)) }
-        ensures told_err { N.tells line.old → OnErr result
-            (self.new.bytes ++ (N.wire line.new).rest ≡ self.old.bytes ++ (N.wire line.old).rest) }
+        ensures told { IsTrue (N.model line.old).tells → IfOk result (λ got. Gives
+            self.old (self.old.bytes ++ (N.model line.old).wire.rest) got self.new (self.new.bytes ++ (N.model line.new).wire.rest)) }
+        ensures told_err { IsTrue (N.model line.old).tells → OnErr result
+            (self.new.bytes ++ (N.model line.new).wire.rest ≡ self.old.bytes ++ (N.model line.old).wire.rest) }
         ensures place_err { OnErr result (self.new.place ≡ self.old.place) }
-        ensures only_reads { N.tells line.old → OnlyReads (N.wire line.old) (N.wire line.new) }
-        ensures marks { N.tells line.old → UnlessFailed result ((N.wire line.new).marks ≡ (N.wire line.old).marks) }
-        ensures mark { N.tells line.old → OnFailed result ((N.wire line.new).marks ≡ (with_mark (N.wire line.old)).marks) }
     {
         if self.over {
             return Ok(Got::End);

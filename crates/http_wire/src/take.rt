@@ -1,13 +1,12 @@
 //! A whole head with its body.
 ghost use Rattle.std.specs.Prelude.{true, false, ◌≡◌, ◌≤◌, ◌<◌, ◌+◌, ◌++◌, [], length, take, drop, IsTrue, IfOk, OnErr};
-ghost use Rattle.gate_base.specs.Causes.{Rose};
-ghost use Rattle.gate_base.specs.Wire.{with_mark};
+ghost use Rattle.gate_base.specs.Line.{OnlyReads};
 ghost use Rattle.httparse.specs.Grammar.{RequestHead};
 ghost use Rattle.httparse.specs.Spans.{IsRequestAt, IsRequestWithin};
 ghost use Rattle.http_wire.specs.Front.{is_head};
 ghost use Rattle.http_wire.specs.Seen.{window};
 ghost use Rattle.http_wire.specs.Taken.{BodyFrom, OnWhole, TakenFrom};
-ghost use Rattle.http_wire.specs.Gives.{OnFailed, OnlyReads, UnlessFailed};
+ghost use Rattle.http_wire.specs.Gives.{is_failed};
 
 use crate::advance::window;
 use crate::fill::read_room;
@@ -42,24 +41,16 @@ pub(crate) fn take_message<N: Line<C>, C: Counted>(
     line: &mut N,
     store: &C,
 ) -> Result<Taken, ReadFault>
-    requires open { IsTrue (N.is_open line.old) }
+    requires open { IsTrue (N.model line.old).is_open }
     requires within { IsRequestWithin (window pending.old.items) lines.now spans.now }
     requires none { partial.old.items ≡ [] }
-    ensures open { N.is_open line.new ≡ true }
-    ensures quiet { UnlessFailed result (N.faults line.new ≡ N.faults line.old) }
-    ensures cause { OnFailed result (Rose (N.faults line.old) (N.faults line.new)) }
-    ensures quiet_next { N.next_faults line.new ≡ N.next_faults line.old }
-    ensures spent { N.spent line.old ≤ N.spent line.new }
-    ensures tells { N.tells line.old → N.tells line.new }
-    ensures only_reads { N.tells line.old → OnlyReads (N.wire line.old) (N.wire line.new) }
-    ensures marks { N.tells line.old → UnlessFailed result ((N.wire line.new).marks ≡ (N.wire line.old).marks) }
-    ensures mark { N.tells line.old → OnFailed result ((N.wire line.new).marks ≡ (with_mark (N.wire line.old)).marks) }
+    ensures reads { OnlyReads (is_failed result) (N.model line.old) (N.model line.new) }
     ensures none { IfOk result (OnWhole (partial.new.items ≡ [])) }
     ensures fewer { IfOk result (OnWhole (length pending.new.items + spans.now.len ≤ length pending.old.items)) }
-    ensures told { N.tells line.old → IfOk result (λ taken. (h : RequestHead) → IsRequestAt (window pending.old.items) lines.now spans.now h
-        → TakenFrom (pending.old.items ++ (N.wire line.old).rest) h spans.now.len taken ((pending.new.items ++ partial.new.items) ++ (N.wire line.new).rest)) }
-    ensures told_err { N.tells line.old → OnErr result
-        ((pending.new.items ++ partial.new.items) ++ (N.wire line.new).rest ≡ pending.old.items ++ (N.wire line.old).rest) }
+    ensures told { IsTrue (N.model line.old).tells → IfOk result (λ taken. (h : RequestHead) → IsRequestAt (window pending.old.items) lines.now spans.now h
+        → TakenFrom (pending.old.items ++ (N.model line.old).wire.rest) h spans.now.len taken ((pending.new.items ++ partial.new.items) ++ (N.model line.new).wire.rest)) }
+    ensures told_err { IsTrue (N.model line.old).tells → OnErr result
+        ((pending.new.items ++ partial.new.items) ++ (N.model line.new).wire.rest ≡ pending.old.items ++ (N.model line.old).wire.rest) }
 {
     let alloc = *pending.allocator();
     let mut message = message_at(alloc, window(pending), lines, spans)?;
@@ -101,23 +92,15 @@ fn take_body<N: Line<C>, C: Counted>(
     line: &mut N,
     store: &C,
 ) -> Result<bool, ReadFault>
-    requires open { IsTrue (N.is_open line.old) }
+    requires open { IsTrue (N.model line.old).is_open }
     requires within { start ≤ length pending.old.items }
     requires none { body.old.items ≡ [] }
-    ensures open { N.is_open line.new ≡ true }
-    ensures quiet { UnlessFailed result (N.faults line.new ≡ N.faults line.old) }
-    ensures cause { OnFailed result (Rose (N.faults line.old) (N.faults line.new)) }
-    ensures quiet_next { N.next_faults line.new ≡ N.next_faults line.old }
-    ensures spent { N.spent line.old ≤ N.spent line.new }
-    ensures tells { N.tells line.old → N.tells line.new }
-    ensures only_reads { N.tells line.old → OnlyReads (N.wire line.old) (N.wire line.new) }
-    ensures marks { N.tells line.old → UnlessFailed result ((N.wire line.new).marks ≡ (N.wire line.old).marks) }
-    ensures mark { N.tells line.old → OnFailed result ((N.wire line.new).marks ≡ (with_mark (N.wire line.old)).marks) }
+    ensures reads { OnlyReads (is_failed result) (N.model line.old) (N.model line.new) }
     ensures fewer { IfOk result (λ whole. IsTrue whole → length pending.new.items + start ≤ length pending.old.items) }
-    ensures told { N.tells line.old → IfOk result (λ whole.
-        BodyFrom (pending.old.items ++ (N.wire line.old).rest) start size whole body.new.items pending.new.items (N.wire line.new).rest) }
-    ensures told_err { N.tells line.old → OnErr result
-        ((pending.new.items ++ body.new.items) ++ (N.wire line.new).rest ≡ pending.old.items ++ (N.wire line.old).rest) }
+    ensures told { IsTrue (N.model line.old).tells → IfOk result (λ whole.
+        BodyFrom (pending.old.items ++ (N.model line.old).wire.rest) start size whole body.new.items pending.new.items (N.model line.new).wire.rest) }
+    ensures told_err { IsTrue (N.model line.old).tells → OnErr result
+        ((pending.new.items ++ body.new.items) ++ (N.model line.new).wire.rest ≡ pending.old.items ++ (N.model line.old).wire.rest) }
 {
     if size <= pending.len() - start {
         body.extend_from_slice(&pending[start..start + size])?;
@@ -157,20 +140,12 @@ fn finish_body<N: Line<C>, C: Counted>(
     line: &mut N,
     store: &C,
 ) -> Result<bool, ReadFault>
-    requires open { IsTrue (N.is_open line.old) }
+    requires open { IsTrue (N.model line.old).is_open }
     requires short { length body.old.items ≤ size }
-    ensures open { N.is_open line.new ≡ true }
-    ensures quiet { UnlessFailed result (N.faults line.new ≡ N.faults line.old) }
-    ensures cause { OnFailed result (Rose (N.faults line.old) (N.faults line.new)) }
-    ensures quiet_next { N.next_faults line.new ≡ N.next_faults line.old }
-    ensures spent { N.spent line.old ≤ N.spent line.new }
-    ensures tells { N.tells line.old → N.tells line.new }
-    ensures only_reads { N.tells line.old → OnlyReads (N.wire line.old) (N.wire line.new) }
-    ensures marks { N.tells line.old → UnlessFailed result ((N.wire line.new).marks ≡ (N.wire line.old).marks) }
-    ensures mark { N.tells line.old → OnFailed result ((N.wire line.new).marks ≡ (with_mark (N.wire line.old)).marks) }
-    ensures kept { N.tells line.old → body.new.items ++ (N.wire line.new).rest ≡ body.old.items ++ (N.wire line.old).rest }
+    ensures reads { OnlyReads (is_failed result) (N.model line.old) (N.model line.new) }
+    ensures kept { IsTrue (N.model line.old).tells → body.new.items ++ (N.model line.new).wire.rest ≡ body.old.items ++ (N.model line.old).wire.rest }
     ensures whole { IfOk result (λ whole. IsTrue whole → length body.new.items ≡ size) }
-    ensures short { N.tells line.old → IfOk result (λ whole. whole ≡ false → (length body.new.items < size) × ((N.wire line.new).rest ≡ [])) }
+    ensures short { IsTrue (N.model line.old).tells → IfOk result (λ whole. whole ≡ false → (length body.new.items < size) × ((N.model line.new).wire.rest ≡ [])) }
 {
     let mut came = body.len();
     'pieces: while came < size {

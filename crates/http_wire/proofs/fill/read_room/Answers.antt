@@ -6,7 +6,7 @@ pub returns-in-Ok-clause-kept : goal.returns-in-Ok-clause-kept
 returns-in-Ok-clause-kept g c tells =
     let came = c.args.came in
     let read = c.read.new.buf in
-    let rest = (g.N.Line.wire c.read.new.self).rest in
+    let rest = (g.N.Line.model c.read.new.self).wire.rest in
     let front = take came c.args.bytes.now.items in
     ap (λ v. v ++ rest)
     (filled c.deref_mut.result.now read _ _ came c.args.bytes.now.len c.in-Ok.count (omega (arith, c.requires.room, c.deref_mut.ensures.len))

@@ -1,21 +1,15 @@
-use Rattle.std.proofs.Common.{◌≡◌, ◌≤◌, ◌-◌, ◌++◌, true, length, take}
-use Rattle.http_wire.specs.Gives.{OnlyReads}
+use Rattle.std.proofs.Common.{◌≡◌, ◌≤◌, ◌-◌, ◌++◌, false, IsTrue, length, take}
+use Rattle.gate_base.specs.Line.{OnlyReads}
 use Rattle.http_wire.proofs.take.finish_body.Given as goal
 
 -- what each round keeps of the clauses
 abbrev pub invariant-pieces : goal.invariant-pieces
 invariant-pieces g l = record {
-  open_stays : g.N.Line.is_open l.line ≡ true;
+  reads : OnlyReads false (g.N.Line.model l.initial.line) (g.N.Line.model l.line);
   within : l.came ≤ length l.body.items;
   short : length l.body.items ≤ l.size;
-  quiet : g.N.Line.faults l.line ≡ g.N.Line.faults l.initial.line;
-  quiet_next : g.N.Line.next_faults l.line ≡ g.N.Line.next_faults l.initial.line;
-  spent : g.N.Line.spent l.initial.line ≤ g.N.Line.spent l.line;
-  tells : g.N.Line.tells l.initial.line → g.N.Line.tells l.line;
-  only_reads : g.N.Line.tells l.initial.line → OnlyReads (g.N.Line.wire l.initial.line) (g.N.Line.wire l.line);
-  marks : g.N.Line.tells l.initial.line → (g.N.Line.wire l.line).marks ≡ (g.N.Line.wire l.initial.line).marks;
-  kept : g.N.Line.tells l.initial.line
-      → take l.came l.body.items ++ (g.N.Line.wire l.line).rest ≡ l.initial.body.items ++ (g.N.Line.wire l.initial.line).rest;
+  kept : IsTrue (g.N.Line.model l.initial.line).tells
+      → take l.came l.body.items ++ (g.N.Line.model l.line).wire.rest ≡ l.initial.body.items ++ (g.N.Line.model l.initial.line).wire.rest;
 }
 
 -- each round but the last reads some bytes

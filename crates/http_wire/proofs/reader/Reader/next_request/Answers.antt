@@ -9,9 +9,9 @@ use Rattle.http_wire.proofs.reader.Reader.next_request.Goals as goal
 
 pub returns-in-Whole-clause-told : goal.returns-in-Whole-clause-told
 returns-in-Whole-clause-told g c tells =
-    let rest = (g.N.Line.wire c.args.line.now).rest in
+    let rest = (g.N.Line.model c.args.line.now).wire.rest in
     let came = c.advance.new.pending.items in
-    let more = (g.N.Line.wire c.advance.new.line).rest in
+    let more = (g.N.Line.model c.advance.new.line).wire.rest in
     let none : c.self.inside.partial.items ≡ [] = c.self.invariant.1 c.if-self.false in
     let bytes : c.self.inside.pending.items ≡ c.args.self.now.bytes =
     sym (ap (λ v. c.self.inside.pending.items ++ v) none ∙ append-nil c.self.inside.pending.items) ∙ ap (λ p. p.bytes) c.self.view_is in
@@ -25,8 +25,8 @@ returns-in-Whole-clause-told g c tells =
     ∙ sym c.deref.ensures.value in
     let at = subst (λ v. IsRequestAt (window came) v spans found.0.0) lines found.0.1 in
     let has = whole_head came more c.advance.new.headers spans found.0.0 found.0.1 found.1 in
-    let left = (c.take_message.new.pending.items ++ c.take_message.new.partial.items) ++ (g.N.Line.wire c.take_message.new.line).rest in
-    let told = c.in_ok-message-in-Ok-Head.ensures.told (c.in-Ok-Head.ensures.tells tells) found.0.0 at in
+    let left = (c.take_message.new.pending.items ++ c.take_message.new.partial.items) ++ (g.N.Line.model c.take_message.new.line).wire.rest in
+    let told = c.in_ok-message-in-Ok-Head.ensures.told (c.in-Ok-Head.ensures.reads.serves.tells tells) found.0.0 at in
     let taken = rw c.in-Whole.is at told in
     let front = front_taken (came ++ more) found.0.0 spans.len c.in-Whole.message c.in-Whole.size left has taken in (
       c.in-Whole.size,
@@ -38,9 +38,9 @@ returns-in-Whole-clause-told g c tells =
 
 pub returns-in-Not-clause-told : goal.returns-in-Not-clause-told
 returns-in-Not-clause-told g c tells =
-    let rest = (g.N.Line.wire c.args.line.now).rest in
+    let rest = (g.N.Line.model c.args.line.now).wire.rest in
     let came = c.advance.new.pending.items in
-    let more = (g.N.Line.wire c.advance.new.line).rest in
+    let more = (g.N.Line.model c.advance.new.line).wire.rest in
     let none : c.self.inside.partial.items ≡ [] = c.self.invariant.1 c.if-self.false in
     let bytes : c.self.inside.pending.items ≡ c.args.self.now.bytes =
     sym (ap (λ v. c.self.inside.pending.items ++ v) none ∙ append-nil c.self.inside.pending.items) ∙ ap (λ p. p.bytes) c.self.view_is in
@@ -54,17 +54,17 @@ returns-in-Not-clause-told g c tells =
     ∙ sym c.deref.ensures.value in
     let at = subst (λ v. IsRequestAt (window came) v spans found.0.0) lines found.0.1 in
     let has = whole_head came more c.advance.new.headers spans found.0.0 found.0.1 found.1 in
-    let left = (c.take_message.new.pending.items ++ c.take_message.new.partial.items) ++ (g.N.Line.wire c.take_message.new.line).rest in
-    let told = c.in_ok-message-in-Ok-Head.ensures.told (c.in-Ok-Head.ensures.tells tells) found.0.0 at in
+    let left = (c.take_message.new.pending.items ++ c.take_message.new.partial.items) ++ (g.N.Line.model c.take_message.new.line).wire.rest in
+    let told = c.in_ok-message-in-Ok-Head.ensures.told (c.in-Ok-Head.ensures.reads.serves.tells tells) found.0.0 at in
     let taken = rw c.in-Not.is at told in
     let front = front_not (came ++ more) found.0.0 spans.len c.in-Not.kind c.in-Not.head left has taken in
     (goes, subst (λ v. IsFront v (refused c.in-Not.kind c.in-Not.head)) all front, place, taken.0 ∙ all, place)
 
 pub returns-in-Ok-Bad-clause-told : goal.returns-in-Ok-Bad-clause-told
 returns-in-Ok-Bad-clause-told g c tells =
-    let rest = (g.N.Line.wire c.args.line.now).rest in
+    let rest = (g.N.Line.model c.args.line.now).wire.rest in
     let came = c.advance.new.pending.items in
-    let more = (g.N.Line.wire c.advance.new.line).rest in
+    let more = (g.N.Line.model c.advance.new.line).wire.rest in
     let none : c.self.inside.partial.items ≡ [] = c.self.invariant.1 c.if-self.false in
     let bytes : c.self.inside.pending.items ≡ c.args.self.now.bytes =
     sym (ap (λ v. c.self.inside.pending.items ++ v) none ∙ append-nil c.self.inside.pending.items) ∙ ap (λ p. p.bytes) c.self.view_is in
@@ -78,9 +78,9 @@ returns-in-Ok-Bad-clause-told g c tells =
 
 pub returns-in-Ok-Long-clause-told : goal.returns-in-Ok-Long-clause-told
 returns-in-Ok-Long-clause-told g c tells =
-    let rest = (g.N.Line.wire c.args.line.now).rest in
+    let rest = (g.N.Line.model c.args.line.now).wire.rest in
     let came = c.advance.new.pending.items in
-    let more = (g.N.Line.wire c.advance.new.line).rest in
+    let more = (g.N.Line.model c.advance.new.line).wire.rest in
     let none : c.self.inside.partial.items ≡ [] = c.self.invariant.1 c.if-self.false in
     let bytes : c.self.inside.pending.items ≡ c.args.self.now.bytes =
     sym (ap (λ v. c.self.inside.pending.items ++ v) none ∙ append-nil c.self.inside.pending.items) ∙ ap (λ p. p.bytes) c.self.view_is in
@@ -94,9 +94,9 @@ returns-in-Ok-Long-clause-told g c tells =
 
 pub returns-in-Ok-Cut-clause-told : goal.returns-in-Ok-Cut-clause-told
 returns-in-Ok-Cut-clause-told g c tells =
-    let rest = (g.N.Line.wire c.args.line.now).rest in
+    let rest = (g.N.Line.model c.args.line.now).wire.rest in
     let came = c.advance.new.pending.items in
-    let more = (g.N.Line.wire c.advance.new.line).rest in
+    let more = (g.N.Line.model c.advance.new.line).wire.rest in
     let none : c.self.inside.partial.items ≡ [] = c.self.invariant.1 c.if-self.false in
     let bytes : c.self.inside.pending.items ≡ c.args.self.now.bytes =
     sym (ap (λ v. c.self.inside.pending.items ++ v) none ∙ append-nil c.self.inside.pending.items) ∙ ap (λ p. p.bytes) c.self.view_is in
