@@ -1,8 +1,10 @@
 -- What the first request of a line signs to. Source: Amazon S3 API Reference, "Authenticating requests: using the
 -- Authorization header"; which requests are signed is this profile.
-use Rattle.std.specs.Prelude.{◌≡◌, ⊤, ◌⊎◌, ℕ, Bool, true, false, ◌&&◌, List, [], ◌∷◌, codes, Option, Some, None, Result, Ok, Err}
+use Rattle.std.specs.Prelude.{◌≡◌, ◌≤◌, ⊤, ◌⊎◌, ℕ, ◌+◌, Bool, true, false, IsTrue, ◌&&◌, List, [], ◌∷◌, codes, Option, Some, None, Result, Ok, Err}
 use Rattle.std.specs.Result.{is_ok}
 use Rattle.gate_base.specs.declared.page.Pair.{Pair}
+use Rattle.gate_base.specs.Causes.{RisesIf}
+use Rattle.gate_base.specs.Line.{LineModel}
 use Rattle.s3_names.specs.declared.fault.NameFault.{NameFault}
 use Rattle.s3_names.specs.declared.target.Target.{Target}
 use Rattle.s3_names.specs.Target.{target_of}
@@ -73,3 +75,18 @@ AnswersFirst secret region waiting NoRequest =
     (waiting ≡ []) ⊎ ((bytes : List ℕ) × (others : List (List ℕ)) × (waiting ≡ bytes ∷ others) × AnswersFrom secret region bytes NoRequest)
 AnswersFirst secret region waiting LineFailed = ⊤
 AnswersFirst secret region waiting Memory = ⊤
+
+-- whether the line failed
+abbrev pub has_failed : Signing → Bool
+has_failed (Signed signed) = false
+has_failed NoRequest = false
+has_failed LineFailed = true
+has_failed Memory = false
+
+-- at most one connection began, bytes of it were read, and no piece was sent
+pub record SignsOn (failed : Bool) (old new : LineModel) : Type 0 where
+  pub faults : RisesIf failed old.faults new.faults
+  pub next_faults : failed ≡ false → new.next_faults ≡ old.next_faults
+  pub tells : IsTrue old.tells → IsTrue new.tells
+  pub begun : IsTrue old.tells → new.wire.begun ≤ old.wire.begun + 1
+  pub sent : IsTrue old.tells → new.wire.sent ≡ old.wire.sent

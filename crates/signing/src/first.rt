@@ -1,6 +1,6 @@
-ghost use Rattle.std.specs.Prelude.{◌≡◌, ◌≢◌, IsTrue};
-ghost use Rattle.gate_base.specs.Causes.{Rose};
-ghost use Rattle.signing.specs.Signing.{Answers, AnswersFrom, AnswersFirst};
+ghost use Rattle.std.specs.Prelude.{◌≡◌, false, IsTrue};
+ghost use Rattle.gate_base.specs.Line.{OnlyReads};
+ghost use Rattle.signing.specs.Signing.{Answers, AnswersFrom, AnswersFirst, SignsOn, has_failed};
 
 use crate::message::sign_message;
 use gate_base::{Counted, Line, Memory};
@@ -32,11 +32,8 @@ pub fn sign_first<N: Line<W>, W: Counted>(
     line: &mut N,
     store: &W,
 ) -> Signing
-    ensures quiet { result ≢ Signing.LineFailed → N.faults line.new ≡ N.faults line.old }
-    ensures cause { result ≡ Signing.LineFailed → Rose (N.faults line.old) (N.faults line.new) }
-    ensures quiet_next { result ≢ Signing.LineFailed → N.next_faults line.new ≡ N.next_faults line.old }
-    ensures tells { N.tells line.old → N.tells line.new }
-    ensures told { N.tells line.old → AnswersFirst secret.now region.now (N.wire line.old).waiting result }
+    ensures line { SignsOn (has_failed result) (N.model line.old) (N.model line.new) }
+    ensures told { IsTrue (N.model line.old).tells → AnswersFirst secret.now region.now (N.model line.old).wire.waiting result }
 {
     match line.next() {
         Ok(true) => sign_next(alloc, secret, region, line, store),
@@ -53,12 +50,9 @@ fn sign_next<N: Line<W>, W: Counted>(
     line: &mut N,
     store: &W,
 ) -> Signing
-    requires { IsTrue (N.is_open line.old) }
-    ensures quiet { result ≢ Signing.LineFailed → N.faults line.new ≡ N.faults line.old }
-    ensures cause { result ≡ Signing.LineFailed → Rose (N.faults line.old) (N.faults line.new) }
-    ensures quiet_next { result ≢ Signing.LineFailed → N.next_faults line.new ≡ N.next_faults line.old }
-    ensures tells { N.tells line.old → N.tells line.new }
-    ensures told { N.tells line.old → AnswersFrom secret.now region.now (N.wire line.old).rest result }
+    requires { IsTrue (N.model line.old).is_open }
+    ensures reads { OnlyReads (has_failed result) (N.model line.old) (N.model line.new) }
+    ensures told { IsTrue (N.model line.old).tells → AnswersFrom secret.now region.now (N.model line.old).wire.rest result }
 {
     let mut reader = match Reader::new(alloc) {
         Ok(reader) => reader,
@@ -76,7 +70,7 @@ fn sign_next<N: Line<W>, W: Counted>(
 
 /// The answer to a request.
 fn answer(alloc: Global, secret: &[u8], region: &[u8], message: &Message) -> Signing
-    ensures quiet { result ≢ Signing.LineFailed }
+    ensures heard { has_failed result ≡ false }
     ensures told { Answers secret.now region.now message.now result }
 {
     match sign_message(alloc, secret, region, message) {
