@@ -13,3 +13,4 @@ pub mod Serving
 pub mod Standing
 pub mod Statuses
 pub mod Turning
+pub mod Worlds

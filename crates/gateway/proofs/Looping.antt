@@ -1,5 +1,7 @@
 -- A connection, request by request, over a history that grows.
 use Rattle.std.proofs.Common.{◌≡◌, ℕ, List, [], ◌∷◌, ◌++◌, Bool, true, false, None, Some, slice_set, ◌-◌, refl, sym, subst, ◌∙◌, arith}
+use Rattle.gate_base.specs.Causes.{RisesIf}
+use Rattle.gate_base.specs.Line.{LineModel, LineServes, WireServes}
 use Rattle.gate_base.specs.Wire.{Wire}
 use Rattle.s3_machine.specs.declared.operation.Label.{Label}
 use Rattle.s3_machine.specs.declared.operation.Reply.{Reply}
@@ -15,7 +17,7 @@ use Rattle.gateway.specs.declared.service.Service.{Service}
 use Rattle.gateway.specs.Request.{Request}
 use Rattle.gateway.specs.Exchange.{Mark, Turn, RepliesBy, Where}
 use Rattle.gateway.specs.Connection.{Tally, Point, tally, point, Exchanges, none, more, TalkOne}
-use Rattle.gateway.specs.Serving.{NextOne, EndsUnread, OnlyServes}
+use Rattle.gateway.specs.Serving.{NextOne, EndsUnread}
 use Rattle.gateway.specs.Stands.{Stands}
 use Rattle.gateway.proofs.Map.{between_ends, exchanges_map, replies_agree}
 use Rattle.gateway.proofs.Operating.{from_present}
@@ -95,10 +97,23 @@ unread_at_once service R here moments draws wire wire' ended ends =
     (last.0, record { last = point wire.rest 0 (tally here moments draws wire.sent); before = []; after = last.0; exchanges = none (point wire.rest 0 (tally here moments draws wire.sent)); ends = last.1; all = refl })
 
 -- a connection that is served goes on being served
-pub serves_on : (failed : Bool) (first second third : Wire) → OnlyServes false first second → OnlyServes failed second third → OnlyServes failed first third
-serves_on true first second third a b = record {
+wire_serves_on : (failed : Bool) (first second third : Wire) → WireServes false first second → WireServes failed second third → WireServes failed first third
+wire_serves_on true first second third a b = record {
   waiting = b.waiting ∙ a.waiting;
   begun = b.begun ∙ a.begun;
   marks = b.marks ∙ (λ i. slice_set (a.marks i) (a.begun i - 1) true);
 }
-serves_on false first second third a b = record { waiting = b.waiting ∙ a.waiting; begun = b.begun ∙ a.begun; marks = b.marks ∙ a.marks }
+wire_serves_on false first second third a b = record { waiting = b.waiting ∙ a.waiting; begun = b.begun ∙ a.begun; marks = b.marks ∙ a.marks }
+
+rises_on : (failed : Bool) (first second third : ℕ) → second ≡ first → RisesIf failed second third → RisesIf failed first third
+rises_on failed first second third same rises = subst (λ n. RisesIf failed n third) same rises
+
+pub line_serves_on : {failed : Bool} {first second third : LineModel} → LineServes false first second → LineServes failed second third → LineServes failed first third
+line_serves_on {failed = failed} {first = first} {second = second} {third = third} a b = record {
+  is_open = b.is_open;
+  faults = rises_on failed first.faults second.faults third.faults a.faults b.faults;
+  next_faults = b.next_faults ∙ a.next_faults;
+  spent = (let before = a.spent in let after = b.spent in omega arith);
+  tells = λ t. b.tells (a.tells t);
+  wire = λ t. wire_serves_on failed first.wire second.wire third.wire (a.wire t) (b.wire (a.tells t));
+}

@@ -1,9 +1,9 @@
 -- One connection, from the bytes that are left of it to how it ends. The definitions take first what is said of replies, and
 -- then the number of the connection. Source: RFC 9112 section 9 and this profile.
-use Rattle.std.specs.Prelude.{◌≡◌, ℕ, Bool, true, false, List, [], ◌∷◌, ◌++◌, drop, Option, None, Some}
+use Rattle.std.specs.Prelude.{◌≡◌, ◌<◌, ℕ, Bool, IsTrue, true, false, List, [], ◌∷◌, ◌++◌, drop, Option, None, Some}
 use Rattle.gate_base.specs.declared.outside.Piece.{Piece}
 use Rattle.gate_base.specs.declared.page.Caller.{Caller}
-use Rattle.gate_base.specs.Told.{GivesMoment, GivesDraw}
+use Rattle.gate_base.specs.Told.{SourceModel, GivesMoment, GivesDraw, moment_limit}
 use Rattle.s3_machine.specs.declared.operation.Label.{Label}
 use Rattle.s3_machine.specs.declared.operation.Reply.{Reply}
 use Rattle.gateway.specs.declared.service.Service.{Service}
@@ -56,6 +56,13 @@ pub record LabelGiven (moments draws moments' draws' : List ℕ) (from : Caller)
 -- a label with another caller
 abbrev pub sent_by : Caller → Label → Label
 sent_by caller label = record label { caller = caller }
+
+-- a clock and a source of draws gave what a label has but for its caller
+pub record NextLabel (clock draws clock' draws' : SourceModel) (next : Label) : Type 0 where
+  pub moment : next.moment < moment_limit
+  pub clock_tells : IsTrue clock.tells → IsTrue clock'.tells
+  pub draws_tells : IsTrue draws.tells → IsTrue draws'.tells
+  pub told : IsTrue clock.tells → IsTrue draws.tells → (from : Caller) → LabelGiven clock.values draws.values clock'.values draws'.values from (sent_by from next)
 
 abbrev pub Labels : Tally → Tally → Caller → Label → Type 0
 Labels old new from label = LabelGiven old.moments old.draws new.moments new.draws from label

@@ -13,4 +13,5 @@ pub mod Rows
 pub mod Serving
 pub mod Stands
 pub mod Turned
+pub mod World
 pub mod Write

@@ -1,6 +1,6 @@
 -- One step of a connection: a request that was answered, or its end. Source: this profile.
-use Rattle.std.specs.Prelude.{◌≡◌, ℕ, Bool, false, List, if◌then◌else◌, Option, None, Some}
-use Rattle.gate_base.specs.Wire.{Wire, with_mark}
+use Rattle.std.specs.Prelude.{ℕ, Bool, false, List, Option, None, Some}
+use Rattle.gate_base.specs.Wire.{Wire}
 use Rattle.s3_machine.specs.declared.operation.Label.{Label}
 use Rattle.s3_machine.specs.declared.operation.Reply.{Reply}
 use Rattle.gateway.specs.declared.service.Service.{Service}
@@ -15,12 +15,6 @@ use Rattle.gateway.specs.Connection.{Point, Serves, Ends, has_failed}
 abbrev pub has_ended_failed : Option Ended → Bool
 has_ended_failed None = false
 has_ended_failed (Some ended) = has_failed ended
-
--- bytes of the present connection were read and pieces sent, and a failure left its mark
-pub record OnlyServes (failed : Bool) (old new : Wire) : Type 0 where
-  pub waiting : new.waiting ≡ old.waiting
-  pub begun : new.begun ≡ old.begun
-  pub marks : new.marks ≡ (if failed then (with_mark old).marks else old.marks)
 
 -- a request was answered and the connection goes on, or it ended so
 abbrev pub NextOne : Service → (Mark → Turn → Mark → Request → Label → Reply → Type 0) → ℕ → Point → Option Ended → Point → Type 0

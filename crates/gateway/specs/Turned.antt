@@ -1,6 +1,5 @@
 -- What becomes of one request, between two tallies. Source: this profile.
-use Rattle.std.specs.Prelude.{◌≡◌, ◌⊎◌, ℕ, false, Option, None, Some}
-use Rattle.gate_base.specs.Wire.{Wire}
+use Rattle.std.specs.Prelude.{◌≡◌, ◌⊎◌, ℕ, Bool, true, false, Option, None, Some}
 use Rattle.s3_machine.specs.declared.operation.Label.{Label}
 use Rattle.s3_machine.specs.declared.operation.Reply.{Reply}
 use Rattle.gateway.specs.declared.ended.Ended.{Ended}
@@ -12,11 +11,10 @@ use Rattle.gateway.specs.Exchange.{Mark, Turn, Exchange, CutExchange}
 use Rattle.gateway.specs.Connection.{Tally, Labels}
 use Rattle.gateway.specs.Serving.{has_ended_failed}
 
--- only pieces and marks came to the line
-pub record OnlySends (old new : Wire) : Type 0 where
-  pub waiting : new.waiting ≡ old.waiting
-  pub rest : new.rest ≡ old.rest
-  pub begun : new.begun ≡ old.begun
+-- whether the line failed under the reply
+abbrev pub is_broken : Turned → Bool
+is_broken (Served ended) = false
+is_broken Broken = true
 
 -- a request that was answered ends the connection as was said, or for want of memory
 abbrev pub EndsWith : Option Ended → Turned → Type 0

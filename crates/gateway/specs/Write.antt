@@ -1,5 +1,5 @@
 -- What the writing of a reply does to the line.
-use Rattle.std.specs.Prelude.{◌≡◌, ◌≢◌, ◌⊎◌, ℕ, Bool, List}
+use Rattle.std.specs.Prelude.{◌≡◌, ◌≢◌, ◌⊎◌, ℕ, Bool, true, false, List}
 use Rattle.gate_base.specs.Wire.{Wire, with_piece, SendsPrefix}
 use Rattle.http_wire.specs.Front.{is_head}
 use Rattle.http_wire.specs.Print.{memory_reply}
@@ -15,10 +15,22 @@ abbrev pub IsText : Reply → Label → List ℕ → List ℕ → Bool → List 
 IsText reply label method resource closing bytes =
     ((reply ≢ answer.Memory) × (bytes ≡ reply_text reply label method resource closing)) ⊎ (bytes ≡ memory_reply (is_head method))
 
--- one piece was sent, after `at` calls: the whole text, that for want of memory, or the first bytes of either
+-- one piece was sent, after `at` calls: the whole text, that for want of memory, or the first bytes of either, or none
 abbrev pub Writes : Wire → ℕ → Reply → Label → List ℕ → List ℕ → Bool → Written → Wire → Type 0
 Writes old at reply label method resource closing Whole new =
     (reply ≢ answer.Memory) × (new ≡ with_piece old at (reply_text reply label method resource closing))
 Writes old at reply label method resource closing Memory new = new ≡ with_piece old at (memory_reply (is_head method))
 Writes old at reply label method resource closing Failed new =
     (bytes : List ℕ) × IsText reply label method resource closing bytes × SendsPrefix old at bytes new
+
+-- these bytes, the reply for want of memory, were sent after `at` calls, or the first of them, or none
+abbrev pub WritesWanted : Wire → ℕ → List ℕ → Written → Wire → Type 0
+WritesWanted old at bytes Whole new = ⊥
+WritesWanted old at bytes Memory new = new ≡ with_piece old at bytes
+WritesWanted old at bytes Failed new = SendsPrefix old at bytes new
+
+-- whether the line failed
+abbrev pub has_failed_write : Written → Bool
+has_failed_write Whole = false
+has_failed_write Memory = false
+has_failed_write Failed = true

@@ -1,15 +1,12 @@
-ghost use Rattle.std.specs.Prelude.{◌≡◌, ◌<◌, ◌≤◌, ◌++◌, Bool, true, false, List, IsTrue, None};
-ghost use Rattle.gate_base.specs.Causes.{Rose};
-ghost use Rattle.gate_base.specs.Wire.{with_mark};
-ghost use Rattle.recovery.specs.Calls.{GoesOn, Met};
-ghost use Rattle.recovery.specs.Settling.{IsKnown};
+ghost use Rattle.std.specs.Prelude.{◌≡◌, ◌<◌, false, List, IsTrue, None};
+ghost use Rattle.gate_base.specs.Line.{LineServes, OnlyWrites};
 ghost use Rattle.http_wire.specs.Gives.{weight};
-ghost use Rattle.gateway.specs.Exchange.{Turn, mark, RepliesBy, Where};
-ghost use Rattle.gateway.specs.Stands.{Stands};
-ghost use Rattle.gateway.specs.Connection.{tally, point, has_failed, TalkOne};
+ghost use Rattle.gateway.specs.Exchange.{Turn};
+ghost use Rattle.gateway.specs.Connection.{has_failed, TalkOne};
 ghost use Rattle.gateway.specs.Request.{asks_of, end_of};
 ghost use Rattle.gateway.specs.Turned.{TurnEnds};
-ghost use Rattle.gateway.specs.Serving.{has_ended_failed, OnlyServes, NextOne, EndsUnread};
+ghost use Rattle.gateway.specs.Serving.{has_ended_failed, NextOne, EndsUnread};
+ghost use Rattle.gateway.specs.World.{world, tally_of, start_of, point_of, ServesOver};
 
 use crate::received::Received;
 use crate::turn::{Turned, take_turn};
@@ -35,29 +32,13 @@ pub fn serve_connection<N: Line<W>, W: Swift, C: Clock, D: Draws>(
     clock: &mut C,
     draws: &mut D,
 ) -> Ended
-    requires { IsTrue (N.is_open line.old) }
+    requires { IsTrue (N.model line.old).is_open }
+    ensures line { LineServes (has_failed result) (N.model line.old) (N.model line.new) }
 
-    // Faults of the line.
-    ensures quiet { has_failed result ≡ false → N.faults line.new ≡ N.faults line.old }
-    ensures cause { has_failed result ≡ true → Rose (N.faults line.old) (N.faults line.new) }
-    ensures quiet_next { N.next_faults line.new ≡ N.next_faults line.old }
-    ensures spent { N.spent line.old ≤ N.spent line.new }
-
-    ensures tells_line { N.tells line.old → N.tells line.new }
-    ensures tells_clock { C.tells clock.old → C.tells clock.new }
-    ensures tells_draws { D.tells draws.old → D.tells draws.new }
-
-    ensures goes_on { GoesOn (W.history store.old) (W.history store.new) }
-    ensures stands { Stands service.now.settings known.old known.new (W.history store.old) (W.history store.new) }
-    ensures only_serves { N.tells line.old → OnlyServes (has_failed result) (N.wire line.old) (N.wire line.new) }
-
-    // Where line, clock and draws tell, it is one connection. What is said of its replies is that of a store that tells, where
-    // this one does and its account is sound, and else that of every store.
-    ensures told { N.tells line.old → C.tells clock.old → D.tells draws.old → (all : Bool) → Where all (Met (IsKnown known.old) (W.history store.old))
-        → (turns : List Turn) × TalkOne service.now (RepliesBy all service.now.settings (W.history store.new)) (N.wire line.old).begun result
-        (point (N.wire line.old).rest 0 (tally (mark (W.history store.old) known.old) (C.moments clock.old) (D.draws draws.old) (N.wire line.old).sent))
-        turns
-        (tally (mark (W.history store.new) known.new) (C.moments clock.new) (D.draws draws.new) (N.wire line.new).sent) }
+    // Where line, clock and draws tell, it is one connection.
+    ensures serves { ServesOver service.now.settings (λ R old new. (turns : List Turn) × TalkOne service.now R old.line.wire.begun result (start_of old) turns (tally_of new))
+        (world (N.model line.old) (W.history store.old) known.old (C.model clock.old) (D.model draws.old))
+        (world (N.model line.new) (W.history store.new) known.new (C.model clock.new) (D.model draws.new)) }
 {
     let mut reader = match Reader::new(alloc) {
         Ok(reader) => reader,
@@ -91,30 +72,14 @@ fn serve_next<N: Line<W>, W: Swift, C: Clock, D: Draws>(
     clock: &mut C,
     draws: &mut D,
 ) -> Option<Ended>
-    requires open { IsTrue (N.is_open line.old) }
+    requires open { IsTrue (N.model line.old).is_open }
     requires goes { reader.old.ended ≡ false }
-
-    ensures open { N.is_open line.new ≡ true }
     ensures goes { result ≡ None → reader.new.ended ≡ false }
-    ensures falls { result ≡ None → weight (N.spent line.new) reader.new.bytes < weight (N.spent line.old) reader.old.bytes }
-    ensures quiet { has_ended_failed result ≡ false → N.faults line.new ≡ N.faults line.old }
-    ensures cause { has_ended_failed result ≡ true → Rose (N.faults line.old) (N.faults line.new) }
-    ensures quiet_next { N.next_faults line.new ≡ N.next_faults line.old }
-    ensures spent { N.spent line.old ≤ N.spent line.new }
-
-    ensures tells_line { N.tells line.old → N.tells line.new }
-    ensures tells_clock { C.tells clock.old → C.tells clock.new }
-    ensures tells_draws { D.tells draws.old → D.tells draws.new }
-
-    ensures goes_on { GoesOn (W.history store.old) (W.history store.new) }
-    ensures stands { Stands service.now.settings known.old known.new (W.history store.old) (W.history store.new) }
-    ensures only_serves { N.tells line.old → OnlyServes (has_ended_failed result) (N.wire line.old) (N.wire line.new) }
-
-    ensures told { N.tells line.old → C.tells clock.old → D.tells draws.old → (all : Bool) → Where all (Met (IsKnown known.old) (W.history store.old))
-        → NextOne service.now (RepliesBy all service.now.settings (W.history store.new)) (N.wire line.old).begun
-        (point (reader.old.bytes ++ (N.wire line.old).rest) reader.old.place (tally (mark (W.history store.old) known.old) (C.moments clock.old) (D.draws draws.old) (N.wire line.old).sent))
-        result
-        (point (reader.new.bytes ++ (N.wire line.new).rest) reader.new.place (tally (mark (W.history store.new) known.new) (C.moments clock.new) (D.draws draws.new) (N.wire line.new).sent)) }
+    ensures falls { result ≡ None → weight (N.model line.new).spent reader.new.bytes < weight (N.model line.old).spent reader.old.bytes }
+    ensures line { LineServes (has_ended_failed result) (N.model line.old) (N.model line.new) }
+    ensures serves { ServesOver service.now.settings (λ R old new. NextOne service.now R old.line.wire.begun (point_of reader.old old) result (point_of reader.new new))
+        (world (N.model line.old) (W.history store.old) known.old (C.model clock.old) (D.model draws.old))
+        (world (N.model line.new) (W.history store.new) known.new (C.model clock.new) (D.model draws.new)) }
 {
     match reader.next_request(line, store) {
         Ok(Got::Request(message)) => answer(
@@ -155,29 +120,12 @@ fn answer<N: Line<W>, W: Swift, C: Clock, D: Draws>(
     draws: &mut D,
     received: &Received,
 ) -> Option<Ended>
-    requires open { IsTrue (N.is_open line.old) }
-
-    ensures open { N.is_open line.new ≡ true }
+    requires { IsTrue (N.model line.old).is_open }
     ensures ends { result ≡ None → end_of received.now ≡ None }
-    ensures quiet { has_ended_failed result ≡ false → N.faults line.new ≡ N.faults line.old }
-    ensures cause { has_ended_failed result ≡ true → Rose (N.faults line.old) (N.faults line.new) }
-    ensures quiet_next { N.next_faults line.new ≡ N.next_faults line.old }
-    ensures spent { N.spent line.new ≡ N.spent line.old }
-
-    ensures tells_line { N.tells line.old → N.tells line.new }
-    ensures tells_clock { C.tells clock.old → C.tells clock.new }
-    ensures tells_draws { D.tells draws.old → D.tells draws.new }
-
-    ensures goes_on { GoesOn (W.history store.old) (W.history store.new) }
-    ensures stands { Stands service.now.settings known.old known.new (W.history store.old) (W.history store.new) }
-    ensures only_serves { N.tells line.old → OnlyServes (has_ended_failed result) (N.wire line.old) (N.wire line.new) }
-    ensures rest { N.tells line.old → (N.wire line.new).rest ≡ (N.wire line.old).rest }
-
-    ensures told { N.tells line.old → C.tells clock.old → D.tells draws.old → (all : Bool) → Where all (Met (IsKnown known.old) (W.history store.old))
-        → TurnEnds (RepliesBy all service.now.settings (W.history store.new)) (N.wire line.old).begun
-        (tally (mark (W.history store.old) known.old) (C.moments clock.old) (D.draws draws.old) (N.wire line.old).sent)
-        (tally (mark (W.history store.new) known.new) (C.moments clock.new) (D.draws draws.new) (N.wire line.new).sent)
-        (asks_of service.now received.now) result }
+    ensures writes { OnlyWrites (has_ended_failed result) (N.model line.old) (N.model line.new) }
+    ensures serves { ServesOver service.now.settings (λ R old new. TurnEnds R old.line.wire.begun (tally_of old) (tally_of new) (asks_of service.now received.now) result)
+        (world (N.model line.old) (W.history store.old) known.old (C.model clock.old) (D.model draws.old))
+        (world (N.model line.new) (W.history store.new) known.new (C.model clock.new) (D.model draws.new)) }
 {
     match take_turn(alloc, store, known, service, line, clock, draws, received) {
         Turned::Served(ended) => ended,
@@ -187,16 +135,9 @@ fn answer<N: Line<W>, W: Swift, C: Clock, D: Draws>(
 
 /// Ends a connection whose next request could not be read for want of memory: the reply for that is written.
 fn end_unread<N: Line<W>, W: Swift>(line: &mut N, store: &W) -> Ended
-    requires { IsTrue (N.is_open line.old) }
-    ensures open { N.is_open line.new ≡ true }
-    ensures quiet { has_failed result ≡ false → N.faults line.new ≡ N.faults line.old }
-    ensures cause { has_failed result ≡ true → Rose (N.faults line.old) (N.faults line.new) }
-    ensures quiet_next { N.next_faults line.new ≡ N.next_faults line.old }
-    ensures spent { N.spent line.new ≡ N.spent line.old }
-    ensures tells { N.tells line.old → N.tells line.new }
-    ensures only_serves { N.tells line.old → OnlyServes (has_failed result) (N.wire line.old) (N.wire line.new) }
-    ensures rest { N.tells line.old → (N.wire line.new).rest ≡ (N.wire line.old).rest }
-    ensures told { N.tells line.old → EndsUnread (W.history store.now).called (N.wire line.old) result (N.wire line.new) }
+    requires { IsTrue (N.model line.old).is_open }
+    ensures writes { OnlyWrites (has_failed result) (N.model line.old) (N.model line.new) }
+    ensures told { IsTrue (N.model line.old).tells → EndsUnread (W.history store.now).called (N.model line.old).wire result (N.model line.new).wire }
 {
     match write_memory(line, store, false) {
         Written::Failed => Ended::LineFailed,

@@ -1,14 +1,8 @@
-ghost use Rattle.std.specs.Prelude.{◌≡◌, ◌≢◌, Bool, true, IsTrue};
-ghost use Rattle.gate_base.specs.Causes.{Rose};
-ghost use Rattle.gate_base.specs.Wire.{with_mark};
-ghost use Rattle.recovery.specs.Calls.{GoesOn, Met};
-ghost use Rattle.recovery.specs.Settling.{IsKnown};
-ghost use Rattle.gateway.specs.declared.turn.Turned.TheVariants as turned;
-ghost use Rattle.gateway.specs.Connection.{tally};
-ghost use Rattle.gateway.specs.Exchange.{mark, RepliesBy, Where};
-ghost use Rattle.gateway.specs.Stands.{Stands};
+ghost use Rattle.std.specs.Prelude.{IsTrue};
+ghost use Rattle.gate_base.specs.Line.{OnlyWrites};
 ghost use Rattle.gateway.specs.Request.{asks_of, end_of};
-ghost use Rattle.gateway.specs.Turned.{TurnsOnce, OnlySends, EndsWith, IsServed};
+ghost use Rattle.gateway.specs.Turned.{TurnsOnce, EndsWith, IsServed, is_broken};
+ghost use Rattle.gateway.specs.World.{world, tally_of, ServesOver};
 
 use crate::hear::hear;
 use crate::label::{next_label, sent_by};
@@ -42,31 +36,13 @@ pub fn take_turn<N: Line<W>, W: Swift, C: Clock, D: Draws>(
     draws: &mut D,
     received: &Received,
 ) -> Turned
-    requires open { IsTrue (N.is_open line.old) }
-
-    ensures open { N.is_open line.new ≡ true }
+    requires { IsTrue (N.model line.old).is_open }
     ensures endings { EndsWith (end_of received.now) result }
     ensures served { IsServed result }
-    ensures quiet { result ≢ turned.Broken → N.faults line.new ≡ N.faults line.old }
-    ensures cause { result ≡ turned.Broken → Rose (N.faults line.old) (N.faults line.new) }
-    ensures quiet_next { N.next_faults line.new ≡ N.next_faults line.old }
-    ensures spent { N.spent line.new ≡ N.spent line.old }
-
-    ensures tells_line { N.tells line.old → N.tells line.new }
-    ensures tells_clock { C.tells clock.old → C.tells clock.new }
-    ensures tells_draws { D.tells draws.old → D.tells draws.new }
-    ensures goes_on { GoesOn (W.history store.old) (W.history store.new) }
-    ensures stands { Stands service.now.settings known.old known.new (W.history store.old) (W.history store.new) }
-
-    ensures only_sends { N.tells line.old → OnlySends (N.wire line.old) (N.wire line.new) }
-    ensures marks { N.tells line.old → result ≢ turned.Broken → (N.wire line.new).marks ≡ (N.wire line.old).marks }
-    ensures mark { N.tells line.old → result ≡ turned.Broken → (N.wire line.new).marks ≡ (with_mark (N.wire line.old)).marks }
-
-    ensures told { N.tells line.old → C.tells clock.old → D.tells draws.old → (all : Bool) → Where all (Met (IsKnown known.old) (W.history store.old))
-        → TurnsOnce (RepliesBy all service.now.settings (W.history store.new)) (N.wire line.old).begun
-        (tally (mark (W.history store.old) known.old) (C.moments clock.old) (D.draws draws.old) (N.wire line.old).sent)
-        (tally (mark (W.history store.new) known.new) (C.moments clock.new) (D.draws draws.new) (N.wire line.new).sent)
-        (asks_of service.now received.now) result }
+    ensures writes { OnlyWrites (is_broken result) (N.model line.old) (N.model line.new) }
+    ensures serves { ServesOver service.now.settings (λ R old new. TurnsOnce R old.line.wire.begun (tally_of old) (tally_of new) (asks_of service.now received.now) result)
+        (world (N.model line.old) (W.history store.old) known.old (C.model clock.old) (D.model draws.old))
+        (world (N.model line.new) (W.history store.new) known.new (C.model clock.new) (D.model draws.new)) }
 {
     let next = next_label(clock, draws);
     let heard = hear(alloc, service, received, next.moment);

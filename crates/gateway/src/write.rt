@@ -1,14 +1,13 @@
 //! What is written for a reply.
-ghost use Rattle.std.specs.Prelude.{◌≡◌, ◌≢◌, ◌<◌, ℕ, true, IsTrue, IfOk, OnOk, OnErr};
-ghost use Rattle.gate_base.specs.Causes.{Rose};
+ghost use Rattle.std.specs.Prelude.{◌≡◌, ◌≢◌, ◌<◌, IsTrue, IfOk, OnOk};
+ghost use Rattle.gate_base.specs.Line.{OnlyWrites};
 ghost use Rattle.gate_base.specs.Told.{moment_limit};
-ghost use Rattle.gate_base.specs.Wire.{with_piece, SendsPrefix};
 ghost use Rattle.http_wire.specs.Print.{memory_reply};
 ghost use Rattle.s3_machine.specs.declared.operation.Reply.TheVariants as answer;
 ghost use Rattle.s3_machine.specs.Shown.{IsShowable};
 ghost use Rattle.gateway.specs.declared.write.Written.TheVariants as written;
 ghost use Rattle.gateway.specs.Request.{reply_text};
-ghost use Rattle.gateway.specs.Write.{Writes};
+ghost use Rattle.gateway.specs.Write.{Writes, WritesWanted, has_failed_write};
 
 use gate_base::{Bytes, Line, Memory};
 use http_wire::{print_memory, print_page};
@@ -39,16 +38,12 @@ pub fn write_reply<N: Line<W>, W: Swift>(
     resource: &[u8],
     closing: bool,
 ) -> Written
-    requires open { IsTrue (N.is_open line.old) }
+    requires open { IsTrue (N.model line.old).is_open }
     requires showable { IsShowable reply.now }
     requires moment { label.now.moment < moment_limit }
-    ensures open { N.is_open line.new ≡ true }
-    ensures quiet { result ≢ written.Failed → N.faults line.new ≡ N.faults line.old }
-    ensures cause { result ≡ written.Failed → Rose (N.faults line.old) (N.faults line.new) }
-    ensures quiet_next { N.next_faults line.new ≡ N.next_faults line.old }
-    ensures spent { N.spent line.new ≡ N.spent line.old }
-    ensures tells { N.tells line.old → N.tells line.new }
-    ensures told { N.tells line.old → Writes (N.wire line.old) (W.history store.now).called reply.now label.now method.now resource.now closing result (N.wire line.new) }
+    ensures writes { OnlyWrites (has_failed_write result) (N.model line.old) (N.model line.new) }
+    ensures told { IsTrue (N.model line.old).tells
+        → Writes (N.model line.old).wire (W.history store.now).called reply.now label.now method.now resource.now closing result (N.model line.new).wire }
 {
     match print_reply(alloc, reply, label, method, resource, closing) {
         Ok(text) => match line.write(store, text.as_slice()) {
@@ -61,32 +56,20 @@ pub fn write_reply<N: Line<W>, W: Swift>(
 
 /// Writes the reply for want of memory.
 pub fn write_memory<N: Line<W>, W: Swift>(line: &mut N, store: &W, head: bool) -> Written
-    requires { IsTrue (N.is_open line.old) }
-    ensures open { N.is_open line.new ≡ true }
+    requires { IsTrue (N.model line.old).is_open }
     ensures outcome { result ≢ written.Whole }
-    ensures quiet { result ≢ written.Failed → N.faults line.new ≡ N.faults line.old }
-    ensures cause { result ≡ written.Failed → Rose (N.faults line.old) (N.faults line.new) }
-    ensures quiet_next { N.next_faults line.new ≡ N.next_faults line.old }
-    ensures spent { N.spent line.new ≡ N.spent line.old }
-    ensures tells { N.tells line.old → N.tells line.new }
-    ensures told { N.tells line.old → result ≢ written.Failed → N.wire line.new ≡ with_piece (N.wire line.old) (W.history store.now).called (memory_reply head) }
-    ensures told_err { N.tells line.old → result ≡ written.Failed → SendsPrefix (N.wire line.old) (W.history store.now).called (memory_reply head) (N.wire line.new) }
+    ensures writes { OnlyWrites (has_failed_write result) (N.model line.old) (N.model line.new) }
+    ensures told { IsTrue (N.model line.old).tells → WritesWanted (N.model line.old).wire (W.history store.now).called (memory_reply head) result (N.model line.new).wire }
 {
     write_wanted(line, store, print_memory(head))
 }
 
 /// Writes these bytes, which are the reply for want of memory.
 fn write_wanted<N: Line<W>, W: Swift>(line: &mut N, store: &W, bytes: &[u8]) -> Written
-    requires { IsTrue (N.is_open line.old) }
-    ensures open { N.is_open line.new ≡ true }
+    requires { IsTrue (N.model line.old).is_open }
     ensures outcome { result ≢ written.Whole }
-    ensures quiet { result ≢ written.Failed → N.faults line.new ≡ N.faults line.old }
-    ensures cause { result ≡ written.Failed → Rose (N.faults line.old) (N.faults line.new) }
-    ensures quiet_next { N.next_faults line.new ≡ N.next_faults line.old }
-    ensures spent { N.spent line.new ≡ N.spent line.old }
-    ensures tells { N.tells line.old → N.tells line.new }
-    ensures told { N.tells line.old → result ≢ written.Failed → N.wire line.new ≡ with_piece (N.wire line.old) (W.called store.now) bytes.now }
-    ensures told_err { N.tells line.old → result ≡ written.Failed → SendsPrefix (N.wire line.old) (W.called store.now) bytes.now (N.wire line.new) }
+    ensures writes { OnlyWrites (has_failed_write result) (N.model line.old) (N.model line.new) }
+    ensures told { IsTrue (N.model line.old).tells → WritesWanted (N.model line.old).wire (W.called store.now) bytes.now result (N.model line.new).wire }
 {
     match line.write(store, bytes) {
         Ok(()) => Written::Memory,
