@@ -1,13 +1,25 @@
 -- How a run ended, by its exit status, and by what was asked for.
-use Rattle.std.proofs.Common.{◌≡◌, ◌≢◌, ◌⊎◌, ℕ, true, false, List, Option, None, Some, ◌∙◌, refl, sym, subst, inl, inr, arith}
+use Rattle.std.proofs.Common.{◌≡◌, ◌≢◌, ◌⊎◌, ◌==◌, ℕ, true, false, List, Option, None, Some, ◌∙◌, refl, sym, ap, subst, inl, inr, arith}
+use Rattle.gate_base.specs.Line.{LineModel}
 use Rattle.gateway_words.specs.declared.command.Command.{Command}
 use Rattle.gateway_words.specs.declared.command.Command.TheVariants.{Session, Sign}
 use Rattle.gateway_cmd.specs.declared.status.Ended.{Ended}
 use Rattle.gateway_cmd.specs.declared.status.Ended.TheVariants.{Signed, Plain}
 use Rattle.gateway_cmd.specs.declared.status.Status.{Status}
 use Rattle.gateway_cmd.specs.declared.status.Status.TheVariants.{Done, Usage, Line, Request, Memory}
-use Rattle.gateway_cmd.specs.Report.{IsStatus, Exits, Task, nothing, to_serve, to_sign, task_of, is_possible, Fits, code_of, is_plain}
-use Rattle.gateway_cmd.specs.Session.{Serving, serving_of}
+use Rattle.gateway_cmd.specs.Report.{IsStatus, Says, Task, nothing, to_serve, to_sign, task_of, is_possible, Fits, code_of, is_plain, is_line, is_done}
+use Rattle.gateway_cmd.specs.Session.{LineServed, Serving, serving_of}
+
+-- the exit status of a run that ended so; 6 is that of a signature whose report failed
+abbrev pub Exits : Ended → ℕ → Type 0
+Exits (Signed signed) status = (status ≡ 0) ⊎ ((status ≡ 5) ⊎ (status ≡ 6))
+Exits (Plain ended) status = status ≡ code_of ended
+
+pub says_exits : (ended : Ended) (n : ℕ) (text : List ℕ) → Says ended n text → Exits ended n
+says_exits (Signed signed) n text (inl (inl zero, is)) = inl zero
+says_exits (Signed signed) n text (inl (inr six, is)) = inr (inr six)
+says_exits (Signed signed) n text (inr (five, is)) = inr (inl five)
+says_exits (Plain status) n text (code, is) = code
 
 pub exits_status : (ended : Ended) (n : ℕ) → Exits ended n → IsStatus n
 exits_status (Signed signed) n (inl zero) = inl zero
@@ -59,9 +71,6 @@ one_end (Plain Request) Request n x e some = refl
 pub exits_usage : (ended : Ended) (n : ℕ) → Exits ended n → n ≡ 2 → ended ≡ Plain Usage
 exits_usage ended n x e = one_end ended Usage n x e (inl refl)
 
-pub exits_line : (ended : Ended) (n : ℕ) → Exits ended n → n ≡ 3 → ended ≡ Plain Line
-exits_line ended n x e = one_end ended Line n x e (inr (inl refl))
-
 pub exits_request : (ended : Ended) (n : ℕ) → Exits ended n → n ≡ 8 → ended ≡ Plain Request
 exits_request ended n x e = one_end ended Request n x e (inr (inr refl))
 
@@ -73,17 +82,48 @@ exits_done (Plain Line) n x e plain = absurd (omega arith)
 exits_done (Plain Memory) n x e plain = absurd (omega arith)
 exits_done (Plain Request) n x e plain = absurd (omega arith)
 
+-- whether the line failed, by the status
+pub exits_is_line : (ended : Ended) (n : ℕ) → Exits ended n → is_line ended ≡ (n == 3)
+exits_is_line (Signed signed) n (inl zero) = sym (ap (λ k. k == 3) zero)
+exits_is_line (Signed signed) n (inr (inl five)) = sym (ap (λ k. k == 3) five)
+exits_is_line (Signed signed) n (inr (inr six)) = sym (ap (λ k. k == 3) six)
+exits_is_line (Plain Done) n e = sym (ap (λ k. k == 3) e)
+exits_is_line (Plain Usage) n e = sym (ap (λ k. k == 3) e)
+exits_is_line (Plain Line) n e = sym (ap (λ k. k == 3) e)
+exits_is_line (Plain Memory) n e = sym (ap (λ k. k == 3) e)
+exits_is_line (Plain Request) n e = sym (ap (λ k. k == 3) e)
+
+-- and whether all was done, where there is no signature
+pub exits_is_done : (ended : Ended) (n : ℕ) → is_plain ended ≡ true → Exits ended n → is_done ended ≡ (n == 0)
+exits_is_done (Signed signed) n plain x = absurd (let no : false ≡ true = plain in cc)
+exits_is_done (Plain Done) n plain e = sym (ap (λ k. k == 0) e)
+exits_is_done (Plain Usage) n plain e = sym (ap (λ k. k == 0) e)
+exits_is_done (Plain Line) n plain e = sym (ap (λ k. k == 0) e)
+exits_is_done (Plain Memory) n plain e = sym (ap (λ k. k == 0) e)
+exits_is_done (Plain Request) n plain e = sym (ap (λ k. k == 0) e)
+
+-- so it is said of the line of a run that serves
+pub serving_line : {serving : Serving} {old new : LineModel} (ended : Ended) (n : ℕ) → is_plain ended ≡ true → Exits ended n → LineServed serving (is_line ended) (is_done ended) old new → LineServed serving (n == 3) (n == 0) old new
+serving_line {serving = serving} {old = old} {new = new} ended n plain x line =
+    subst (λ failed. LineServed serving failed (n == 0) old new) (exits_is_line ended n x) (subst (λ done. LineServed serving (is_line ended) done old new) (exits_is_done ended n plain x) line)
+
 -- an end whose status the run hasn't is not its end
 pub exits_other : (ended : Ended) (status : Status) (n : ℕ) → Exits ended n → (n ≡ code_of status → ⊥) → ended ≢ Plain status
 exits_other ended status n x other = λ e. other (subst (λ how. Exits how n) e x)
 
 -- ---- what is asked for
 
--- connections are served where that is asked for
-pub serving_task : (command : Option Command) (serving : Serving) → serving_of command ≡ Some serving → task_of command ≡ to_serve
-serving_task None serving is = cc
-serving_task (Some (Session region)) serving is = refl
-serving_task (Some (Sign id region)) serving is = cc
+-- what connections are to be served by, where that is asked for
+pub serve_command : (command : Option Command) → task_of command ≡ to_serve → (serving : Serving) × (serving_of command ≡ Some serving)
+serve_command None is = absurd (let no : nothing ≡ to_serve = is in cc)
+serve_command (Some (Session region)) is = (_, refl)
+serve_command (Some (Sign id region)) is = absurd (let no : to_sign ≡ to_serve = is in cc)
+
+-- and the key that is to sign, where that is
+pub sign_command : (command : Option Command) → task_of command ≡ to_sign → (id region : List ℕ) × (command ≡ Some (Sign id region))
+sign_command None is = absurd (let no : nothing ≡ to_sign = is in cc)
+sign_command (Some (Session region)) is = absurd (let no : to_serve ≡ to_sign = is in cc)
+sign_command (Some (Sign id region)) is = (id, region, refl)
 
 -- words that are refused ask for nothing
 pub asks_nothing : (command : Option Command) (keys : List ℕ) → task_of command ≡ nothing → is_possible command keys ≡ false

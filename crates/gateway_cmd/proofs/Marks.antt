@@ -1,16 +1,20 @@
--- The marks of connections where the line's count of faults did not rise.
-use Rattle.std.specs.Prelude.{◌≡◌, ◌≤◌, ℕ, ◌+◌, ◌-◌, false, ◌++◌, replicate}
-use Rattle.std.proofs.Common.{sym, ap, subst, ◌∙◌, arith}
+-- What connections that are served one after another do to the line.
+use Rattle.std.specs.Prelude.{◌≡◌, ◌≤◌, ℕ, ◌+◌, ◌-◌, Bool, true, false, IsTrue, [], ◌++◌, replicate, Option, None, Some, Ok, Err}
+use Rattle.std.proofs.Common.{refl, sym, ap, subst, ◌∙◌, arith}
 use Rattle.std.proofs.lemmas.List.{append-nil, append_assoc, replicate-append-replicate}
-use Rattle.gate_base.specs.Causes.{Rose}
-use Rattle.gate_base.specs.Wire.{Wire}
-use Rattle.gateway_cmd.specs.Session.{Unmarked}
+use Rattle.gate_base.specs.declared.faults.Failed.{Failed}
+use Rattle.gate_base.specs.Causes.{Rose, RisesIf}
+use Rattle.gate_base.specs.Line.{LineModel, LineNext, LineServes, WireServes}
+use Rattle.gate_base.specs.Wire.{Wire, Begins}
+use Rattle.gateway_cmd.specs.declared.status.Status.{Status}
+use Rattle.gateway_cmd.specs.declared.status.Status.TheVariants.{Done, Line}
+use Rattle.gateway_cmd.specs.Session.{Unmarked, LineServesNext}
 
 -- a count that rose in between rose in all
-pub rose_first : (first second third : ℕ) → Rose first second → second ≤ third → Rose first third
+rose_first : (first second third : ℕ) → Rose first second → second ≤ third → Rose first third
 rose_first first second third rose order = omega arith
 
-pub rose_last : (first second third : ℕ) → first ≤ second → Rose second third → Rose first third
+rose_last : (first second third : ℕ) → first ≤ second → Rose second third → Rose first third
 rose_last first second third order rose = omega arith
 
 -- nothing began
@@ -23,7 +27,7 @@ unmarked_none old new same =
     })
 
 -- connections without a mark, and then more
-pub unmarked_more : (old middle new : Wire) → Unmarked old middle → Unmarked middle new → Unmarked old new
+unmarked_more : (old middle new : Wire) → Unmarked old middle → Unmarked middle new → Unmarked old new
 unmarked_more old middle new first then =
     let begins = first.begun in
     let goes = then.begun in
@@ -36,3 +40,69 @@ unmarked_more old middle new first then =
           ∙ ap (λ marks. old.marks ++ marks) (replicate-append-replicate (middle.begun - old.begun) (new.begun - middle.begun) false)
           ∙ ap (λ n. old.marks ++ replicate n false) all;
     }
+
+-- a connection that was served, and after which the line's count did not rise, left no mark
+one_unmarked : (failed : Bool) (old middle new : LineModel) → middle.faults ≡ old.faults → RisesIf failed middle.faults new.faults → Begins true old.wire middle.wire → WireServes failed middle.wire new.wire
+    → (Rose old.faults new.faults → ⊥) → Unmarked old.wire new.wire
+one_unmarked true old middle new same rises begins serves still = absurd (still (subst (λ n. Rose n new.faults) same rises))
+one_unmarked false old middle new same rises begins serves still =
+    let begun : new.wire.begun ≡ old.wire.begun + 1 = serves.begun ∙ begins.1 in
+    let one : 1 ≡ new.wire.begun - old.wire.begun = omega arith in
+    record { begun = omega arith; marks = serves.marks ∙ begins.3 ∙ ap (λ n. old.wire.marks ++ replicate n false) one }
+
+rises_above : (failed : Bool) (before now : ℕ) → RisesIf failed before now → before ≤ now
+rises_above true before now rises = omega arith
+rises_above false before now rises = omega arith
+
+-- the next connection was served
+pub line_serves_next : {failed : Bool} {old middle new : LineModel} → LineNext old (Ok true) middle → LineServes failed middle new → LineServesNext None old new
+line_serves_next {failed = failed} {old = old} {middle = middle} {new = new} next serves =
+    let spent = next.spent in
+    let same = next.faults in
+    let later = serves.spent in
+    let risen = rises_above failed middle.faults new.faults serves.faults in
+    record {
+      ends = tt;
+      falls = λ is. omega arith;
+      faults = omega arith;
+      next_faults = serves.next_faults ∙ next.next_faults;
+      done = λ tells not. cc;
+      unmarked = λ tells still. one_unmarked failed old middle new same serves.faults (next.told tells) (serves.wire (next.tells tells)) still;
+    }
+
+-- there is no other
+pub line_serves_none : {old new : LineModel} → LineNext old (Ok false) new → LineServesNext (Some Done) old new
+line_serves_none {old = old} {new = new} next =
+    let same = next.faults in
+    record {
+      ends = refl;
+      falls = λ not. cc;
+      faults = omega arith;
+      next_faults = next.next_faults;
+      done = λ tells is. (let told = next.told tells in ap (λ w. w.waiting) told.1 ∙ told.0);
+      unmarked = λ tells still. unmarked_none _ _ (next.told tells).1;
+    }
+
+-- or the line failed to give it
+pub line_serves_failed : {old new : LineModel} {fault : Failed} → LineNext old (Err fault) new → LineServesNext (Some Line) old new
+line_serves_failed {old = old} {new = new} next =
+    let rose = next.faults in
+    record {
+      ends = refl;
+      falls = λ not. cc;
+      faults = omega arith;
+      next_faults = next.next_faults;
+      done = λ tells not. cc;
+      unmarked = λ tells still. unmarked_none _ _ (next.told_err tells);
+    }
+
+-- connections were served, and then the next
+pub unmarked_next : {result : Option Status} (old middle new : LineModel) → (IsTrue old.tells → IsTrue middle.tells) → old.faults ≤ middle.faults → (IsTrue old.tells → (Rose old.faults middle.faults → ⊥) → Unmarked old.wire middle.wire)
+    → LineServesNext result middle new → IsTrue old.tells → (Rose old.faults new.faults → ⊥) → Unmarked old.wire new.wire
+unmarked_next old middle new tells risen before next told still = unmarked_more old.wire middle.wire new.wire
+    (before told (λ rose. still (rose_first old.faults middle.faults new.faults rose next.faults)))
+    (next.unmarked (tells told) (λ rose. still (rose_last old.faults middle.faults new.faults risen rose)))
+
+-- all are served, where the last answer says so
+pub done_next : {status : Status} {old new : LineModel} → LineServesNext (Some status) old new → IsTrue old.tells → status ≡ Done → new.wire.waiting ≡ []
+done_next next tells is = next.done tells (ap Some is)

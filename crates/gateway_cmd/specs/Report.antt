@@ -1,6 +1,8 @@
 -- The words of the program `s3gate`, its statuses and the lines that it reports. Source: this profile.
-use Rattle.std.specs.Prelude.{◌≡◌, ◌≢◌, ◌⊎◌, ℕ, Bool, true, false, List, [], ◌∷◌, ◌++◌, ◌&&◌, is_some, codes, Option, Some, None, String}
+use Rattle.std.specs.Prelude.{◌≡◌, ◌≢◌, ◌⊎◌, ℕ, Bool, true, false, List, [], ◌∷◌, ◌++◌, ◌&&◌, is_some, codes, IsTrue, Option, Some, None, String}
 use Rattle.std.specs.declared.alloc.Global.{Global}
+use Rattle.gate_base.specs.Causes.{Rose}
+use Rattle.gate_base.specs.Told.{SinkModel, PutsPrefix}
 use Rattle.hex.specs.Hex.{encode_lower}
 use Rattle.sigv4.specs.Keys.{keys_of, are_keys, secret_of}
 use Rattle.sigv4.specs.declared.signature.Signed.{Signed as Signature}
@@ -82,12 +84,37 @@ Fits nothing ended = ended ≢ Plain Done
 Fits to_serve ended = is_plain ended ≡ true
 Fits to_sign ended = ended ≢ Plain Done
 
--- the exit status and the report of a run that ended so, where the report doesn't fail; the lines of a signature may find no memory
+-- the exit status of a run that ended so, and what it reports: 6 where the report of a signature failed; the lines of a
+-- signature may find no memory
 abbrev pub Says : Ended → ℕ → List ℕ → Type 0
-Says (Signed signed) status text = ((status ≡ 0) × (text ≡ signed_lines signed)) ⊎ ((status ≡ 5) × (text ≡ line_of Memory))
+Says (Signed signed) status text = (((status ≡ 0) ⊎ (status ≡ 6)) × (text ≡ signed_lines signed)) ⊎ ((status ≡ 5) × (text ≡ line_of Memory))
 Says (Plain ended) status text = (status ≡ code_of ended) × (text ≡ line_of ended)
 
--- the exit status of a run that ended so; 6 is that of a signature whose report failed
-abbrev pub Exits : Ended → ℕ → Type 0
-Exits (Signed signed) status = (status ≡ 0) ⊎ ((status ≡ 5) ⊎ (status ≡ 6))
-Exits (Plain ended) status = status ≡ code_of ended
+-- the text was put, or the sink's count of faults rose, and the first bytes of the text were put and nothing else
+pub record Reports (text : List ℕ) (old new : SinkModel) : Type 0 where
+  pub tells : IsTrue old.tells → IsTrue new.tells
+  pub told : IsTrue old.tells → (new.bytes ≡ old.bytes ++ text) ⊎ (Rose old.faults new.faults × PutsPrefix old.bytes text new.bytes)
+
+-- the run ended for the line, and the run ended with all served
+abbrev pub is_line : Ended → Bool
+is_line (Signed signed) = false
+is_line (Plain Done) = false
+is_line (Plain Usage) = false
+is_line (Plain Line) = true
+is_line (Plain Request) = false
+is_line (Plain Memory) = false
+
+abbrev pub is_done : Ended → Bool
+is_done (Signed signed) = false
+is_done (Plain Done) = true
+is_done (Plain Usage) = false
+is_done (Plain Line) = false
+is_done (Plain Request) = false
+is_done (Plain Memory) = false
+
+-- how a run ended, by whether what is asked for can be done: just where it can't it is refused, but for want of memory; and a
+-- request is wanting only where one is to be signed
+pub record Admits (possible : Bool) (task : Task) (ended : Ended) : Type 0 where
+  pub usage : ended ≡ Plain Usage → possible ≡ false
+  pub refused : possible ≡ false → ended ≢ Plain Memory → ended ≡ Plain Usage
+  pub request : ended ≡ Plain Request → (possible ≡ true) × (task ≡ to_sign)

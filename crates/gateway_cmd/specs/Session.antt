@@ -1,20 +1,30 @@
 -- One step of a session: a connection that was served, or its end. Source: this profile.
-use Rattle.std.specs.Prelude.{◌≡◌, ◌≤◌, ◌⊎◌, ℕ, ◌+◌, ◌-◌, true, false, List, [], ◌++◌, replicate, Option, None, Some, Result, Ok, Err}
+use Rattle.std.specs.Prelude.{◌≡◌, ◌≢◌, ◌<◌, ◌≤◌, ◌⊎◌, ℕ, ◌+◌, ◌-◌, ◌^◌, Bool, true, false, IsTrue, List, [], ◌++◌, replicate, Option, None, Some, Result, Ok, Err}
+use Rattle.gate_base.specs.Causes.{Rose, RisesIf}
+use Rattle.gate_base.specs.Line.{LineModel}
 use Rattle.gate_base.specs.Wire.{Wire}
 use Rattle.s3_machine.specs.declared.operation.Label.{Label}
 use Rattle.s3_machine.specs.declared.operation.Reply.{Reply}
 use Rattle.s3_machine.specs.declared.operation.Settings.{Settings}
-use Rattle.sigv4.specs.Keys.{keys_of, are_keys}
+use Rattle.recovery.specs.declared.state.Known.{Known}
+use Rattle.sigv4.specs.Keys.{keys_of, are_keys, secret_of}
 use Rattle.sigv4.specs.declared.keys.AccessKey.{AccessKey}
 use Rattle.sigv4.specs.declared.keys.KeysFault.{KeysFault}
-use Rattle.sigv4.specs.declared.keys.KeysFault.TheVariants.{BadLine, Twice, Memory}
+use Rattle.sigv4.specs.declared.keys.KeysFault.TheVariants as fault
+use Rattle.signing.specs.Signing.{AnswersFirst, SignsOn}
+use Rattle.signing.specs.declared.first.Signing.{Signing}
 use Rattle.gateway.specs.declared.service.Service.{Service}
 use Rattle.gateway.specs.Request.{Request}
 use Rattle.gateway.specs.Exchange.{Mark, Turn}
+use Rattle.gateway.specs.World.{World, ServesOver}
 use Rattle.gateway_words.specs.declared.command.Command.{Command}
 use Rattle.gateway_words.specs.declared.command.Command.TheVariants.{Session, Sign}
 use Rattle.gateway_cmd.specs.declared.status.Status.{Status}
-use Rattle.gateway_cmd.specs.Run.{Place, ServesNext}
+use Rattle.gateway_cmd.specs.declared.status.Status.TheVariants.{Done, Usage, Line, Request as NoRequest, Memory}
+use Rattle.gateway_cmd.specs.declared.status.Ended.{Ended}
+use Rattle.gateway_cmd.specs.declared.status.Ended.TheVariants.{Plain}
+use Rattle.gateway_cmd.specs.Report.{end_of, is_plain, is_line, is_done}
+use Rattle.gateway_cmd.specs.Run.{place_of, ServesNext, Talks}
 
 -- the settings of a service of that region
 abbrev pub settings_of : List ℕ → Settings
@@ -42,16 +52,72 @@ IsServedOut serving old new = (new.waiting ≡ []) ⊎ ((n : ℕ) × (serving.mo
 -- what a key text gives: its keys, each of the form and no id twice; or it is refused; want of memory may come for any
 abbrev pub Offers : List ℕ → Result (List AccessKey) KeysFault → Type 0
 Offers keys (Ok read) = (read ≡ keys_of keys) × (are_keys (keys_of keys) ≡ true)
-Offers keys (Err (BadLine n)) = are_keys (keys_of keys) ≡ false
-Offers keys (Err (Twice n)) = are_keys (keys_of keys) ≡ false
-Offers keys (Err Memory) = Unit {0}
+Offers keys (Err (fault.BadLine n)) = are_keys (keys_of keys) ≡ false
+Offers keys (Err (fault.Twice n)) = are_keys (keys_of keys) ≡ false
+Offers keys (Err fault.Memory) = Unit {0}
 
 -- the next connection was served, or nothing came between
-abbrev pub NextPlace : Service → (Mark → Turn → Mark → Request → Label → Reply → Type 0) → Place → Option Status → Place → Type 0
-NextPlace service R old None new = (turns : List Turn) × ServesNext service R old turns new
-NextPlace service R old (Some status) new = new ≡ old
+abbrev pub NextPlace : Service → (Mark → Turn → Mark → Request → Label → Reply → Type 0) → Option Status → World → World → Type 0
+NextPlace service R None old new = (turns : List Turn) × ServesNext service R (place_of old) turns (place_of new)
+NextPlace service R (Some status) old new = place_of new ≡ place_of old
 
 -- connections began, and none of them has the mark of a failed line
 pub record Unmarked (old new : Wire) : Type 0 where
   pub begun : old.begun ≤ new.begun
   pub marks : new.marks ≡ old.marks ++ replicate (new.begun - old.begun) false
+
+-- ---- what the connections of a run do to the line
+
+-- the end of a run that serves: no connection is left, or the line failed to give another
+abbrev pub is_end : Status → Bool
+is_end Done = true
+is_end Usage = false
+is_end Line = true
+is_end NoRequest = false
+is_end Memory = false
+
+abbrev pub is_failed_end : Option Status → Bool
+is_failed_end None = false
+is_failed_end (Some status) = is_line (Plain status)
+
+abbrev pub IsEnd : Option Status → Type 0
+IsEnd None = Unit {0}
+IsEnd (Some status) = is_end status ≡ true
+
+-- the next connection was served, or there is none
+pub record LineServesNext (result : Option Status) (old new : LineModel) : Type 0 where
+  pub ends : IsEnd result
+  pub falls : result ≡ None → 2 ^ 63 - new.spent < 2 ^ 63 - old.spent
+  pub faults : old.faults ≤ new.faults
+  pub next_faults : RisesIf (is_failed_end result) old.next_faults new.next_faults
+  pub done : IsTrue old.tells → result ≡ Some Done → new.wire.waiting ≡ []
+  pub unmarked : IsTrue old.tells → (Rose old.faults new.faults → ⊥) → Unmarked old.wire new.wire
+
+-- the connections were, until there was none
+pub record LineServesAll (status : Status) (old new : LineModel) : Type 0 where
+  pub ends : is_end status ≡ true
+  pub next_faults : RisesIf (is_line (Plain status)) old.next_faults new.next_faults
+  pub done : IsTrue old.tells → status ≡ Done → new.wire.waiting ≡ []
+  pub unmarked : IsTrue old.tells → (Rose old.faults new.faults → ⊥) → Unmarked old.wire new.wire
+
+-- what a run that serves does to the line, by whether the line failed to give a connection, and whether all was done
+pub record LineServed (serving : Serving) (failed done : Bool) (old new : LineModel) : Type 0 where
+  pub next_faults : RisesIf failed old.next_faults new.next_faults
+  pub served_out : IsTrue old.tells → done ≡ true → IsServedOut serving old.wire new.wire
+  pub unmarked : IsTrue old.tells → (Rose old.faults new.faults → ⊥) → Unmarked old.wire new.wire
+
+-- ---- a run but for its report, by what is asked for
+
+-- connections were served; what is known of the store at the end is the run's own
+pub record RunServes (serving : Serving) (keys : List ℕ) (ended : Ended) (old : World) (new : Known → World) : Type 0 where
+  pub plain : is_plain ended ≡ true
+  pub known : Known
+  pub line : LineServed serving (is_line ended) (is_done ended) old.line (new known).line
+  pub serves : ServesOver serving.settings (Talks (service_of serving keys)) old (new known)
+
+-- the first request was signed, or could not be; where the key is there, by its secret
+pub record RunSigns (id region keys : List ℕ) (ended : Ended) (old new : LineModel) : Type 0 where
+  pub other : ended ≢ Plain Done
+  pub line : SignsOn (is_line ended) old new
+  pub told : (secret : List ℕ) → are_keys (keys_of keys) ≡ true → secret_of id (keys_of keys) ≡ Some secret → IsTrue old.tells → ended ≢ Plain Memory
+      → (signing : Signing) × AnswersFirst secret region old.wire.waiting signing × (ended ≡ end_of signing)

@@ -1,21 +1,21 @@
-ghost use Rattle.std.specs.Prelude.{◌≡◌, ◌<◌, ◌++◌, ℕ, true, false, IsTrue, List, Some};
+ghost use Rattle.std.specs.Prelude.{◌≡◌, ◌==◌, ◌<◌, ℕ, true, false, IsTrue, List, Some};
 ghost use Rattle.gate_base.specs.Causes.{Rose};
 ghost use Rattle.swift_calls.specs.History.{budget, NoneFails};
 ghost use Rattle.recovery.specs.declared.state.Known.TheVariants.{Unsure};
-ghost use Rattle.recovery.specs.Calls.{GoesOn, Met};
+ghost use Rattle.recovery.specs.Calls.{Met};
 ghost use Rattle.recovery.specs.Settling.{Anything};
 ghost use Rattle.sigv4.specs.Keys.{keys_of, are_keys, secret_of};
-ghost use Rattle.signing.specs.Signing.{AnswersFirst};
+ghost use Rattle.signing.specs.Signing.{AnswersFirst, SignsOn};
 ghost use Rattle.signing.specs.declared.first.Signing.{Signing};
-ghost use Rattle.gateway.specs.Exchange.{mark};
-ghost use Rattle.gateway.specs.Connection.{tally};
+ghost use Rattle.gateway.specs.World.{world, IsTold, Continues};
 ghost use Rattle.gateway_words.specs.Words.{command_of};
 ghost use Rattle.gateway_words.specs.declared.command.Command.TheVariants as commands;
-ghost use Rattle.gateway_cmd.specs.Report.{asked_for, is_admitted, is_plain, to_serve, to_sign, IsStatus, Fits, Says, Exits, end_of, code_of, line_of};
+ghost use Rattle.gateway_cmd.specs.Report.{asked_for, is_admitted, is_plain, to_serve, to_sign, IsStatus, Fits, Says, Reports, end_of, code_of, line_of};
 ghost use Rattle.gateway_cmd.specs.declared.status.Ended.{Ended as how};
-ghost use Rattle.gateway_cmd.specs.declared.status.Ended.TheVariants as ended;
-ghost use Rattle.gateway_cmd.specs.Run.{place_of, RunHeard, RunStands, RunTold};
-ghost use Rattle.gateway_cmd.specs.Session.{IsServedOut, Serving, service_of, serving_of, Unmarked};
+ghost use Rattle.gateway_cmd.specs.declared.status.Ended.TheVariants as ends;
+ghost use Rattle.gateway_cmd.specs.declared.status.Status.TheVariants.{Done};
+ghost use Rattle.gateway_cmd.specs.Run.{RunHeard, RunStands, RunTold};
+ghost use Rattle.gateway_cmd.specs.Session.{LineServed, Serving, service_of, serving_of};
 
 use crate::attempt::attempt;
 use crate::status::{Ended, Status, signed_lines};
@@ -61,43 +61,44 @@ pub fn run<N: Line<W>, R: Sink, W: Swift, C: Clock, D: Draws>(
     ensures status { IsStatus result }
     ensures usage { result ≡ 2 → is_admitted words.now keys.now ≡ false }
     ensures refused { is_admitted words.now keys.now ≡ false → (result ≡ 5 → ⊥) → result ≡ 2 }
-    ensures line { asked_for words.now ≡ to_serve → result ≡ 3 → Rose (N.next_faults line.old) (N.next_faults line.new) }
-    ensures line_signing { asked_for words.now ≡ to_sign → result ≡ 3 → Rose (N.faults line.old) (N.faults line.new) }
-    ensures quiet { (result ≡ 3 → ⊥) → N.next_faults line.new ≡ N.next_faults line.old }
-    ensures done { (serving : Serving) → serving_of (command_of words.now) ≡ Some serving → N.tells line.old → result ≡ 0 → IsServedOut serving (N.wire line.old) (N.wire line.new) }
-    ensures unreported { result ≡ 6 → (asked_for words.now ≡ to_sign) × Rose (R.faults report.old) (R.faults report.new) }
-    ensures reported { asked_for words.now ≡ to_sign → result ≡ 0 → R.faults report.new ≡ R.faults report.old }
-    ensures request { result ≡ 8 → (is_admitted words.now keys.now ≡ true) × (asked_for words.now ≡ to_sign) × (N.faults line.new ≡ N.faults line.old) }
+    ensures request { result ≡ 8 → (is_admitted words.now keys.now ≡ true) × (asked_for words.now ≡ to_sign) }
 
     // Words and keys that are refused touch nothing but the report.
     ensures idle { is_admitted words.now keys.now ≡ false → (line.new ≡ line.old) × (store.new ≡ store.old) × (clock.new ≡ clock.old) × (draws.new ≡ draws.old) }
 
-    // To sign touches nothing but the line and the report.
+    // To serve, and what it does to the line: 3 comes only where the line failed to give a connection, and 0 only where all
+    // connections were served, or as many as were asked for. Where the line's count of faults did not rise, none failed.
+    ensures serving { (serving : Serving) → serving_of (command_of words.now) ≡ Some serving
+        → LineServed serving (result == 3) (result == 0) (N.model line.old) (N.model line.new) }
+
+    // To sign touches nothing but the line and the report, and writes nothing to the line, of which at most one connection
+    // begins: 3 comes only where the line failed.
     ensures apart { asked_for words.now ≡ to_sign → (store.new ≡ store.old) × (clock.new ≡ clock.old) × (draws.new ≡ draws.old) }
+    ensures signing { asked_for words.now ≡ to_sign → SignsOn (result == 3) (N.model line.old) (N.model line.new) }
 
-    // The report has the lines of how the run ended, and nothing else.
-    ensures report { R.tells report.old → (Rose (R.faults report.old) (R.faults report.new) → ⊥)
-        → (ended : how) × (text : List ℕ) × Fits (asked_for words.now) ended × Says ended result text × (R.put_bytes report.new ≡ R.put_bytes report.old ++ text) }
+    // The report has the lines of how the run ended, and nothing else; where its count of faults rose, the first bytes of them.
+    // It is left alone where all connections were served.
+    ensures report { (ended : how) × (text : List ℕ) × Fits (asked_for words.now) ended × Says ended result text × Reports text (R.model report.old) (R.model report.new) }
+    ensures silent { asked_for words.now ≡ to_serve → result ≡ 0 → report.new ≡ report.old }
+    ensures unreported { result ≡ 6 → (asked_for words.now ≡ to_sign) × Rose (R.model report.old).faults (R.model report.new).faults }
+    ensures reported { asked_for words.now ≡ to_sign → result ≡ 0 → (R.model report.new).faults ≡ (R.model report.old).faults }
 
-    // What tells goes on to, and what the store told of its calls before the run stays.
-    ensures tells_line { N.tells line.old → N.tells line.new }
-    ensures tells_clock { C.tells clock.old → C.tells clock.new }
-    ensures tells_draws { D.tells draws.old → D.tells draws.new }
-    ensures goes_on { GoesOn (W.history store.old) (W.history store.new) }
-
-    // Where the store's count of faults did not rise and calls are left, no call failed; where the line's did not, no
-    // connection failed.
+    // What told still tells, and what the store told of its calls before the run stays. Where its count of faults did not rise
+    // and calls are left, no call failed.
+    ensures on { Continues
+        (world (N.model line.old) (W.history store.old) Unsure (C.model clock.old) (D.model draws.old))
+        (world (N.model line.new) (W.history store.new) Unsure (C.model clock.new) (D.model draws.new)) }
     ensures undisturbed { IsTrue (W.history store.old).tells → (W.history store.new).called < budget → (Rose (W.history store.old).faults (W.history store.new).faults → ⊥)
         → NoneFails (W.history store.new) (W.history store.old).called (W.history store.new).called }
-    ensures unmarked { asked_for words.now ≡ to_serve → N.tells line.old → (Rose (N.faults line.old) (N.faults line.new) → ⊥) → Unmarked (N.wire line.old) (N.wire line.new) }
 
     // Where line, clock and draws tell, a run that serves is a talk: the requests of its connections in order, each with its
     // turn. Over every store a request that is no operation gets its code without a call, and ServiceUnavailable comes only
     // where the store's count of faults rose.
-    ensures heard { (serving : Serving) → serving_of (command_of words.now) ≡ Some serving → N.tells line.old → C.tells clock.old → D.tells draws.old
+    ensures heard { (serving : Serving) → serving_of (command_of words.now) ≡ Some serving
+        → IsTold (world (N.model line.old) (W.history store.old) Unsure (C.model clock.old) (D.model draws.old))
         → RunHeard (service_of serving keys.now)
-        (place_of (N.wire line.old) (tally (mark (W.history store.old) Unsure) (C.moments clock.old) (D.draws draws.old) (N.wire line.old).sent))
-        (λ known. place_of (N.wire line.new) (tally (mark (W.history store.new) known) (C.moments clock.new) (D.draws draws.new) (N.wire line.new).sent)) }
+        (world (N.model line.old) (W.history store.old) Unsure (C.model clock.old) (D.model draws.old))
+        (λ known. world (N.model line.new) (W.history store.new) known (C.model clock.new) (D.model draws.new)) }
 
     // Where the store tells, and its account is sound at entry, the account stays sound, and goes through the steps of requests
     // that follow one another, whatever the line tells of them.
@@ -105,17 +106,17 @@ pub fn run<N: Line<W>, R: Sink, W: Swift, C: Clock, D: Draws>(
         → RunStands serving.settings (W.history store.new) (W.history store.old).called (W.history store.new).called }
 
     // Where all of these hold, the replies are the machine's too, each after its step.
-    ensures told { (serving : Serving) → serving_of (command_of words.now) ≡ Some serving → N.tells line.old → C.tells clock.old → D.tells draws.old
-        → Met Anything (W.history store.old)
+    ensures told { (serving : Serving) → serving_of (command_of words.now) ≡ Some serving
+        → IsTold (world (N.model line.old) (W.history store.old) Unsure (C.model clock.old) (D.model draws.old)) → Met Anything (W.history store.old)
         → RunTold (service_of serving keys.now) (W.history store.new)
-        (place_of (N.wire line.old) (tally (mark (W.history store.old) Unsure) (C.moments clock.old) (D.draws draws.old) (N.wire line.old).sent))
-        (λ known. place_of (N.wire line.new) (tally (mark (W.history store.new) known) (C.moments clock.new) (D.draws draws.new) (N.wire line.new).sent)) }
+        (world (N.model line.old) (W.history store.old) Unsure (C.model clock.old) (D.model draws.old))
+        (λ known. world (N.model line.new) (W.history store.new) known (C.model clock.new) (D.model draws.new)) }
 
     // What is signed is the line's first request, by the secret of the key.
     ensures told_signed { (id region secret : List ℕ) → command_of words.now ≡ Some (commands.Sign id region)
-        → are_keys (keys_of keys.now) ≡ true → secret_of id (keys_of keys.now) ≡ Some secret → N.tells line.old → (result ≡ 5 → ⊥)
-        → (signing : Signing) × AnswersFirst secret region (N.wire line.old).waiting signing × Exits (end_of signing) result
-        × (R.tells report.old → (Rose (R.faults report.old) (R.faults report.new) → ⊥) → (text : List ℕ) × Says (end_of signing) result text × (R.put_bytes report.new ≡ R.put_bytes report.old ++ text)) }
+        → are_keys (keys_of keys.now) ≡ true → secret_of id (keys_of keys.now) ≡ Some secret → IsTrue (N.model line.old).tells → (result ≡ 5 → ⊥)
+        → (signing : Signing) × AnswersFirst secret region (N.model line.old).wire.waiting signing
+        × (text : List ℕ) × Says (end_of signing) result text × Reports text (R.model report.old) (R.model report.new) }
 {
     let ended = attempt(alloc, words, keys, line, store, clock, draws);
     tell(alloc, ended, report)
@@ -123,11 +124,10 @@ pub fn run<N: Line<W>, R: Sink, W: Swift, C: Clock, D: Draws>(
 
 /// Reports how a run ended. The answer is its exit status.
 fn tell<R: Sink>(alloc: Global, ended: Ended, report: &mut R) -> u8
-    ensures exits { Exits ended result }
-    ensures unreported { result ≡ 6 → (is_plain ended ≡ false) × Rose (R.faults report.old) (R.faults report.new) }
-    ensures reported { is_plain ended ≡ false → result ≡ 0 → R.faults report.new ≡ R.faults report.old }
-    ensures told { R.tells report.old → (Rose (R.faults report.old) (R.faults report.new) → ⊥)
-        → (text : List ℕ) × Says ended result text × (R.put_bytes report.new ≡ R.put_bytes report.old ++ text) }
+    ensures says { (text : List ℕ) × Says ended result text × Reports text (R.model report.old) (R.model report.new) }
+    ensures silent { ended ≡ ends.Plain Done → report.new ≡ report.old }
+    ensures unreported { result ≡ 6 → (is_plain ended ≡ false) × Rose (R.model report.old).faults (R.model report.new).faults }
+    ensures reported { is_plain ended ≡ false → result ≡ 0 → (R.model report.new).faults ≡ (R.model report.old).faults }
 {
     match ended {
         Ended::Signed(signed) => tell_signed(alloc, &signed, report),
@@ -135,21 +135,24 @@ fn tell<R: Sink>(alloc: Global, ended: Ended, report: &mut R) -> u8
     }
 }
 
+/// Reports how a run ended that has no signature: nothing where all was done.
 fn tell_plain<R: Sink>(status: Status, report: &mut R) -> u8
     ensures code { result ≡ code_of status }
-    ensures told { R.tells report.old → (Rose (R.faults report.old) (R.faults report.new) → ⊥) → R.put_bytes report.new ≡ R.put_bytes report.old ++ line_of status }
+    ensures reports { Reports (line_of status) (R.model report.old) (R.model report.new) }
+    ensures silent { status ≡ Done → report.new ≡ report.old }
 {
+    if let Status::Done = status {
+        return 0;
+    }
     let _ = report.put(status.line());
     status.code()
 }
 
 /// Reports a signature. The status says whether it could.
 fn tell_signed<R: Sink>(alloc: Global, signed: &Signed, report: &mut R) -> u8
-    ensures exits { Exits (ended.Signed signed.now) result }
-    ensures unreported { result ≡ 6 → Rose (R.faults report.old) (R.faults report.new) }
-    ensures reported { result ≡ 0 → R.faults report.new ≡ R.faults report.old }
-    ensures told { R.tells report.old → (Rose (R.faults report.old) (R.faults report.new) → ⊥)
-        → (text : List ℕ) × Says (ended.Signed signed.now) result text × (R.put_bytes report.new ≡ R.put_bytes report.old ++ text) }
+    ensures says { (text : List ℕ) × Says (ends.Signed signed.now) result text × Reports text (R.model report.old) (R.model report.new) }
+    ensures unreported { result ≡ 6 → Rose (R.model report.old).faults (R.model report.new).faults }
+    ensures reported { result ≡ 0 → (R.model report.new).faults ≡ (R.model report.old).faults }
 {
     match signed_lines(alloc, signed) {
         Ok(lines) => match report.put(lines.as_slice()) {

@@ -1,20 +1,19 @@
-use Rattle.std.proofs.Common.{◌≡◌, ◌∙◌, Some, sym, subst}
+use Rattle.std.proofs.Common.{◌≡◌, ◌∙◌, Some, refl, sym, subst}
 use Rattle.gateway_words.specs.declared.command.Command.TheVariants as commands
 use Rattle.gateway_cmd.specs.Session.{serving_of}
-use Rattle.gateway_cmd.proofs.Sessions.{talked_none, stands_none}
+use Rattle.gateway_cmd.proofs.Sessions.{run_serves_none, run_signs_none}
 use Rattle.gateway_cmd.proofs.attempt.attempt.Goals as goal
 
-pub returns-in-Ok-clause-told_signed : goal.returns-in-Ok-clause-told_signed
-returns-in-Ok-clause-told_signed g c = λ id region secret asked good known tells other.
+pub returns-in-Ok-clause-serves : goal.returns-in-Ok-clause-serves
+returns-in-Ok-clause-serves g c = λ serving is. c.perform.ensures.serves serving (subst (λ command. serving_of command ≡ Some serving) c.in-Ok.ensures is)
+
+pub returns-in-Ok-clause-signs : goal.returns-in-Ok-clause-signs
+returns-in-Ok-clause-signs g c = λ id region asked.
     let same : Some c.in-Ok.command ≡ Some (commands.Sign id region) = sym c.in-Ok.ensures ∙ asked in
-    c.perform.ensures.told_signed id region secret (let one : c.in-Ok.command ≡ commands.Sign id region = cc in one) good known tells other
+    c.perform.ensures.signs id region (let one : c.in-Ok.command ≡ commands.Sign id region = cc in one)
 
-pub returns-in-Err-Memory-clause-talked : goal.returns-in-Err-Memory-clause-talked
-returns-in-Err-Memory-clause-talked g c = λ serving is line clock draws all met. talked_none all _ _ _
+pub returns-in-Err-Memory-clause-serves : goal.returns-in-Err-Memory-clause-serves
+returns-in-Err-Memory-clause-serves g c = λ serving is. run_serves_none serving c.args.keys.now _ _ _ _ _ refl refl refl
 
-pub returns-in-Err-Memory-clause-stands : goal.returns-in-Err-Memory-clause-stands
-returns-in-Err-Memory-clause-stands g c = λ serving is met. stands_none serving.settings _ met
-
-pub returns-in-Ok-clause-talked : goal.returns-in-Ok-clause-talked
-returns-in-Ok-clause-talked g c = λ serving is line clock draws all met.
-    c.perform.ensures.talked serving (subst (λ command. serving_of command ≡ Some serving) c.in-Ok.ensures is) line clock draws all met
+pub returns-in-Err-Memory-clause-signs : goal.returns-in-Err-Memory-clause-signs
+returns-in-Err-Memory-clause-signs g c = λ id region is. run_signs_none id region c.args.keys.now _ _ refl (λ done. cc) (λ good other. other refl)

@@ -1,70 +1,66 @@
-use Rattle.std.proofs.Common.{◌∙◌, true, false, sym, subst, arith}
+use Rattle.std.proofs.Common.{◌∙◌, refl, subst, arith}
 use Rattle.gate_base.specs.Causes.{Rose}
 use Rattle.swift_calls.specs.History.{none_fails}
-use Rattle.upload_records.specs.Sound.{Sound}
 use Rattle.recovery.specs.declared.state.Known.TheVariants.{Unsure}
-use Rattle.gateway.specs.Connection.{tally}
-use Rattle.gateway.specs.Exchange.{mark}
-use Rattle.gateway_cmd.specs.declared.status.Status.TheVariants.{Line, Memory}
-use Rattle.gateway_cmd.specs.Report.{Exits, Says}
-use Rattle.gateway_cmd.specs.Run.{place_of}
-use Rattle.gateway_cmd.proofs.Exits.{exits_status, exits_usage, exits_line, exits_request, exits_done, exits_other, exits_signed, serving_task, asks_nothing, fits_task, signs_task}
-use Rattle.gateway_cmd.proofs.Sessions.{run_heard, run_told}
+use Rattle.signing.specs.Signing.{SignsOn}
+use Rattle.gateway.specs.World.{world}
+use Rattle.gateway_cmd.specs.declared.status.Status.TheVariants.{Memory}
+use Rattle.gateway_cmd.specs.Report.{Says}
+use Rattle.gateway_cmd.proofs.Exits.{Exits, says_exits, exits_status, exits_usage, exits_request, exits_done, exits_other, exits_signed, exits_is_line, serving_line, serve_command, sign_command, asks_nothing, fits_task, signs_task}
+use Rattle.gateway_cmd.proofs.Sessions.{run_heard, run_stands, run_told, unsure_met}
 use Rattle.gateway_cmd.proofs.command.run.Goals as goal
 
 pub returns-clause-status : goal.returns-clause-status
-returns-clause-status g c = exits_status _ _ c.tell.ensures.exits
+returns-clause-status g c = exits_status _ _ (says_exits _ _ _ c.tell.ensures.says.1)
 
 pub returns-clause-usage : goal.returns-clause-usage
-returns-clause-usage g c = λ e. c.attempt-ended.ensures.usage (exits_usage _ _ c.tell.ensures.exits e)
+returns-clause-usage g c = λ e. c.attempt-ended.ensures.admits.usage (exits_usage _ _ (says_exits _ _ _ c.tell.ensures.says.1) e)
 
 pub returns-clause-refused : goal.returns-clause-refused
 returns-clause-refused g c = λ not other.
-    subst (λ how. Exits how c.tell.result) (c.attempt-ended.ensures.refused not (exits_other _ Memory _ c.tell.ensures.exits other)) c.tell.ensures.exits
-
-pub returns-clause-line : goal.returns-clause-line
-returns-clause-line g c = λ serving e. c.attempt-ended.ensures.line serving (exits_line _ _ c.tell.ensures.exits e)
-
-pub returns-clause-line_signing : goal.returns-clause-line_signing
-returns-clause-line_signing g c = λ signing e. c.attempt-ended.ensures.line_signing signing (exits_line _ _ c.tell.ensures.exits e)
-
-pub returns-clause-quiet : goal.returns-clause-quiet
-returns-clause-quiet g c = λ other. c.attempt-ended.ensures.quiet (exits_other _ Line _ c.tell.ensures.exits other)
+    let exits = says_exits _ _ _ c.tell.ensures.says.1 in
+    subst (λ how. Exits how c.tell.result) (c.attempt-ended.ensures.admits.refused not (exits_other _ Memory _ exits other)) exits
 
 pub returns-clause-request : goal.returns-clause-request
-returns-clause-request g c = λ e. c.attempt-ended.ensures.request (exits_request _ _ c.tell.ensures.exits e)
+returns-clause-request g c = λ e. c.attempt-ended.ensures.admits.request (exits_request _ _ (says_exits _ _ _ c.tell.ensures.says.1) e)
 
-pub returns-clause-reported : goal.returns-clause-reported
-returns-clause-reported g c = λ signing e.
-    c.tell.ensures.reported (exits_signed _ _ c.tell.ensures.exits e (c.attempt-ended.ensures.served signing)) e
+pub returns-clause-serving : goal.returns-clause-serving
+returns-clause-serving g c = λ serving is.
+    let run = c.attempt-ended.ensures.serves serving is in
+    serving_line _ _ run.plain (says_exits _ _ _ c.tell.ensures.says.1) run.line
 
-pub returns-clause-told_signed : goal.returns-clause-told_signed
-returns-clause-told_signed g c = λ id region secret asked good known tells other.
-    let signs = c.attempt-ended.ensures.told_signed id region secret asked good known tells (exits_other _ Memory _ c.tell.ensures.exits other) in (
-      signs.0,
-      signs.1,
-      subst (λ how. Exits how c.tell.result) signs.2 c.tell.ensures.exits,
-      λ reports still.
-          let told = c.tell.ensures.told reports still in
-          (told.0, subst (λ how. Says how c.tell.result told.0) signs.2 told.1, told.2),
-    )
-
-pub returns-clause-done : goal.returns-clause-done
-returns-clause-done g c = λ serving is tells e.
-    let plain = c.attempt-ended.ensures.plain (serving_task _ serving is) in
-    c.attempt-ended.ensures.done serving is tells (exits_done _ _ c.tell.ensures.exits e plain)
+pub returns-clause-signing : goal.returns-clause-signing
+returns-clause-signing g c = λ signing.
+    let command = sign_command _ signing in
+    let exits = says_exits _ _ _ c.tell.ensures.says.1 in
+    subst (λ failed. SignsOn failed (g.N.Line.model c.args.line.now) (g.N.Line.model c.attempt-ended.new.line)) (exits_is_line _ _ exits) (c.attempt-ended.ensures.signs command.0 command.1 command.2).line
 
 pub returns-clause-report : goal.returns-clause-report
-returns-clause-report g c = λ tells still.
-    let told = c.tell.ensures.told tells still in
-    let a = c.attempt-ended.ensures in
-    (_, told.0, fits_task _ _ a.plain a.served (λ none. a.refused (asks_nothing _ _ none)), told.1, told.2)
+returns-clause-report g c =
+    let says = c.tell.ensures.says in
+    let a = c.attempt-ended.ensures in (
+      _,
+      says.0,
+      fits_task _ _ (λ serving. (let asked = serve_command _ serving in (a.serves asked.0 asked.1).plain)) (λ signing. (let command = sign_command _ signing in (a.signs command.0 command.1 command.2).other)) (λ none. a.admits.refused (asks_nothing _ _ none)),
+      says.1,
+      says.2,
+    )
+
+pub returns-clause-silent : goal.returns-clause-silent
+returns-clause-silent g c = λ serving e.
+    let asked = serve_command _ serving in
+    c.tell.ensures.silent (exits_done _ _ (says_exits _ _ _ c.tell.ensures.says.1) e (c.attempt-ended.ensures.serves asked.0 asked.1).plain)
 
 pub returns-clause-unreported : goal.returns-clause-unreported
 returns-clause-unreported g c = λ e.
     let told = c.tell.ensures.unreported e in
     let a = c.attempt-ended.ensures in
-    (signs_task _ _ a.plain (λ none. a.refused (asks_nothing _ _ none)) told.0, told.1)
+    (signs_task _ _ (λ serving. (let asked = serve_command _ serving in (a.serves asked.0 asked.1).plain)) (λ none. a.admits.refused (asks_nothing _ _ none)) told.0, told.1)
+
+pub returns-clause-reported : goal.returns-clause-reported
+returns-clause-reported g c = λ signing e.
+    let command = sign_command _ signing in
+    c.tell.ensures.reported (exits_signed _ _ (says_exits _ _ _ c.tell.ensures.says.1) e (c.attempt-ended.ensures.signs command.0 command.1 command.2).other) e
 
 pub returns-clause-undisturbed : goal.returns-clause-undisturbed
 returns-clause-undisturbed g c = λ tells left still.
@@ -72,7 +68,7 @@ returns-clause-undisturbed g c = λ tells left still.
     let new = g.W.Swift.history c.attempt-ended.new.store in
     let before = g.met.W.Swift.is_history c.args.store.now in
     let after = g.met.W.Swift.is_history c.attempt-ended.new.store in
-    let on = c.attempt-ended.ensures.goes_on in
+    let on = c.attempt-ended.ensures.on.store in
     let later = on.tells tells in
     let ordered = on.ordered in
     let first = (on.kept tells).counts old.called (omega arith) ∙ before.last tells (omega arith) in
@@ -80,14 +76,22 @@ returns-clause-undisturbed g c = λ tells left still.
     (λ rose. still (subst (λ n. Rose n new.faults) first (subst (Rose (new.faults_at old.called)) (after.last later left) rose)))
 
 pub returns-clause-heard : goal.returns-clause-heard
-returns-clause-heard g c = λ serving is line clock draws. run_heard (c.attempt-ended.ensures.talked serving is line clock draws false tt)
+returns-clause-heard g c = λ serving is told. run_heard told (c.attempt-ended.ensures.serves serving is)
+
+pub returns-clause-stands : goal.returns-clause-stands
+returns-clause-stands g c = λ serving is met.
+    let run = c.attempt-ended.ensures.serves serving is in
+    run_stands run.serves.on.store run.serves.stands (unsure_met met)
 
 pub returns-clause-told : goal.returns-clause-told
-returns-clause-told g c = λ serving is line clock draws met.
-    let old = g.W.Swift.history c.args.store.now in
-    let on = c.attempt-ended.ensures.goes_on in
-    let sound = subst Sound (sym ((on.kept met.tells).accounts old.called (omega arith))) met.sound in
+returns-clause-told g c = λ serving is told met.
     run_told
-    (place_of (g.N.Line.wire c.args.line.now) (tally (mark (g.W.Swift.history c.args.store.now) Unsure) (g.C.Clock.moments c.args.clock.now) (g.D.Draws.draws c.args.draws.now) (g.N.Line.wire c.args.line.now).sent))
-    (λ known. place_of (g.N.Line.wire c.attempt-ended.new.line) (tally (mark (g.W.Swift.history c.attempt-ended.new.store) known) (g.C.Clock.moments c.attempt-ended.new.clock) (g.D.Draws.draws c.attempt-ended.new.draws) (g.N.Line.wire c.attempt-ended.new.line).sent))
-    sound (c.attempt-ended.ensures.talked serving is line clock draws true met)
+    (world (g.N.Line.model c.args.line.now) (g.W.Swift.history c.args.store.now) Unsure (g.C.Clock.model c.args.clock.now) (g.D.Draws.model c.args.draws.now))
+    (λ known. world (g.N.Line.model c.attempt-ended.new.line) (g.W.Swift.history c.attempt-ended.new.store) known (g.C.Clock.model c.attempt-ended.new.clock) (g.D.Draws.model c.attempt-ended.new.draws))
+    (g.W.Swift.history c.attempt-ended.new.store) (λ known. refl) told met refl (c.attempt-ended.ensures.serves serving is)
+
+pub returns-clause-told_signed : goal.returns-clause-told_signed
+returns-clause-told_signed g c = λ id region secret asked good known tells other.
+    let says = c.tell.ensures.says in
+    let signs = (c.attempt-ended.ensures.signs id region asked).told secret good known tells (exits_other _ Memory _ (says_exits _ _ _ says.1) other) in
+    (signs.0, signs.1, says.0, subst (λ how. Says how c.tell.result says.0) signs.2 says.1, says.2)
