@@ -1,8 +1,7 @@
 //! A line of one connection that tells nothing.
-ghost use Rattle.std.specs.Prelude.{◌≡◌, false};
-ghost use Rattle.std.proofs.Common.{zero-le};
+ghost use Rattle.std.specs.Prelude.{◌≡◌};
 ghost use Rattle.gate_base.specs.Causes.{Rose};
-ghost use Rattle.gate_base.specs.Wire.{empty};
+ghost use Rattle.gate_base.specs.Line.{silent_line, silent_is_line};
 
 use gate_base::{Bytes, CALL_LIMIT, Counted, Failed, Line};
 use std::alloc::Global;
@@ -43,21 +42,9 @@ impl OwnLine {
 }
 
 impl<C: Counted> Line<C> for OwnLine {
-    ghost is_open = { λ line. line.connected };
+    ghost model = { λ line. silent_line line.connected line.faults line.spent };
 
-    ghost faults = { λ line. line.faults };
-
-    ghost next_faults = { λ _. 0 };
-
-    ghost spent = { λ line. line.spent };
-
-    ghost tells = { λ _. ⊥ };
-
-    ghost wire = { λ _. empty };
-
-    ghost marked = { λ line tells. absurd tells };
-
-    ghost next_within = { λ _. zero-le };
+    ghost is_line = { λ line. silent_is_line line.connected line.faults line.spent };
 
     fn next(&mut self) -> Result<bool, Failed> {
         self.connected = self.spent == 0;

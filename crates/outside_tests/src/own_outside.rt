@@ -1,5 +1,6 @@
 //! A sink, a clock and draws that tell nothing.
-ghost use Rattle.std.specs.Prelude.{◌≡◌, []};
+ghost use Rattle.std.specs.Prelude.{false, []};
+ghost use Rattle.gate_base.specs.Told.{silent_source};
 
 use gate_base::{Clock, Draws, Failed, Sink};
 
@@ -10,11 +11,7 @@ pub(crate) struct OwnSink {
 }
 
 impl Sink for OwnSink {
-    ghost faults = { λ _. 0 };
-
-    ghost tells = { λ _. ⊥ };
-
-    ghost put_bytes = { λ _. [] };
+    ghost model = { λ _. record { faults = 0; tells = false; bytes = [] } };
 
     fn put(&mut self, bytes: &[u8]) -> Result<(), Failed> {
         self.size = self.size.saturating_add(bytes.len());
@@ -27,9 +24,7 @@ impl Sink for OwnSink {
 pub(crate) struct OwnClock;
 
 impl Clock for OwnClock {
-    ghost tells = { λ _. ⊥ };
-
-    ghost moments = { λ _. [] };
+    ghost model = { λ _. silent_source };
 
     fn now(&mut self) -> u64 {
         1_369_353_600
@@ -43,9 +38,7 @@ pub(crate) struct OwnDraws {
 }
 
 impl Draws for OwnDraws {
-    ghost tells = { λ _. ⊥ };
-
-    ghost draws = { λ _. [] };
+    ghost model = { λ _. silent_source };
 
     fn draw(&mut self) -> u128 {
         self.last = self.last.wrapping_add(1);
