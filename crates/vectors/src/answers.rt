@@ -1,6 +1,6 @@
 //! How the verbs write their answers.
 use case_text::{Fault, unescaped};
-use gate_base::{Bytes, Pair};
+use gate_base::{Bytes, List, Pair};
 use s3_names::Meta;
 use std::alloc::Global;
 use std::fmt::Debug;
@@ -73,6 +73,51 @@ pub(crate) fn append_all(to: &mut Bytes, texts: &[&[u8]]) -> Result<(), Fault> {
         to.append(text)?;
     }
     Ok(())
+}
+
+/// The first word of a text, and what follows the space behind it; all of it and nothing where there is none.
+pub(crate) fn cut(text: &str) -> (&str, &str) {
+    match text.split_once(' ') {
+        Some(parts) => parts,
+        None => (text, ""),
+    }
+}
+
+/// The first word of a text, and what follows the space behind it; the fault where there is none.
+pub(crate) fn two_words(text: &str, fault: Fault) -> Result<(&str, &str), Fault> {
+    match text.split_once(' ') {
+        Some(words) => Ok(words),
+        None => Err(fault),
+    }
+}
+
+/// Puts the bytes of an escaped text in the place of what is there.
+pub(crate) fn put(alloc: Global, text: &str, to: &mut Bytes) -> Result<(), Fault> {
+    *to = unescaped(alloc, text)?;
+    Ok(())
+}
+
+/// Puts the bytes of three escaped texts in three places.
+pub(crate) fn put_three(
+    alloc: Global,
+    [first, second, third]: [&str; 3],
+    to_first: &mut Bytes,
+    to_second: &mut Bytes,
+    to_third: &mut Bytes,
+) -> Result<(), Fault> {
+    put(alloc, first, to_first)?;
+    put(alloc, second, to_second)?;
+    put(alloc, third, to_third)
+}
+
+/// Adds the bytes of an escaped text.
+pub(crate) fn add(alloc: Global, text: &str, to: &mut List<Bytes>) -> Result<(), Fault> {
+    Ok(to.push(unescaped(alloc, text)?)?)
+}
+
+/// Adds the number that a text writes in decimal.
+pub(crate) fn add_number(text: &str, to: &mut List<u64>) -> Result<(), Fault> {
+    Ok(to.push(number(text)?)?)
 }
 
 /// The number that a text writes in decimal.

@@ -1,6 +1,7 @@
 //! The cases of a file. A case is a line `VERB TEXT => ANSWER`; or a line `VERB TEXT` with lines `>` below it, which give
 //! bytes, and then a line `=> ANSWER`; in place of ANSWER, lines `<` below say the bytes that are wanted. Empty lines and
 //! lines that begin with `#` are nothing.
+use crate::answers::cut;
 use crate::verbs::answer;
 use case_text::{Fault, first_difference, give, show, unescaped};
 use gate_base::Bytes;
@@ -34,16 +35,23 @@ impl Tally {
 
     fn mismatch(&mut self, file: &str, got: &[u8]) -> Result<(), Fault> {
         self.mismatches = self.mismatches.saturating_add(1);
-        let line = self.line;
         let mut shown = Bytes::new(self.alloc);
         show(got, &mut shown)?;
-        let Ok(shown) = str::from_utf8(shown.as_slice()) else {
+        self.tell(file, shown.as_slice())
+    }
+
+    fn tell(&mut self, file: &str, shown: &[u8]) -> Result<(), Fault> {
+        let line = self.line;
+        let Ok(shown) = str::from_utf8(shown) else {
             return Err(Fault::Unread("no text"));
         };
         write!(self.told, "{file}:{line}: it gives {shown}\n")?;
         Ok(())
     }
 }
+
+/// Why a case can't be tried that has no `=>`.
+const NO_ANSWER: Fault = Fault::Unread("a case without =>");
 
 /// A case as it stands in its file.
 #[derive(Clone, Copy)]
@@ -126,15 +134,43 @@ fn try_case(
     };
     let (case, wanted) = read_case(head, below)?;
     let mut given = Bytes::new(alloc);
-    for line in givens {
-        give(alloc, line, &mut given)?;
-    }
-    let got = answer(alloc, name, case.verb, case.text, given.as_slice())?;
-    tally.cases = tally.cases.saturating_add(1);
-    if !is_as_wanted(alloc, case.answer, wanted, got.as_slice())? {
-        tally.mismatch(file, got.as_slice())?;
+    give_all(alloc, givens, &mut given)?;
+    try_given(alloc, name, file, &case, wanted, given.as_slice(), tally)
+}
+
+fn give_all(alloc: Global, lines: &[&str], to: &mut Bytes) -> Result<(), Fault> {
+    for line in lines {
+        give(alloc, line, to)?;
     }
     Ok(())
+}
+
+fn try_given(
+    alloc: Global,
+    name: &str,
+    file: &str,
+    case: &Case<'_>,
+    wanted: &[&str],
+    given: &[u8],
+    tally: &mut Tally,
+) -> Result<(), Fault> {
+    let got = answer(alloc, name, case.verb, case.text, given)?;
+    compare(alloc, file, case.answer, wanted, got.as_slice(), tally)
+}
+
+fn compare(
+    alloc: Global,
+    file: &str,
+    answer: &str,
+    wanted: &[&str],
+    got: &[u8],
+    tally: &mut Tally,
+) -> Result<(), Fault> {
+    tally.cases = tally.cases.saturating_add(1);
+    if is_as_wanted(alloc, answer, wanted, got)? {
+        return Ok(());
+    }
+    tally.mismatch(file, got)
 }
 
 /// A case by its first line and the lines below it that give no bytes; and which of these say what is wanted.
@@ -142,33 +178,48 @@ fn read_case<'a, 'b>(
     head: &'a str,
     below: &'b [&'a str],
 ) -> Result<(Case<'a>, &'b [&'a str]), Fault> {
-    let (head, answer, wanted) = match head.split_once(" =>") {
-        Some((head, answer)) => (head, answer, below),
-        None => match below.split_first() {
-            Some((line, wanted)) => match line.strip_prefix("=>") {
-                Some(answer) => (head, answer, wanted),
-                None => return Err(Fault::Unread("a case without =>")),
-            },
-            None => return Err(Fault::Unread("a case without =>")),
-        },
+    if let Some((head, answer)) = head.split_once(" =>") {
+        return Ok((case_of(head, answer), below));
+    }
+    let Some((line, wanted)) = below.split_first() else {
+        return Err(NO_ANSWER);
     };
-    let (verb, text) = match head.split_once(' ') {
-        Some(parts) => parts,
-        None => (head, ""),
-    };
-    let answer = match answer.strip_prefix(' ') {
-        Some(answer) => answer,
-        None => answer,
-    };
-    Ok((Case { verb, text, answer }, wanted))
+    match line.strip_prefix("=>") {
+        Some(answer) => Ok((case_of(head, answer), wanted)),
+        None => Err(NO_ANSWER),
+    }
+}
+
+/// A case of these words, by what stands behind its `=>`.
+fn case_of<'a>(head: &'a str, answer: &'a str) -> Case<'a> {
+    let (verb, text) = cut(head);
+    Case {
+        verb,
+        text,
+        answer: without_space(answer),
+    }
+}
+
+/// A text without the space that it may begin with.
+pub(crate) fn without_space(text: &str) -> &str {
+    match text.strip_prefix(' ') {
+        Some(text) => text,
+        None => text,
+    }
 }
 
 fn is_as_wanted(alloc: Global, answer: &str, lines: &[&str], got: &[u8]) -> Result<bool, Fault> {
     if lines.is_empty() {
-        return Ok(unescaped(alloc, answer)?.as_slice() == got);
+        return is_text(alloc, answer, got);
     }
     if !answer.is_empty() {
         return Err(Fault::Unread("an answer on the line, and lines of one"));
     }
     Ok(first_difference(alloc, lines, got)?.is_none())
+}
+
+/// Whether an escaped text says these bytes.
+fn is_text(alloc: Global, text: &str, got: &[u8]) -> Result<bool, Fault> {
+    let bytes = unescaped(alloc, text)?;
+    Ok(bytes.as_slice() == got)
 }

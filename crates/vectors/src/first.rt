@@ -2,8 +2,8 @@
 //! does so while the line's call of that number fails: `next` is the first call, the reads follow. `first-of-none` has a line
 //! of no connection. The answer is the hash of the canonical request and the signature. The secret is that of the Amazon S3
 //! API Reference's examples, and the region `us-east-1`.
-use crate::answers::{NO_VERB, refused, text as told};
-use crate::messages::{line_of, number};
+use crate::answers::{NO_VERB, add_number, refused, text as told};
+use crate::messages::line_of;
 use crate::signatures::add_hex;
 use case_text::Fault;
 use gate_base::{Bytes, List, MemLine, NoCount};
@@ -25,11 +25,16 @@ pub(crate) fn answer(alloc: Global, verb: &str, text: &str, given: &[u8]) -> Res
 
 fn first(alloc: Global, text: &str, given: &[u8]) -> Result<Bytes, Fault> {
     let mut fails = List::new(alloc);
-    if !text.is_empty() {
-        fails.push(number(text)?)?;
-    }
+    add_fails(text, &mut fails)?;
     let mut line = line_of(alloc, given, PIECE, fails)?;
     show(alloc, sign(alloc, &mut line))
+}
+
+fn add_fails(text: &str, to: &mut List<u64>) -> Result<(), Fault> {
+    if text.is_empty() {
+        return Ok(());
+    }
+    add_number(text, to)
 }
 
 fn first_of_none(alloc: Global) -> Result<Bytes, Fault> {

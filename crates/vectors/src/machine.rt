@@ -8,7 +8,8 @@ ghost use Rattle.std.specs.Prelude.{◌≡◌, IsTrue};
 ghost use Rattle.s3_machine.specs.Step.{IsPlace, IsProperContent, IsProperOp};
 
 use crate::answers::{
-    NO_VERB, add_pairs, append_all, append_pairs, input, source, text as text_of, yes_or_no,
+    NO_VERB, add_pairs, append_all, append_pairs, cut, input, source, text as text_of, two_words,
+    yes_or_no,
 };
 use case_text::Fault;
 use gate_base::{Bytes, Caller, Copying, MOMENT_LIMIT, Memory};
@@ -45,8 +46,12 @@ pub(crate) fn answer(alloc: Global, verb: &str, text: &str, given: &[u8]) -> Res
 fn proper_meta(alloc: Global, text: &str, given: &[u8]) -> Result<Bytes, Fault> {
     let text = source(text, given)?;
     let mut meta = Meta::new(alloc);
-    add_pairs(alloc, text, &mut meta)?;
-    yes_or_no(alloc, is_proper_meta(&meta))
+    proper_pairs(alloc, text, &mut meta)
+}
+
+fn proper_pairs(alloc: Global, text: &str, meta: &mut Meta) -> Result<Bytes, Fault> {
+    add_pairs(alloc, text, meta)?;
+    yes_or_no(alloc, is_proper_meta(meta))
 }
 
 fn caller_of(word: &str) -> Result<Caller, Fault> {
@@ -73,24 +78,16 @@ fn acl_of(word: &str) -> Result<Acl, Fault> {
     }
 }
 
-/// The text before the first space, and the text behind it.
-fn word_and_rest(text: &str) -> Result<(&str, &str), Fault> {
-    match text.split_once(' ') {
-        Some(parts) => Ok(parts),
-        None => Err(NO_ACT),
-    }
-}
-
 /// `CALLER ACL`.
 fn may_be_read(alloc: Global, text: &str) -> Result<Bytes, Fault> {
-    let (caller, acl) = word_and_rest(text)?;
+    let (caller, acl) = two_words(text, NO_ACT)?;
     let (caller, acl) = (caller_of(caller)?, acl_of(acl)?);
     yes_or_no(alloc, may_read(caller, acl))
 }
 
 /// `GIVEN ACL`, the bucket's list last.
 fn other_acl(alloc: Global, text: &str) -> Result<Bytes, Fault> {
-    let (given, acl) = word_and_rest(text)?;
+    let (given, acl) = two_words(text, NO_ACT)?;
     let (given, acl) = (given_acl(given)?, acl_of(acl)?);
     yes_or_no(alloc, is_other_acl(given, acl))
 }
@@ -147,8 +144,8 @@ fn do_line(
     moment: u64,
     to: &mut Bytes,
 ) -> Result<(), Fault> {
-    let (verb, rest) = word_and_rest(line)?;
-    let (caller, rest) = word_and_rest(rest)?;
+    let (verb, rest) = two_words(line, NO_ACT)?;
+    let (caller, rest) = two_words(rest, NO_ACT)?;
     let caller = caller_of(caller)?;
     do_act(
         alloc,
@@ -171,17 +168,15 @@ fn label_of(caller: Caller, moment: u64) -> Result<Label, Memory> {
 
 /// The act of a verb and the words behind the caller.
 fn act_of<'a>(verb: &'a str, text: &'a str) -> Result<Act<'a>, Fault> {
-    let (bucket, rest) = word_and_rest(text)?;
-    let (key, rest) = word_and_rest(rest)?;
-    let (acl, body) = match rest.split_once(' ') {
-        Some(parts) => parts,
-        None => (rest, ""),
-    };
+    let (bucket, rest) = two_words(text, NO_ACT)?;
+    let (key, rest) = two_words(rest, NO_ACT)?;
+    let (acl, body) = cut(rest);
+    let acl = given_acl(acl)?;
     Ok(Act {
         verb,
         bucket,
         key,
-        acl: given_acl(acl)?,
+        acl,
         body,
     })
 }

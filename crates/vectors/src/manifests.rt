@@ -1,12 +1,12 @@
 //! Cases of `slo_manifest`. Segments stand as `CONTAINER | NAME | ETAG | SIZE;`. The two forms of a manifest are named
 //! `put` and `got`. What is read is copied, and the copy is shown.
-ghost use Rattle.std.specs.Prelude.{◌≤◌, sum};
+ghost use Rattle.std.specs.Prelude.{◌≡◌, ◌≤◌, IfOk, sum};
 
 use crate::answers::{
-    NO_VERB, append_all, input, number, parts, refused, refused_by, source, text as text_of,
-    yes_or_no,
+    NO_VERB, add_number, append_all, cut, input, number, parts, put_three, refused, refused_by,
+    source, text as text_of, yes_or_no,
 };
-use case_text::{Fault, unescaped};
+use case_text::Fault;
 use gate_base::{Bytes, Copying, List};
 use slo_manifest::{
     Form, ManifestFault, Segment, cover, is_manifest, is_segment, joined_etag, read, write,
@@ -34,10 +34,7 @@ fn refusal(alloc: Global, fault: ManifestFault) -> Result<Bytes, Fault> {
 
 /// The form that a text begins with, and what stands behind it.
 fn form_and_rest(text: &str) -> Result<(Form, &str), Fault> {
-    let (word, rest) = match text.split_once(' ') {
-        Some(parts) => parts,
-        None => (text, ""),
-    };
+    let (word, rest) = cut(text);
     match word {
         "put" => Ok((Form::Put, rest)),
         "got" => Ok((Form::Got, rest)),
@@ -97,23 +94,47 @@ fn segments_of(alloc: Global, text: &str) -> Result<List<Segment>, Fault> {
 fn add_segments(alloc: Global, text: &str, to: &mut List<Segment>) -> Result<(), Fault> {
     for segment in text.split(';') {
         if !segment.is_empty() {
-            to.push(segment_of(alloc, segment)?)?;
+            add_segment(alloc, segment, to)?;
         }
     }
     Ok(())
+}
+
+fn add_segment(alloc: Global, text: &str, to: &mut List<Segment>) -> Result<(), Fault> {
+    Ok(to.push(segment_of(alloc, text)?)?)
 }
 
 fn segment_of(alloc: Global, text: &str) -> Result<Segment, Fault> {
     let (container, rest) = parts(text)?;
     let (name, rest) = parts(rest)?;
     let (etag, size) = parts(rest)?;
-    let size = number(size)?;
-    Ok(Segment {
-        container: unescaped(alloc, container)?,
-        name: unescaped(alloc, name)?,
-        etag: unescaped(alloc, etag)?,
+    segment(alloc, container, name, etag, number(size)?)
+}
+
+/// A segment of escaped texts.
+pub(crate) fn segment(
+    alloc: Global,
+    container: &str,
+    name: &str,
+    etag: &str,
+    size: u64,
+) -> Result<Segment, Fault>
+    ensures { IfOk result (λ segment. segment.size ≡ size) }
+{
+    let mut segment = Segment {
+        container: Bytes::new(alloc),
+        name: Bytes::new(alloc),
+        etag: Bytes::new(alloc),
         size,
-    })
+    };
+    put_three(
+        alloc,
+        [container, name, etag],
+        &mut segment.container,
+        &mut segment.name,
+        &mut segment.etag,
+    )?;
+    Ok(segment)
 }
 
 fn manifest_write(alloc: Global, text: &str, given: &[u8]) -> Result<Bytes, Fault> {
@@ -155,7 +176,7 @@ fn covered(alloc: Global, text: &str) -> Result<Bytes, Fault> {
 
 fn add_numbers(text: &str, to: &mut List<u64>) -> Result<(), Fault> {
     for word in text.split(' ') {
-        to.push(number(word)?)?;
+        add_number(word, to)?;
     }
     Ok(())
 }

@@ -1,7 +1,8 @@
 //! Cases of `swift_marks`. A tag stands as `TYPE | ETAG | MOMENT | ID`, the id in decimal or `-`; metadata as pairs
 //! `NAME:VALUE;`; the pieces of a pack one a line.
 use crate::answers::{
-    NO_VERB, add_pairs, append_all, append_pairs, input, number, parts, refused, refused_by, source,
+    NO_VERB, add, add_pairs, append_all, append_pairs, input, number, parts, refused, refused_by,
+    source,
 };
 use case_text::{Fault, unescaped};
 use gate_base::{Bytes, Copying, List};
@@ -45,13 +46,14 @@ fn tag_text(alloc: Global, tag: &Tag) -> Result<Bytes, Fault> {
         Some(id) => format!(in alloc; "{moment} | {id}")?,
         None => format!(in alloc; "{moment} | -")?,
     };
+    tag_with(alloc, tag, numbers.as_bytes())
+}
+
+fn tag_with(alloc: Global, tag: &Tag, numbers: &[u8]) -> Result<Bytes, Fault> {
     let mut answer = Bytes::new(alloc);
     let content_type = tag.content_type.as_slice();
     let etag = tag.etag.as_slice();
-    append_all(
-        &mut answer,
-        &[content_type, b" | ", etag, b" | ", numbers.as_bytes()],
-    )?;
+    append_all(&mut answer, &[content_type, b" | ", etag, b" | ", numbers])?;
     Ok(answer)
 }
 
@@ -110,7 +112,11 @@ fn pieces_text(alloc: Global, pieces: &[Bytes]) -> Result<Bytes, Fault> {
 fn unpacked(alloc: Global, text: &str) -> Result<Bytes, Fault> {
     let mut pieces = List::new(alloc);
     add_pieces(alloc, text, &mut pieces)?;
-    match unpack(alloc, pieces.as_slice()) {
+    unpacked_from(alloc, pieces.as_slice())
+}
+
+fn unpacked_from(alloc: Global, pieces: &[Bytes]) -> Result<Bytes, Fault> {
+    match unpack(alloc, pieces) {
         Ok(meta) => entries(alloc, &meta),
         Err(fault) => refusal(alloc, fault),
     }
@@ -118,7 +124,7 @@ fn unpacked(alloc: Global, text: &str) -> Result<Bytes, Fault> {
 
 fn add_pieces(alloc: Global, text: &str, to: &mut List<Bytes>) -> Result<(), Fault> {
     for line in text.lines() {
-        to.push(unescaped(alloc, line)?)?;
+        add(alloc, line, to)?;
     }
     Ok(())
 }

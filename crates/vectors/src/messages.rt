@@ -10,7 +10,8 @@ ghost use Rattle.std.specs.Prelude.{IsTrue, IfOk};
 ghost use Rattle.gate_base.specs.MemLine.{is_open_of};
 ghost use Rattle.http_wire.specs.Print.{IsReplyStatus};
 
-use crate::answers;
+use crate::answers::{self, number, two_words};
+use crate::cases::without_space;
 use case_text::Fault;
 use gate_base::{Bytes, Line, List, MemLine, NoCount, Page, Pair};
 use http_wire::{Got, Kind, Message, ReadFault, Reader, print_memory, print_page};
@@ -34,14 +35,6 @@ pub(crate) fn answer(alloc: Global, verb: &str, text: &str, given: &[u8]) -> Res
         "page" => page(alloc, text, given),
         "memory" => answers::text(alloc, print_memory(text == "HEAD")),
         _ => Err(answers::NO_VERB),
-    }
-}
-
-/// A number in decimal.
-pub(crate) fn number(text: &str) -> Result<u64, Fault> {
-    match text.parse::<u64>() {
-        Ok(number) => Ok(number),
-        Err(_) => Err(Fault::Unread("no number")),
     }
 }
 
@@ -98,9 +91,10 @@ impl Talk {
     /// Reads the request that stands before the bytes of the case.
     fn pass(&mut self) -> Result<(), Fault> {
         self.before = BEFORE.len() as u64;
-        match self.next() {
-            Ok(Got::Request(_)) => Ok(()),
-            _ => Err(Fault::Unread("the first request isn't read")),
+        if is_request(&self.next()) {
+            Ok(())
+        } else {
+            Err(Fault::Unread("the first request isn't read"))
         }
     }
 
@@ -126,6 +120,12 @@ impl Talk {
         Ok(())
     }
 
+    /// Tells so many answers at most, behind the request that stands before the bytes of the case.
+    fn tell_behind(&mut self, count: u64, to: &mut String) -> Result<(), Fault> {
+        self.pass()?;
+        self.tell_all(count, to)
+    }
+
     /// Tells it where the reader hasn't ended.
     fn tell_rest(&mut self, to: &mut String) -> Result<(), Fault> {
         for _ in 0..2 {
@@ -143,6 +143,13 @@ fn opens(line: &mut MemLine) -> bool
     match Line::<NoCount>::next(line) {
         Ok(begun) => begun,
         Err(_) => false,
+    }
+}
+
+fn is_request(answer: &Result<Got, ReadFault>) -> bool {
+    match answer {
+        Ok(Got::Request(_)) => true,
+        _ => false,
     }
 }
 
@@ -210,7 +217,16 @@ fn tell_alone(
     count: u64,
     to: &mut String,
 ) -> Result<(), Fault> {
-    let mut talk = Talk::new(alloc, line_of(alloc, given, size, List::new(alloc))?)?;
+    tell_line(
+        alloc,
+        line_of(alloc, given, size, List::new(alloc))?,
+        count,
+        to,
+    )
+}
+
+fn tell_line(alloc: Global, line: MemLine, count: u64, to: &mut String) -> Result<(), Fault> {
+    let mut talk = Talk::new(alloc, line)?;
     talk.tell_all(count, to)
 }
 
@@ -223,8 +239,7 @@ fn tell_behind(
     to: &mut String,
 ) -> Result<(), Fault> {
     let mut talk = Talk::new(alloc, line_of(alloc, given, size, List::new(alloc))?)?;
-    talk.pass()?;
-    talk.tell_all(count, to)
+    talk.tell_behind(count, to)
 }
 
 /// Tells where the bytes in pieces of these sizes, or behind another request, give other answers than the first.
@@ -237,24 +252,58 @@ fn tell_differences(
     to: &mut String,
 ) -> Result<(), Fault> {
     let mut behind = Bytes::new(alloc);
-    behind.append(BEFORE)?;
-    behind.append(given)?;
+    answers::append_all(&mut behind, &[BEFORE, given])?;
+    tell_in_pieces(alloc, given, behind.as_slice(), sizes, count, first, to)
+}
+
+/// The same, by the bytes and by those bytes behind another request.
+fn tell_in_pieces(
+    alloc: Global,
+    given: &[u8],
+    behind: &[u8],
+    sizes: &str,
+    count: u64,
+    first: &[u8],
+    to: &mut String,
+) -> Result<(), Fault> {
     for text in sizes.split(' ') {
         let piece = size(text)?;
-        let mut told = String::new(alloc);
-        tell_alone(alloc, given, piece, count, &mut told)?;
-        tell_difference("pieces of", piece, told.as_str(), first, to)?;
-        let mut told = String::new(alloc);
-        tell_behind(alloc, behind.as_slice(), piece, count, &mut told)?;
-        tell_difference(
-            "behind a request, pieces of",
-            piece,
-            told.as_str(),
-            first,
-            to,
-        )?;
+        compare_alone(alloc, given, piece, count, first, to)?;
+        compare_behind(alloc, behind, piece, count, first, to)?;
     }
     Ok(())
+}
+
+fn compare_alone(
+    alloc: Global,
+    given: &[u8],
+    piece: usize,
+    count: u64,
+    first: &[u8],
+    to: &mut String,
+) -> Result<(), Fault> {
+    let mut told = String::new(alloc);
+    tell_alone(alloc, given, piece, count, &mut told)?;
+    tell_difference("pieces of", piece, told.as_str(), first, to)
+}
+
+fn compare_behind(
+    alloc: Global,
+    behind: &[u8],
+    piece: usize,
+    count: u64,
+    first: &[u8],
+    to: &mut String,
+) -> Result<(), Fault> {
+    let mut told = String::new(alloc);
+    tell_behind(alloc, behind, piece, count, &mut told)?;
+    tell_difference(
+        "behind a request, pieces of",
+        piece,
+        told.as_str(),
+        first,
+        to,
+    )
 }
 
 fn tell_difference(
@@ -271,9 +320,7 @@ fn tell_difference(
 }
 
 fn failing(alloc: Global, text: &str, given: &[u8]) -> Result<Bytes, Fault> {
-    let Some((piece, call)) = text.split_once(' ') else {
-        return Err(Fault::Unread("no size and call"));
-    };
+    let (piece, call) = two_words(text, Fault::Unread("no size and call"))?;
     let (piece, call) = (size(piece)?, number(call)?);
     let mut told = String::new(alloc);
     tell_failing(alloc, given, piece, call, &mut told)?;
@@ -289,8 +336,7 @@ fn tell_failing(
 ) -> Result<(), Fault> {
     let mut fails = List::new(alloc);
     fails.push(call)?;
-    let mut talk = Talk::new(alloc, line_of(alloc, given, piece, fails)?)?;
-    talk.tell_all(1, to)
+    tell_line(alloc, line_of(alloc, given, piece, fails)?, 1, to)
 }
 
 fn message(alloc: Global, given: &[u8]) -> Result<Bytes, Fault> {
@@ -301,21 +347,24 @@ fn message(alloc: Global, given: &[u8]) -> Result<Bytes, Fault> {
 
 fn show_first(alloc: Global, given: &[u8], to: &mut Bytes) -> Result<(), Fault> {
     let mut talk = Talk::new(alloc, line_of(alloc, given, 3, List::new(alloc))?)?;
-    match talk.next() {
-        Ok(Got::Request(message)) => show(&message, to),
+    show_got(&talk.next(), to)
+}
+
+fn show_got(answer: &Result<Got, ReadFault>, to: &mut Bytes) -> Result<(), Fault> {
+    match answer {
+        Ok(Got::Request(message)) => show(message, to),
         _ => Err(Fault::Unread("no request comes first")),
     }
 }
 
 fn show(message: &Message, to: &mut Bytes) -> Result<(), Fault> {
-    to.append(message.method.as_slice())?;
-    to.append(b" ")?;
-    to.append(message.target.as_slice())?;
-    to.append(if message.old {
+    let version = if message.old {
         b" HTTP/1.0\r\n".as_slice()
     } else {
         b" HTTP/1.1\r\n".as_slice()
-    })?;
+    };
+    let (method, target) = (message.method.as_slice(), message.target.as_slice());
+    answers::append_all(to, &[method, b" ", target, version])?;
     show_headers(message.headers.as_slice(), to)?;
     Ok(to.append(message.body.as_slice())?)
 }
@@ -329,16 +378,12 @@ pub(crate) fn show_headers(headers: &[Pair], to: &mut Bytes) -> Result<(), Fault
 }
 
 fn show_header(header: &Pair, to: &mut Bytes) -> Result<(), Fault> {
-    to.append(header.name.as_slice())?;
-    to.append(b": ")?;
-    to.append(header.value.as_slice())?;
-    Ok(to.append(b"\r\n")?)
+    let (name, value) = (header.name.as_slice(), header.value.as_slice());
+    answers::append_all(to, &[name, b": ", value, b"\r\n"])
 }
 
 fn page(alloc: Global, text: &str, given: &[u8]) -> Result<Bytes, Fault> {
-    let Some((status, rest)) = text.split_once(' ') else {
-        return Err(Fault::Unread("no status and method"));
-    };
+    let (status, rest) = two_words(text, Fault::Unread("no status and method"))?;
     let status = reply_status(status)?;
     let (method, closing) = match rest.strip_suffix(" close") {
         Some(method) => (method, true),
@@ -405,11 +450,12 @@ fn add_header(alloc: Global, line: &str, to: &mut List<Pair>) -> Result<(), Faul
     let Some((name, value)) = line.split_once(':') else {
         return Err(Fault::Unread("no header"));
     };
-    let value = match value.strip_prefix(' ') {
-        Some(value) => value,
-        None => value,
-    };
-    let name = Bytes::from_slice(alloc, name.as_bytes())?;
-    let value = Bytes::from_slice(alloc, value.as_bytes())?;
+    push_header(alloc, name.as_bytes(), without_space(value).as_bytes(), to)
+}
+
+/// Adds a header of this name and value.
+fn push_header(alloc: Global, name: &[u8], value: &[u8], to: &mut List<Pair>) -> Result<(), Fault> {
+    let name = Bytes::from_slice(alloc, name)?;
+    let value = Bytes::from_slice(alloc, value)?;
     Ok(to.push(Pair { name, value })?)
 }

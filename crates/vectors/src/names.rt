@@ -3,7 +3,7 @@ use crate::answers::{
     NO_VERB, add_pair, append_all, append_pairs, input, refused_by, text as text_of, yes_or_no,
 };
 use case_text::Fault;
-use gate_base::{Bytes, Copying};
+use gate_base::{Bytes, Copying, Pair};
 use s3_names::{
     BucketName, Key, Meta, NameFault, Query, Target, decode, encode_all, encode_path, is_bucket,
     is_key,
@@ -66,21 +66,29 @@ fn metadata(alloc: Global, text: &str) -> Result<Bytes, Fault> {
 fn append_metadata(alloc: Global, text: &str, to: &mut Bytes) -> Result<(), Fault> {
     let mut meta = Meta::new(alloc);
     add_in_turn(alloc, text, &mut meta, to)?;
-    append_pairs(meta.copy()?.pairs(), to)
+    append_copied(&meta, to)
+}
+
+fn append_copied(meta: &Meta, to: &mut Bytes) -> Result<(), Fault> {
+    let meta = meta.copy()?;
+    append_pairs(meta.pairs(), to)
 }
 
 fn add_in_turn(alloc: Global, text: &str, meta: &mut Meta, to: &mut Bytes) -> Result<(), Fault> {
     for pair in text.split(';') {
         if !pair.is_empty() {
-            let added = add_pair(alloc, pair, meta)?;
-            to.append(if added {
-                b"yes ".as_slice()
-            } else {
-                b"no ".as_slice()
-            })?;
+            add_one(alloc, pair, meta, to)?;
         }
     }
     Ok(())
+}
+
+fn add_one(alloc: Global, pair: &str, meta: &mut Meta, to: &mut Bytes) -> Result<(), Fault> {
+    if add_pair(alloc, pair, meta)? {
+        append_all(to, &[b"yes "])
+    } else {
+        append_all(to, &[b"no "])
+    }
 }
 
 fn query(alloc: Global, bytes: &[u8]) -> Result<Bytes, Fault> {
@@ -91,8 +99,13 @@ fn query(alloc: Global, bytes: &[u8]) -> Result<Bytes, Fault> {
 }
 
 fn query_text(alloc: Global, query: &Query) -> Result<Bytes, Fault> {
+    let query = query.copy()?;
+    pairs_text(alloc, query.pairs())
+}
+
+fn pairs_text(alloc: Global, pairs: &[Pair]) -> Result<Bytes, Fault> {
     let mut answer = Bytes::new(alloc);
-    append_pairs(query.copy()?.pairs(), &mut answer)?;
+    append_pairs(pairs, &mut answer)?;
     Ok(answer)
 }
 

@@ -9,8 +9,8 @@ ghost use Rattle.std.specs.Prelude.{◌≡◌, ◌≢◌, ◌<◌, ◌≤◌, �
 ghost use Rattle.gate_base.specs.Told.{moment_limit};
 ghost use Rattle.s3_machine.specs.Shown.{IsShowable};
 
-use crate::answers::{NO_VERB, text as told};
-use crate::messages::{add_headers, cut_body, number, show_headers};
+use crate::answers::{NO_VERB, cut, number, text as told};
+use crate::messages::{add_headers, cut_body, show_headers};
 use case_text::{Fault, unescaped};
 use gate_base::{Bytes, Caller, List, MOMENT_LIMIT, Page, Pair};
 use s3_bodies::page;
@@ -70,13 +70,6 @@ pub(crate) fn answer(alloc: Global, verb: &str, text: &str, given: &[u8]) -> Res
         "stored" => stored(alloc, text),
         "object" => object(alloc, text, given),
         _ => Err(NO_VERB),
-    }
-}
-
-fn cut(text: &str) -> (&str, &str) {
-    match text.split_once(' ') {
-        Some(parts) => parts,
-        None => (text, ""),
     }
 }
 
@@ -190,7 +183,8 @@ fn made(alloc: Global, text: &str) -> Result<Bytes, Fault> {
     let (id, name) = cut(rest);
     let label = label(moment, id)?;
     let bucket = told(alloc, name.as_bytes())?;
-    shown(alloc, &Reply::Made { bucket }, &label, b"")
+    let reply = Reply::Made { bucket };
+    shown(alloc, &reply, &label, b"")
 }
 
 fn stored(alloc: Global, text: &str) -> Result<Bytes, Fault> {
@@ -198,7 +192,8 @@ fn stored(alloc: Global, text: &str) -> Result<Bytes, Fault> {
     let (id, digits) = cut(rest);
     let label = label(moment, id)?;
     let etag = told(alloc, digits.as_bytes())?;
-    shown(alloc, &Reply::Stored { etag }, &label, b"")
+    let reply = Reply::Stored { etag };
+    shown(alloc, &reply, &label, b"")
 }
 
 /// The numbers of an object's reply, which has a page.

@@ -5,8 +5,8 @@ mod asked;
 mod start;
 mod told;
 
-use crate::answers::{NO_VERB, yes_or_no};
-use asked::{cut, named, number, request_of};
+use crate::answers::{NO_VERB, add_number, append_all, cut, yes_or_no};
+use asked::{named, number, request_of};
 use case_text::Fault;
 use gate_base::{Bytes, Counted, List};
 use start::Start;
@@ -71,12 +71,17 @@ fn store_with(alloc: Global, words: &str, start: Start) -> Result<MemSwift, Faul
 /// The numbers of a text, with commas between them.
 fn numbers(alloc: Global, text: &str) -> Result<List<u64>, Fault> {
     let mut list = List::new(alloc);
+    add_numbers(text, &mut list)?;
+    Ok(list)
+}
+
+fn add_numbers(text: &str, to: &mut List<u64>) -> Result<(), Fault> {
     for word in text.split(',') {
-        if let Some(value) = number(word)? {
-            list.push(value)?;
+        if !word.is_empty() {
+            add_number(word, to)?;
         }
     }
-    Ok(list)
+    Ok(())
 }
 
 /// Each call that is no `has`, and what came of it, a line each.
@@ -180,8 +185,7 @@ fn tell_change(
     let mut account = Bytes::new(alloc);
     tell_account(alloc, store.account(), &mut account)?;
     if account.as_slice() != last.as_slice() {
-        told.append(b" | ")?;
-        told.append(account.as_slice())?;
+        append_all(told, &[b" | ", account.as_slice()])?;
         *last = account;
     }
     Ok(())

@@ -1,17 +1,9 @@
 //! Calls, as the lines of a case write them: the name of the call, its first words, and options with names.
-use crate::answers::NO_VERB;
+use crate::answers::{NO_VERB, add, cut, number as number_of, put, put_three};
 use case_text::{Fault, unescaped};
 use gate_base::{Bytes, List};
 use std::alloc::Global;
 use swift_calls::{ReadList, SwiftRequest};
-
-/// The first word of a text, and what follows the space behind it.
-pub(crate) fn cut(text: &str) -> (&str, &str) {
-    match text.split_once(' ') {
-        Some(parts) => parts,
-        None => (text, ""),
-    }
-}
 
 /// The word behind a name and its space; nothing where the name isn't there.
 pub(crate) fn named<'a>(text: &'a str, name: &str) -> &'a str {
@@ -26,21 +18,23 @@ pub(crate) fn number(word: &str) -> Result<Option<u64>, Fault> {
     if word.is_empty() {
         return Ok(None);
     }
-    match word.parse::<u64>() {
-        Ok(value) => Ok(Some(value)),
-        Err(_) => Err(Fault::Unread("no number")),
-    }
+    Ok(Some(number_of(word)?))
 }
 
 /// The pieces of a text, with `|` between them.
 pub(crate) fn pieces(alloc: Global, text: &str) -> Result<List<Bytes>, Fault> {
     let mut pieces = List::new(alloc);
+    add_pieces(alloc, text, &mut pieces)?;
+    Ok(pieces)
+}
+
+fn add_pieces(alloc: Global, text: &str, to: &mut List<Bytes>) -> Result<(), Fault> {
     for piece in text.split('|') {
         if !piece.is_empty() {
-            pieces.push(unescaped(alloc, piece)?)?;
+            add(alloc, piece, to)?;
         }
     }
-    Ok(pieces)
+    Ok(())
 }
 
 pub(crate) fn request_of(alloc: Global, call: &str, words: &str) -> Result<SwiftRequest, Fault> {
@@ -136,9 +130,15 @@ fn delete_container(alloc: Global, words: &str) -> Result<SwiftRequest, Fault> {
 fn list_names(alloc: Global, words: &str) -> Result<SwiftRequest, Fault> {
     let (container, options) = cut(words);
     let limit = limit_of(cut(options).0)?;
-    let container = unescaped(alloc, container)?;
-    let prefix = unescaped(alloc, named(options, " prefix "))?;
-    let marker = unescaped(alloc, named(options, " after "))?;
+    let texts = [
+        container,
+        named(options, " prefix "),
+        named(options, " after "),
+    ];
+    let mut container = Bytes::new(alloc);
+    let mut prefix = Bytes::new(alloc);
+    let mut marker = Bytes::new(alloc);
+    put_three(alloc, texts, &mut container, &mut prefix, &mut marker)?;
     Ok(SwiftRequest::ListNames {
         container,
         prefix,
@@ -151,11 +151,14 @@ fn list_names(alloc: Global, words: &str) -> Result<SwiftRequest, Fault> {
 fn put_object(alloc: Global, words: &str) -> Result<SwiftRequest, Fault> {
     let (container, words) = cut(words);
     let (name, options) = cut(words);
-    let container = unescaped(alloc, container)?;
-    let name = unescaped(alloc, name)?;
-    let content_type = unescaped(alloc, cut(options).0)?;
-    let meta = pieces(alloc, named(options, " meta "))?;
-    let body = unescaped(alloc, named(options, " body "))?;
+    let texts = [container, name, cut(options).0];
+    let mut container = Bytes::new(alloc);
+    let mut name = Bytes::new(alloc);
+    let mut content_type = Bytes::new(alloc);
+    put_three(alloc, texts, &mut container, &mut name, &mut content_type)?;
+    let mut meta = List::new(alloc);
+    let mut body = Bytes::new(alloc);
+    fill(alloc, options, &mut meta, &mut body)?;
     Ok(SwiftRequest::PutObject {
         container,
         name,
@@ -163,6 +166,16 @@ fn put_object(alloc: Global, words: &str) -> Result<SwiftRequest, Fault> {
         meta,
         body,
     })
+}
+
+fn fill(
+    alloc: Global,
+    options: &str,
+    meta: &mut List<Bytes>,
+    body: &mut Bytes,
+) -> Result<(), Fault> {
+    add_pieces(alloc, named(options, " meta "), meta)?;
+    put(alloc, named(options, " body "), body)
 }
 
 /// `head-object CONTAINER NAME`

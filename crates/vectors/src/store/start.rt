@@ -2,7 +2,9 @@
 ghost use Rattle.std.specs.Prelude.{◌<◌, ◌^◌, IfOk, ◌≡◌};
 ghost use Rattle.swift_calls.specs.Tree.{size_of, IsOrdered, IsSized};
 
-use crate::store::asked::{cut, named, number, pieces};
+use crate::answers::cut;
+use crate::manifests;
+use crate::store::asked::{named, number, pieces};
 use case_text::{Fault, unescaped};
 use gate_base::{Bytes, List, Memory};
 use slo_manifest::Segment;
@@ -70,15 +72,7 @@ fn segment(alloc: Global, words: &str, size: u64) -> Result<Segment, Fault>
     let Some((container, name)) = named(words, " segment ").split_once('/') else {
         return Err(Fault::Unread("no segment"));
     };
-    let container = unescaped(alloc, container)?;
-    let name = unescaped(alloc, name)?;
-    let etag = unescaped(alloc, named(words, " etag "))?;
-    Ok(Segment {
-        container,
-        name,
-        etag,
-        size,
-    })
+    manifests::segment(alloc, container, name, named(words, " etag "), size)
 }
 
 #[tactic(auto, using(crate::proofs::Accounts::two_segments))]
