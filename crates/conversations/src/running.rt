@@ -2,7 +2,7 @@
 ghost use Rattle.std.specs.Prelude.{◌≡◌, IfOk, nat_lt};
 ghost use Rattle.std.specs.List.{list_all};
 ghost use Rattle.gate_base.specs.declared.outside.TheConstants.{MOMENT_LIMIT};
-ghost use Rattle.swift_calls.specs.Tree.{IsOrdered, IsSized};
+ghost use Rattle.swift_calls.specs.Account.{IsOrdered, IsSized};
 
 use crate::given::Given;
 use case_text::Fault;

@@ -380,7 +380,7 @@ fn is_unavailable(alloc: Global, bytes: &[u8]) -> Result<bool, Fault> {
     is_reply(alloc, "503 ServiceUnavailable", bytes)
 }
 
-/// A new run over the account after each number of calls sees the request as not done, or as done where that is due.
+/// A new run over the account after each number of calls sees the request as not done, or as done where that is expected.
 fn look_at_each(
     alloc: Global,
     case: &Case,

@@ -8,4 +8,4 @@ pub mod MemSink
 pub mod MemWire
 pub mod Named
 pub mod Told
-pub mod Wire
+pub mod Transcript

@@ -3,7 +3,7 @@ use Rattle.std.specs.Prelude.{◌≡◌, ◌<◌, ◌≤◌, ℕ, Bool, true, fa
 use Rattle.gate_base.specs.declared.faults.Failed.{Failed}
 use Rattle.gate_base.specs.Causes.{RisesIf, Spends, SpendsIf}
 use Rattle.std.proofs.Common.{zero-le}
-use Rattle.gate_base.specs.Wire.{Wire, empty, Begins, Takes, with_piece, with_mark, SendsPrefix}
+use Rattle.gate_base.specs.Transcript.{Transcript, empty, Begins, Takes, with_piece, with_mark, SendsPrefix}
 
 pub record LineModel : Type 0 where
   -- whether a connection is open
@@ -14,12 +14,12 @@ pub record LineModel : Type 0 where
   -- how many calls of `next` answered true and of `read` gave bytes: at most 2^63
   pub spent : ℕ
   -- whether the line tells its contents, and these
-  pub tells : Bool
-  pub wire : Wire
+  pub observable : Bool
+  pub transcript : Transcript
 
--- what stays of the wire while the open connection is served: all but the bytes left of it, the pieces sent, and the mark of a
--- failure
-pub record WireServes (failed : Bool) (old new : Wire) : Type 0 where
+-- what stays of the transcript while the open connection is served: all but the bytes left of it, the pieces sent, and the
+-- mark of a failure
+pub record TranscriptServes (failed : Bool) (old new : Transcript) : Type 0 where
   pub waiting : new.waiting ≡ old.waiting
   pub begun : new.begun ≡ old.begun
   pub marks : new.marks ≡ (if failed then (with_mark old).marks else old.marks)
@@ -30,19 +30,19 @@ pub record LineServes (failed : Bool) (old new : LineModel) : Type 0 where
   pub faults : RisesIf failed old.faults new.faults
   pub next_faults : new.next_faults ≡ old.next_faults
   pub spent : old.spent ≤ new.spent
-  pub tells : IsTrue old.tells → IsTrue new.tells
-  pub wire : IsTrue old.tells → WireServes failed old.wire new.wire
+  pub observable : IsTrue old.observable → IsTrue new.observable
+  pub transcript : IsTrue old.observable → TranscriptServes failed old.transcript new.transcript
 
 -- `LineServes` without a write
 pub record OnlyReads (failed : Bool) (old new : LineModel) : Type 0 where
   pub serves : LineServes failed old new
-  pub sent : IsTrue old.tells → new.wire.sent ≡ old.wire.sent
+  pub sent : IsTrue old.observable → new.transcript.sent ≡ old.transcript.sent
 
 -- `LineServes` without a read
 pub record OnlyWrites (failed : Bool) (old new : LineModel) : Type 0 where
   pub serves : LineServes failed old new
   pub spent : new.spent ≡ old.spent
-  pub rest : IsTrue old.tells → new.wire.rest ≡ old.wire.rest
+  pub rest : IsTrue old.observable → new.transcript.rest ≡ old.transcript.rest
 
 -- ---- one call
 
@@ -57,9 +57,9 @@ pub record LineNext (old : LineModel) (result : Result Bool Failed) (new : LineM
   pub faults : RisesIf (is_err result) old.faults new.faults
   pub next_faults : RisesIf (is_err result) old.next_faults new.next_faults
   pub spent : SpendsIf (does_begin result) old.spent new.spent
-  pub tells : IsTrue old.tells → IsTrue new.tells
-  pub told : IsTrue old.tells → IfOk result (λ begun. Begins begun old.wire new.wire)
-  pub told_err : IsTrue old.tells → OnErr result (new.wire ≡ old.wire)
+  pub observable : IsTrue old.observable → IsTrue new.observable
+  pub effect : IsTrue old.observable → IfOk result (λ begun. Begins begun old.transcript new.transcript)
+  pub effect_err : IsTrue old.observable → OnErr result (new.transcript ≡ old.transcript)
 
 -- `read` into a buffer of so many bytes, which holds these now
 pub record LineRead (old : LineModel) (room : ℕ) (bytes : List ℕ) (result : Result ℕ Failed) (new : LineModel) : Type 0 where
@@ -68,14 +68,14 @@ pub record LineRead (old : LineModel) (room : ℕ) (bytes : List ℕ) (result : 
   pub spent : IfOk result (λ count. 0 < count → Spends old.spent new.spent)
   pub unspent : IfOk result (λ count. count ≡ 0 → new.spent ≡ old.spent)
   pub spent_err : OnErr result (new.spent ≡ old.spent)
-  pub told : IsTrue old.tells → IfOk result (λ count. Takes (take count bytes) old.wire new.wire)
-  pub told_err : IsTrue old.tells → OnErr result (new.wire ≡ with_mark old.wire)
+  pub effect : IsTrue old.observable → IfOk result (λ count. Takes (take count bytes) old.transcript new.transcript)
+  pub effect_err : IsTrue old.observable → OnErr result (new.transcript ≡ with_mark old.transcript)
 
 -- `write` of these bytes, when the store had counted so many calls
 pub record LineWrite (old : LineModel) (at : ℕ) (bytes : List ℕ) (result : Result (Unit {0}) Failed) (new : LineModel) : Type 0 where
   pub writes : OnlyWrites (is_err result) old new
-  pub told : IsTrue old.tells → OnOk result (new.wire ≡ with_piece old.wire at bytes)
-  pub told_err : IsTrue old.tells → OnErr result (SendsPrefix old.wire at bytes new.wire)
+  pub effect : IsTrue old.observable → OnOk result (new.transcript ≡ with_piece old.transcript at bytes)
+  pub effect_err : IsTrue old.observable → OnErr result (SendsPrefix old.transcript at bytes new.transcript)
 
 -- `close`: the present connection ended
 pub record LineClose (old new : LineModel) : Type 0 where
@@ -83,17 +83,17 @@ pub record LineClose (old new : LineModel) : Type 0 where
   pub faults : new.faults ≡ old.faults
   pub next_faults : new.next_faults ≡ old.next_faults
   pub spent : new.spent ≡ old.spent
-  pub tells : IsTrue old.tells → IsTrue new.tells
-  pub told : IsTrue old.tells → new.wire ≡ old.wire
+  pub observable : IsTrue old.observable → IsTrue new.observable
+  pub effect : IsTrue old.observable → new.transcript ≡ old.transcript
 
 -- what holds of each line: each connection that has begun has its mark, and the faults of `next` are among the faults
 pub record IsLine (line : LineModel) : Type 0 where
-  pub marked : IsTrue line.tells → length line.wire.marks ≡ line.wire.begun
+  pub marked : IsTrue line.observable → length line.transcript.marks ≡ line.transcript.begun
   pub next_within : line.next_faults ≤ line.faults
 
 -- a line that tells nothing, and whose calls of `next` never fail, as standard streams are
 abbrev pub silent_line : Bool → ℕ → ℕ → LineModel
-silent_line is_open faults spent = record { is_open = is_open; faults = faults; next_faults = 0; spent = spent; tells = false; wire = empty }
+silent_line is_open faults spent = record { is_open = is_open; faults = faults; next_faults = 0; spent = spent; observable = false; transcript = empty }
 
 pub silent_is_line : (is_open : Bool) (faults spent : ℕ) → IsLine (silent_line is_open faults spent)
-silent_is_line is_open faults spent = record { marked = λ tells. cc; next_within = zero-le }
+silent_is_line is_open faults spent = record { marked = λ observable. cc; next_within = zero-le }

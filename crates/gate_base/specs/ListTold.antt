@@ -18,4 +18,4 @@ draws_from (x ∷ xs) = x ∷ xs
 
 -- as any clock or source of draws shows itself: these values are still to come
 abbrev pub source_of : List ℕ → SourceModel
-source_of values = record { tells = true; values = values }
+source_of values = record { observable = true; values = values }

@@ -1,7 +1,7 @@
 -- What a line in memory shows of itself.
 use Rattle.std.specs.Prelude.{ℕ, ◌+◌, ◌^◌, Bool, true, not, ◌&&◌, nat_le, nat_lt, List, length}
 use Rattle.std.proofs.Common.{sym}
-use Rattle.gate_base.specs.Wire.{Wire}
+use Rattle.gate_base.specs.Transcript.{Transcript}
 use Rattle.gate_base.specs.Line.{LineModel, IsLine}
 use Rattle.gate_base.specs.MemWire.{told_by}
 use Rattle.gate_base.specs.Listed.{is_next_listed, listed}
@@ -10,8 +10,8 @@ use Rattle.gate_base.specs.declared.line_memory.MemLine.{MemLine}
 abbrev pub is_open_of : MemLine → Bool
 is_open_of line = line.connected
 
-abbrev pub wire_of : MemLine → Wire
-wire_of line = told_by line.wire
+abbrev pub transcript_of : MemLine → Transcript
+transcript_of line = told_by line.transcript
 
 -- at most so many bytes come by one read
 abbrev pub piece_of : MemLine → ℕ
@@ -50,11 +50,11 @@ is_to_fail line = is_next_listed (fails_of line) (made_of line)
 
 -- else a connection waits, and no call is left to begin it
 abbrev pub begins_past : MemLine → Bool
-begins_past line = not (is_to_fail line) && nat_lt 0 (length (wire_of line).waiting) && nat_le (2 ^ 63) (spent_of line)
+begins_past line = not (is_to_fail line) && nat_lt 0 (length (transcript_of line).waiting) && nat_le (2 ^ 63) (spent_of line)
 
 -- else bytes are left, and no call is left to give them
 abbrev pub reads_past : MemLine → Bool
-reads_past line = not (is_to_fail line) && nat_lt 0 (length (wire_of line).rest) && nat_le (2 ^ 63) (spent_of line)
+reads_past line = not (is_to_fail line) && nat_lt 0 (length (transcript_of line).rest) && nat_le (2 ^ 63) (spent_of line)
 
 -- as any line shows itself
 abbrev pub model_of : MemLine → LineModel
@@ -63,9 +63,9 @@ model_of line = record {
   faults = faults_of line;
   next_faults = next_faults_of line;
   spent = spent_of line;
-  tells = true;
-  wire = wire_of line;
+  observable = true;
+  transcript = transcript_of line;
 }
 
 pub is_line : (line : MemLine) → IsLine (model_of line)
-is_line line = record { marked = λ tells. sym line.wire.marks.ok.0; next_within = line.next_within }
+is_line line = record { marked = λ observable. sym line.transcript.marks.ok.0; next_within = line.next_within }

@@ -30,4 +30,4 @@ is_to_fail sink = is_next_listed (fails_of sink) (made_of sink)
 
 -- as any sink shows itself
 abbrev pub model_of : MemSink → SinkModel
-model_of sink = record { faults = faults_of sink; tells = true; bytes = bytes_of sink }
+model_of sink = record { faults = faults_of sink; observable = true; bytes = bytes_of sink }

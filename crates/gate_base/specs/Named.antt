@@ -1,4 +1,4 @@
--- Lists of things with names, and the maps that they stand for. `name` gives a thing's name, `value` what the map
+-- Lists of things with names, and the maps that they represent. `name` gives a thing's name, `value` what the map
 -- has of it.
 --     ascends names             names ascend strictly, in byte order
 --     map_of name value things  the map of a list: of two things with one name the first counts

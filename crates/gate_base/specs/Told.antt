@@ -29,34 +29,34 @@ pub record SinkModel : Type 0 where
   -- the calls that failed
   pub faults : ℕ
   -- whether the sink tells its contents, and these: the bytes put
-  pub tells : Bool
+  pub observable : Bool
   pub bytes : List ℕ
 
 -- `put` of these bytes
 pub record SinkPut (old : SinkModel) (bytes : List ℕ) (result : Result (Unit {0}) Failed) (new : SinkModel) : Type 0 where
   pub faults : RisesIf (is_err result) old.faults new.faults
-  pub tells : IsTrue old.tells → IsTrue new.tells
-  pub told : IsTrue old.tells → OnOk result (new.bytes ≡ old.bytes ++ bytes)
-  pub told_err : IsTrue old.tells → OnErr result (PutsPrefix old.bytes bytes new.bytes)
+  pub observable : IsTrue old.observable → IsTrue new.observable
+  pub effect : IsTrue old.observable → OnOk result (new.bytes ≡ old.bytes ++ bytes)
+  pub effect_err : IsTrue old.observable → OnErr result (PutsPrefix old.bytes bytes new.bytes)
 
 -- ---- a clock, a source of draws
 
 pub record SourceModel : Type 0 where
   -- whether it tells its values, and these: those still to come
-  pub tells : Bool
+  pub observable : Bool
   pub values : List ℕ
 
 -- a source that tells nothing
 abbrev pub silent_source : SourceModel
-silent_source = record { tells = false; values = [] }
+silent_source = record { observable = false; values = [] }
 
 -- `now` of a clock
 pub record ClockNow (old : SourceModel) (moment : ℕ) (new : SourceModel) : Type 0 where
   pub limit : moment < moment_limit
-  pub tells : IsTrue old.tells → IsTrue new.tells
-  pub told : IsTrue old.tells → GivesMoment old.values moment new.values
+  pub observable : IsTrue old.observable → IsTrue new.observable
+  pub effect : IsTrue old.observable → GivesMoment old.values moment new.values
 
 -- `draw` of a source of draws
 pub record DrawsDraw (old : SourceModel) (draw : ℕ) (new : SourceModel) : Type 0 where
-  pub tells : IsTrue old.tells → IsTrue new.tells
-  pub told : IsTrue old.tells → GivesDraw old.values draw new.values
+  pub observable : IsTrue old.observable → IsTrue new.observable
+  pub effect : IsTrue old.observable → GivesDraw old.values draw new.values

@@ -2,7 +2,7 @@ ghost use Rattle.std.specs.Prelude.{◌≡◌, IfOk};
 
 use crate::Memory;
 
-/// A copy that contracts see as equal. It fails only for want of memory.
+/// A copy that contracts see as equal. It fails only where memory runs out.
 pub trait Copying: Sized {
     fn copy(&self) -> Result<Self, Memory>
         ensures { IfOk result (λ copied. copied ≡ self.now) };

@@ -6,7 +6,7 @@ use std::alloc::{AllocError, AllocFailed};
 #[derive(Clone, Copy, Debug, PartialEq, Eq)]
 pub struct Failed;
 
-/// Memory was wanted and not there. What the call was lent is as before, unless the call says otherwise.
+/// Memory ran out. What the call was lent is as before, unless the call says otherwise.
 #[derive(Clone, Copy, Debug, PartialEq, Eq)]
 pub struct Memory;
 

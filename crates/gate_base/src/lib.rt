@@ -1,4 +1,4 @@
-//! What every layer stands on: byte texts and lists that report want of memory, pages, and the traits of the
+//! What every layer stands on: byte texts and lists that report when memory runs out, pages, and the traits of the
 //! outside world, each with a form in memory for tests and a thin adapter over the real thing.
 #![tactic(auto)]
 

@@ -1,7 +1,7 @@
 ghost use Rattle.std.specs.Prelude.{◌≡◌, ◌<◌, ◌≤◌, ◌+◌, false, not, ◌&&◌, ◌||◌, IsTrue, IsErr, is_err, IfOk, OnErr};
 ghost use Rattle.std.specs.Prelude.{[], length, min};
 ghost use Rattle.gate_base.specs.Causes.{one_more, one_more_if};
-ghost use Rattle.gate_base.specs.Wire.{empty, with_mark};
+ghost use Rattle.gate_base.specs.Transcript.{empty, with_mark};
 ghost use Rattle.gate_base.specs.Line.{LineNext, LineRead, LineWrite, LineClose};
 ghost use Rattle.gate_base.specs.MemWire.{told_by};
 ghost use Rattle.gate_base.specs.Listed.{listed};
@@ -17,7 +17,7 @@ use std::alloc::Global;
 /// Failed: nothing is begun, read or sent. So is a `write` that finds no memory, which [`MemLine::wanted`] counts.
 #[derive(Drop)]
 pub struct MemLine {
-    wire: MemWire,
+    transcript: MemWire,
     piece: usize,
     connected: bool,
     calls: Numbered,
@@ -26,12 +26,12 @@ pub struct MemLine {
     wanted: u64,
     next_faults: u64,
     ghost some_piece: { 0 < piece },
-    ghost begun: { IsTrue connected → 0 < (told_by wire).begun },
+    ghost begun: { IsTrue connected → 0 < (told_by transcript).begun },
     ghost next_within: { next_faults ≤ listed calls.fails calls.made + past + wanted },
 }
 
 impl MemLine {
-    ghost use Rattle.gate_base.specs.MemLine.{is_open_of, wire_of, piece_of, fails_of, made_of, spent_of, past_of};
+    ghost use Rattle.gate_base.specs.MemLine.{is_open_of, transcript_of, piece_of, fails_of, made_of, spent_of, past_of};
     ghost use Rattle.gate_base.specs.MemLine.{wanted_of, faults_of, next_faults_of};
 
     /// A line of these connections, whose reads give at most `piece` bytes, and whose calls of these numbers
@@ -45,7 +45,7 @@ impl MemLine {
     ) -> Result<MemLine, Memory>
         requires { 0 < piece }
         ensures closed { IfOk result (λ line. is_open_of line ≡ false) }
-        ensures wire { IfOk result (λ line. wire_of line ≡ record empty { waiting = connections }) }
+        ensures transcript { IfOk result (λ line. transcript_of line ≡ record empty { waiting = connections }) }
         ensures piece { IfOk result (λ line. piece_of line ≡ piece) }
         ensures fails { IfOk result (λ line. fails_of line ≡ fails) }
         ensures made { IfOk result (λ line. made_of line ≡ 0) }
@@ -56,7 +56,7 @@ impl MemLine {
         ensures next_faults { IfOk result (λ line. next_faults_of line ≡ 0) }
     {
         Ok(MemLine {
-            wire: MemWire::new(alloc, connections)?,
+            transcript: MemWire::new(alloc, connections)?,
             piece,
             connected: false,
             calls: Numbered::new(fails),
@@ -69,9 +69,9 @@ impl MemLine {
 
     /// The pieces sent, in order.
     pub fn pieces(&self) -> &[Piece]
-        ensures { result.now ≡ (wire_of self.now).sent }
+        ensures { result.now ≡ (transcript_of self.now).sent }
     {
-        self.wire.pieces()
+        self.transcript.pieces()
     }
 
     /// How many calls of `write` found no memory. At the greatest value it stays.
@@ -84,7 +84,7 @@ impl MemLine {
 
 impl<C: Counted> Line<C> for MemLine {
     ghost use Rattle.gate_base.specs.MemLine.{is_open_of, model_of, is_line, piece_of, fails_of, made_of, past_of, wanted_of};
-    ghost use Rattle.gate_base.specs.MemLine.{next_faults_of, wire_of, is_to_fail, begins_past, reads_past};
+    ghost use Rattle.gate_base.specs.MemLine.{next_faults_of, transcript_of, is_to_fail, begins_past, reads_past};
 
     ghost model = { model_of };
 
@@ -107,12 +107,12 @@ impl<C: Counted> Line<C> for MemLine {
             self.next_faults = self.next_faults.saturating_add(1);
             return Err(Failed);
         }
-        if self.wire.has_waiting() && self.spent >= CALL_LIMIT {
+        if self.transcript.has_waiting() && self.spent >= CALL_LIMIT {
             self.next_faults = self.next_faults.saturating_add(1);
             self.past = self.past.saturating_add(1);
             return Err(Failed);
         }
-        let begun = self.wire.begin();
+        let begun = self.transcript.begin();
         if begun {
             self.spent += 1;
         }
@@ -127,7 +127,7 @@ impl<C: Counted> Line<C> for MemLine {
         ensures does { LineRead (model_of self.old) (length buf.old) buf.new result (model_of self.new) }
 
         ensures count { IfOk result (λ count. count ≡ min (piece_of self.old)
-            (min (length buf.old) (length (wire_of self.old).rest))) }
+            (min (length buf.old) (length (transcript_of self.old).rest))) }
         ensures failed { is_err result ≡ (is_to_fail self.old || reads_past self.old) }
         ensures piece { piece_of self.new ≡ piece_of self.old }
         ensures fails { fails_of self.new ≡ fails_of self.old }
@@ -136,27 +136,27 @@ impl<C: Counted> Line<C> for MemLine {
         ensures wanted { wanted_of self.new ≡ wanted_of self.old }
     {
         if self.calls.count() {
-            self.wire.mark();
+            self.transcript.mark();
             return Err(Failed);
         }
-        if self.wire.has_rest() && self.spent >= CALL_LIMIT {
+        if self.transcript.has_rest() && self.spent >= CALL_LIMIT {
             self.past = self.past.saturating_add(1);
-            self.wire.mark();
+            self.transcript.mark();
             return Err(Failed);
         }
-        let count = self.wire.take(buf, self.piece);
+        let count = self.transcript.take(buf, self.piece);
         if count > 0 {
             self.spent += 1;
         }
         Ok(count)
     }
 
-    /// Failed exactly where the number of the call was given, or where memory was wanted. Then nothing is sent.
+    /// Failed exactly where the number of the call was given, or where memory ran out. Then nothing is sent.
     fn write(&mut self, store: &C, bytes: &[u8]) -> Result<(), Failed>
         requires { IsTrue (is_open_of self.old) }
         ensures does { LineWrite (model_of self.old) (C.called store.now) bytes.now result (model_of self.new) }
 
-        ensures unsent { OnErr result (wire_of self.new ≡ with_mark (wire_of self.old)) }
+        ensures unsent { OnErr result (transcript_of self.new ≡ with_mark (transcript_of self.old)) }
         ensures failed { IsTrue (is_to_fail self.old) → IsErr result }
         ensures piece { piece_of self.new ≡ piece_of self.old }
         ensures fails { fails_of self.new ≡ fails_of self.old }
@@ -165,14 +165,14 @@ impl<C: Counted> Line<C> for MemLine {
         ensures wanted { wanted_of self.new ≡ one_more_if (not (is_to_fail self.old) && is_err result) (wanted_of self.old) }
     {
         if self.calls.count() {
-            self.wire.mark();
+            self.transcript.mark();
             return Err(Failed);
         }
-        match self.wire.keep(store.calls(), bytes) {
+        match self.transcript.keep(store.calls(), bytes) {
             Ok(()) => Ok(()),
             Err(Memory) => {
                 self.wanted = self.wanted.saturating_add(1);
-                self.wire.mark();
+                self.transcript.mark();
                 Err(Failed)
             }
         }

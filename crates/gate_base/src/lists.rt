@@ -46,7 +46,7 @@ impl Bytes {
         Bytes { items }
     }
 
-    /// Adds a byte at the end. For want of memory the text is as before.
+    /// Adds a byte at the end. Where memory runs out, the text is as before.
     pub fn push(&mut self, byte: u8) -> Result<(), Memory>
         ensures ok { OnOk result (self.new ≡ self.old ++ byte ∷ []) }
         ensures err { OnErr result (self.new ≡ self.old) }
@@ -55,7 +55,7 @@ impl Bytes {
         Ok(())
     }
 
-    /// Adds bytes at the end. For want of memory the text is as before.
+    /// Adds bytes at the end. Where memory runs out, the text is as before.
     pub fn append(&mut self, bytes: &[u8]) -> Result<(), Memory>
         ensures ok { OnOk result (self.new ≡ self.old ++ bytes.now) }
         ensures err { OnErr result (self.new ≡ self.old) }
@@ -158,7 +158,7 @@ impl<T> List<T> {
 }
 
 impl<T: Drop> List<T> {
-    /// Adds an item at the end. For want of memory the list is as before, and the item is dropped.
+    /// Adds an item at the end. Where memory runs out, the list is as before, and the item is dropped.
     pub fn push(&mut self, item: T) -> Result<(), Memory>
         ensures ok { OnOk result (self.new ≡ self.old ++ item ∷ []) }
         ensures err { OnErr result (self.new ≡ self.old) }
@@ -167,7 +167,7 @@ impl<T: Drop> List<T> {
         Ok(())
     }
 
-    /// Puts an item before the one at the index, or at the end. For want of memory the list is as before, and
+    /// Puts an item before the one at the index, or at the end. Where memory runs out, the list is as before, and
     /// the item is dropped.
     pub fn insert(&mut self, index: usize, item: T) -> Result<(), Memory>
         requires { index ≤ length self.old }

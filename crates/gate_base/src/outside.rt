@@ -65,7 +65,7 @@ impl Copying for Piece {
 /// Connections that are served in turn. `C` is the type of the one store that the caller was handed, so that no
 /// other number of calls can be recorded with a piece. No connection is open before the first `next`.
 pub trait Line<C: Counted> {
-    /// What the line counts, and where it tells, the bytes left of each connection and the pieces sent.
+    /// What the line counts, and where it is observable, the bytes left of each connection and the pieces sent.
     ghost model: { Self → LineModel };
 
     /// Ends the present connection. True where another begins, which is then open, and false where there is none.
@@ -96,7 +96,7 @@ pub trait Line<C: Counted> {
 
 /// Where a program's report goes.
 pub trait Sink {
-    /// What the sink counts, and where it tells, the bytes put.
+    /// What the sink counts, and where it is observable, the bytes put.
     ghost model: { Self → SinkModel };
 
     /// Puts all the bytes. On Failed, only where the count of faults rose, a prefix of them was put.
@@ -106,7 +106,7 @@ pub trait Sink {
 
 /// A clock, which can't fail.
 pub trait Clock {
-    /// The moments still to come, where the clock tells: past the end of the list it repeats the last.
+    /// The moments still to come, where the clock is observable: past the end of the list it repeats the last.
     ghost model: { Self → SourceModel };
 
     /// The moment, in seconds since the beginning of 1970, below [`MOMENT_LIMIT`].
@@ -116,7 +116,7 @@ pub trait Clock {
 
 /// A source of words of 128 bits, which can't fail.
 pub trait Draws {
-    /// The draws still to come, where the source tells: past the end of the list each is the one before plus one
+    /// The draws still to come, where the source is observable: past the end of the list each is the one before plus one
     /// modulo 2^128.
     ghost model: { Self → SourceModel };
 

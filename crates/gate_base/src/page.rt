@@ -2,7 +2,7 @@ ghost use Rattle.std.specs.Prelude.{◌≡◌};
 
 use crate::{Bytes, Copying, List, Memory};
 
-/// Who sent a request: the holder of a key that signed it, or nobody in particular.
+/// Who sent a request: the holder of a key that signed it, or an anonymous caller.
 #[derive(Clone, Copy, Debug, PartialEq, Eq)]
 pub enum Caller {
     Owner,

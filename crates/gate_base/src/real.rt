@@ -137,7 +137,7 @@ impl StdSink {
 }
 
 impl Sink for StdSink {
-    ghost model = { λ sink. record { faults = sink.faults; tells = false; bytes = [] } };
+    ghost model = { λ sink. record { faults = sink.faults; observable = false; bytes = [] } };
 
     fn put(&mut self, bytes: &[u8]) -> Result<(), Failed> {
         match self.stream.write_all(bytes) {

@@ -56,7 +56,7 @@ impl Sink for MemSink {
 
     ghost model = { model_of };
 
-    /// Failed exactly where the number of the call was given, or where memory was wanted. Then nothing is put.
+    /// Failed exactly where the number of the call was given, or where memory ran out. Then nothing is put.
     fn put(&mut self, bytes: &[u8]) -> Result<(), Failed>
         ensures does { SinkPut (model_of self.old) bytes.now result (model_of self.new) }
 

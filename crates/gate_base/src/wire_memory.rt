@@ -1,6 +1,6 @@
 ghost use Rattle.std.specs.Prelude.{◌≡◌, ◌<◌, ◌≤◌, ◌+◌, min, take, [], length, nat_lt, IfOk, OnOk, OnErr, vec_len, vec_capacity};
 ghost use Rattle.std.specs.Vec.Iter.{into_iter_len};
-ghost use Rattle.gate_base.specs.Wire.{empty, Begins, Takes, with_piece, with_mark};
+ghost use Rattle.gate_base.specs.Transcript.{empty, Begins, Takes, with_piece, with_mark};
 
 use crate::{Bytes, List, Memory, Piece};
 use std::alloc::Global;
@@ -33,7 +33,7 @@ impl MemWire {
 
     /// All the connections wait. It takes the room for a mark per connection.
     pub(crate) fn new(alloc: Global, connections: List<Bytes>) -> Result<MemWire, Memory>
-        ensures { IfOk result (λ wire. told_by wire ≡ record empty { waiting = connections }) }
+        ensures { IfOk result (λ transcript. told_by transcript ≡ record empty { waiting = connections }) }
     {
         let marks = Vec::with_capacity(alloc, connections.len())?;
         Ok(MemWire {
@@ -93,7 +93,7 @@ impl MemWire {
         count
     }
 
-    /// Keeps what was sent on the present connection. For want of memory nothing is kept.
+    /// Keeps what was sent on the present connection. Where memory runs out, nothing is kept.
     pub(crate) fn keep(&mut self, at: u64, bytes: &[u8]) -> Result<(), Memory>
         ensures ok { OnOk result (told_by self.new ≡ with_piece (told_by self.old) at bytes.now) }
         ensures err { OnErr result (told_by self.new ≡ told_by self.old) }

@@ -1,4 +1,4 @@
-pub mod Hearing
+pub mod Handling
 pub mod JoinLemmas
 pub mod Living
 pub mod Looping
@@ -9,8 +9,8 @@ pub mod Passing
 pub mod Pieces
 pub mod Proper
 pub mod Replying
+pub mod Resolving
 pub mod Serving
 pub mod Standing
 pub mod Statuses
-pub mod Turning
 pub mod Worlds

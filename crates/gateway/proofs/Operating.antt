@@ -9,8 +9,8 @@ use Rattle.s3_machine.specs.declared.operation.Op.{Op}
 use Rattle.s3_machine.specs.declared.operation.Reply.{Reply}
 use Rattle.s3_machine.specs.declared.operation.Reply.TheVariants as answer
 use Rattle.s3_machine.specs.Shown.{IsShowable}
-use Rattle.swift_calls.specs.Tree.{Tree}
-use Rattle.swift_calls.specs.History.{History, present, kept_trans}
+use Rattle.swift_calls.specs.Account.{SwiftAccount}
+use Rattle.swift_calls.specs.History.{History, present, extends_trans}
 use Rattle.upload_records.specs.Native.{IsSettled}
 use Rattle.recovery.specs.declared.state.Known.{Known}
 use Rattle.recovery.specs.declared.state.Known.TheVariants as known
@@ -19,7 +19,7 @@ use Rattle.recovery.specs.declared.state.SettleFault.TheVariants.{Failed, Memory
 use Rattle.recovery.specs.Answers.{most_calls, most_settling}
 use Rattle.recovery.specs.Calls.{Bound, always, by_account, amount, IsWithin, GoesOn, Met, Keeps}
 use Rattle.recovery.specs.Fault.{CausesFault}
-use Rattle.recovery.specs.Quiet.{Quiet, LastFailed}
+use Rattle.recovery.specs.Stutters.{Stutters, LastFailed}
 use Rattle.recovery.specs.Settling.{IsKnown, settle_fault, as_plan, Anything, SettlesIt, Settles}
 use Rattle.recovery.proofs.One.{none_made, goes_none}
 use Rattle.planner.specs.Plan.{reply_of, Answered}
@@ -32,13 +32,13 @@ pub goes_on_trans : {a b c : History} → GoesOn a b → GoesOn b c → GoesOn a
 goes_on_trans first then = record {
   ordered = (let near = first.ordered in let far = then.ordered in omega arith);
   faults = (let near = first.faults in let far = then.faults in omega arith);
-  tells = λ tells. then.tells (first.tells tells);
-  kept = λ tells. kept_trans first.ordered (first.kept tells) (then.kept (first.tells tells));
+  observable = λ observable. then.observable (first.observable observable);
+  kept = λ observable. extends_trans first.ordered (first.kept observable) (then.kept (first.observable observable));
 }
 
 -- the account that the history went on from
-pub from_present : {old new : History} → (on : GoesOn old new) → (tells : IsTrue old.tells) → new.tree_at old.called ≡ present old
-from_present {old = old} on tells = (on.kept tells).accounts old.called (omega arith)
+pub from_present : {old new : History} → (on : GoesOn old new) → (observable : IsTrue old.observable) → new.tree_at old.called ≡ present old
+from_present {old = old} on observable = (on.kept observable).accounts old.called (omega arith)
 
 within_amount : {premises : Type 0} (most : Bound) (p q : ℕ) → IsWithin most premises p q → premises → q ≤ p + amount most
 within_amount (always n) p q within met = within
@@ -53,7 +53,7 @@ rose_later before then now near rose = omega arith
 pub record Readied (old middle : History) (was : Known) : Type 0 where
   pub on : GoesOn old middle
   pub by : Met (IsKnown was) old → SettledBy middle was old.called middle.called
-  pub settled : IsTrue old.tells → IsKnown was (present old) → IsSettled (present middle)
+  pub settled : IsTrue old.observable → IsKnown was (present old) → IsSettled (present middle)
 
 -- it was known to be
 at_once : (h : History) → Readied h h known.Settled
@@ -66,27 +66,27 @@ at_once h = record {
     within = omega arith;
     settled = met.has refl;
   };
-  settled = λ tells is. is refl;
+  settled = λ observable is. is refl;
 }
 
 pub readied_at_once : {old middle : History} {was : Known} → was ≡ known.Settled → middle ≡ old → Readied old middle was
 readied_at_once {old = old} is same = subst {A = History × Known} (λ x. Readied old x.0 x.1) (λ i. (sym same i, sym is i)) (at_once old)
 
 -- nothing is given of the account
-met_any : {given : Tree → Type 0} {h : History} → Met given h → Met Anything h
-met_any met = record { tells = met.tells; sound = met.sound; has = tt }
+met_any : {given : SwiftAccount → Type 0} {h : History} → Met given h → Met Anything h
+met_any met = record { observable = met.observable; sound = met.sound; has = tt }
 
 -- no more calls than by which it may be settled
 settles_within : {old middle : History} {result : Result (Unit {0}) SettleFault} → Settles old middle result → Met (IsKnown known.Unsure) old → middle.called ≤ old.called + amount (most_settling (middle.tree_at old.called))
 settles_within {old = old} {middle = middle} settles met =
-    subst (λ tree. middle.called ≤ old.called + amount (most_settling tree)) (sym (from_present settles.asks.grows.on met.tells))
+    subst (λ tree. middle.called ≤ old.called + amount (most_settling tree)) (sym (from_present settles.asks.grows.on met.observable))
     (within_amount (most_settling (present old)) old.called middle.called settles.asks.grows.calls (met_any met))
 
 by_settling : {old middle : History} → Settles old middle (Ok tt) → Readied old middle known.Unsure
 by_settling {old = old} {middle = middle} settles = record {
   on = settles.asks.grows.on;
   by = λ met.
-      let told = settles.asks.told (met_any met) in
+      let told = settles.asks.effect (met_any met) in
       record {
         needs_none = λ is. absurd (let no : known.Unsure ≡ known.Settled = is in cc);
         quiet = told.0;
@@ -94,7 +94,7 @@ by_settling {old = old} {middle = middle} settles = record {
         within = settles_within settles met;
         settled = told.2;
       };
-  settled = λ tells is. settles.done tells refl;
+  settled = λ observable is. settles.done observable refl;
 }
 
 pub readied_by : {old middle middle' : History} {was : Known} → was ≡ known.Unsure → middle' ≡ middle → Settles old middle (Ok tt) → Readied old middle' was
@@ -111,21 +111,21 @@ operated_by {settings = settings} {op = op} {label = label} {old = old} {middle 
     unavailable = λ is. rose_later old.faults middle.faults new.faults readied.on.faults (given.unavailable is);
     unsure = λ is. absurd (let no : known.Settled ≡ known.Unsure = is in cc);
   };
-  told = λ met.
+  effect = λ met.
       let by = readied.by met in
-      let tells = readied.on.tells met.tells in
-      let kept = given.grows.on.kept tells in
+      let observable = readied.on.observable met.observable in
+      let kept = given.grows.on.kept observable in
       let ordered = given.grows.on.ordered in
-      let found : Met IsSettled middle = record { tells = tells; sound = by.quiet.sound middle.called by.quiet.ordered (omega arith); has = by.settled } in
-      let told = given.told found in
+      let found : Met IsSettled middle = record { observable = observable; sound = by.quiet.sound middle.called by.quiet.ordered (omega arith); has = by.settled } in
+      let told = given.effect found in
       let first = readied.on.ordered in
       let faults = (goes_on_trans readied.on given.grows.on).faults in (
-        record { from = old.called; begins = middle.called; turned = told.0; to = new.called; asked = Some (record { op = op; label = label }); takes = told.1 },
+        record { from = old.called; begins = middle.called; committed = told.0; to = new.called; asked = Some (record { op = op; label = label }); takes = told.1 },
         record { from = refl; settles = first; first = told.2.passes.after_p; last = told.2.passes.up_to_q; to = refl; asked = refl; faults = faults },
         answered (settled_by_agree kept first (omega arith) by) told.2
             (subst (λ tree. new.called ≤ middle.called + amount (most_calls op tree)) (sym (kept.accounts middle.called (omega arith))) (within_amount (most_calls op (present middle)) middle.called new.called given.grows.calls found)),
       );
-  known = λ tells is. given.knows (readied.on.tells tells) (readied.settled tells is);
+  known = λ observable is. given.knows (readied.on.observable observable) (readied.settled observable is);
 }
 
 -- ---- over one that could not be settled
@@ -150,7 +150,7 @@ fault_cause Memory before now cause is = cc
 fault_cause Inconsistent before now cause is = cc
 
 fault_keeps : (fault : SettleFault) (h : History) (p q : ℕ) → Keeps h p q SettlesIt (as_plan (Err fault))
-    → Quiet h p q × (((fault_reply fault ≡ answer.Refused ServiceUnavailable) × LastFailed h p q) ⊎ (fault_reply fault ≡ answer.Memory))
+    → Stutters h p q × (((fault_reply fault ≡ answer.Refused ServiceUnavailable) × LastFailed h p q) ⊎ (fault_reply fault ≡ answer.Memory))
 fault_keeps Failed h p q keeps = (keeps.0, inl (refl, keeps.1))
 fault_keeps Memory h p q keeps = (keeps.0, inr refl)
 fault_keeps Inconsistent h p q keeps = absurd keeps
@@ -164,14 +164,14 @@ not_settled {op = op} {label = label} {old = old} {new = new} fault settles = re
     unavailable = λ is. fault_cause fault old.faults new.faults settles.asks.cause is;
     unsure = λ is. inl (refl, fault_known fault);
   };
-  told = λ met.
-      let keeps = fault_keeps fault new old.called new.called (settles.asks.told (met_any met)) in
+  effect = λ met.
+      let keeps = fault_keeps fault new old.called new.called (settles.asks.effect (met_any met)) in
       let ordered = settles.asks.grows.on.ordered in (
-        record { from = old.called; begins = new.called; turned = new.called; to = new.called; asked = Some (record { op = op; label = label }); takes = 0 },
+        record { from = old.called; begins = new.called; committed = new.called; to = new.called; asked = Some (record { op = op; label = label }); takes = 0 },
         record { from = refl; settles = ordered; first = omega arith; last = omega arith; to = refl; asked = refl; faults = settles.asks.grows.on.faults },
         unsettled (record { needs_some = refl; quiet = keeps.0; within = settles_within settles met; says = keeps.1 }) refl refl,
       );
-  known = λ tells had is. absurd (let no : known.Unsure ≡ known.Settled = is in cc);
+  known = λ observable had is. absurd (let no : known.Unsure ≡ known.Settled = is in cc);
 }
 
 pub operated_unsettled : {settings : Settings} {op : Op} {label : Label} {old new : History} {was : Known} {given : Reply} (fault : SettleFault) → was ≡ known.Unsure → given ≡ fault_reply fault → Settles old new (Err fault)

@@ -1,5 +1,5 @@
 -- What follows from the spans of requests alone, whatever is said of their replies: along a connection the numbers and the
--- counts of faults rise, and its turns follow one another.
+-- counts of faults rise, and its spans follow one another.
 use Rattle.std.specs.Prelude.{◌≡◌, ◌≤◌, ℕ, List, [], ◌∷◌, ◌++◌, Option}
 use Rattle.std.proofs.Common.{refl, sym, ap, subst, arith}
 use Rattle.s3_machine.specs.declared.operation.Label.{Label}
@@ -7,106 +7,106 @@ use Rattle.s3_machine.specs.declared.operation.Reply.{Reply}
 use Rattle.gateway.specs.declared.ended.Ended.{Ended}
 use Rattle.gateway.specs.declared.service.Service.{Service}
 use Rattle.gateway.specs.Request.{Request}
-use Rattle.gateway.specs.Exchange.{Mark, Turn, Asked, Spans}
-use Rattle.gateway.specs.Connection.{Tally, Point, Serves, Exchanges, none, more, Breaks, Ends, over, cut, served, unread, unheard, untold, broken, TalkOne}
+use Rattle.gateway.specs.Exchange.{Mark, Span, Asked, IsSpan}
+use Rattle.gateway.specs.Connection.{Progress, ConnectionCursor, Serves, Exchanges, none, more, Breaks, Ends, over, cut, served, unread, unheard, untold, broken, ConnectionTrace}
 use Rattle.gateway.specs.Stands.{Follows}
 
--- ---- lists of turns
+-- ---- lists of spans
 
 pub follows_none : {p q : ℕ} → q ≡ p → Follows p [] q
 unfolding Follows
 follows_none same = sym same
 
 -- one request
-pub spans_follow : {old new : Mark} {turn : Turn} {asks : Option Asked} → Spans old turn new asks → Follows old.number (turn ∷ []) new.number
+pub is_span_follows : {old new : Mark} {span : Span} {asks : Option Asked} → IsSpan old span new asks → Follows old.number (span ∷ []) new.number
 unfolding Follows
-spans_follow spans = (spans.from, spans.settles, spans.first, spans.last, spans.to)
+is_span_follows is_span = (is_span.from, is_span.settles, is_span.first, is_span.last, is_span.to)
 
-pub follows_append : (p m q : ℕ) (before after : List Turn) → Follows p before m → Follows m after q → Follows p (before ++ after) q
+pub follows_append : (p m q : ℕ) (before after : List Span) → Follows p before m → Follows m after q → Follows p (before ++ after) q
 unfolding Follows
 follows_append p m q [] after same then = subst (λ n. Follows n after q) (sym same) then
-follows_append p m q (turn ∷ before) after (begins, settled, turned, ends, first) then = (begins, settled, turned, ends, follows_append turn.to m q before after first then)
+follows_append p m q (span ∷ before) after (begins, settled, committed, ends, first) then = (begins, settled, committed, ends, follows_append span.to m q before after first then)
 
--- the numbers of turns that follow one another rise
-pub follows_order : (p q : ℕ) (turns : List Turn) → Follows p turns q → p ≤ q
+-- the numbers of spans that follow one another rise
+pub follows_order : (p q : ℕ) (spans : List Span) → Follows p spans q → p ≤ q
 unfolding Follows
 follows_order p q [] same = omega arith
-follows_order p q (turn ∷ turns) (begins, settled, turned, ends, then) = let rises = follows_order turn.to q turns then in omega arith
+follows_order p q (span ∷ spans) (begins, settled, committed, ends, then) = let rises = follows_order span.to q spans then in omega arith
 
 -- ---- one connection
 
-module _ {service : Service} {R : Mark → Turn → Mark → Request → Label → Reply → Type 0} {connection : ℕ} where
+module _ {service : Service} {R : Mark → Span → Mark → Request → Label → Reply → Type 0} {connection : ℕ} where
   -- ---- the numbers
 
-  pub serves_order : {end : Option Ended} {old new : Point} {turn : Turn} → Serves service R connection end old turn new → old.tally.mark.number ≤ new.tally.mark.number
-  serves_order serves = let spans = serves.exchange.spans in omega arith
+  pub serves_order : {end : Option Ended} {old new : ConnectionCursor} {span : Span} → Serves service R connection end old span new → old.progress.mark.number ≤ new.progress.mark.number
+  serves_order serves = let is_span = serves.exchange.is_span in omega arith
 
-  pub breaks_order : {old : Point} {turn : Turn} {new : Tally} → Breaks service R connection old turn new → old.tally.mark.number ≤ new.mark.number
-  breaks_order breaks = let spans = breaks.exchange.spans in omega arith
+  pub breaks_order : {old : ConnectionCursor} {span : Span} {new : Progress} → Breaks service R connection old span new → old.progress.mark.number ≤ new.mark.number
+  breaks_order breaks = let is_span = breaks.exchange.is_span in omega arith
 
-  pub exchanges_order : {old new : Point} {turns : List Turn} → Exchanges service R connection old turns new → old.tally.mark.number ≤ new.tally.mark.number
-  exchanges_order (none point) = omega arith
-  exchanges_order (more old middle new turns turn exchanges serves) = let first = exchanges_order exchanges in let last = serves_order serves in omega arith
+  pub exchanges_order : {old new : ConnectionCursor} {spans : List Span} → Exchanges service R connection old spans new → old.progress.mark.number ≤ new.progress.mark.number
+  exchanges_order (none cursor) = omega arith
+  exchanges_order (more old middle new spans span exchanges serves) = let first = exchanges_order exchanges in let last = serves_order serves in omega arith
 
-  pub ends_order : {ended : Ended} {last : Point} {new : Tally} {turns : List Turn} → Ends service R connection ended last new turns → last.tally.mark.number ≤ new.mark.number
+  pub ends_order : {ended : Ended} {last : ConnectionCursor} {new : Progress} {spans : List Span} → Ends service R connection ended last new spans → last.progress.mark.number ≤ new.mark.number
   ends_order (over is front same) = let e = ap (λ t. t.mark.number) same in omega arith
   ends_order (cut is front same) = let e = ap (λ t. t.mark.number) same in omega arith
-  ends_order (served point turn serves same) = let e = ap (λ t. t.mark.number) same in let near = serves_order serves in omega arith
+  ends_order (served cursor span serves same) = let e = ap (λ t. t.mark.number) same in let near = serves_order serves in omega arith
   ends_order (unread is only sends) = let e = ap (λ m. m.number) only.mark in omega arith
   ends_order (unheard is same) = let e = ap (λ t. t.mark.number) same in omega arith
   ends_order (untold is only sends) = let e = ap (λ m. m.number) only.mark in omega arith
-  ends_order (broken turn is breaks) = breaks_order breaks
+  ends_order (broken span is breaks) = breaks_order breaks
 
-  pub talk_one_order : {ended : Ended} {old : Point} {turns : List Turn} {new : Tally} → TalkOne service R connection ended old turns new → old.tally.mark.number ≤ new.mark.number
-  talk_one_order talk = let first = exchanges_order talk.exchanges in let last = ends_order talk.ends in omega arith
+  pub connection_trace_order : {ended : Ended} {old : ConnectionCursor} {spans : List Span} {new : Progress} → ConnectionTrace service R connection ended old spans new → old.progress.mark.number ≤ new.mark.number
+  connection_trace_order trace = let first = exchanges_order trace.exchanges in let last = ends_order trace.ends in omega arith
 
   -- ---- the counts of faults
 
-  pub serves_order_faults : {end : Option Ended} {old new : Point} {turn : Turn} → Serves service R connection end old turn new → old.tally.mark.faults ≤ new.tally.mark.faults
-  serves_order_faults serves = serves.exchange.spans.faults
+  pub serves_order_faults : {end : Option Ended} {old new : ConnectionCursor} {span : Span} → Serves service R connection end old span new → old.progress.mark.faults ≤ new.progress.mark.faults
+  serves_order_faults serves = serves.exchange.is_span.faults
 
-  pub breaks_order_faults : {old : Point} {turn : Turn} {new : Tally} → Breaks service R connection old turn new → old.tally.mark.faults ≤ new.mark.faults
-  breaks_order_faults breaks = breaks.exchange.spans.faults
+  pub breaks_order_faults : {old : ConnectionCursor} {span : Span} {new : Progress} → Breaks service R connection old span new → old.progress.mark.faults ≤ new.mark.faults
+  breaks_order_faults breaks = breaks.exchange.is_span.faults
 
-  pub exchanges_order_faults : {old new : Point} {turns : List Turn} → Exchanges service R connection old turns new → old.tally.mark.faults ≤ new.tally.mark.faults
-  exchanges_order_faults (none point) = omega arith
-  exchanges_order_faults (more old middle new turns turn exchanges serves) = let first = exchanges_order_faults exchanges in let last = serves_order_faults serves in omega arith
+  pub exchanges_order_faults : {old new : ConnectionCursor} {spans : List Span} → Exchanges service R connection old spans new → old.progress.mark.faults ≤ new.progress.mark.faults
+  exchanges_order_faults (none cursor) = omega arith
+  exchanges_order_faults (more old middle new spans span exchanges serves) = let first = exchanges_order_faults exchanges in let last = serves_order_faults serves in omega arith
 
-  pub ends_order_faults : {ended : Ended} {last : Point} {new : Tally} {turns : List Turn} → Ends service R connection ended last new turns → last.tally.mark.faults ≤ new.mark.faults
+  pub ends_order_faults : {ended : Ended} {last : ConnectionCursor} {new : Progress} {spans : List Span} → Ends service R connection ended last new spans → last.progress.mark.faults ≤ new.mark.faults
   ends_order_faults (over is front same) = let e = ap (λ t. t.mark.faults) same in omega arith
   ends_order_faults (cut is front same) = let e = ap (λ t. t.mark.faults) same in omega arith
-  ends_order_faults (served point turn serves same) = let e = ap (λ t. t.mark.faults) same in let near = serves_order_faults serves in omega arith
+  ends_order_faults (served cursor span serves same) = let e = ap (λ t. t.mark.faults) same in let near = serves_order_faults serves in omega arith
   ends_order_faults (unread is only sends) = let e = ap (λ m. m.faults) only.mark in omega arith
   ends_order_faults (unheard is same) = let e = ap (λ t. t.mark.faults) same in omega arith
   ends_order_faults (untold is only sends) = let e = ap (λ m. m.faults) only.mark in omega arith
-  ends_order_faults (broken turn is breaks) = breaks_order_faults breaks
+  ends_order_faults (broken span is breaks) = breaks_order_faults breaks
 
-  pub talk_one_order_faults : {ended : Ended} {old : Point} {turns : List Turn} {new : Tally} → TalkOne service R connection ended old turns new → old.tally.mark.faults ≤ new.mark.faults
-  talk_one_order_faults talk = let first = exchanges_order_faults talk.exchanges in let last = ends_order_faults talk.ends in omega arith
+  pub connection_trace_order_faults : {ended : Ended} {old : ConnectionCursor} {spans : List Span} {new : Progress} → ConnectionTrace service R connection ended old spans new → old.progress.mark.faults ≤ new.mark.faults
+  connection_trace_order_faults trace = let first = exchanges_order_faults trace.exchanges in let last = ends_order_faults trace.ends in omega arith
 
-  -- ---- the turns
+  -- ---- the spans
 
-  pub serves_follow : {end : Option Ended} {old new : Point} {turn : Turn} → Serves service R connection end old turn new → Follows old.tally.mark.number (turn ∷ []) new.tally.mark.number
-  serves_follow serves = spans_follow serves.exchange.spans
+  pub serves_follow : {end : Option Ended} {old new : ConnectionCursor} {span : Span} → Serves service R connection end old span new → Follows old.progress.mark.number (span ∷ []) new.progress.mark.number
+  serves_follow serves = is_span_follows serves.exchange.is_span
 
-  pub breaks_follow : {old : Point} {turn : Turn} {new : Tally} → Breaks service R connection old turn new → Follows old.tally.mark.number (turn ∷ []) new.mark.number
-  breaks_follow breaks = spans_follow breaks.exchange.spans
+  pub breaks_follow : {old : ConnectionCursor} {span : Span} {new : Progress} → Breaks service R connection old span new → Follows old.progress.mark.number (span ∷ []) new.mark.number
+  breaks_follow breaks = is_span_follows breaks.exchange.is_span
 
-  pub exchanges_follow : {old new : Point} {turns : List Turn} → Exchanges service R connection old turns new → Follows old.tally.mark.number turns new.tally.mark.number
-  exchanges_follow (none point) = follows_none refl
-  exchanges_follow (more old middle new turns turn exchanges serves) =
-      follows_append old.tally.mark.number middle.tally.mark.number new.tally.mark.number turns (turn ∷ []) (exchanges_follow exchanges) (serves_follow serves)
+  pub exchanges_follow : {old new : ConnectionCursor} {spans : List Span} → Exchanges service R connection old spans new → Follows old.progress.mark.number spans new.progress.mark.number
+  exchanges_follow (none cursor) = follows_none refl
+  exchanges_follow (more old middle new spans span exchanges serves) =
+      follows_append old.progress.mark.number middle.progress.mark.number new.progress.mark.number spans (span ∷ []) (exchanges_follow exchanges) (serves_follow serves)
 
-  pub ends_follow : {ended : Ended} {last : Point} {new : Tally} {turns : List Turn} → Ends service R connection ended last new turns → Follows last.tally.mark.number turns new.mark.number
+  pub ends_follow : {ended : Ended} {last : ConnectionCursor} {new : Progress} {spans : List Span} → Ends service R connection ended last new spans → Follows last.progress.mark.number spans new.mark.number
   ends_follow (over is front same) = follows_none (ap (λ t. t.mark.number) same)
   ends_follow (cut is front same) = follows_none (ap (λ t. t.mark.number) same)
-  ends_follow {last = last} (served point turn serves same) = subst (λ t. Follows last.tally.mark.number (turn ∷ []) t.mark.number) (sym same) (serves_follow serves)
+  ends_follow {last = last} (served cursor span serves same) = subst (λ t. Follows last.progress.mark.number (span ∷ []) t.mark.number) (sym same) (serves_follow serves)
   ends_follow (unread is only sends) = follows_none (ap (λ m. m.number) only.mark)
   ends_follow (unheard is same) = follows_none (ap (λ t. t.mark.number) same)
   ends_follow (untold is only sends) = follows_none (ap (λ m. m.number) only.mark)
-  ends_follow (broken turn is breaks) = breaks_follow breaks
+  ends_follow (broken span is breaks) = breaks_follow breaks
 
-  pub talk_one_follow : {ended : Ended} {old : Point} {turns : List Turn} {new : Tally} → TalkOne service R connection ended old turns new → Follows old.tally.mark.number turns new.mark.number
-  talk_one_follow {old = old} {new = new} talk =
-      subst (λ turns. Follows old.tally.mark.number turns new.mark.number) (sym talk.all)
-      (follows_append old.tally.mark.number talk.last.tally.mark.number new.mark.number talk.before talk.after (exchanges_follow talk.exchanges) (ends_follow talk.ends))
+  pub connection_trace_follow : {ended : Ended} {old : ConnectionCursor} {spans : List Span} {new : Progress} → ConnectionTrace service R connection ended old spans new → Follows old.progress.mark.number spans new.mark.number
+  connection_trace_follow {old = old} {new = new} trace =
+      subst (λ spans. Follows old.progress.mark.number spans new.mark.number) (sym trace.all)
+      (follows_append old.progress.mark.number trace.last.progress.mark.number new.mark.number trace.before trace.after (exchanges_follow trace.exchanges) (ends_follow trace.ends))

@@ -1,5 +1,5 @@
--- What the account goes through in the requests of a connection, over a store that tells: the steps of each, and it is left
--- sound, and as it is known to be.
+-- What the account goes through in the requests of a connection, over an observable store: the steps of each, and it is left
+-- consistent, and as it is known to be.
 use Rattle.std.specs.Prelude.{◌≡◌, ◌≤◌, ℕ, ◌+◌, List, [], ◌∷◌, ◌++◌, Option, None, Some}
 use Rattle.std.proofs.Common.{sym, ap, subst, ◌∙◌, inl, inr, arith}
 use Rattle.std.proofs.lemmas.Bool.{cases_lt}
@@ -7,179 +7,179 @@ use Rattle.s3_machine.specs.declared.operation.Label.{Label}
 use Rattle.s3_machine.specs.declared.operation.Op.{Op}
 use Rattle.s3_machine.specs.declared.operation.Reply.{Reply}
 use Rattle.s3_machine.specs.declared.operation.Settings.{Settings}
-use Rattle.swift_calls.specs.History.{History, Kept, kept_before}
-use Rattle.upload_records.specs.Native.{native}
-use Rattle.upload_records.specs.Sound.{Sound}
+use Rattle.swift_calls.specs.History.{History, Extends, extends_before}
+use Rattle.upload_records.specs.Native.{s3_state}
+use Rattle.upload_records.specs.Consistent.{IsConsistent}
 use Rattle.recovery.specs.Answers.{Passes, most_calls, most_settling}
 use Rattle.recovery.specs.Calls.{amount}
-use Rattle.recovery.specs.Quiet.{Quiet}
+use Rattle.recovery.specs.Stutters.{Stutters}
 use Rattle.recovery.proofs.Agree.{quiet_agree, passes_agree, passes_still}
 use Rattle.gateway.specs.declared.ended.Ended.{Ended}
 use Rattle.gateway.specs.declared.service.Service.{Service}
 use Rattle.gateway.specs.Request.{Request}
-use Rattle.gateway.specs.Exchange.{Mark, Turn, Asked, asked_by, Spans, IsKnownOf, Performs, unsettled, answered, Replies, refused, performed}
-use Rattle.gateway.specs.Connection.{Tally, Point, Serves, Exchanges, none, more, Breaks, Ends, over, cut, served, unread, unheard, untold, broken, TalkOne}
-use Rattle.gateway.specs.Stands.{Follows, OpPasses, NonePasses, TurnPasses, AllPass}
-use Rattle.gateway.proofs.Order.{follows_order, exchanges_follow, talk_one_follow}
+use Rattle.gateway.specs.Exchange.{Mark, Span, Asked, asked_by, IsSpan, IsKnownOf, Performs, unsettled, answered, Replies, refused, performed}
+use Rattle.gateway.specs.Connection.{Progress, ConnectionCursor, Serves, Exchanges, none, more, Breaks, Ends, over, cut, served, unread, unheard, untold, broken, ConnectionTrace}
+use Rattle.gateway.specs.Stands.{Follows, OpPasses, NonePasses, SpanPasses, AllPass}
+use Rattle.gateway.proofs.Order.{follows_order, exchanges_follow, connection_trace_follow}
 
 -- ---- one request
 
 -- at one number nothing is done
-quiet_none : {h : History} {p q : ℕ} → p ≡ q → Sound (h.tree_at p) → Quiet h p q
+quiet_none : {h : History} {p q : ℕ} → p ≡ q → IsConsistent (h.tree_at p) → Stutters h p q
 quiet_none {h = h} {p = p} one sound = record {
   ordered = omega arith;
-  same = λ k from to. let e : k ≡ p = omega arith in ap (λ n. native (h.tree_at n)) e;
-  sound = λ k from to. let e : p ≡ k = omega arith in subst (λ n. Sound (h.tree_at n)) e sound;
+  same = λ k from to. let e : k ≡ p = omega arith in ap (λ n. s3_state (h.tree_at n)) e;
+  sound = λ k from to. let e : p ≡ k = omega arith in subst (λ n. IsConsistent (h.tree_at n)) e sound;
 }
 
 -- an operation: the store could not be settled, and nothing was done from there on; or the operation was answered
-pub performs_pass : {settings : Settings} {h : History} {old new : Mark} {turn : Turn} {asks : Option Asked} {op : Op} {label : Label} {reply : Reply} → Spans old turn new asks
-    → Performs settings h old turn new op label reply → OpPasses settings h turn (record { op = op; label = label })
-performs_pass {settings = settings} {h = h} {old = old} {new = new} {turn = turn} {op = op} {label = label} spans (unsettled not begins takes) =
+pub performs_pass : {settings : Settings} {h : History} {old new : Mark} {span : Span} {asks : Option Asked} {op : Op} {label : Label} {reply : Reply} → IsSpan old span new asks
+    → Performs settings h old span new op label reply → OpPasses settings h span (record { op = op; label = label })
+performs_pass {settings = settings} {h = h} {old = old} {new = new} {span = span} {op = op} {label = label} is_span (unsettled not begins takes) =
     let order : old.number ≤ new.number = omega arith in
     let within = not.within in
-    let at : new.number ≡ turn.begins = omega arith in
-    let whole : turn.begins ≡ turn.to = omega arith in
-    let turned : turn.begins ≡ turn.turned = omega arith in
-    let still : Quiet h turn.begins turn.to = quiet_none whole (subst (λ n. Sound (h.tree_at n)) at (not.quiet.sound new.number order (omega arith))) in
+    let at : new.number ≡ span.begins = omega arith in
+    let whole : span.begins ≡ span.to = omega arith in
+    let committed : span.begins ≡ span.committed = omega arith in
+    let still : Stutters h span.begins span.to = quiet_none whole (subst (λ n. IsConsistent (h.tree_at n)) at (not.quiet.sound new.number order (omega arith))) in
     record {
-      settles = subst {A = ℕ × ℕ} (λ n. Quiet h n.0 n.1) (λ i. (sym spans.from i, at i)) not.quiet;
-      passes = subst {A = ℕ × ℕ} (λ n. Passes settings h turn.begins n.0 turn.to op label n.1) (λ i. (turned i, sym takes i)) (passes_still still);
-      settling = subst (λ n. turn.begins ≤ n + amount (most_settling (h.tree_at n))) (sym spans.from) (omega arith);
+      settles = subst {A = ℕ × ℕ} (λ n. Stutters h n.0 n.1) (λ i. (sym is_span.from i, at i)) not.quiet;
+      passes = subst {A = ℕ × ℕ} (λ n. Passes settings h span.begins n.0 span.to op label n.1) (λ i. (committed i, sym takes i)) (passes_still still);
+      settling = subst (λ n. span.begins ≤ n + amount (most_settling (h.tree_at n))) (sym is_span.from) (omega arith);
       calls = omega arith;
     }
-performs_pass {settings = settings} {h = h} {turn = turn} {op = op} {label = label} spans (answered settled answers bound) = record {
-  settles = subst (λ n. Quiet h n turn.begins) (sym spans.from) settled.quiet;
-  passes = subst (λ n. Passes settings h turn.begins turn.turned n op label turn.takes) (sym spans.to) answers.passes;
-  settling = subst (λ n. turn.begins ≤ n + amount (most_settling (h.tree_at n))) (sym spans.from) settled.within;
-  calls = subst (λ n. n ≤ turn.begins + amount (most_calls op (h.tree_at turn.begins))) (sym spans.to) bound;
+performs_pass {settings = settings} {h = h} {span = span} {op = op} {label = label} is_span (answered settled answers bound) = record {
+  settles = subst (λ n. Stutters h n span.begins) (sym is_span.from) settled.quiet;
+  passes = subst (λ n. Passes settings h span.begins span.committed n op label span.takes) (sym is_span.to) answers.passes;
+  settling = subst (λ n. span.begins ≤ n + amount (most_settling (h.tree_at n))) (sym is_span.from) settled.within;
+  calls = subst (λ n. n ≤ span.begins + amount (most_calls op (h.tree_at span.begins))) (sym is_span.to) bound;
 }
 
-pub replies_pass : {settings : Settings} {h : History} {old new : Mark} {turn : Turn} {request : Request} {label : Label} {reply : Reply} → Spans old turn new (asked_by request.means label)
-    → Replies settings h old turn new request label reply → TurnPasses settings h turn turn.asked
-replies_pass {settings = settings} {h = h} {old = old} {new = new} {turn = turn} {label = label} spans (refused code means is proper sound same takes) =
+pub replies_pass : {settings : Settings} {h : History} {old new : Mark} {span : Span} {request : Request} {label : Label} {reply : Reply} → IsSpan old span new (asked_by request.means label)
+    → Replies settings h old span new request label reply → SpanPasses settings h span span.asked
+replies_pass {settings = settings} {h = h} {old = old} {new = new} {span = span} {label = label} is_span (refused code means is proper sound same takes) =
     let number : new.number ≡ old.number = ap (λ m. m.number) same in
-    let passes : NonePasses h turn = record { none = omega arith; takes = takes; sound = subst (λ n. Sound (h.tree_at n)) (sym spans.from) sound } in
-    subst (TurnPasses settings h turn) (sym (spans.asked ∙ ap (λ m. asked_by m label) means)) passes
-replies_pass {settings = settings} {h = h} {turn = turn} {label = label} spans (performed op means performs caused known) =
-    subst (TurnPasses settings h turn) (sym (spans.asked ∙ ap (λ m. asked_by m label) means)) (performs_pass spans performs)
+    let passes : NonePasses h span = record { none = omega arith; takes = takes; sound = subst (λ n. IsConsistent (h.tree_at n)) (sym is_span.from) sound } in
+    subst (SpanPasses settings h span) (sym (is_span.asked ∙ ap (λ m. asked_by m label) means)) passes
+replies_pass {settings = settings} {h = h} {span = span} {label = label} is_span (performed op means performs caused known) =
+    subst (SpanPasses settings h span) (sym (is_span.asked ∙ ap (λ m. asked_by m label) means)) (performs_pass is_span performs)
 
--- the account is sound at each of its numbers
-pub turn_sound : (settings : Settings) (h : History) (turn : Turn) (asked : Option Asked) (k : ℕ) → turn.from ≤ k → k ≤ turn.to → TurnPasses settings h turn asked → Sound (h.tree_at k)
-turn_sound settings h turn None k from to passes = let one = passes.none in let e : turn.from ≡ k = omega arith in subst (λ n. Sound (h.tree_at n)) e passes.sound
-turn_sound settings h turn (Some asked) k from to passes = elim (cases_lt k turn.begins) as (λ _. Sound (h.tree_at k)) [
+-- the account is consistent at each of its numbers
+pub span_sound : (settings : Settings) (h : History) (span : Span) (asked : Option Asked) (k : ℕ) → span.from ≤ k → k ≤ span.to → SpanPasses settings h span asked → IsConsistent (h.tree_at k)
+span_sound settings h span None k from to passes = let one = passes.none in let e : span.from ≡ k = omega arith in subst (λ n. IsConsistent (h.tree_at n)) e passes.sound
+span_sound settings h span (Some asked) k from to passes = elim (cases_lt k span.begins) as (λ _. IsConsistent (h.tree_at k)) [
   | inl near ↦ passes.settles.sound k from (omega arith)
   | inr far ↦ passes.passes.sound k far to
 ]
 
 -- what is known of the account after it is so
-pub replies_known : {settings : Settings} {h : History} {old new : Mark} {turn : Turn} {request : Request} {label : Label} {reply : Reply} → IsKnownOf h old
-    → Replies settings h old turn new request label reply → IsKnownOf h new
+pub replies_known : {settings : Settings} {h : History} {old new : Mark} {span : Span} {request : Request} {label : Label} {reply : Reply} → IsKnownOf h old
+    → Replies settings h old span new request label reply → IsKnownOf h new
 replies_known {h = h} known (refused code means is proper sound same takes) = subst (IsKnownOf h) (sym same) known
 replies_known known (performed op means performs caused known') = known'
 
--- ---- lists of turns
+-- ---- lists of spans
 
 pub all_pass_none : (settings : Settings) (h : History) → AllPass settings h []
 unfolding AllPass
 all_pass_none settings h = tt
 
-pub all_pass_one : (settings : Settings) (h : History) (turn : Turn) → TurnPasses settings h turn turn.asked → AllPass settings h (turn ∷ [])
+pub all_pass_one : (settings : Settings) (h : History) (span : Span) → SpanPasses settings h span span.asked → AllPass settings h (span ∷ [])
 unfolding AllPass
-all_pass_one settings h turn passes = (passes, tt)
+all_pass_one settings h span passes = (passes, tt)
 
-pub all_pass_append : (settings : Settings) (h : History) (before after : List Turn) → AllPass settings h before → AllPass settings h after → AllPass settings h (before ++ after)
+pub all_pass_append : (settings : Settings) (h : History) (before after : List Span) → AllPass settings h before → AllPass settings h after → AllPass settings h (before ++ after)
 unfolding AllPass
 all_pass_append settings h [] after first then = then
-all_pass_append settings h (turn ∷ before) after (passes, first) then = (passes, all_pass_append settings h before after first then)
+all_pass_append settings h (span ∷ before) after (passes, first) then = (passes, all_pass_append settings h before after first then)
 
--- after requests that follow one another the account is sound
-pub all_pass_sound : (settings : Settings) (h : History) (p q : ℕ) (turns : List Turn) → Sound (h.tree_at p) → Follows p turns q → AllPass settings h turns → Sound (h.tree_at q)
+-- after requests that follow one another the account is consistent
+pub all_pass_sound : (settings : Settings) (h : History) (p q : ℕ) (spans : List Span) → IsConsistent (h.tree_at p) → Follows p spans q → AllPass settings h spans → IsConsistent (h.tree_at q)
 unfolding Follows AllPass
-all_pass_sound settings h p q [] sound same passes = subst (λ n. Sound (h.tree_at n)) same sound
-all_pass_sound settings h p q (turn ∷ turns) sound (begins, settled, turned, ends, then) (passes, rest) =
-    all_pass_sound settings h turn.to q turns (turn_sound settings h turn turn.asked turn.to (omega arith) (omega arith) passes) then rest
+all_pass_sound settings h p q [] sound same passes = subst (λ n. IsConsistent (h.tree_at n)) same sound
+all_pass_sound settings h p q (span ∷ spans) sound (begins, settled, committed, ends, then) (passes, rest) =
+    all_pass_sound settings h span.to q spans (span_sound settings h span span.asked span.to (omega arith) (omega arith) passes) then rest
 
 -- ---- one connection
 
 module _ {service : Service} {h : History} {connection : ℕ} where
-  pub serves_pass : {end : Option Ended} {old new : Point} {turn : Turn} → Serves service (Replies service.settings h) connection end old turn new → TurnPasses service.settings h turn turn.asked
-  serves_pass serves = replies_pass serves.exchange.spans serves.exchange.replies
+  pub serves_pass : {end : Option Ended} {old new : ConnectionCursor} {span : Span} → Serves service (Replies service.settings h) connection end old span new → SpanPasses service.settings h span span.asked
+  serves_pass serves = replies_pass serves.exchange.is_span serves.exchange.replies
 
-  pub breaks_pass : {old : Point} {turn : Turn} {new : Tally} → Breaks service (Replies service.settings h) connection old turn new → TurnPasses service.settings h turn turn.asked
-  breaks_pass breaks = replies_pass breaks.exchange.spans breaks.exchange.replies
+  pub breaks_pass : {old : ConnectionCursor} {span : Span} {new : Progress} → Breaks service (Replies service.settings h) connection old span new → SpanPasses service.settings h span span.asked
+  breaks_pass breaks = replies_pass breaks.exchange.is_span breaks.exchange.replies
 
-  pub exchanges_pass : {old new : Point} {turns : List Turn} → Exchanges service (Replies service.settings h) connection old turns new → AllPass service.settings h turns
-  exchanges_pass (none point) = all_pass_none service.settings h
-  exchanges_pass (more old middle new turns turn exchanges serves) =
-      all_pass_append service.settings h turns (turn ∷ []) (exchanges_pass exchanges) (all_pass_one service.settings h turn (serves_pass serves))
+  pub exchanges_pass : {old new : ConnectionCursor} {spans : List Span} → Exchanges service (Replies service.settings h) connection old spans new → AllPass service.settings h spans
+  exchanges_pass (none cursor) = all_pass_none service.settings h
+  exchanges_pass (more old middle new spans span exchanges serves) =
+      all_pass_append service.settings h spans (span ∷ []) (exchanges_pass exchanges) (all_pass_one service.settings h span (serves_pass serves))
 
-  pub ends_pass : {ended : Ended} {last : Point} {new : Tally} {turns : List Turn} → Ends service (Replies service.settings h) connection ended last new turns → AllPass service.settings h turns
+  pub ends_pass : {ended : Ended} {last : ConnectionCursor} {new : Progress} {spans : List Span} → Ends service (Replies service.settings h) connection ended last new spans → AllPass service.settings h spans
   ends_pass (over is front same) = all_pass_none service.settings h
   ends_pass (cut is front same) = all_pass_none service.settings h
-  ends_pass (served point turn serves same) = all_pass_one service.settings h turn (serves_pass serves)
+  ends_pass (served cursor span serves same) = all_pass_one service.settings h span (serves_pass serves)
   ends_pass (unread is only sends) = all_pass_none service.settings h
   ends_pass (unheard is same) = all_pass_none service.settings h
   ends_pass (untold is only sends) = all_pass_none service.settings h
-  ends_pass (broken turn is breaks) = all_pass_one service.settings h turn (breaks_pass breaks)
+  ends_pass (broken span is breaks) = all_pass_one service.settings h span (breaks_pass breaks)
 
-  pub talk_one_pass : {ended : Ended} {old : Point} {turns : List Turn} {new : Tally} → TalkOne service (Replies service.settings h) connection ended old turns new → AllPass service.settings h turns
-  talk_one_pass talk =
-      subst (AllPass service.settings h) (sym talk.all) (all_pass_append service.settings h talk.before talk.after (exchanges_pass talk.exchanges) (ends_pass talk.ends))
+  pub connection_trace_pass : {ended : Ended} {old : ConnectionCursor} {spans : List Span} {new : Progress} → ConnectionTrace service (Replies service.settings h) connection ended old spans new → AllPass service.settings h spans
+  connection_trace_pass trace =
+      subst (AllPass service.settings h) (sym trace.all) (all_pass_append service.settings h trace.before trace.after (exchanges_pass trace.exchanges) (ends_pass trace.ends))
 
-  -- ---- the account is left sound
+  -- ---- the account is left consistent
 
-  pub exchanges_sound : {old new : Point} {turns : List Turn} → Sound (h.tree_at old.tally.mark.number) → Exchanges service (Replies service.settings h) connection old turns new
-      → Sound (h.tree_at new.tally.mark.number)
-  exchanges_sound {old = old} {new = new} {turns = turns} sound exchanges =
-      all_pass_sound service.settings h old.tally.mark.number new.tally.mark.number turns sound (exchanges_follow exchanges) (exchanges_pass exchanges)
+  pub exchanges_sound : {old new : ConnectionCursor} {spans : List Span} → IsConsistent (h.tree_at old.progress.mark.number) → Exchanges service (Replies service.settings h) connection old spans new
+      → IsConsistent (h.tree_at new.progress.mark.number)
+  exchanges_sound {old = old} {new = new} {spans = spans} sound exchanges =
+      all_pass_sound service.settings h old.progress.mark.number new.progress.mark.number spans sound (exchanges_follow exchanges) (exchanges_pass exchanges)
 
-  pub talk_one_sound : {ended : Ended} {old : Point} {turns : List Turn} {new : Tally} → Sound (h.tree_at old.tally.mark.number)
-      → TalkOne service (Replies service.settings h) connection ended old turns new → Sound (h.tree_at new.mark.number)
-  talk_one_sound {old = old} {turns = turns} {new = new} sound talk =
-      all_pass_sound service.settings h old.tally.mark.number new.mark.number turns sound (talk_one_follow talk) (talk_one_pass talk)
+  pub connection_trace_sound : {ended : Ended} {old : ConnectionCursor} {spans : List Span} {new : Progress} → IsConsistent (h.tree_at old.progress.mark.number)
+      → ConnectionTrace service (Replies service.settings h) connection ended old spans new → IsConsistent (h.tree_at new.mark.number)
+  connection_trace_sound {old = old} {spans = spans} {new = new} sound trace =
+      all_pass_sound service.settings h old.progress.mark.number new.mark.number spans sound (connection_trace_follow trace) (connection_trace_pass trace)
 
   -- ---- and as it is known to be
 
-  pub serves_known : {end : Option Ended} {old new : Point} {turn : Turn} → IsKnownOf h old.tally.mark → Serves service (Replies service.settings h) connection end old turn new → IsKnownOf h new.tally.mark
+  pub serves_known : {end : Option Ended} {old new : ConnectionCursor} {span : Span} → IsKnownOf h old.progress.mark → Serves service (Replies service.settings h) connection end old span new → IsKnownOf h new.progress.mark
   serves_known known serves = replies_known known serves.exchange.replies
 
-  pub breaks_known : {old : Point} {turn : Turn} {new : Tally} → IsKnownOf h old.tally.mark → Breaks service (Replies service.settings h) connection old turn new → IsKnownOf h new.mark
+  pub breaks_known : {old : ConnectionCursor} {span : Span} {new : Progress} → IsKnownOf h old.progress.mark → Breaks service (Replies service.settings h) connection old span new → IsKnownOf h new.mark
   breaks_known known breaks = replies_known known breaks.exchange.replies
 
-  pub exchanges_known : {old new : Point} {turns : List Turn} → IsKnownOf h old.tally.mark → Exchanges service (Replies service.settings h) connection old turns new → IsKnownOf h new.tally.mark
-  exchanges_known known (none point) = known
-  exchanges_known known (more old middle new turns turn exchanges serves) = serves_known (exchanges_known known exchanges) serves
+  pub exchanges_known : {old new : ConnectionCursor} {spans : List Span} → IsKnownOf h old.progress.mark → Exchanges service (Replies service.settings h) connection old spans new → IsKnownOf h new.progress.mark
+  exchanges_known known (none cursor) = known
+  exchanges_known known (more old middle new spans span exchanges serves) = serves_known (exchanges_known known exchanges) serves
 
-  pub ends_known : {ended : Ended} {last : Point} {new : Tally} {turns : List Turn} → IsKnownOf h last.tally.mark → Ends service (Replies service.settings h) connection ended last new turns → IsKnownOf h new.mark
+  pub ends_known : {ended : Ended} {last : ConnectionCursor} {new : Progress} {spans : List Span} → IsKnownOf h last.progress.mark → Ends service (Replies service.settings h) connection ended last new spans → IsKnownOf h new.mark
   ends_known known (over is front same) = subst (λ t. IsKnownOf h t.mark) (sym same) known
   ends_known known (cut is front same) = subst (λ t. IsKnownOf h t.mark) (sym same) known
-  ends_known known (served point turn serves same) = subst (λ t. IsKnownOf h t.mark) (sym same) (serves_known known serves)
+  ends_known known (served cursor span serves same) = subst (λ t. IsKnownOf h t.mark) (sym same) (serves_known known serves)
   ends_known known (unread is only sends) = subst (IsKnownOf h) (sym only.mark) known
   ends_known known (unheard is same) = subst (λ t. IsKnownOf h t.mark) (sym same) known
   ends_known known (untold is only sends) = subst (IsKnownOf h) (sym only.mark) known
-  ends_known known (broken turn is breaks) = breaks_known known breaks
+  ends_known known (broken span is breaks) = breaks_known known breaks
 
-  pub talk_one_known : {ended : Ended} {old : Point} {turns : List Turn} {new : Tally} → IsKnownOf h old.tally.mark
-      → TalkOne service (Replies service.settings h) connection ended old turns new → IsKnownOf h new.mark
-  talk_one_known known talk = ends_known (exchanges_known known talk.exchanges) talk.ends
+  pub connection_trace_known : {ended : Ended} {old : ConnectionCursor} {spans : List Span} {new : Progress} → IsKnownOf h old.progress.mark
+      → ConnectionTrace service (Replies service.settings h) connection ended old spans new → IsKnownOf h new.mark
+  connection_trace_known known trace = ends_known (exchanges_known known trace.exchanges) trace.ends
 
 -- ---- later histories
 
-module _ (settings : Settings) {h h' : History} {c : ℕ} (kept : Kept c h h') where
-  turn_passes_agree : (turn : Turn) (asked : Option Asked) → turn.from ≤ turn.begins → turn.begins ≤ turn.to → turn.to ≤ c → TurnPasses settings h turn asked → TurnPasses settings h' turn asked
-  turn_passes_agree turn None settles order near passes =
-      record { none = passes.none; takes = passes.takes; sound = subst Sound (sym (kept.accounts turn.from (omega arith))) passes.sound }
-  turn_passes_agree turn (Some asked) settles order near passes = record {
-    settles = quiet_agree (kept_before (omega arith) kept) passes.settles;
-    passes = passes_agree (kept_before near kept) passes.passes;
-    settling = subst (λ tree. turn.begins ≤ turn.from + amount (most_settling tree)) (sym (kept.accounts turn.from (omega arith))) passes.settling;
-    calls = subst (λ tree. turn.to ≤ turn.begins + amount (most_calls asked.op tree)) (sym (kept.accounts turn.begins (omega arith))) passes.calls;
+module _ (settings : Settings) {h h' : History} {c : ℕ} (kept : Extends c h h') where
+  span_passes_agree : (span : Span) (asked : Option Asked) → span.from ≤ span.begins → span.begins ≤ span.to → span.to ≤ c → SpanPasses settings h span asked → SpanPasses settings h' span asked
+  span_passes_agree span None settles order near passes =
+      record { none = passes.none; takes = passes.takes; sound = subst IsConsistent (sym (kept.accounts span.from (omega arith))) passes.sound }
+  span_passes_agree span (Some asked) settles order near passes = record {
+    settles = quiet_agree (extends_before (omega arith) kept) passes.settles;
+    passes = passes_agree (extends_before near kept) passes.passes;
+    settling = subst (λ tree. span.begins ≤ span.from + amount (most_settling tree)) (sym (kept.accounts span.from (omega arith))) passes.settling;
+    calls = subst (λ tree. span.to ≤ span.begins + amount (most_calls asked.op tree)) (sym (kept.accounts span.begins (omega arith))) passes.calls;
   }
 
-  pub all_pass_agree : (p q : ℕ) (turns : List Turn) → q ≤ c → Follows p turns q → AllPass settings h turns → AllPass settings h' turns
+  pub all_pass_agree : (p q : ℕ) (spans : List Span) → q ≤ c → Follows p spans q → AllPass settings h spans → AllPass settings h' spans
   unfolding Follows AllPass
   all_pass_agree p q [] near follows passes = tt
-  all_pass_agree p q (turn ∷ turns) near (begins, settled, turned, ends, then) (passes, rest) =
-      let later : turn.to ≤ q = follows_order turn.to q turns then in
-      (turn_passes_agree turn turn.asked settled (omega arith) (omega arith) passes, all_pass_agree turn.to q turns near then rest)
+  all_pass_agree p q (span ∷ spans) near (begins, settled, committed, ends, then) (passes, rest) =
+      let later : span.to ≤ q = follows_order span.to q spans then in
+      (span_passes_agree span span.asked settled (omega arith) (omega arith) passes, all_pass_agree span.to q spans near then rest)

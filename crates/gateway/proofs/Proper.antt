@@ -19,7 +19,7 @@ use Rattle.gateway.specs.declared.rows.Level.TheVariants.{Service, Bucket, Key}
 use Rattle.gateway.specs.declared.rows.Row.{Row}
 use Rattle.gateway.specs.declared.rows.Row.TheVariants.{CreateBucket, PutObject, GetObject, HeadObject, DeleteObject}
 use Rattle.gateway.specs.Rows.{rows, shape_of, level_of, is_same_level, is_same_set, fits}
-use Rattle.gateway.specs.Heard.{IsProperMeant}
+use Rattle.gateway.specs.ResolvedRequest.{IsProperMeant}
 use Rattle.gateway.specs.Proper.{IsProperCode}
 use Rattle.gateway.specs.Meaning.{Reason, first_refusal, target_reasons, reasons, row_of, judged, op_of, meaning_of}
 

@@ -19,56 +19,56 @@ use Rattle.recovery.proofs.Agree.{passes_still}
 use Rattle.recovery.proofs.One.{none_made}
 use Rattle.gateway.specs.declared.meant.Meant.{Meant}
 use Rattle.gateway.specs.declared.meant.Meant.TheVariants as meant
-use Rattle.gateway.specs.Heard.{IsProperMeant, Understands}
+use Rattle.gateway.specs.ResolvedRequest.{IsProperMeant, Understands}
 use Rattle.gateway.specs.Proper.{IsProperCode}
 use Rattle.gateway.specs.Request.{Request}
 use Rattle.gateway.specs.Connection.{sent_by}
-use Rattle.gateway.specs.Exchange.{Asked, asked_by, mark, Turn, Spans, Performs, unsettled, answered, refused, performed, refused_any, performed_any, RepliesBy, RepliesDue, Where, IsCaused, Operated}
-use Rattle.gateway.specs.Stands.{TurnPasses, Stands}
-use Rattle.gateway.proofs.Order.{follows_none, spans_follow}
+use Rattle.gateway.specs.Exchange.{Asked, asked_by, mark, Span, IsSpan, Performs, unsettled, answered, refused, performed, refused_any, performed_any, RepliesBy, RepliesExpected, Where, IsCaused, Operated}
+use Rattle.gateway.specs.Stands.{SpanPasses, Stands}
+use Rattle.gateway.proofs.Order.{follows_none, is_span_follows}
 use Rattle.gateway.proofs.Passing.{performs_pass, all_pass_none, all_pass_one}
 
 -- ---- the account
 
--- a turn in which the calls are made between two numbers
-abbrev pub turn_between : ℕ → ℕ → Option Asked → Turn
-turn_between p q asked = record { from = p; begins = p; turned = p; to = q; asked = asked; takes = 0 }
+-- a span in which the calls are made between two numbers
+abbrev pub span_between : ℕ → ℕ → Option Asked → Span
+span_between p q asked = record { from = p; begins = p; committed = p; to = q; asked = asked; takes = 0 }
 
 -- the account goes through the steps of an operation
 pub operated_stands : {settings : Settings} {op : Op} {label : Label} {old new : History} {was now : Known} {reply : Reply} → Operated settings op label old new was now reply → Stands settings was now old new
 operated_stands {settings = settings} {new = new} operated met =
-    let told = operated.told met in
-    let turn = told.0 in
-    let spans = told.1 in
+    let told = operated.effect met in
+    let span = told.0 in
+    let is_span = told.1 in
     record {
-      turns = turn ∷ [];
-      follows = spans_follow spans;
-      passes = all_pass_one settings new turn (subst (TurnPasses settings new turn) (sym spans.asked) (performs_pass spans told.2));
-      known = operated.known met.tells met.has;
+      spans = span ∷ [];
+      follows = is_span_follows is_span;
+      passes = all_pass_one settings new span (subst (SpanPasses settings new span) (sym is_span.asked) (performs_pass is_span told.2));
+      known = operated.known met.observable met.has;
     }
 
 -- no call was made
 pub stands_still : (settings : Settings) (was : Known) (h : History) → Stands settings was was h h
-stands_still settings was h met = record { turns = []; follows = follows_none refl; passes = all_pass_none settings h; known = met.has }
+stands_still settings was h met = record { spans = []; follows = follows_none refl; passes = all_pass_none settings h; known = met.has }
 
--- ---- a reply that is due
+-- ---- a reply that is expected
 
 module _ (settings : Settings) (old new : History) (was now : Known) (request : Request) (label : Label) where
   due_op : (all : Bool) {op : Op} {given : Reply} → request.means ≡ meant.Op op → Operated settings op (sent_by request.caller label) old new was now given → Where all (Met (IsKnown was) old)
-      → RepliesDue (RepliesBy all settings new) (mark old was) (mark new now) request (sent_by request.caller label) given
+      → RepliesExpected (RepliesBy all settings new) (mark old was) (mark new now) request (sent_by request.caller label) given
   due_op true {op = op} {given = given} is own met =
-      let told = own.told met in
+      let told = own.effect met in
       record {
-        turn = told.0;
+        span = told.0;
         due = given;
-        spans = subst (Spans (mark old was) told.0 (mark new now)) (sym (ap (λ m. asked_by m (sent_by request.caller label)) is)) told.1;
-        replies = performed op is told.2 own.caused (own.known met.tells met.has);
+        is_span = subst (IsSpan (mark old was) told.0 (mark new now)) (sym (ap (λ m. asked_by m (sent_by request.caller label)) is)) told.1;
+        replies = performed op is told.2 own.caused (own.known met.observable met.has);
         same = λ _. refl;
       }
   due_op false {op = op} {given = given} is own met = record {
-    turn = turn_between old.called new.called (asked_by request.means (sent_by request.caller label));
+    span = span_between old.called new.called (asked_by request.means (sent_by request.caller label));
     due = given;
-    spans = record { from = refl; settles = omega arith; first = omega arith; last = own.on.ordered; to = refl; asked = refl; faults = own.on.faults };
+    is_span = record { from = refl; settles = omega arith; first = omega arith; last = own.on.ordered; to = refl; asked = refl; faults = own.on.faults };
     replies = performed_any op is own.caused;
     same = λ _. refl;
   }
@@ -76,7 +76,7 @@ module _ (settings : Settings) (old new : History) (was now : Known) (request : 
   -- to an operation
   pub replied_op : (all : Bool) (means : Meant) (op : Op) (given : Reply) → means ≡ meant.Op op → Understands means request → (means ≢ meant.Memory → label.caller ≡ request.caller)
       → Operated settings op label old new was now given → Where all (Met (IsKnown was) old)
-      → RepliesDue (RepliesBy all settings new) (mark old was) (mark new now) request (sent_by request.caller label) given
+      → RepliesExpected (RepliesBy all settings new) (mark old was) (mark new now) request (sent_by request.caller label) given
   replied_op all means op given e understands from operated met =
       let not_memory : means ≢ meant.Memory = λ m. (let no : meant.Op op ≡ meant.Memory = sym e ∙ m in cc) in
       let P : Caller → Type 0 = λ caller. Operated settings op (sent_by caller label) old new was now given in
@@ -84,8 +84,8 @@ module _ (settings : Settings) (old new : History) (was now : Known) (request : 
       due_op all (sym (understands.same not_memory) ∙ e) own met
 
 -- where no call is made
-spans_still : (h : History) (was : Known) (asked : Option Asked) → Spans (mark h was) (turn_between h.called h.called asked) (mark h was) asked
-spans_still h was asked = record { from = refl; settles = omega arith; first = omega arith; last = omega arith; to = refl; asked = refl; faults = omega arith }
+is_span_still : (h : History) (was : Known) (asked : Option Asked) → IsSpan (mark h was) (span_between h.called h.called asked) (mark h was) asked
+is_span_still h was asked = record { from = refl; settles = omega arith; first = omega arith; last = omega arith; to = refl; asked = refl; faults = omega arith }
 
 -- a request whose code is known has it
 pub code_meant : (request : Request) (means : Meant) (code : Code) → means ≡ meant.Refused code → Understands means request → request.means ≡ meant.Refused code
@@ -94,26 +94,26 @@ code_meant request means code e understands = sym (understands.same (λ m. (let 
 -- a request that has a code of its own
 module _ (settings : Settings) (h : History) (was : Known) (request : Request) (label : Label) where
   by_code : (all : Bool) {code : Code} → request.means ≡ meant.Refused code → IsProperCode code → Where all (Met (IsKnown was) h)
-      → RepliesBy all settings h (mark h was) (turn_between h.called h.called (asked_by request.means label)) (mark h was) request label (answer.Refused code)
+      → RepliesBy all settings h (mark h was) (span_between h.called h.called (asked_by request.means label)) (mark h was) request label (answer.Refused code)
   by_code true {code = code} is proper met = refused code is refl proper met.sound refl refl
   by_code false {code = code} is proper met = refused_any code is refl proper refl
 
   pub replied_refused : (all : Bool) (code : Code) → request.means ≡ meant.Refused code → IsProperCode code → Where all (Met (IsKnown was) h)
-      → RepliesDue (RepliesBy all settings h) (mark h was) (mark h was) request label (answer.Refused code)
+      → RepliesExpected (RepliesBy all settings h) (mark h was) (mark h was) request label (answer.Refused code)
   replied_refused all code is proper met = record {
-    turn = turn_between h.called h.called (asked_by request.means label);
+    span = span_between h.called h.called (asked_by request.means label);
     due = answer.Refused code;
-    spans = spans_still h was (asked_by request.means label);
+    is_span = is_span_still h was (asked_by request.means label);
     replies = by_code all is proper met;
     same = λ _. refl;
   }
 
--- the word that memory was wanted is one that may be said to an operation, whatever is known of the store
+-- the word that memory ran out is one that may be said to an operation, whatever is known of the store
 wanted_caused : (h : History) (was : Known) (op : Op) → IsCaused (mark h was) (mark h was) op answer.Memory
 wanted_caused h was op = record { unavailable = λ is. absurd (let no : answer.Memory ≡ answer.Refused ServiceUnavailable = is in cc); unsure = λ is. inl (is, inr (inr refl)) }
 
 wanted_performs : (settings : Settings) (h : History) (was : Known) (op : Op) (label : Label) (asked : Option Asked) → Met (IsKnown was) h
-    → Performs settings h (mark h was) (turn_between h.called h.called asked) (mark h was) op label answer.Memory
+    → Performs settings h (mark h was) (span_between h.called h.called asked) (mark h was) op label answer.Memory
 wanted_performs settings h known.Settled op label asked met = answered
     (record { needs_none = λ is. refl; quiet = none_made refl met.sound; no_fault = refl; within = omega arith; settled = met.has refl })
     (record { passes = passes_still (none_made refl met.sound); by = memory refl (λ k from to. absurd (omega arith)); beside = tt })
@@ -122,27 +122,27 @@ wanted_performs settings h known.Unsure op label asked met = unsettled
     (record { needs_some = refl; quiet = none_made refl met.sound; within = omega arith; says = inr refl })
     refl refl
 
--- memory was wanted before any call
+-- memory ran out before any call
 module _ (settings : Settings) (h : History) (was : Known) (request : Request) (label : Label) where
   wanted_op : (all : Bool) (op : Op) → request.means ≡ meant.Op op → Where all (Met (IsKnown was) h)
-      → RepliesBy all settings h (mark h was) (turn_between h.called h.called (asked_by request.means label)) (mark h was) request label answer.Memory
+      → RepliesBy all settings h (mark h was) (span_between h.called h.called (asked_by request.means label)) (mark h was) request label answer.Memory
   wanted_op true op is met = performed op is (wanted_performs settings h was op label (asked_by request.means label) met) (wanted_caused h was op) met.has
   wanted_op false op is met = performed_any op is (wanted_caused h was op)
 
   by_means : (all : Bool) (means : Meant) → request.means ≡ means → request.means ≢ meant.Memory → IsProperMeant request.means → Where all (Met (IsKnown was) h)
-      → RepliesDue (RepliesBy all settings h) (mark h was) (mark h was) request label answer.Memory
+      → RepliesExpected (RepliesBy all settings h) (mark h was) (mark h was) request label answer.Memory
   by_means all (meant.Op op) is some proper met = record {
-    turn = turn_between h.called h.called (asked_by request.means label);
+    span = span_between h.called h.called (asked_by request.means label);
     due = answer.Memory;
-    spans = spans_still h was (asked_by request.means label);
+    is_span = is_span_still h was (asked_by request.means label);
     replies = wanted_op all op is met;
     same = λ _. refl;
   }
   by_means all (meant.Refused code) is some proper met =
       let due = replied_refused settings h was request label all code is (subst IsProperMeant is proper) met in
-      record { turn = due.turn; due = due.due; spans = due.spans; replies = due.replies; same = λ not. absurd (not refl) }
+      record { span = due.span; due = due.due; is_span = due.is_span; replies = due.replies; same = λ not. absurd (not refl) }
   by_means all meant.Memory is some proper met = absurd (some is)
 
   pub replied_memory : (all : Bool) → Understands meant.Memory request → Where all (Met (IsKnown was) h)
-      → RepliesDue (RepliesBy all settings h) (mark h was) (mark h was) request label answer.Memory
+      → RepliesExpected (RepliesBy all settings h) (mark h was) (mark h was) request label answer.Memory
   replied_memory all understands met = by_means all request.means refl understands.meant understands.proper met

@@ -5,46 +5,46 @@ use Rattle.gate_base.specs.Told.{SourceModel}
 use Rattle.s3_machine.specs.declared.operation.Label.{Label}
 use Rattle.s3_machine.specs.declared.operation.Reply.{Reply}
 use Rattle.s3_machine.specs.declared.operation.Settings.{Settings}
-use Rattle.swift_calls.specs.History.{History, Kept}
+use Rattle.swift_calls.specs.History.{History, Extends}
 use Rattle.recovery.specs.declared.state.Known.{Known}
 use Rattle.recovery.specs.Calls.{Met}
 use Rattle.recovery.specs.Settling.{IsKnown}
 use Rattle.recovery.proofs.One.{goes_none}
 use Rattle.gateway.specs.Request.{Request}
-use Rattle.gateway.specs.Exchange.{Mark, Turn, RepliesBy, Where}
-use Rattle.gateway.specs.World.{World, world, IsTold, Continues, ServesOver}
+use Rattle.gateway.specs.Exchange.{Mark, Span, RepliesBy, Where}
+use Rattle.gateway.specs.World.{World, world, IsObservable, Continues, ServesOver}
 use Rattle.gateway.proofs.Operating.{goes_on_trans}
 use Rattle.gateway.proofs.Replying.{stands_still}
 use Rattle.gateway.proofs.Looping.{where_map, met_now, stands_trans}
 
--- what told tells still
-pub told_on : {old new : World} → Continues old new → IsTold old → IsTold new
-told_on on told = record { line = on.line told.line; clock = on.clock told.clock; draws = on.draws told.draws }
+-- what was observable still is
+pub observable_on : {old new : World} → Continues old new → IsObservable old → IsObservable new
+observable_on on told = record { line = on.line told.line; clock = on.clock told.clock; draws = on.draws told.draws }
 
-module _ {settings : Settings} {T : (Mark → Turn → Mark → Request → Label → Reply → Type 0) → World → World → Type 0} {store : History} {known : Known} {clock draws : SourceModel} where
+module _ {settings : Settings} {T : (Mark → Span → Mark → Request → Label → Reply → Type 0) → World → World → Type 0} {store : History} {known : Known} {clock draws : SourceModel} where
   -- no request was: the line alone was used
-  pub serves_none : {line line' : LineModel} → (IsTrue line.tells → IsTrue line'.tells)
-      → (IsTold (world line store known clock draws) → (R : Mark → Turn → Mark → Request → Label → Reply → Type 0) → T R (world line store known clock draws) (world line' store known clock draws))
+  pub serves_none : {line line' : LineModel} → (IsTrue line.observable → IsTrue line'.observable)
+      → (IsObservable (world line store known clock draws) → (R : Mark → Span → Mark → Request → Label → Reply → Type 0) → T R (world line store known clock draws) (world line' store known clock draws))
       → ServesOver settings T (world line store known clock draws) (world line' store known clock draws)
-  serves_none tells told = record {
-    on = record { line = tells; store = goes_none store; clock = λ tells. tells; draws = λ tells. tells };
+  serves_none observable told = record {
+    on = record { line = observable; store = goes_none store; clock = λ observable. observable; draws = λ observable. observable };
     stands = stands_still settings known store;
-    told = λ known all met. told known _;
+    effect = λ known all met. told known _;
   }
 
   -- requests were, after the line alone was used
-  pub serves_after : {U : (Mark → Turn → Mark → Request → Label → Reply → Type 0) → World → World → Type 0} {line line' : LineModel} {new : World} → (IsTrue line.tells → IsTrue line'.tells) → ServesOver settings U (world line' store known clock draws) new
-      → (IsTold (world line store known clock draws) → (R : Mark → Turn → Mark → Request → Label → Reply → Type 0) → U R (world line' store known clock draws) new → T R (world line store known clock draws) new)
+  pub serves_after : {U : (Mark → Span → Mark → Request → Label → Reply → Type 0) → World → World → Type 0} {line line' : LineModel} {new : World} → (IsTrue line.observable → IsTrue line'.observable) → ServesOver settings U (world line' store known clock draws) new
+      → (IsObservable (world line store known clock draws) → (R : Mark → Span → Mark → Request → Label → Reply → Type 0) → U R (world line' store known clock draws) new → T R (world line store known clock draws) new)
       → ServesOver settings T (world line store known clock draws) new
-  serves_after tells serves told = record {
-    on = record { line = λ t. serves.on.line (tells t); store = serves.on.store; clock = serves.on.clock; draws = serves.on.draws };
+  serves_after observable serves told = record {
+    on = record { line = λ t. serves.on.line (observable t); store = serves.on.store; clock = serves.on.clock; draws = serves.on.draws };
     stands = serves.stands;
-    told = λ t all met. told t _ (serves.told (record { line = tells t.line; clock = t.clock; draws = t.draws }) all met);
+    effect = λ t all met. told t _ (serves.effect (record { line = observable t.line; clock = t.clock; draws = t.draws }) all met);
   }
 
 -- requests, and then others
-pub serves_trans : {settings : Settings} {T U V : (Mark → Turn → Mark → Request → Label → Reply → Type 0) → World → World → Type 0} {old middle new : World} → ServesOver settings T old middle → ServesOver settings U middle new
-    → (IsTold old → (all : Bool) → Where all (Kept middle.store.called middle.store new.store) → T (RepliesBy all settings middle.store) old middle → U (RepliesBy all settings new.store) middle new → V (RepliesBy all settings new.store) old new)
+pub serves_trans : {settings : Settings} {T U V : (Mark → Span → Mark → Request → Label → Reply → Type 0) → World → World → Type 0} {old middle new : World} → ServesOver settings T old middle → ServesOver settings U middle new
+    → (IsObservable old → (all : Bool) → Where all (Extends middle.store.called middle.store new.store) → T (RepliesBy all settings middle.store) old middle → U (RepliesBy all settings new.store) middle new → V (RepliesBy all settings new.store) old new)
     → ServesOver settings V old new
 serves_trans {middle = middle} first then joined = record {
   on = record {
@@ -54,8 +54,8 @@ serves_trans {middle = middle} first then joined = record {
     draws = λ t. then.on.draws (first.on.draws t);
   };
   stands = stands_trans first.on.store then.on.store first.stands then.stands;
-  told = λ t all met.
+  effect = λ t all met.
       let given = where_map all (met_now first.on.store first.stands) met in
-      joined t all (where_map all (λ (m : Met (IsKnown middle.known) middle.store). then.on.store.kept m.tells) given)
-      (first.told t all met) (then.told (told_on first.on t) all given);
+      joined t all (where_map all (λ (m : Met (IsKnown middle.known) middle.store). then.on.store.kept m.observable) given)
+      (first.effect t all met) (then.effect (observable_on first.on t) all given);
 }

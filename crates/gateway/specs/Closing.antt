@@ -4,7 +4,7 @@ use Rattle.std.specs.Prelude.{ℕ, Bool, ◌&&◌, ◌||◌, ◌==◌, if◌then
 use Rattle.std.specs.Char.{to_ascii_lowercase}
 use Rattle.std.specs.List.{list_any, list_all, slice_split}
 use Rattle.http_wire.specs.declared.message.Message.{Message}
-use Rattle.http_wire.specs.Front.{values_of}
+use Rattle.http_wire.specs.FirstMessage.{values_of}
 
 -- a space or a tab
 abbrev pub is_blank : ℕ → Bool

@@ -9,16 +9,16 @@ use Rattle.s3_machine.specs.declared.operation.Reply.{Reply}
 use Rattle.gateway.specs.declared.service.Service.{Service}
 use Rattle.http_wire.specs.declared.message.Message.{Message}
 use Rattle.http_wire.specs.declared.message.Kind.{Kind}
-use Rattle.http_wire.specs.Front.{IsFront, asks, nothing, cut_short, refused}
+use Rattle.http_wire.specs.FirstMessage.{BeginsWith, asks, nothing, cut_short, refused}
 use Rattle.http_wire.specs.Gives.{place_after}
 use Rattle.http_wire.specs.Print.{memory_reply}
 use Rattle.gateway.specs.declared.ended.Ended.{Ended}
 use Rattle.gateway.specs.declared.ended.Ended.TheVariants.{End, Closed, CutShort, Refused, LineFailed, Memory}
 use Rattle.gateway.specs.Request.{Request, request_of, refused_request}
-use Rattle.gateway.specs.Exchange.{Mark, Turn, Exchange, CutExchange, Sends, SendsPart}
+use Rattle.gateway.specs.Exchange.{Mark, Span, Exchange, CutExchange, Sends, SendsPart}
 
 -- what goes on from one connection to the next
-pub record Tally : Type 0 where
+pub record Progress : Type 0 where
   -- the store
   pub mark : Mark
   -- the moments and the draws still to come
@@ -27,23 +27,23 @@ pub record Tally : Type 0 where
   -- the pieces sent
   pub sent : List Piece
 
-abbrev pub tally : Mark → List ℕ → List ℕ → List Piece → Tally
-tally mark moments draws sent = record { mark = mark; moments = moments; draws = draws; sent = sent }
+abbrev pub progress : Mark → List ℕ → List ℕ → List Piece → Progress
+progress mark moments draws sent = record { mark = mark; moments = moments; draws = draws; sent = sent }
 
 -- a point between two requests of a connection
-pub record Point : Type 0 where
+pub record ConnectionCursor : Type 0 where
   -- the bytes that are left, and how many came before them
   pub rest : List ℕ
   pub place : ℕ
-  pub tally : Tally
+  pub progress : Progress
 
-abbrev pub point : List ℕ → ℕ → Tally → Point
-point rest place tallied = record { rest = rest; place = place; tally = tallied }
+abbrev pub cursor : List ℕ → ℕ → Progress → ConnectionCursor
+cursor rest place so_far = record { rest = rest; place = place; progress = so_far }
 
--- the request that stands first, as it is heard at a moment, and what is left behind it
-pub data Hears (service : Service) (moment : ℕ) (old : Point) (request : Request) (rest : List ℕ) (place : ℕ) : Type 0 where
-  read : (message : Message) (size : ℕ) → IsFront old.rest (asks message size) → request ≡ request_of service moment message → rest ≡ drop size old.rest → place ≡ place_after old.place size → Hears service moment old request rest place
-  rejected : (kind : Kind) (head : Bool) → IsFront old.rest (refused kind head) → request ≡ refused_request kind old.place head → rest ≡ old.rest → place ≡ old.place → Hears service moment old request rest place
+-- the request that stands first, as it is resolved at a moment, and what is left behind it
+pub data Resolves (service : Service) (moment : ℕ) (old : ConnectionCursor) (request : Request) (rest : List ℕ) (place : ℕ) : Type 0 where
+  read : (message : Message) (size : ℕ) → BeginsWith old.rest (asks message size) → request ≡ request_of service moment message → rest ≡ drop size old.rest → place ≡ place_after old.place size → Resolves service moment old request rest place
+  rejected : (kind : Kind) (head : Bool) → BeginsWith old.rest (refused kind head) → request ≡ refused_request kind old.place head → rest ≡ old.rest → place ≡ old.place → Resolves service moment old request rest place
 
 -- the label of a request: its caller, the next moment, and the next two draws as its id and its word of chance
 pub record LabelGiven (moments draws moments' draws' : List ℕ) (from : Caller) (label : Label) : Type 0 where
@@ -60,68 +60,68 @@ sent_by caller label = record label { caller = caller }
 -- a clock and a source of draws gave what a label has but for its caller
 pub record NextLabel (clock draws clock' draws' : SourceModel) (next : Label) : Type 0 where
   pub moment : next.moment < moment_limit
-  pub clock_tells : IsTrue clock.tells → IsTrue clock'.tells
-  pub draws_tells : IsTrue draws.tells → IsTrue draws'.tells
-  pub told : IsTrue clock.tells → IsTrue draws.tells → (from : Caller) → LabelGiven clock.values draws.values clock'.values draws'.values from (sent_by from next)
+  pub clock_observable : IsTrue clock.observable → IsTrue clock'.observable
+  pub draws_observable : IsTrue draws.observable → IsTrue draws'.observable
+  pub effect : IsTrue clock.observable → IsTrue draws.observable → (from : Caller) → LabelGiven clock.values draws.values clock'.values draws'.values from (sent_by from next)
 
-abbrev pub Labels : Tally → Tally → Caller → Label → Type 0
+abbrev pub Labels : Progress → Progress → Caller → Label → Type 0
 Labels old new from label = LabelGiven old.moments old.draws new.moments new.draws from label
 
--- the next request was heard and answered in whole
-pub record Serves (service : Service) (R : Mark → Turn → Mark → Request → Label → Reply → Type 0) (connection : ℕ) (end : Option Ended) (old : Point) (turn : Turn) (new : Point) : Type 0 where
+-- the next request was resolved and answered in whole
+pub record Serves (service : Service) (R : Mark → Span → Mark → Request → Label → Reply → Type 0) (connection : ℕ) (end : Option Ended) (old : ConnectionCursor) (span : Span) (new : ConnectionCursor) : Type 0 where
   pub request : Request
   pub label : Label
-  pub hears : Hears service label.moment old request new.rest new.place
-  pub labels : Labels old.tally new.tally request.caller label
-  pub exchange : Exchange R connection old.tally.mark turn new.tally.mark request label end old.tally.sent new.tally.sent
+  pub resolves : Resolves service label.moment old request new.rest new.place
+  pub labels : Labels old.progress new.progress request.caller label
+  pub exchange : Exchange R connection old.progress.mark span new.progress.mark request label end old.progress.sent new.progress.sent
 
--- any number of requests, none of which ended the connection, with their turns
-pub data Exchanges (service : Service) (R : Mark → Turn → Mark → Request → Label → Reply → Type 0) (connection : ℕ) : Point → List Turn → Point → Type 0 where
-  none : (point : Point) → Exchanges service R connection point [] point
-  more : (old middle new : Point) (turns : List Turn) (turn : Turn) → Exchanges service R connection old turns middle → Serves service R connection None middle turn new
-      → Exchanges service R connection old (turns ++ turn ∷ []) new
+-- any number of requests, none of which ended the connection, with their spans
+pub data Exchanges (service : Service) (R : Mark → Span → Mark → Request → Label → Reply → Type 0) (connection : ℕ) : ConnectionCursor → List Span → ConnectionCursor → Type 0 where
+  none : (cursor : ConnectionCursor) → Exchanges service R connection cursor [] cursor
+  more : (old middle new : ConnectionCursor) (spans : List Span) (span : Span) → Exchanges service R connection old spans middle → Serves service R connection None middle span new
+      → Exchanges service R connection old (spans ++ span ∷ []) new
 
--- the next request was heard and answered, and the line failed under its reply
-pub record Breaks (service : Service) (R : Mark → Turn → Mark → Request → Label → Reply → Type 0) (connection : ℕ) (old : Point) (turn : Turn) (new : Tally) : Type 0 where
+-- the next request was resolved and answered, and the line failed under its reply
+pub record Breaks (service : Service) (R : Mark → Span → Mark → Request → Label → Reply → Type 0) (connection : ℕ) (old : ConnectionCursor) (span : Span) (new : Progress) : Type 0 where
   pub request : Request
   pub label : Label
   pub rest : List ℕ
   pub place : ℕ
-  pub hears : Hears service label.moment old request rest place
-  pub labels : Labels old.tally new request.caller label
-  pub exchange : CutExchange R connection old.tally.mark turn new.mark request label old.tally.sent new.sent
+  pub resolves : Resolves service label.moment old request rest place
+  pub labels : Labels old.progress new request.caller label
+  pub exchange : CutExchange R connection old.progress.mark span new.mark request label old.progress.sent new.sent
 
 -- nothing but pieces came between
-pub record OnlySent (old new : Tally) : Type 0 where
+pub record OnlySent (old new : Progress) : Type 0 where
   pub mark : new.mark ≡ old.mark
   pub moments : new.moments ≡ old.moments
   pub draws : new.draws ≡ old.draws
 
--- how a connection ends, from the last point before its end, with the turn of a request that ends it
-pub data Ends (service : Service) (R : Mark → Turn → Mark → Request → Label → Reply → Type 0) (connection : ℕ) (ended : Ended) (last : Point) (new : Tally) : List Turn → Type 0 where
+-- how a connection ends, from the last point before its end, with the span of a request that ends it
+pub data Ends (service : Service) (R : Mark → Span → Mark → Request → Label → Reply → Type 0) (connection : ℕ) (ended : Ended) (last : ConnectionCursor) (new : Progress) : List Span → Type 0 where
   -- no byte is left
-  over : ended ≡ End → IsFront last.rest nothing → new ≡ last.tally → Ends service R connection ended last new []
+  over : ended ≡ End → BeginsWith last.rest nothing → new ≡ last.progress → Ends service R connection ended last new []
   -- the bytes end inside a head
-  cut : ended ≡ CutShort last.place → IsFront last.rest cut_short → new ≡ last.tally → Ends service R connection ended last new []
+  cut : ended ≡ CutShort last.place → BeginsWith last.rest cut_short → new ≡ last.progress → Ends service R connection ended last new []
   -- a reply ended it
-  served : (point : Point) (turn : Turn) → Serves service R connection (Some ended) last turn point → new ≡ point.tally → Ends service R connection ended last new (turn ∷ [])
-  -- memory was wanted while a request was read
-  unread : ended ≡ Memory → OnlySent last.tally new → Sends connection last.tally.mark.number last.tally.mark.number (memory_reply false) last.tally.sent new.sent → Ends service R connection ended last new []
+  served : (cursor : ConnectionCursor) (span : Span) → Serves service R connection (Some ended) last span cursor → new ≡ cursor.progress → Ends service R connection ended last new (span ∷ [])
+  -- memory ran out while a request was read
+  unread : ended ≡ Memory → OnlySent last.progress new → Sends connection last.progress.mark.number last.progress.mark.number (memory_reply false) last.progress.sent new.sent → Ends service R connection ended last new []
   -- the line failed while a request was read
-  unheard : ended ≡ LineFailed → new ≡ last.tally → Ends service R connection ended last new []
-  -- memory was wanted while a request was read, and the line failed under the reply for that
-  untold : ended ≡ LineFailed → OnlySent last.tally new → SendsPart connection last.tally.mark.number last.tally.mark.number (memory_reply false) last.tally.sent new.sent → Ends service R connection ended last new []
+  unheard : ended ≡ LineFailed → new ≡ last.progress → Ends service R connection ended last new []
+  -- memory ran out while a request was read, and the line failed under the reply for that
+  untold : ended ≡ LineFailed → OnlySent last.progress new → SendsPart connection last.progress.mark.number last.progress.mark.number (memory_reply false) last.progress.sent new.sent → Ends service R connection ended last new []
   -- the line failed under the reply to a request
-  broken : (turn : Turn) → ended ≡ LineFailed → Breaks service R connection last turn new → Ends service R connection ended last new (turn ∷ [])
+  broken : (span : Span) → ended ≡ LineFailed → Breaks service R connection last span new → Ends service R connection ended last new (span ∷ [])
 
--- one connection: its requests in order, none skipped, with their turns, and its end
-pub record TalkOne (service : Service) (R : Mark → Turn → Mark → Request → Label → Reply → Type 0) (connection : ℕ) (ended : Ended) (old : Point) (turns : List Turn) (new : Tally) : Type 0 where
-  pub last : Point
-  pub before : List Turn
-  pub after : List Turn
+-- one connection: its requests in order, none skipped, with their spans, and its end
+pub record ConnectionTrace (service : Service) (R : Mark → Span → Mark → Request → Label → Reply → Type 0) (connection : ℕ) (ended : Ended) (old : ConnectionCursor) (spans : List Span) (new : Progress) : Type 0 where
+  pub last : ConnectionCursor
+  pub before : List Span
+  pub after : List Span
   pub exchanges : Exchanges service R connection old before last
   pub ends : Ends service R connection ended last new after
-  pub all : turns ≡ before ++ after
+  pub all : spans ≡ before ++ after
 
 -- whether the line failed under this connection
 abbrev pub has_failed : Ended → Bool

@@ -10,7 +10,7 @@ use Rattle.gate_base.specs.declared.page.Pair.{Pair}
 use Rattle.s3_names.specs.Meta.{has_name, with_pair}
 use Rattle.s3_machine.specs.Limits.{is_kept_header, is_proper_pair, most_body_bytes}
 use Rattle.gateway.specs.declared.rows.Row.{Row}
-use Rattle.gateway.specs.declared.rows.Row.TheVariants.{CreateBucket, PutObject, CreateUpload}
+use Rattle.gateway.specs.declared.rows.Row.TheVariants.{CreateBucket, PutObject, CreateMultipartUpload}
 use Rattle.gateway.specs.Headers.{has_header, text_of}
 
 abbrev pub has_sixteen_bytes : Result (List ℕ) DecodeError → Bool
@@ -33,7 +33,7 @@ is_other_body headers body =
 -- the operations that take a content type and metadata
 abbrev pub takes_content : Row → Bool
 takes_content PutObject = true
-takes_content CreateUpload = true
+takes_content CreateMultipartUpload = true
 takes_content _ = false
 
 -- an absent or empty Content-Type is `binary/octet-stream`

@@ -12,14 +12,14 @@ use Rattle.s3_machine.specs.declared.operation.Reply.TheVariants.{Refused, Memor
 use Rattle.s3_machine.specs.Shown.{IsShowable}
 use Rattle.swift_calls.specs.History.{History, present}
 use Rattle.upload_records.specs.Native.{IsSettled}
-use Rattle.upload_records.specs.Sound.{Sound}
+use Rattle.upload_records.specs.Consistent.{IsConsistent}
 use Rattle.recovery.specs.declared.state.Known.{Known}
 use Rattle.recovery.specs.declared.state.Known.TheVariants as known
 use Rattle.recovery.specs.Answers.{Answers, most_calls, most_settling}
 use Rattle.recovery.specs.Calls.{GoesOn, Met, amount}
 use Rattle.recovery.specs.Settling.{IsKnown}
-use Rattle.recovery.specs.Quiet.{Quiet, LastFailed}
-use Rattle.http_wire.specs.Front.{is_head}
+use Rattle.recovery.specs.Stutters.{Stutters, LastFailed}
+use Rattle.http_wire.specs.FirstMessage.{is_head}
 use Rattle.http_wire.specs.Print.{memory_reply}
 use Rattle.gateway.specs.declared.ended.Ended.{Ended}
 use Rattle.gateway.specs.declared.ended.Ended.TheVariants as ended
@@ -57,24 +57,24 @@ asked_by (meant.Refused code) label = None
 asked_by meant.Memory label = None
 
 -- the span of one request: how many calls the store had counted before it, as its operation began on a store that was
--- settled by then, at its turning point, and after it; its operation, none where it has a code of its own; and how many of
+-- settled by then, at its commit point, and after it; its operation, none where it has a code of its own; and how many of
 -- its operation's steps the account took
-pub record Turn : Type 0 where
+pub record Span : Type 0 where
   pub from : ℕ
   pub begins : ℕ
-  pub turned : ℕ
+  pub committed : ℕ
   pub to : ℕ
   pub asked : Option Asked
   pub takes : ℕ
 
--- the turn of a request that asks for this, between two marks
-pub record Spans (old : Mark) (turn : Turn) (new : Mark) (asks : Option Asked) : Type 0 where
-  pub from : turn.from ≡ old.number
-  pub settles : turn.from ≤ turn.begins
-  pub first : turn.begins ≤ turn.turned
-  pub last : turn.turned ≤ turn.to
-  pub to : turn.to ≡ new.number
-  pub asked : turn.asked ≡ asks
+-- the span of a request that asks for this, between two marks
+pub record IsSpan (old : Mark) (span : Span) (new : Mark) (asks : Option Asked) : Type 0 where
+  pub from : span.from ≡ old.number
+  pub settles : span.from ≤ span.begins
+  pub first : span.begins ≤ span.committed
+  pub last : span.committed ≤ span.to
+  pub to : span.to ≡ new.number
+  pub asked : span.asked ≡ asks
   -- no call makes the count of faults fall
   pub faults : old.faults ≤ new.faults
 
@@ -82,19 +82,19 @@ pub record Spans (old : Mark) (turn : Turn) (new : Mark) (asks : Option Asked) :
 -- them failed, and no completion is sealed after them
 pub record SettledBy (h : History) (was : Known) (from begins : ℕ) : Type 0 where
   pub needs_none : was ≡ known.Settled → begins ≡ from
-  pub quiet : Quiet h from begins
+  pub quiet : Stutters h from begins
   pub no_fault : h.faults_at begins ≡ h.faults_at from
   pub within : begins ≤ from + amount (most_settling (h.tree_at from))
   pub settled : IsSettled (h.tree_at begins)
 
--- the calls by which the store should have been settled: they left the state, and the last one failed, or memory was wanted
+-- the calls by which the store should have been settled: they left the state, and the last one failed, or memory ran out
 pub record NotSettledBy (h : History) (was : Known) (from to : ℕ) (reply : Reply) : Type 0 where
   pub needs_some : was ≡ known.Unsure
-  pub quiet : Quiet h from to
+  pub quiet : Stutters h from to
   pub within : to ≤ from + amount (most_settling (h.tree_at from))
   pub says : ((reply ≡ Refused ServiceUnavailable) × LastFailed h from to) ⊎ (reply ≡ Memory)
 
--- the replies of a store that failed, or of a service that wanted memory
+-- the replies of a store that failed, or of a service that ran out of memory
 abbrev pub IsFault : Reply → Type 0
 IsFault reply = (reply ≡ Refused ServiceUnavailable) ⊎ ((reply ≡ Refused InconsistentStore) ⊎ (reply ≡ Memory))
 
@@ -108,32 +108,32 @@ pub record IsCaused (old new : Mark) (op : Op) (reply : Reply) : Type 0 where
   pub unavailable : reply ≡ Refused ServiceUnavailable → Rose old.faults new.faults
   pub unsure : new.known ≡ known.Unsure → ((old.known ≡ known.Unsure) × IsFault reply) ⊎ LeavesUnsure op old new reply
 
--- what is said of the reply to an operation, over a store that tells: the store could not be settled; or it was, and the
+-- what is said of the reply to an operation, over an observable store: the store could not be settled; or it was, and the
 -- operation is answered, with no more calls than it may make
-pub data Performs (settings : Settings) (h : History) (old : Mark) (turn : Turn) (new : Mark) (op : Op) (label : Label) (reply : Reply) : Type 0 where
-  unsettled : NotSettledBy h old.known old.number new.number reply → turn.begins ≡ new.number → turn.takes ≡ 0 → Performs settings h old turn new op label reply
-  answered : SettledBy h old.known old.number turn.begins → Answers settings h turn.begins turn.turned new.number op label turn.takes reply
-      → new.number ≤ turn.begins + amount (most_calls op (h.tree_at turn.begins)) → Performs settings h old turn new op label reply
+pub data Performs (settings : Settings) (h : History) (old : Mark) (span : Span) (new : Mark) (op : Op) (label : Label) (reply : Reply) : Type 0 where
+  unsettled : NotSettledBy h old.known old.number new.number reply → span.begins ≡ new.number → span.takes ≡ 0 → Performs settings h old span new op label reply
+  answered : SettledBy h old.known old.number span.begins → Answers settings h span.begins span.committed new.number op label span.takes reply
+      → new.number ≤ span.begins + amount (most_calls op (h.tree_at span.begins)) → Performs settings h old span new op label reply
 
--- what is said of the reply to a request, over a store that tells: the code of one that is no operation, without any call; or
--- what its operation is answered
-pub data Replies (settings : Settings) (h : History) (old : Mark) (turn : Turn) (new : Mark) (request : Request) (label : Label) (reply : Reply) : Type 0 where
-  refused : (code : Code) → request.means ≡ meant.Refused code → reply ≡ Refused code → IsProperCode code → Sound (h.tree_at old.number) → new ≡ old → turn.takes ≡ 0 → Replies settings h old turn new request label reply
-  performed : (op : Op) → request.means ≡ meant.Op op → Performs settings h old turn new op label reply → IsCaused old new op reply → IsKnownOf h new → Replies settings h old turn new request label reply
+-- what is said of the reply to a request, over an observable store: the code of one that is no operation, without any call;
+-- or what its operation is answered
+pub data Replies (settings : Settings) (h : History) (old : Mark) (span : Span) (new : Mark) (request : Request) (label : Label) (reply : Reply) : Type 0 where
+  refused : (code : Code) → request.means ≡ meant.Refused code → reply ≡ Refused code → IsProperCode code → IsConsistent (h.tree_at old.number) → new ≡ old → span.takes ≡ 0 → Replies settings h old span new request label reply
+  performed : (op : Op) → request.means ≡ meant.Op op → Performs settings h old span new op label reply → IsCaused old new op reply → IsKnownOf h new → Replies settings h old span new request label reply
 
 -- and over every store: the same code, without any call; or some reply to the operation
-pub data RepliesAny (old : Mark) (turn : Turn) (new : Mark) (request : Request) (label : Label) (reply : Reply) : Type 0 where
-  refused_any : (code : Code) → request.means ≡ meant.Refused code → reply ≡ Refused code → IsProperCode code → new ≡ old → RepliesAny old turn new request label reply
-  performed_any : (op : Op) → request.means ≡ meant.Op op → IsCaused old new op reply → RepliesAny old turn new request label reply
+pub data RepliesAny (old : Mark) (span : Span) (new : Mark) (request : Request) (label : Label) (reply : Reply) : Type 0 where
+  refused_any : (code : Code) → request.means ≡ meant.Refused code → reply ≡ Refused code → IsProperCode code → new ≡ old → RepliesAny old span new request label reply
+  performed_any : (op : Op) → request.means ≡ meant.Op op → IsCaused old new op reply → RepliesAny old span new request label reply
 
--- what is said of replies: of a store that tells, or of every store
-abbrev pub RepliesBy : Bool → Settings → History → Mark → Turn → Mark → Request → Label → Reply → Type 0
+-- what is said of replies: of an observable store, or of every store
+abbrev pub RepliesBy : Bool → Settings → History → Mark → Span → Mark → Request → Label → Reply → Type 0
 RepliesBy true settings h = Replies settings h
 RepliesBy false settings h = RepliesAny
 
 -- a reply other than ServiceUnavailable
-pub record Undisturbed (R : Mark → Turn → Mark → Request → Label → Reply → Type 0) (old : Mark) (turn : Turn) (new : Mark) (request : Request) (label : Label) (reply : Reply) : Type 0 where
-  pub replies : R old turn new request label reply
+pub record FaultFreeReplies (R : Mark → Span → Mark → Request → Label → Reply → Type 0) (old : Mark) (span : Span) (new : Mark) (request : Request) (label : Label) (reply : Reply) : Type 0 where
+  pub replies : R old span new request label reply
   pub available : reply ≢ Refused ServiceUnavailable
 
 -- what is asked for it
@@ -141,10 +141,11 @@ abbrev pub Where : Bool → Type 0 → Type 0
 Where true P = P
 Where false P = Unit {0}
 
--- the bytes that are due, and how the connection ends after them: the reply in print, or the reply for want of memory, which ends it
-pub data Due (request : Request) (label : Label) (reply : Reply) (end : Option Ended) (bytes : List ℕ) : Type 0 where
-  printed : reply ≢ Memory → bytes ≡ print reply label request → end ≡ request.end → Due request label reply end bytes
-  wanted : bytes ≡ memory_reply (is_head request.method) → end ≡ Some ended.Memory → Due request label reply end bytes
+-- the bytes that are expected, and how the connection ends after them: the reply in print, or the out-of-memory reply, which
+-- ends it
+pub data ExpectedBytes (request : Request) (label : Label) (reply : Reply) (end : Option Ended) (bytes : List ℕ) : Type 0 where
+  printed : reply ≢ Memory → bytes ≡ print reply label request → end ≡ request.end → ExpectedBytes request label reply end bytes
+  wanted : bytes ≡ memory_reply (is_head request.method) → end ≡ Some ended.Memory → ExpectedBytes request label reply end bytes
 
 -- a piece of this connection, sent after at least t and at most q calls
 pub record IsPiece (connection t q : ℕ) (piece : Piece) : Type 0 where
@@ -173,32 +174,32 @@ pub record SendsPart (connection t q : ℕ) (bytes : List ℕ) (old new : List P
   pub each : All (IsPiece connection t q) pieces
 
 -- a request was answered in whole; R says of its reply what is said of it
-pub record Exchange (R : Mark → Turn → Mark → Request → Label → Reply → Type 0) (connection : ℕ) (old : Mark) (turn : Turn) (new : Mark) (request : Request) (label : Label) (end : Option Ended) (sent sent' : List Piece) : Type 0 where
+pub record Exchange (R : Mark → Span → Mark → Request → Label → Reply → Type 0) (connection : ℕ) (old : Mark) (span : Span) (new : Mark) (request : Request) (label : Label) (end : Option Ended) (sent sent' : List Piece) : Type 0 where
   pub reply : Reply
   pub bytes : List ℕ
-  pub spans : Spans old turn new (asked_by request.means label)
-  pub replies : R old turn new request label reply
-  pub due : Due request label reply end bytes
-  pub sends : Sends connection turn.turned new.number bytes sent sent'
+  pub is_span : IsSpan old span new (asked_by request.means label)
+  pub replies : R old span new request label reply
+  pub due : ExpectedBytes request label reply end bytes
+  pub sends : Sends connection span.committed new.number bytes sent sent'
 
 -- a request was answered, and the line failed while the reply was written
-pub record CutExchange (R : Mark → Turn → Mark → Request → Label → Reply → Type 0) (connection : ℕ) (old : Mark) (turn : Turn) (new : Mark) (request : Request) (label : Label) (sent sent' : List Piece) : Type 0 where
+pub record CutExchange (R : Mark → Span → Mark → Request → Label → Reply → Type 0) (connection : ℕ) (old : Mark) (span : Span) (new : Mark) (request : Request) (label : Label) (sent sent' : List Piece) : Type 0 where
   pub reply : Reply
   pub end : Option Ended
   pub bytes : List ℕ
-  pub spans : Spans old turn new (asked_by request.means label)
-  pub replies : R old turn new request label reply
-  pub due : Due request label reply end bytes
-  pub sends : SendsPart connection turn.turned new.number bytes sent sent'
+  pub is_span : IsSpan old span new (asked_by request.means label)
+  pub replies : R old span new request label reply
+  pub due : ExpectedBytes request label reply end bytes
+  pub sends : SendsPart connection span.committed new.number bytes sent sent'
 
 -- ---- the functions that find a reply
 
--- some reply is due, of which R says this, and unless memory was wanted it is the reply given
-pub record RepliesDue (R : Mark → Turn → Mark → Request → Label → Reply → Type 0) (old new : Mark) (request : Request) (label : Label) (given : Reply) : Type 0 where
-  pub turn : Turn
+-- some reply is expected, of which R says this, and unless memory ran out it is the reply given
+pub record RepliesExpected (R : Mark → Span → Mark → Request → Label → Reply → Type 0) (old new : Mark) (request : Request) (label : Label) (given : Reply) : Type 0 where
+  pub span : Span
   pub due : Reply
-  pub spans : Spans old turn new (asked_by request.means label)
-  pub replies : R old turn new request label due
+  pub is_span : IsSpan old span new (asked_by request.means label)
+  pub replies : R old span new request label due
   pub same : given ≢ Memory → given ≡ due
 
 -- an operation was answered, over every store
@@ -206,6 +207,6 @@ pub record Operated (settings : Settings) (op : Op) (label : Label) (old new : H
   pub on : GoesOn old new
   pub showable : IsShowable reply
   pub caused : IsCaused (mark old was) (mark new now) op reply
-  pub told : Met (IsKnown was) old
-      → (turn : Turn) × Spans (mark old was) turn (mark new now) (Some (record { op = op; label = label })) × Performs settings new (mark old was) turn (mark new now) op label reply
-  pub known : IsTrue old.tells → IsKnown was (present old) → IsKnown now (present new)
+  pub effect : Met (IsKnown was) old
+      → (span : Span) × IsSpan (mark old was) span (mark new now) (Some (record { op = op; label = label })) × Performs settings new (mark old was) span (mark new now) op label reply
+  pub known : IsTrue old.observable → IsKnown was (present old) → IsKnown now (present new)

@@ -3,7 +3,7 @@
 use Rattle.std.specs.Prelude.{ℕ, Bool, false, not, ◌&&◌, ◌||◌, nat_eq, List, [], ◌∷◌, codes, bytes_eq}
 use Rattle.std.specs.List.{list_any, starts_with, join_with_byte}
 use Rattle.gate_base.specs.declared.page.Pair.{Pair}
-use Rattle.http_wire.specs.Front.{has_name, values_of}
+use Rattle.http_wire.specs.FirstMessage.{has_name, values_of}
 use Rattle.gateway.specs.declared.rows.Level.{Level}
 use Rattle.gateway.specs.declared.rows.Level.TheVariants.{Key}
 use Rattle.gateway.specs.Rows.{is_same_level}

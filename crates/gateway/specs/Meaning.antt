@@ -57,7 +57,7 @@ is_open GetObject = true
 is_open HeadObject = true
 is_open _ = false
 
--- another operation, of nobody in particular
+-- another operation, of an anonymous caller
 abbrev pub is_denied : Row → Caller → Bool
 is_denied row Owner = false
 is_denied row Anonymous = not (is_open row)

@@ -18,7 +18,7 @@ use Rattle.http_wire.specs.Print.{page_text}
 use Rattle.s3_bodies.specs.Pages.{page_of}
 use Rattle.sigv4.specs.declared.refusal.Refusal.{Refusal}
 use Rattle.sigv4.specs.declared.refusal.Refusal.TheVariants.{HeaderMalformed, UnknownKey, WrongScope, UnsignedHeader, NoDate, Skewed, Streaming, NoPayloadHash, SignatureDiffers, PayloadDiffers, Memory}
-use Rattle.sigv4.specs.Verdict.{signed}
+use Rattle.sigv4.specs.Verdict.{caller_or_refusal}
 use Rattle.gateway.specs.declared.ended.Ended.{Ended}
 use Rattle.gateway.specs.declared.ended.Ended.TheVariants.{Closed, Refused}
 use Rattle.gateway.specs.declared.meant.Meant.{Meant}
@@ -64,24 +64,25 @@ abbrev pub admitted : Settings → Message → Target → Result Caller Refusal 
 admitted settings message target (Ok caller) = meaning_of settings message target caller
 admitted settings message target (Err refusal) = refused_by refusal
 
--- who sent a request, nobody in particular where its signature is refused
-abbrev pub sender_of : Result Caller Refusal → Caller
-sender_of (Ok caller) = caller
-sender_of (Err refusal) = Anonymous
+-- who sent a request, an anonymous caller where its signature is refused
+abbrev pub caller_or_anonymous : Result Caller Refusal → Caller
+caller_or_anonymous (Ok caller) = caller
+caller_or_anonymous (Err refusal) = Anonymous
 
--- who sent a request at a moment: the owner, who signed it by one of the keys, nobody in particular, or why its signature is refused
-abbrev pub signed_at : Service → ℕ → Message → Target → Result Caller Refusal
-signed_at service moment message target = signed service.keys service.settings.region message target moment
+-- who sent a request at a moment: the owner, who signed it by one of the keys, an anonymous caller, or why its signature is
+-- refused
+abbrev pub caller_or_refusal_at : Service → ℕ → Message → Target → Result Caller Refusal
+caller_or_refusal_at service moment message target = caller_or_refusal service.keys service.settings.region message target moment
 
 -- what a request means by how its target is read: one that can't be read is no URI of this service
-abbrev pub understood : Service → ℕ → Message → Result Target NameFault → Meant
-understood service moment message (Ok target) = admitted service.settings message target (signed_at service moment message target)
-understood service moment message (Err fault) = meant.Refused InvalidURI
+abbrev pub resolve_target : Service → ℕ → Message → Result Target NameFault → Meant
+resolve_target service moment message (Ok target) = admitted service.settings message target (caller_or_refusal_at service moment message target)
+resolve_target service moment message (Err fault) = meant.Refused InvalidURI
 
 -- who sent it, likewise
-abbrev pub sender : Service → ℕ → Message → Result Target NameFault → Caller
-sender service moment message (Ok target) = sender_of (signed_at service moment message target)
-sender service moment message (Err fault) = Anonymous
+abbrev pub caller_of : Service → ℕ → Message → Result Target NameFault → Caller
+caller_of service moment message (Ok target) = caller_or_anonymous (caller_or_refusal_at service moment message target)
+caller_of service moment message (Err fault) = Anonymous
 
 -- how the connection ends after the reply to a message, if it does
 abbrev pub end_after : Message → Option Ended
@@ -90,10 +91,10 @@ end_after message = cond (is_closing message) (Some Closed) None
 -- a request that was read, at its moment: first its target is, then its signature is verified, and then its meaning is found
 abbrev pub request_of : Service → ℕ → Message → Request
 request_of service moment message = record {
-  caller = sender service moment message (target_of message.target);
+  caller = caller_of service moment message (target_of message.target);
   method = message.method;
   resource = raw_path message.target;
-  means = understood service moment message (target_of message.target);
+  means = resolve_target service moment message (target_of message.target);
   end = end_after message;
 }
 

@@ -6,7 +6,7 @@ use Rattle.gate_base.specs.declared.page.Pair.{Pair}
 use Rattle.gateway.specs.declared.rows.Level.{Level}
 use Rattle.gateway.specs.declared.rows.Level.TheVariants.{Service, Bucket, Key}
 use Rattle.gateway.specs.declared.rows.Row.{Row}
-use Rattle.gateway.specs.declared.rows.Row.TheVariants.{ListBuckets, CreateBucket, PutBucketAcl, DeleteBucket, HeadBucket, GetLocation, GetBucketAcl, ListObjects, ListObjectsV2, ListUploads, PutObject, GetObject, HeadObject, DeleteObject, GetObjectAcl, CreateUpload, UploadPart, ListParts, CompleteUpload, AbortUpload}
+use Rattle.gateway.specs.declared.rows.Row.TheVariants.{ListBuckets, CreateBucket, PutBucketAcl, DeleteBucket, HeadBucket, GetBucketLocation, GetBucketAcl, ListObjects, ListObjectsV2, ListMultipartUploads, PutObject, GetObject, HeadObject, DeleteObject, GetObjectAcl, CreateMultipartUpload, UploadPart, ListParts, CompleteMultipartUpload, AbortMultipartUpload}
 
 -- a row: the method, the level, the selectors that the query has, the further names that it may have, and whether
 -- the operation is built
@@ -32,26 +32,26 @@ shape_of CreateBucket = shape (codes "PUT") Bucket [] [] true
 shape_of PutBucketAcl = shape (codes "PUT") Bucket (codes "acl" ∷ []) [] false
 shape_of DeleteBucket = shape (codes "DELETE") Bucket [] [] false
 shape_of HeadBucket = shape (codes "HEAD") Bucket [] [] false
-shape_of GetLocation = shape (codes "GET") Bucket (codes "location" ∷ []) [] false
+shape_of GetBucketLocation = shape (codes "GET") Bucket (codes "location" ∷ []) [] false
 shape_of GetBucketAcl = shape (codes "GET") Bucket (codes "acl" ∷ []) [] false
 shape_of ListObjects = shape (codes "GET") Bucket [] (codes "prefix" ∷ codes "delimiter" ∷ codes "marker" ∷ codes "max-keys" ∷ codes "encoding-type" ∷ []) false
 shape_of ListObjectsV2 = shape (codes "GET") Bucket (codes "list-type" ∷ []) (codes "prefix" ∷ codes "delimiter" ∷ codes "start-after" ∷ codes "continuation-token" ∷ codes "max-keys" ∷ codes "encoding-type" ∷ codes "fetch-owner" ∷ []) false
-shape_of ListUploads = shape (codes "GET") Bucket (codes "uploads" ∷ []) (codes "prefix" ∷ codes "key-marker" ∷ codes "upload-id-marker" ∷ codes "max-uploads" ∷ []) false
+shape_of ListMultipartUploads = shape (codes "GET") Bucket (codes "uploads" ∷ []) (codes "prefix" ∷ codes "key-marker" ∷ codes "upload-id-marker" ∷ codes "max-uploads" ∷ []) false
 shape_of PutObject = shape (codes "PUT") Key [] [] true
 shape_of GetObject = shape (codes "GET") Key [] [] true
 shape_of HeadObject = shape (codes "HEAD") Key [] [] true
 shape_of DeleteObject = shape (codes "DELETE") Key [] [] true
 shape_of GetObjectAcl = shape (codes "GET") Key (codes "acl" ∷ []) [] false
-shape_of CreateUpload = shape (codes "POST") Key (codes "uploads" ∷ []) [] false
+shape_of CreateMultipartUpload = shape (codes "POST") Key (codes "uploads" ∷ []) [] false
 shape_of UploadPart = shape (codes "PUT") Key (codes "partNumber" ∷ codes "uploadId" ∷ []) [] false
 shape_of ListParts = shape (codes "GET") Key (codes "uploadId" ∷ []) (codes "max-parts" ∷ codes "part-number-marker" ∷ []) false
-shape_of CompleteUpload = shape (codes "POST") Key (codes "uploadId" ∷ []) [] false
-shape_of AbortUpload = shape (codes "DELETE") Key (codes "uploadId" ∷ []) [] false
+shape_of CompleteMultipartUpload = shape (codes "POST") Key (codes "uploadId" ∷ []) [] false
+shape_of AbortMultipartUpload = shape (codes "DELETE") Key (codes "uploadId" ∷ []) [] false
 
 unfoldable pub rows : List Row
 rows =
-    ListBuckets ∷ CreateBucket ∷ PutBucketAcl ∷ DeleteBucket ∷ HeadBucket ∷ GetLocation ∷ GetBucketAcl ∷ ListObjects ∷ ListObjectsV2 ∷ ListUploads
-    ∷ PutObject ∷ GetObject ∷ HeadObject ∷ DeleteObject ∷ GetObjectAcl ∷ CreateUpload ∷ UploadPart ∷ ListParts ∷ CompleteUpload ∷ AbortUpload ∷ []
+    ListBuckets ∷ CreateBucket ∷ PutBucketAcl ∷ DeleteBucket ∷ HeadBucket ∷ GetBucketLocation ∷ GetBucketAcl ∷ ListObjects ∷ ListObjectsV2 ∷ ListMultipartUploads
+    ∷ PutObject ∷ GetObject ∷ HeadObject ∷ DeleteObject ∷ GetObjectAcl ∷ CreateMultipartUpload ∷ UploadPart ∷ ListParts ∷ CompleteMultipartUpload ∷ AbortMultipartUpload ∷ []
 
 -- the methods of the table
 abbrev pub is_method : List ℕ → Bool

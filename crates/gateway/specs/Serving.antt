@@ -1,6 +1,6 @@
 -- One step of a connection: a request that was answered, or its end. Source: this profile.
 use Rattle.std.specs.Prelude.{ℕ, Bool, false, List, Option, None, Some}
-use Rattle.gate_base.specs.Wire.{Wire}
+use Rattle.gate_base.specs.Transcript.{Transcript}
 use Rattle.s3_machine.specs.declared.operation.Label.{Label}
 use Rattle.s3_machine.specs.declared.operation.Reply.{Reply}
 use Rattle.gateway.specs.declared.service.Service.{Service}
@@ -8,8 +8,8 @@ use Rattle.http_wire.specs.Print.{memory_reply}
 use Rattle.gateway.specs.declared.ended.Ended.{Ended}
 use Rattle.gateway.specs.declared.ended.Ended.TheVariants.{End, Closed, CutShort, Refused, LineFailed, Memory}
 use Rattle.gateway.specs.Request.{Request}
-use Rattle.gateway.specs.Exchange.{Mark, Turn, Sends, SendsPart}
-use Rattle.gateway.specs.Connection.{Point, Serves, Ends, has_failed}
+use Rattle.gateway.specs.Exchange.{Mark, Span, Sends, SendsPart}
+use Rattle.gateway.specs.Connection.{ConnectionCursor, Serves, Ends, has_failed}
 
 -- whether the connection ended because the line failed
 abbrev pub has_ended_failed : Option Ended → Bool
@@ -17,12 +17,12 @@ has_ended_failed None = false
 has_ended_failed (Some ended) = has_failed ended
 
 -- a request was answered and the connection goes on, or it ended so
-abbrev pub NextOne : Service → (Mark → Turn → Mark → Request → Label → Reply → Type 0) → ℕ → Point → Option Ended → Point → Type 0
-NextOne service R connection old None new = (turn : Turn) × Serves service R connection None old turn new
-NextOne service R connection old (Some ended) new = (turns : List Turn) × Ends service R connection ended old new.tally turns
+abbrev pub NextOne : Service → (Mark → Span → Mark → Request → Label → Reply → Type 0) → ℕ → ConnectionCursor → Option Ended → ConnectionCursor → Type 0
+NextOne service R connection old None new = (span : Span) × Serves service R connection None old span new
+NextOne service R connection old (Some ended) new = (spans : List Span) × Ends service R connection ended old new.progress spans
 
--- the reply for want of memory was written, or the line failed under it
-abbrev pub EndsUnread : ℕ → Wire → Ended → Wire → Type 0
+-- the out-of-memory reply was written, or the line failed under it
+abbrev pub EndsUnread : ℕ → Transcript → Ended → Transcript → Type 0
 EndsUnread number old End new = ⊥
 EndsUnread number old Closed new = ⊥
 EndsUnread number old (CutShort place) new = ⊥

@@ -11,8 +11,8 @@ use Rattle.recovery.specs.declared.state.Known.{Known}
 use Rattle.recovery.specs.Calls.{GoesOn, Met}
 use Rattle.recovery.specs.Settling.{IsKnown}
 use Rattle.gateway.specs.Request.{Request}
-use Rattle.gateway.specs.Exchange.{Mark, Turn, mark, RepliesBy, Where}
-use Rattle.gateway.specs.Connection.{Tally, Point, tally, point}
+use Rattle.gateway.specs.Exchange.{Mark, Span, mark, RepliesBy, Where}
+use Rattle.gateway.specs.Connection.{Progress, ConnectionCursor, progress, cursor}
 use Rattle.gateway.specs.Stands.{Stands}
 
 -- the line, the store with what is known of it, the clock, and the source of draws
@@ -26,35 +26,36 @@ pub record World : Type 0 where
 abbrev pub world : LineModel → History → Known → SourceModel → SourceModel → World
 world line store known clock draws = record { line = line; store = store; known = known; clock = clock; draws = draws }
 
--- line, clock and source of draws tell. Whether the store does is asked apart, by `Met`
-pub record IsTold (w : World) : Type 0 where
-  pub line : IsTrue w.line.tells
-  pub clock : IsTrue w.clock.tells
-  pub draws : IsTrue w.draws.tells
+-- line, clock and source of draws are observable. Whether the store does is asked apart, by `Met`
+pub record IsObservable (w : World) : Type 0 where
+  pub line : IsTrue w.line.observable
+  pub clock : IsTrue w.clock.observable
+  pub draws : IsTrue w.draws.observable
 
 -- what goes on from one connection to the next
-abbrev pub tally_of : World → Tally
-tally_of w = tally (mark w.store w.known) w.clock.values w.draws.values w.line.wire.sent
+abbrev pub progress_of : World → Progress
+progress_of w = progress (mark w.store w.known) w.clock.values w.draws.values w.line.transcript.sent
 
 -- a connection at its beginning
-abbrev pub start_of : World → Point
-start_of w = point w.line.wire.rest 0 (tally_of w)
+abbrev pub start_of : World → ConnectionCursor
+start_of w = cursor w.line.transcript.rest 0 (progress_of w)
 
 -- a connection between two requests, of which a reader has read so much
-abbrev pub point_of : Pending → World → Point
-point_of reader w = point (reader.bytes ++ w.line.wire.rest) reader.place (tally_of w)
+abbrev pub cursor_of : Pending → World → ConnectionCursor
+cursor_of reader w = cursor (reader.bytes ++ w.line.transcript.rest) reader.place (progress_of w)
 
--- what told still tells, and the store's history goes on
+-- what was observable still is, and the store's history goes on
 pub record Continues (old new : World) : Type 0 where
-  pub line : IsTrue old.line.tells → IsTrue new.line.tells
+  pub line : IsTrue old.line.observable → IsTrue new.line.observable
   pub store : GoesOn old.store new.store
-  pub clock : IsTrue old.clock.tells → IsTrue new.clock.tells
-  pub draws : IsTrue old.draws.tells → IsTrue new.draws.tells
+  pub clock : IsTrue old.clock.observable → IsTrue new.clock.observable
+  pub draws : IsTrue old.draws.observable → IsTrue new.draws.observable
 
--- any number of requests were served, or none. Where the store told, and its account was sound and as known, the account went
--- through their steps, whatever the line tells of them. Where line, clock and draws told, T says what became of them, by what is
--- said of replies: over every store, and also, where this one told and its account was sound and as known, over such a store
-pub record ServesOver (settings : Settings) (T : (Mark → Turn → Mark → Request → Label → Reply → Type 0) → World → World → Type 0) (old new : World) : Type 0 where
+-- any number of requests were served, or none. Where the store told, and its account was consistent and as known, the account
+-- went through their steps, whatever the line tells of them. Where line, clock and draws told, T says what became of them, by
+-- what is said of replies: over every store, and also, where this one told and its account was consistent and as known, over
+-- such a store
+pub record ServesOver (settings : Settings) (T : (Mark → Span → Mark → Request → Label → Reply → Type 0) → World → World → Type 0) (old new : World) : Type 0 where
   pub on : Continues old new
   pub stands : Stands settings old.known new.known old.store new.store
-  pub told : IsTold old → (all : Bool) → Where all (Met (IsKnown old.known) old.store) → T (RepliesBy all settings new.store) old new
+  pub effect : IsObservable old → (all : Bool) → Where all (Met (IsKnown old.known) old.store) → T (RepliesBy all settings new.store) old new

@@ -1,7 +1,7 @@
 -- What the writing of a reply does to the line.
 use Rattle.std.specs.Prelude.{◌≡◌, ◌≢◌, ◌⊎◌, ℕ, Bool, true, false, List}
-use Rattle.gate_base.specs.Wire.{Wire, with_piece, SendsPrefix}
-use Rattle.http_wire.specs.Front.{is_head}
+use Rattle.gate_base.specs.Transcript.{Transcript, with_piece, SendsPrefix}
+use Rattle.http_wire.specs.FirstMessage.{is_head}
 use Rattle.http_wire.specs.Print.{memory_reply}
 use Rattle.s3_machine.specs.declared.operation.Label.{Label}
 use Rattle.s3_machine.specs.declared.operation.Reply.{Reply}
@@ -10,21 +10,21 @@ use Rattle.gateway.specs.Request.{reply_text}
 use Rattle.gateway.specs.declared.write.Written.{Written}
 use Rattle.gateway.specs.declared.write.Written.TheVariants.{Whole, Memory, Failed}
 
--- the text of the reply, or that of the reply for want of memory
+-- the text of the reply, or that of the out-of-memory reply
 abbrev pub IsText : Reply → Label → List ℕ → List ℕ → Bool → List ℕ → Type 0
 IsText reply label method resource closing bytes =
     ((reply ≢ answer.Memory) × (bytes ≡ reply_text reply label method resource closing)) ⊎ (bytes ≡ memory_reply (is_head method))
 
--- one piece was sent, after `at` calls: the whole text, that for want of memory, or the first bytes of either, or none
-abbrev pub Writes : Wire → ℕ → Reply → Label → List ℕ → List ℕ → Bool → Written → Wire → Type 0
+-- one piece was sent, after `at` calls: the whole text, the out-of-memory reply, or the first bytes of either, or none
+abbrev pub Writes : Transcript → ℕ → Reply → Label → List ℕ → List ℕ → Bool → Written → Transcript → Type 0
 Writes old at reply label method resource closing Whole new =
     (reply ≢ answer.Memory) × (new ≡ with_piece old at (reply_text reply label method resource closing))
 Writes old at reply label method resource closing Memory new = new ≡ with_piece old at (memory_reply (is_head method))
 Writes old at reply label method resource closing Failed new =
     (bytes : List ℕ) × IsText reply label method resource closing bytes × SendsPrefix old at bytes new
 
--- these bytes, the reply for want of memory, were sent after `at` calls, or the first of them, or none
-abbrev pub WritesWanted : Wire → ℕ → List ℕ → Written → Wire → Type 0
+-- these bytes, the out-of-memory reply, were sent after `at` calls, or the first of them, or none
+abbrev pub WritesWanted : Transcript → ℕ → List ℕ → Written → Transcript → Type 0
 WritesWanted old at bytes Whole new = ⊥
 WritesWanted old at bytes Memory new = new ≡ with_piece old at bytes
 WritesWanted old at bytes Failed new = SendsPrefix old at bytes new

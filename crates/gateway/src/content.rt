@@ -63,25 +63,25 @@ fn takes_content(row: Row) -> bool
     ensures { result ≡ takes_content row }
 {
     match row {
-        Row::PutObject | Row::CreateUpload => true,
+        Row::PutObject | Row::CreateMultipartUpload => true,
         Row::ListBuckets
         | Row::CreateBucket
         | Row::PutBucketAcl
         | Row::DeleteBucket
         | Row::HeadBucket
-        | Row::GetLocation
+        | Row::GetBucketLocation
         | Row::GetBucketAcl
         | Row::ListObjects
         | Row::ListObjectsV2
-        | Row::ListUploads
+        | Row::ListMultipartUploads
         | Row::GetObject
         | Row::HeadObject
         | Row::DeleteObject
         | Row::GetObjectAcl
         | Row::UploadPart
         | Row::ListParts
-        | Row::CompleteUpload
-        | Row::AbortUpload => false,
+        | Row::CompleteMultipartUpload
+        | Row::AbortMultipartUpload => false,
     }
 }
 
@@ -211,20 +211,20 @@ pub fn has_unread_body(row: Row, body: &[u8]) -> bool
         | Row::PutBucketAcl
         | Row::DeleteBucket
         | Row::HeadBucket
-        | Row::GetLocation
+        | Row::GetBucketLocation
         | Row::GetBucketAcl
         | Row::ListObjects
         | Row::ListObjectsV2
-        | Row::ListUploads
+        | Row::ListMultipartUploads
         | Row::PutObject
         | Row::GetObject
         | Row::HeadObject
         | Row::DeleteObject
         | Row::GetObjectAcl
-        | Row::CreateUpload
+        | Row::CreateMultipartUpload
         | Row::UploadPart
         | Row::ListParts
-        | Row::CompleteUpload
-        | Row::AbortUpload => false,
+        | Row::CompleteMultipartUpload
+        | Row::AbortMultipartUpload => false,
     }
 }

@@ -13,6 +13,6 @@ pub enum Ended {
     Refused { kind: Kind, place: u64 },
     /// The line failed: its count of faults rose.
     LineFailed,
-    /// Memory was wanted and not there.
+    /// Memory ran out.
     Memory,
 }

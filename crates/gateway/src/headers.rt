@@ -1,7 +1,7 @@
 //! What the headers of a request say, and which of them no row takes.
 ghost use Rattle.std.specs.Prelude.{◌≡◌, ◌&&◌, ◌||◌, not, nat_eq, ◌==◌, [], ◌∷◌, length, codes, bytes_eq, IfOk, take, map, filter};
 ghost use Rattle.std.specs.List.{list_any, starts_with, join_with_byte};
-ghost use Rattle.http_wire.specs.Front.{has_name, value_of, values_of};
+ghost use Rattle.http_wire.specs.FirstMessage.{has_name, value_of, values_of};
 ghost use Rattle.gateway.specs.declared.rows.Level.{Level};
 ghost use Rattle.gateway.specs.declared.rows.Level.TheVariants.{Key};
 ghost use Rattle.gateway.specs.Rows.{is_same_level};

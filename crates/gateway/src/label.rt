@@ -4,7 +4,7 @@ ghost use Rattle.gateway.specs.Connection.{NextLabel, sent_by};
 use gate_base::{Caller, Clock, Draws};
 use s3_machine::Label;
 
-/// The label of the next request, of nobody in particular: the clock is read once, and two words are drawn, its id and
+/// The label of the next request, of an anonymous caller: the clock is read once, and two words are drawn, its id and
 /// its word of chance.
 pub fn next_label<C: Clock, D: Draws>(clock: &mut C, draws: &mut D) -> Label
     ensures { NextLabel (C.model clock.old) (D.model draws.old) (C.model clock.new) (D.model draws.new) result }

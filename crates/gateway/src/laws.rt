@@ -1,7 +1,7 @@
 //! Laws of the definitions, each the contract of a function that does nothing.
 ghost use Rattle.gateway.specs.Life.{ManyRuns, OneRun, SentIsCounted, StandsAll};
 
-/// Through a run the account is sound after each call, and goes through the steps of the request that has the call.
+/// Through a run the account is consistent after each call, and goes through the steps of the request that has the call.
 pub fn law_stands_all()
     ensures { StandsAll }
 {}

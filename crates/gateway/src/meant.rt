@@ -1,6 +1,6 @@
 //! What a request means.
 ghost use Rattle.std.specs.Prelude.{◌≡◌, ◌≢◌, ◌&&◌, ◌||◌, not, nat_lt, length, IfOk};
-ghost use Rattle.gateway.specs.Heard.{IsProperMeant};
+ghost use Rattle.gateway.specs.ResolvedRequest.{IsProperMeant};
 ghost use Rattle.gateway.specs.Meaning.{first_refusal, target_reasons, judged, reasons, header_reasons, content_reasons, caller_reasons, meaning_of, op_of, is_denied, is_open, has_bad_bucket, row_of};
 ghost use Rattle.gateway.specs.declared.meant.Meant.TheVariants as variant;
 ghost use Rattle.gateway.specs.Rows.{level_of};
@@ -33,7 +33,7 @@ pub enum Meant {
     Op(Op),
     /// The code by which it is refused.
     Refused(Code),
-    /// Memory was wanted and not there.
+    /// Memory ran out.
     Memory,
 }
 
@@ -204,17 +204,17 @@ fn op_of(
         | Row::PutBucketAcl
         | Row::DeleteBucket
         | Row::HeadBucket
-        | Row::GetLocation
+        | Row::GetBucketLocation
         | Row::GetBucketAcl
         | Row::ListObjects
         | Row::ListObjectsV2
-        | Row::ListUploads
+        | Row::ListMultipartUploads
         | Row::GetObjectAcl
-        | Row::CreateUpload
+        | Row::CreateMultipartUpload
         | Row::UploadPart
         | Row::ListParts
-        | Row::CompleteUpload
-        | Row::AbortUpload => Ok(Meant::Refused(Code::NotImplemented)),
+        | Row::CompleteMultipartUpload
+        | Row::AbortMultipartUpload => Ok(Meant::Refused(Code::NotImplemented)),
     }
 }
 
@@ -329,17 +329,17 @@ fn is_open(row: Row) -> bool
         | Row::CreateBucket
         | Row::PutBucketAcl
         | Row::DeleteBucket
-        | Row::GetLocation
+        | Row::GetBucketLocation
         | Row::GetBucketAcl
-        | Row::ListUploads
+        | Row::ListMultipartUploads
         | Row::PutObject
         | Row::DeleteObject
         | Row::GetObjectAcl
-        | Row::CreateUpload
+        | Row::CreateMultipartUpload
         | Row::UploadPart
         | Row::ListParts
-        | Row::CompleteUpload
-        | Row::AbortUpload => false,
+        | Row::CompleteMultipartUpload
+        | Row::AbortMultipartUpload => false,
     }
 }
 

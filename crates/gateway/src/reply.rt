@@ -13,9 +13,9 @@ ghost use Rattle.recovery.specs.Settling.{IsKnown, Settles, settle_fault};
 ghost use Rattle.planner.specs.Plan.{reply_of, Answered};
 ghost use Rattle.gateway.specs.Connection.{sent_by};
 ghost use Rattle.gateway.specs.declared.meant.Meant.TheVariants as variant;
-ghost use Rattle.gateway.specs.Heard.{IsProperMeant, Understands};
+ghost use Rattle.gateway.specs.ResolvedRequest.{IsProperMeant, Understands};
 ghost use Rattle.gateway.specs.Request.{Request};
-ghost use Rattle.gateway.specs.Exchange.{mark, Operated, RepliesBy, RepliesDue, Where};
+ghost use Rattle.gateway.specs.Exchange.{mark, Operated, RepliesBy, RepliesExpected, Where};
 ghost use Rattle.gateway.specs.Stands.{Stands};
 
 use crate::Meant;
@@ -44,10 +44,10 @@ pub fn reply_to<W: Swift>(
     ensures wanted { means.now ≡ variant.Memory → result ≡ answer.Memory }
     ensures stands { Stands settings.now known.old known.new (W.history store.old) (W.history store.new) }
 
-    // Where memory was wanted, some reply is due, and it is not this one; then who sent the request may be unknown.
-    ensures told { (all : Bool) → Where all (Met (IsKnown known.old) (W.history store.old)) → (request : Request) → Understands means.now request
+    // Where memory ran out, some reply is expected, and it is not this one; then who sent the request may be unknown.
+    ensures effect { (all : Bool) → Where all (Met (IsKnown known.old) (W.history store.old)) → (request : Request) → Understands means.now request
         → (means.now ≢ variant.Memory → label.now.caller ≡ request.caller)
-        → RepliesDue (RepliesBy all settings.now (W.history store.new)) (mark (W.history store.old) known.old) (mark (W.history store.new) known.new) request (sent_by request.caller label.now) result }
+        → RepliesExpected (RepliesBy all settings.now (W.history store.new)) (mark (W.history store.old) known.old) (mark (W.history store.new) known.new) request (sent_by request.caller label.now) result }
 {
     match means {
         Meant::Op(op) => operate(alloc, store, known, settings, op, label),

@@ -23,21 +23,21 @@ pub enum Row {
     PutBucketAcl,
     DeleteBucket,
     HeadBucket,
-    GetLocation,
+    GetBucketLocation,
     GetBucketAcl,
     ListObjects,
     ListObjectsV2,
-    ListUploads,
+    ListMultipartUploads,
     PutObject,
     GetObject,
     HeadObject,
     DeleteObject,
     GetObjectAcl,
-    CreateUpload,
+    CreateMultipartUpload,
     UploadPart,
     ListParts,
-    CompleteUpload,
-    AbortUpload,
+    CompleteMultipartUpload,
+    AbortMultipartUpload,
 }
 
 const ROWS: [Row; 20] = [
@@ -46,21 +46,21 @@ const ROWS: [Row; 20] = [
     Row::PutBucketAcl,
     Row::DeleteBucket,
     Row::HeadBucket,
-    Row::GetLocation,
+    Row::GetBucketLocation,
     Row::GetBucketAcl,
     Row::ListObjects,
     Row::ListObjectsV2,
-    Row::ListUploads,
+    Row::ListMultipartUploads,
     Row::PutObject,
     Row::GetObject,
     Row::HeadObject,
     Row::DeleteObject,
     Row::GetObjectAcl,
-    Row::CreateUpload,
+    Row::CreateMultipartUpload,
     Row::UploadPart,
     Row::ListParts,
-    Row::CompleteUpload,
-    Row::AbortUpload,
+    Row::CompleteMultipartUpload,
+    Row::AbortMultipartUpload,
 ];
 
 /// The names that ListObjects has beside its selectors.
@@ -182,18 +182,18 @@ fn method_of(row: Row) -> &'static [u8]
 {
     match row {
         Row::ListBuckets
-        | Row::GetLocation
+        | Row::GetBucketLocation
         | Row::GetBucketAcl
         | Row::ListObjects
         | Row::ListObjectsV2
-        | Row::ListUploads
+        | Row::ListMultipartUploads
         | Row::GetObject
         | Row::GetObjectAcl
         | Row::ListParts => b"GET",
         Row::HeadBucket | Row::HeadObject => b"HEAD",
         Row::CreateBucket | Row::PutBucketAcl | Row::PutObject | Row::UploadPart => b"PUT",
-        Row::CreateUpload | Row::CompleteUpload => b"POST",
-        Row::DeleteBucket | Row::DeleteObject | Row::AbortUpload => b"DELETE",
+        Row::CreateMultipartUpload | Row::CompleteMultipartUpload => b"POST",
+        Row::DeleteBucket | Row::DeleteObject | Row::AbortMultipartUpload => b"DELETE",
     }
 }
 
@@ -206,21 +206,21 @@ fn level_of_row(row: Row) -> Level
         | Row::PutBucketAcl
         | Row::DeleteBucket
         | Row::HeadBucket
-        | Row::GetLocation
+        | Row::GetBucketLocation
         | Row::GetBucketAcl
         | Row::ListObjects
         | Row::ListObjectsV2
-        | Row::ListUploads => Level::Bucket,
+        | Row::ListMultipartUploads => Level::Bucket,
         Row::PutObject
         | Row::GetObject
         | Row::HeadObject
         | Row::DeleteObject
         | Row::GetObjectAcl
-        | Row::CreateUpload
+        | Row::CreateMultipartUpload
         | Row::UploadPart
         | Row::ListParts
-        | Row::CompleteUpload
-        | Row::AbortUpload => Level::Key,
+        | Row::CompleteMultipartUpload
+        | Row::AbortMultipartUpload => Level::Key,
     }
 }
 
@@ -235,17 +235,17 @@ pub fn is_built(row: Row) -> bool
         | Row::PutBucketAcl
         | Row::DeleteBucket
         | Row::HeadBucket
-        | Row::GetLocation
+        | Row::GetBucketLocation
         | Row::GetBucketAcl
         | Row::ListObjects
         | Row::ListObjectsV2
-        | Row::ListUploads
+        | Row::ListMultipartUploads
         | Row::GetObjectAcl
-        | Row::CreateUpload
+        | Row::CreateMultipartUpload
         | Row::UploadPart
         | Row::ListParts
-        | Row::CompleteUpload
-        | Row::AbortUpload => false,
+        | Row::CompleteMultipartUpload
+        | Row::AbortMultipartUpload => false,
     }
 }
 
@@ -264,10 +264,11 @@ fn selects(name: &[u8], row: Row) -> bool
         | Row::HeadObject
         | Row::DeleteObject => false,
         Row::PutBucketAcl | Row::GetBucketAcl | Row::GetObjectAcl => name == b"acl".as_slice(),
-        Row::GetLocation => name == b"location".as_slice(),
+        Row::GetBucketLocation => name == b"location".as_slice(),
         Row::ListObjectsV2 => name == b"list-type".as_slice(),
-        Row::ListUploads | Row::CreateUpload => name == b"uploads".as_slice(),
-        Row::ListParts | Row::CompleteUpload | Row::AbortUpload => name == b"uploadId".as_slice(),
+        Row::ListMultipartUploads | Row::CreateMultipartUpload => name == b"uploads".as_slice(),
+        Row::ListParts | Row::CompleteMultipartUpload | Row::AbortMultipartUpload => name
+            == b"uploadId".as_slice(),
         Row::UploadPart => name == b"partNumber".as_slice() || name == b"uploadId".as_slice(),
     }
 }
@@ -282,20 +283,20 @@ fn goes_on(name: &[u8], row: Row) -> bool
         | Row::PutBucketAcl
         | Row::DeleteBucket
         | Row::HeadBucket
-        | Row::GetLocation
+        | Row::GetBucketLocation
         | Row::GetBucketAcl
         | Row::PutObject
         | Row::GetObject
         | Row::HeadObject
         | Row::DeleteObject
         | Row::GetObjectAcl
-        | Row::CreateUpload
+        | Row::CreateMultipartUpload
         | Row::UploadPart
-        | Row::CompleteUpload
-        | Row::AbortUpload => false,
+        | Row::CompleteMultipartUpload
+        | Row::AbortMultipartUpload => false,
         Row::ListObjects => is_one_of(name, &OBJECTS_FURTHER),
         Row::ListObjectsV2 => is_one_of(name, &OBJECTS_V2_FURTHER),
-        Row::ListUploads => is_one_of(name, &UPLOADS_FURTHER),
+        Row::ListMultipartUploads => is_one_of(name, &UPLOADS_FURTHER),
         Row::ListParts => is_one_of(name, &PARTS_FURTHER),
     }
 }

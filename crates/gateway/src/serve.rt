@@ -1,15 +1,15 @@
 ghost use Rattle.std.specs.Prelude.{◌≡◌, ◌<◌, false, List, IsTrue, None};
 ghost use Rattle.gate_base.specs.Line.{LineServes, OnlyWrites};
 ghost use Rattle.http_wire.specs.Gives.{weight};
-ghost use Rattle.gateway.specs.Exchange.{Turn};
-ghost use Rattle.gateway.specs.Connection.{has_failed, TalkOne};
+ghost use Rattle.gateway.specs.Exchange.{Span};
+ghost use Rattle.gateway.specs.Connection.{has_failed, ConnectionTrace};
 ghost use Rattle.gateway.specs.Request.{asks_of, end_of};
-ghost use Rattle.gateway.specs.Turned.{TurnEnds};
+ghost use Rattle.gateway.specs.Handled.{HandledEnds};
 ghost use Rattle.gateway.specs.Serving.{has_ended_failed, NextOne, EndsUnread};
-ghost use Rattle.gateway.specs.World.{world, tally_of, start_of, point_of, ServesOver};
+ghost use Rattle.gateway.specs.World.{world, progress_of, start_of, cursor_of, ServesOver};
 
+use crate::handle::{Handled, handle_request};
 use crate::received::Received;
-use crate::turn::{Turned, take_turn};
 use crate::write::{Written, write_memory};
 use crate::{Ended, Service};
 use gate_base::{Clock, Draws, Line};
@@ -18,8 +18,8 @@ use recovery::Known;
 use std::alloc::Global;
 use swift_calls::Swift;
 
-/// Serves one open connection to its end: its requests are heard and answered in order. After the first that ends the
-/// connection, and where the line fails or memory is wanted while a request is read, no more is read of it.
+/// Serves one open connection to its end: its requests are resolved and answered in order. After the first that ends the
+/// connection, and where the line fails or memory runs out while a request is read, no more is read of it.
 ///
 /// `known` is what is known of the store as the connection begins: whether a completion may be sealed on it. It goes from
 /// one connection to the next. After the call it says what is known then.
@@ -35,8 +35,8 @@ pub fn serve_connection<N: Line<W>, W: Swift, C: Clock, D: Draws>(
     requires { IsTrue (N.model line.old).is_open }
     ensures line { LineServes (has_failed result) (N.model line.old) (N.model line.new) }
 
-    // Where line, clock and draws tell, it is one connection.
-    ensures serves { ServesOver service.now.settings (λ R old new. (turns : List Turn) × TalkOne service.now R old.line.wire.begun result (start_of old) turns (tally_of new))
+    // Where line, clock and draws are observable, it is one connection.
+    ensures serves { ServesOver service.now.settings (λ R old new. (spans : List Span) × ConnectionTrace service.now R old.line.transcript.begun result (start_of old) spans (progress_of new))
         (world (N.model line.old) (W.history store.old) known.old (C.model clock.old) (D.model draws.old))
         (world (N.model line.new) (W.history store.new) known.new (C.model clock.new) (D.model draws.new)) }
 {
@@ -77,7 +77,7 @@ fn serve_next<N: Line<W>, W: Swift, C: Clock, D: Draws>(
     ensures goes { result ≡ None → reader.new.ended ≡ false }
     ensures falls { result ≡ None → weight (N.model line.new).spent reader.new.bytes < weight (N.model line.old).spent reader.old.bytes }
     ensures line { LineServes (has_ended_failed result) (N.model line.old) (N.model line.new) }
-    ensures serves { ServesOver service.now.settings (λ R old new. NextOne service.now R old.line.wire.begun (point_of reader.old old) result (point_of reader.new new))
+    ensures serves { ServesOver service.now.settings (λ R old new. NextOne service.now R old.line.transcript.begun (cursor_of reader.old old) result (cursor_of reader.new new))
         (world (N.model line.old) (W.history store.old) known.old (C.model clock.old) (D.model draws.old))
         (world (N.model line.new) (W.history store.new) known.new (C.model clock.new) (D.model draws.new)) }
 {
@@ -123,21 +123,21 @@ fn answer<N: Line<W>, W: Swift, C: Clock, D: Draws>(
     requires { IsTrue (N.model line.old).is_open }
     ensures ends { result ≡ None → end_of received.now ≡ None }
     ensures writes { OnlyWrites (has_ended_failed result) (N.model line.old) (N.model line.new) }
-    ensures serves { ServesOver service.now.settings (λ R old new. TurnEnds R old.line.wire.begun (tally_of old) (tally_of new) (asks_of service.now received.now) result)
+    ensures serves { ServesOver service.now.settings (λ R old new. HandledEnds R old.line.transcript.begun (progress_of old) (progress_of new) (asks_of service.now received.now) result)
         (world (N.model line.old) (W.history store.old) known.old (C.model clock.old) (D.model draws.old))
         (world (N.model line.new) (W.history store.new) known.new (C.model clock.new) (D.model draws.new)) }
 {
-    match take_turn(alloc, store, known, service, line, clock, draws, received) {
-        Turned::Served(ended) => ended,
-        Turned::Broken => Some(Ended::LineFailed),
+    match handle_request(alloc, store, known, service, line, clock, draws, received) {
+        Handled::Served(ended) => ended,
+        Handled::Broken => Some(Ended::LineFailed),
     }
 }
 
-/// Ends a connection whose next request could not be read for want of memory: the reply for that is written.
+/// Ends a connection whose next request could not be read because memory ran out: the reply for that is written.
 fn end_unread<N: Line<W>, W: Swift>(line: &mut N, store: &W) -> Ended
     requires { IsTrue (N.model line.old).is_open }
     ensures writes { OnlyWrites (has_failed result) (N.model line.old) (N.model line.new) }
-    ensures told { IsTrue (N.model line.old).tells → EndsUnread (W.history store.now).called (N.model line.old).wire result (N.model line.new).wire }
+    ensures effect { IsTrue (N.model line.old).observable → EndsUnread (W.history store.now).called (N.model line.old).transcript result (N.model line.new).transcript }
 {
     match write_memory(line, store, false) {
         Written::Failed => Ended::LineFailed,

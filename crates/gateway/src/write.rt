@@ -21,13 +21,13 @@ use swift_calls::Swift;
 pub enum Written {
     /// The reply was written.
     Whole,
-    /// Memory was wanted, and the reply for that was written.
+    /// Memory ran out, and the reply for that was written.
     Memory,
     /// The line failed under either.
     Failed,
 }
 
-/// Writes a reply as one piece, or the reply for want of memory in its place.
+/// Writes a reply as one piece, or the out-of-memory reply in its place.
 pub fn write_reply<N: Line<W>, W: Swift>(
     alloc: Global,
     line: &mut N,
@@ -42,8 +42,8 @@ pub fn write_reply<N: Line<W>, W: Swift>(
     requires showable { IsShowable reply.now }
     requires moment { label.now.moment < moment_limit }
     ensures writes { OnlyWrites (has_failed_write result) (N.model line.old) (N.model line.new) }
-    ensures told { IsTrue (N.model line.old).tells
-        → Writes (N.model line.old).wire (W.history store.now).called reply.now label.now method.now resource.now closing result (N.model line.new).wire }
+    ensures effect { IsTrue (N.model line.old).observable
+        → Writes (N.model line.old).transcript (W.history store.now).called reply.now label.now method.now resource.now closing result (N.model line.new).transcript }
 {
     match print_reply(alloc, reply, label, method, resource, closing) {
         Ok(text) => match line.write(store, text.as_slice()) {
@@ -54,22 +54,22 @@ pub fn write_reply<N: Line<W>, W: Swift>(
     }
 }
 
-/// Writes the reply for want of memory.
+/// Writes the out-of-memory reply.
 pub fn write_memory<N: Line<W>, W: Swift>(line: &mut N, store: &W, head: bool) -> Written
     requires { IsTrue (N.model line.old).is_open }
     ensures outcome { result ≢ written.Whole }
     ensures writes { OnlyWrites (has_failed_write result) (N.model line.old) (N.model line.new) }
-    ensures told { IsTrue (N.model line.old).tells → WritesWanted (N.model line.old).wire (W.history store.now).called (memory_reply head) result (N.model line.new).wire }
+    ensures effect { IsTrue (N.model line.old).observable → WritesWanted (N.model line.old).transcript (W.history store.now).called (memory_reply head) result (N.model line.new).transcript }
 {
     write_wanted(line, store, print_memory(head))
 }
 
-/// Writes these bytes, which are the reply for want of memory.
+/// Writes these bytes, which are the out-of-memory reply.
 fn write_wanted<N: Line<W>, W: Swift>(line: &mut N, store: &W, bytes: &[u8]) -> Written
     requires { IsTrue (N.model line.old).is_open }
     ensures outcome { result ≢ written.Whole }
     ensures writes { OnlyWrites (has_failed_write result) (N.model line.old) (N.model line.new) }
-    ensures told { IsTrue (N.model line.old).tells → WritesWanted (N.model line.old).wire (W.called store.now) bytes.now result (N.model line.new).wire }
+    ensures effect { IsTrue (N.model line.old).observable → WritesWanted (N.model line.old).transcript (W.called store.now) bytes.now result (N.model line.new).transcript }
 {
     match line.write(store, bytes) {
         Ok(()) => Written::Memory,
@@ -80,7 +80,7 @@ fn write_wanted<N: Line<W>, W: Swift>(line: &mut N, store: &W, bytes: &[u8]) -> 
 /// The bytes of a reply to a request of that method, whose target has the raw path `resource`; `closing` says that the
 /// connection ends after it. The moments in the label and the reply, in seconds since the beginning of 1970, lie before
 /// the year 10000, and an object's range ends at most at 2^63 and isn't empty where it is partial.
-/// The call fails for want of memory, and for the reply that says so, whose bytes are fixed and need none
+/// The call fails where memory runs out, and for the reply that says so, whose bytes are fixed and need none
 /// ([`http_wire::print_memory`]).
 #[tactic(auto, using(crate::proofs::Statuses::reply_status), unfolding(crate::specs::Request::reply_text))]
 pub fn print_reply(

@@ -1,6 +1,6 @@
-pub mod Talks
-pub mod Sessions
+pub mod Exits
 pub mod Marks
 pub mod Refusing
 pub mod Reporting
-pub mod Exits
+pub mod RunTraces
+pub mod Sessions

@@ -4,8 +4,8 @@ use Rattle.std.proofs.Common.{refl, sym, ap, subst, ◌∙◌, arith}
 use Rattle.std.proofs.lemmas.List.{append-nil, append_assoc, replicate-append-replicate}
 use Rattle.gate_base.specs.declared.faults.Failed.{Failed}
 use Rattle.gate_base.specs.Causes.{Rose, RisesIf}
-use Rattle.gate_base.specs.Line.{LineModel, LineNext, LineServes, WireServes}
-use Rattle.gate_base.specs.Wire.{Wire, Begins}
+use Rattle.gate_base.specs.Line.{LineModel, LineNext, LineServes, TranscriptServes}
+use Rattle.gate_base.specs.Transcript.{Transcript, Begins}
 use Rattle.gateway_cmd.specs.declared.status.Status.{Status}
 use Rattle.gateway_cmd.specs.declared.status.Status.TheVariants.{Done, Line}
 use Rattle.gateway_cmd.specs.Session.{Unmarked, LineServesNext}
@@ -18,7 +18,7 @@ rose_last : (first second third : ℕ) → first ≤ second → Rose second thir
 rose_last first second third order rose = omega arith
 
 -- nothing began
-pub unmarked_none : (old new : Wire) → new ≡ old → Unmarked old new
+pub unmarked_none : (old new : Transcript) → new ≡ old → Unmarked old new
 unmarked_none old new same =
     let none : 0 ≡ old.begun - old.begun = omega arith in
     subst (Unmarked old) (sym same) (record {
@@ -27,7 +27,7 @@ unmarked_none old new same =
     })
 
 -- connections without a mark, and then more
-unmarked_more : (old middle new : Wire) → Unmarked old middle → Unmarked middle new → Unmarked old new
+unmarked_more : (old middle new : Transcript) → Unmarked old middle → Unmarked middle new → Unmarked old new
 unmarked_more old middle new first then =
     let begins = first.begun in
     let goes = then.begun in
@@ -42,13 +42,13 @@ unmarked_more old middle new first then =
     }
 
 -- a connection that was served, and after which the line's count did not rise, left no mark
-one_unmarked : (failed : Bool) (old middle new : LineModel) → middle.faults ≡ old.faults → RisesIf failed middle.faults new.faults → Begins true old.wire middle.wire → WireServes failed middle.wire new.wire
-    → (Rose old.faults new.faults → ⊥) → Unmarked old.wire new.wire
+one_unmarked : (failed : Bool) (old middle new : LineModel) → middle.faults ≡ old.faults → RisesIf failed middle.faults new.faults → Begins true old.transcript middle.transcript → TranscriptServes failed middle.transcript new.transcript
+    → (Rose old.faults new.faults → ⊥) → Unmarked old.transcript new.transcript
 one_unmarked true old middle new same rises begins serves still = absurd (still (subst (λ n. Rose n new.faults) same rises))
 one_unmarked false old middle new same rises begins serves still =
-    let begun : new.wire.begun ≡ old.wire.begun + 1 = serves.begun ∙ begins.1 in
-    let one : 1 ≡ new.wire.begun - old.wire.begun = omega arith in
-    record { begun = omega arith; marks = serves.marks ∙ begins.3 ∙ ap (λ n. old.wire.marks ++ replicate n false) one }
+    let begun : new.transcript.begun ≡ old.transcript.begun + 1 = serves.begun ∙ begins.1 in
+    let one : 1 ≡ new.transcript.begun - old.transcript.begun = omega arith in
+    record { begun = omega arith; marks = serves.marks ∙ begins.3 ∙ ap (λ n. old.transcript.marks ++ replicate n false) one }
 
 rises_above : (failed : Bool) (before now : ℕ) → RisesIf failed before now → before ≤ now
 rises_above true before now rises = omega arith
@@ -66,8 +66,8 @@ line_serves_next {failed = failed} {old = old} {middle = middle} {new = new} nex
       falls = λ is. omega arith;
       faults = omega arith;
       next_faults = serves.next_faults ∙ next.next_faults;
-      done = λ tells not. cc;
-      unmarked = λ tells still. one_unmarked failed old middle new same serves.faults (next.told tells) (serves.wire (next.tells tells)) still;
+      done = λ observable not. cc;
+      unmarked = λ observable still. one_unmarked failed old middle new same serves.faults (next.effect observable) (serves.transcript (next.observable observable)) still;
     }
 
 -- there is no other
@@ -79,8 +79,8 @@ line_serves_none {old = old} {new = new} next =
       falls = λ not. cc;
       faults = omega arith;
       next_faults = next.next_faults;
-      done = λ tells is. (let told = next.told tells in ap (λ w. w.waiting) told.1 ∙ told.0);
-      unmarked = λ tells still. unmarked_none _ _ (next.told tells).1;
+      done = λ observable is. (let told = next.effect observable in ap (λ w. w.waiting) told.1 ∙ told.0);
+      unmarked = λ observable still. unmarked_none _ _ (next.effect observable).1;
     }
 
 -- or the line failed to give it
@@ -92,17 +92,17 @@ line_serves_failed {old = old} {new = new} next =
       falls = λ not. cc;
       faults = omega arith;
       next_faults = next.next_faults;
-      done = λ tells not. cc;
-      unmarked = λ tells still. unmarked_none _ _ (next.told_err tells);
+      done = λ observable not. cc;
+      unmarked = λ observable still. unmarked_none _ _ (next.effect_err observable);
     }
 
 -- connections were served, and then the next
-pub unmarked_next : {result : Option Status} (old middle new : LineModel) → (IsTrue old.tells → IsTrue middle.tells) → old.faults ≤ middle.faults → (IsTrue old.tells → (Rose old.faults middle.faults → ⊥) → Unmarked old.wire middle.wire)
-    → LineServesNext result middle new → IsTrue old.tells → (Rose old.faults new.faults → ⊥) → Unmarked old.wire new.wire
-unmarked_next old middle new tells risen before next told still = unmarked_more old.wire middle.wire new.wire
+pub unmarked_next : {result : Option Status} (old middle new : LineModel) → (IsTrue old.observable → IsTrue middle.observable) → old.faults ≤ middle.faults → (IsTrue old.observable → (Rose old.faults middle.faults → ⊥) → Unmarked old.transcript middle.transcript)
+    → LineServesNext result middle new → IsTrue old.observable → (Rose old.faults new.faults → ⊥) → Unmarked old.transcript new.transcript
+unmarked_next old middle new observable risen before next told still = unmarked_more old.transcript middle.transcript new.transcript
     (before told (λ rose. still (rose_first old.faults middle.faults new.faults rose next.faults)))
-    (next.unmarked (tells told) (λ rose. still (rose_last old.faults middle.faults new.faults risen rose)))
+    (next.unmarked (observable told) (λ rose. still (rose_last old.faults middle.faults new.faults risen rose)))
 
 -- all are served, where the last answer says so
-pub done_next : {status : Status} {old new : LineModel} → LineServesNext (Some status) old new → IsTrue old.tells → status ≡ Done → new.wire.waiting ≡ []
-done_next next tells is = next.done tells (ap Some is)
+pub done_next : {status : Status} {old new : LineModel} → LineServesNext (Some status) old new → IsTrue old.observable → status ≡ Done → new.transcript.waiting ≡ []
+done_next next observable is = next.done observable (ap Some is)

@@ -6,15 +6,15 @@ use Rattle.gate_base.specs.Told.{SinkModel, PutsPrefix}
 use Rattle.hex.specs.Hex.{encode_lower}
 use Rattle.sigv4.specs.Keys.{keys_of, are_keys, secret_of}
 use Rattle.sigv4.specs.declared.signature.Signed.{Signed as Signature}
-use Rattle.signing.specs.declared.first.Signing.{Signing}
-use Rattle.signing.specs.declared.first.Signing.TheVariants as signing
-use Rattle.gateway_words.specs.Words.{command_of}
-use Rattle.gateway_words.specs.declared.command.Command.{Command}
-use Rattle.gateway_words.specs.declared.command.Command.TheVariants.{Session, Sign}
+use Rattle.sign_cmd.specs.declared.first.Signing.{Signing}
+use Rattle.sign_cmd.specs.declared.first.Signing.TheVariants as signing
+use Rattle.gateway_cli.specs.Words.{command_of}
+use Rattle.gateway_cli.specs.declared.command.Command.{Command}
+use Rattle.gateway_cli.specs.declared.command.Command.TheVariants.{Session, Sign}
 use Rattle.gateway_cmd.specs.declared.status.Status.{Status}
 use Rattle.gateway_cmd.specs.declared.status.Status.TheVariants.{Done, Usage, Line, Request, Memory}
-use Rattle.gateway_cmd.specs.declared.status.Ended.{Ended}
-use Rattle.gateway_cmd.specs.declared.status.Ended.TheVariants.{Signed, Plain}
+use Rattle.gateway_cmd.specs.declared.status.RunOutcome.{RunOutcome}
+use Rattle.gateway_cmd.specs.declared.status.RunOutcome.TheVariants.{Signed, Plain}
 
 -- the command can be done by the key text: each of its lines is a key, no id twice; and to sign, one of them has the id
 abbrev pub is_possible : Option Command → List ℕ → Bool
@@ -67,36 +67,36 @@ abbrev pub IsStatus : ℕ → Type 0
 IsStatus status = (status ≡ 0) ⊎ ((status ≡ 2) ⊎ ((status ≡ 3) ⊎ ((status ≡ 5) ⊎ ((status ≡ 6) ⊎ (status ≡ 8)))))
 
 -- how a run ended that signed, or couldn't
-abbrev pub end_of : Signing → Ended
+abbrev pub end_of : Signing → RunOutcome
 end_of (signing.Signed signed) = Signed signed
 end_of signing.NoRequest = Plain Request
 end_of signing.LineFailed = Plain Line
 end_of signing.Memory = Plain Memory
 
 -- the run ended without a signature
-abbrev pub is_plain : Ended → Bool
+abbrev pub is_plain : RunOutcome → Bool
 is_plain (Signed signed) = false
 is_plain (Plain ended) = true
 
 -- how a run may end by what is asked for: a session without a signature, and another run not as a session does
-abbrev pub Fits : Task → Ended → Type 0
+abbrev pub Fits : Task → RunOutcome → Type 0
 Fits nothing ended = ended ≢ Plain Done
 Fits to_serve ended = is_plain ended ≡ true
 Fits to_sign ended = ended ≢ Plain Done
 
 -- the exit status of a run that ended so, and what it reports: 6 where the report of a signature failed; the lines of a
 -- signature may find no memory
-abbrev pub Says : Ended → ℕ → List ℕ → Type 0
+abbrev pub Says : RunOutcome → ℕ → List ℕ → Type 0
 Says (Signed signed) status text = (((status ≡ 0) ⊎ (status ≡ 6)) × (text ≡ signed_lines signed)) ⊎ ((status ≡ 5) × (text ≡ line_of Memory))
 Says (Plain ended) status text = (status ≡ code_of ended) × (text ≡ line_of ended)
 
 -- the text was put, or the sink's count of faults rose, and the first bytes of the text were put and nothing else
 pub record Reports (text : List ℕ) (old new : SinkModel) : Type 0 where
-  pub tells : IsTrue old.tells → IsTrue new.tells
-  pub told : IsTrue old.tells → (new.bytes ≡ old.bytes ++ text) ⊎ (Rose old.faults new.faults × PutsPrefix old.bytes text new.bytes)
+  pub observable : IsTrue old.observable → IsTrue new.observable
+  pub effect : IsTrue old.observable → (new.bytes ≡ old.bytes ++ text) ⊎ (Rose old.faults new.faults × PutsPrefix old.bytes text new.bytes)
 
 -- the run ended for the line, and the run ended with all served
-abbrev pub is_line : Ended → Bool
+abbrev pub is_line : RunOutcome → Bool
 is_line (Signed signed) = false
 is_line (Plain Done) = false
 is_line (Plain Usage) = false
@@ -104,7 +104,7 @@ is_line (Plain Line) = true
 is_line (Plain Request) = false
 is_line (Plain Memory) = false
 
-abbrev pub is_done : Ended → Bool
+abbrev pub is_done : RunOutcome → Bool
 is_done (Signed signed) = false
 is_done (Plain Done) = true
 is_done (Plain Usage) = false
@@ -112,9 +112,9 @@ is_done (Plain Line) = false
 is_done (Plain Request) = false
 is_done (Plain Memory) = false
 
--- how a run ended, by whether what is asked for can be done: just where it can't it is refused, but for want of memory; and a
+-- how a run ended, by whether what is asked for can be done: just where it can't it is refused, unless memory runs out; and a
 -- request is wanting only where one is to be signed
-pub record Admits (possible : Bool) (task : Task) (ended : Ended) : Type 0 where
+pub record Admits (possible : Bool) (task : Task) (ended : RunOutcome) : Type 0 where
   pub usage : ended ≡ Plain Usage → possible ≡ false
   pub refused : possible ≡ false → ended ≢ Plain Memory → ended ≡ Plain Usage
   pub request : ended ≡ Plain Request → (possible ≡ true) × (task ≡ to_sign)

@@ -2,7 +2,7 @@
 use Rattle.std.specs.Prelude.{◌≡◌, ◌≢◌, ◌<◌, ◌≤◌, ◌⊎◌, ℕ, ◌+◌, ◌-◌, ◌^◌, Bool, true, false, IsTrue, List, [], ◌++◌, replicate, Option, None, Some, Result, Ok, Err}
 use Rattle.gate_base.specs.Causes.{Rose, RisesIf}
 use Rattle.gate_base.specs.Line.{LineModel}
-use Rattle.gate_base.specs.Wire.{Wire}
+use Rattle.gate_base.specs.Transcript.{Transcript}
 use Rattle.s3_machine.specs.declared.operation.Label.{Label}
 use Rattle.s3_machine.specs.declared.operation.Reply.{Reply}
 use Rattle.s3_machine.specs.declared.operation.Settings.{Settings}
@@ -11,20 +11,20 @@ use Rattle.sigv4.specs.Keys.{keys_of, are_keys, secret_of}
 use Rattle.sigv4.specs.declared.keys.AccessKey.{AccessKey}
 use Rattle.sigv4.specs.declared.keys.KeysFault.{KeysFault}
 use Rattle.sigv4.specs.declared.keys.KeysFault.TheVariants as fault
-use Rattle.signing.specs.Signing.{AnswersFirst, SignsOn}
-use Rattle.signing.specs.declared.first.Signing.{Signing}
+use Rattle.sign_cmd.specs.Signing.{AnswersFirst, SignsOn}
+use Rattle.sign_cmd.specs.declared.first.Signing.{Signing}
 use Rattle.gateway.specs.declared.service.Service.{Service}
 use Rattle.gateway.specs.Request.{Request}
-use Rattle.gateway.specs.Exchange.{Mark, Turn}
+use Rattle.gateway.specs.Exchange.{Mark, Span}
 use Rattle.gateway.specs.World.{World, ServesOver}
-use Rattle.gateway_words.specs.declared.command.Command.{Command}
-use Rattle.gateway_words.specs.declared.command.Command.TheVariants.{Session, Sign}
+use Rattle.gateway_cli.specs.declared.command.Command.{Command}
+use Rattle.gateway_cli.specs.declared.command.Command.TheVariants.{Session, Sign}
 use Rattle.gateway_cmd.specs.declared.status.Status.{Status}
 use Rattle.gateway_cmd.specs.declared.status.Status.TheVariants.{Done, Usage, Line, Request as NoRequest, Memory}
-use Rattle.gateway_cmd.specs.declared.status.Ended.{Ended}
-use Rattle.gateway_cmd.specs.declared.status.Ended.TheVariants.{Plain}
+use Rattle.gateway_cmd.specs.declared.status.RunOutcome.{RunOutcome}
+use Rattle.gateway_cmd.specs.declared.status.RunOutcome.TheVariants.{Plain}
 use Rattle.gateway_cmd.specs.Report.{end_of, is_plain, is_line, is_done}
-use Rattle.gateway_cmd.specs.Run.{place_of, ServesNext, Talks}
+use Rattle.gateway_cmd.specs.Run.{run_cursor_of, ServesNext, RunTraces}
 
 -- the settings of a service of that region
 abbrev pub settings_of : List ℕ → Settings
@@ -46,10 +46,10 @@ serving_of (Some (Session region)) = Some (record { settings = settings_of regio
 serving_of (Some (Sign id region)) = None
 
 -- no connection is left, or as many as were asked for began
-abbrev pub IsServedOut : Serving → Wire → Wire → Type 0
+abbrev pub IsServedOut : Serving → Transcript → Transcript → Type 0
 IsServedOut serving old new = (new.waiting ≡ []) ⊎ ((n : ℕ) × (serving.most ≡ Some n) × (new.begun ≡ old.begun + n))
 
--- what a key text gives: its keys, each of the form and no id twice; or it is refused; want of memory may come for any
+-- what a key text gives: its keys, each of the form and no id twice; or it is refused; memory may run out for any
 abbrev pub Offers : List ℕ → Result (List AccessKey) KeysFault → Type 0
 Offers keys (Ok read) = (read ≡ keys_of keys) × (are_keys (keys_of keys) ≡ true)
 Offers keys (Err (fault.BadLine n)) = are_keys (keys_of keys) ≡ false
@@ -57,12 +57,12 @@ Offers keys (Err (fault.Twice n)) = are_keys (keys_of keys) ≡ false
 Offers keys (Err fault.Memory) = Unit {0}
 
 -- the next connection was served, or nothing came between
-abbrev pub NextPlace : Service → (Mark → Turn → Mark → Request → Label → Reply → Type 0) → Option Status → World → World → Type 0
-NextPlace service R None old new = (turns : List Turn) × ServesNext service R (place_of old) turns (place_of new)
-NextPlace service R (Some status) old new = place_of new ≡ place_of old
+abbrev pub NextCursor : Service → (Mark → Span → Mark → Request → Label → Reply → Type 0) → Option Status → World → World → Type 0
+NextCursor service R None old new = (spans : List Span) × ServesNext service R (run_cursor_of old) spans (run_cursor_of new)
+NextCursor service R (Some status) old new = run_cursor_of new ≡ run_cursor_of old
 
 -- connections began, and none of them has the mark of a failed line
-pub record Unmarked (old new : Wire) : Type 0 where
+pub record Unmarked (old new : Transcript) : Type 0 where
   pub begun : old.begun ≤ new.begun
   pub marks : new.marks ≡ old.marks ++ replicate (new.begun - old.begun) false
 
@@ -90,34 +90,34 @@ pub record LineServesNext (result : Option Status) (old new : LineModel) : Type 
   pub falls : result ≡ None → 2 ^ 63 - new.spent < 2 ^ 63 - old.spent
   pub faults : old.faults ≤ new.faults
   pub next_faults : RisesIf (is_failed_end result) old.next_faults new.next_faults
-  pub done : IsTrue old.tells → result ≡ Some Done → new.wire.waiting ≡ []
-  pub unmarked : IsTrue old.tells → (Rose old.faults new.faults → ⊥) → Unmarked old.wire new.wire
+  pub done : IsTrue old.observable → result ≡ Some Done → new.transcript.waiting ≡ []
+  pub unmarked : IsTrue old.observable → (Rose old.faults new.faults → ⊥) → Unmarked old.transcript new.transcript
 
 -- the connections were, until there was none
 pub record LineServesAll (status : Status) (old new : LineModel) : Type 0 where
   pub ends : is_end status ≡ true
   pub next_faults : RisesIf (is_line (Plain status)) old.next_faults new.next_faults
-  pub done : IsTrue old.tells → status ≡ Done → new.wire.waiting ≡ []
-  pub unmarked : IsTrue old.tells → (Rose old.faults new.faults → ⊥) → Unmarked old.wire new.wire
+  pub done : IsTrue old.observable → status ≡ Done → new.transcript.waiting ≡ []
+  pub unmarked : IsTrue old.observable → (Rose old.faults new.faults → ⊥) → Unmarked old.transcript new.transcript
 
 -- what a run that serves does to the line, by whether the line failed to give a connection, and whether all was done
 pub record LineServed (serving : Serving) (failed done : Bool) (old new : LineModel) : Type 0 where
   pub next_faults : RisesIf failed old.next_faults new.next_faults
-  pub served_out : IsTrue old.tells → done ≡ true → IsServedOut serving old.wire new.wire
-  pub unmarked : IsTrue old.tells → (Rose old.faults new.faults → ⊥) → Unmarked old.wire new.wire
+  pub served_out : IsTrue old.observable → done ≡ true → IsServedOut serving old.transcript new.transcript
+  pub unmarked : IsTrue old.observable → (Rose old.faults new.faults → ⊥) → Unmarked old.transcript new.transcript
 
 -- ---- a run but for its report, by what is asked for
 
 -- connections were served; what is known of the store at the end is the run's own
-pub record RunServes (serving : Serving) (keys : List ℕ) (ended : Ended) (old : World) (new : Known → World) : Type 0 where
+pub record RunServes (serving : Serving) (keys : List ℕ) (ended : RunOutcome) (old : World) (new : Known → World) : Type 0 where
   pub plain : is_plain ended ≡ true
   pub known : Known
   pub line : LineServed serving (is_line ended) (is_done ended) old.line (new known).line
-  pub serves : ServesOver serving.settings (Talks (service_of serving keys)) old (new known)
+  pub serves : ServesOver serving.settings (RunTraces (service_of serving keys)) old (new known)
 
 -- the first request was signed, or could not be; where the key is there, by its secret
-pub record RunSigns (id region keys : List ℕ) (ended : Ended) (old new : LineModel) : Type 0 where
+pub record RunSigns (id region keys : List ℕ) (ended : RunOutcome) (old new : LineModel) : Type 0 where
   pub other : ended ≢ Plain Done
   pub line : SignsOn (is_line ended) old new
-  pub told : (secret : List ℕ) → are_keys (keys_of keys) ≡ true → secret_of id (keys_of keys) ≡ Some secret → IsTrue old.tells → ended ≢ Plain Memory
-      → (signing : Signing) × AnswersFirst secret region old.wire.waiting signing × (ended ≡ end_of signing)
+  pub effect : (secret : List ℕ) → are_keys (keys_of keys) ≡ true → secret_of id (keys_of keys) ≡ Some secret → IsTrue old.observable → ended ≢ Plain Memory
+      → (signing : Signing) × AnswersFirst secret region old.transcript.waiting signing × (ended ≡ end_of signing)

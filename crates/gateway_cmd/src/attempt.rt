@@ -2,23 +2,23 @@
 ghost use Rattle.std.specs.Prelude.{◌≡◌, ◌≢◌, ℕ, false, IsTrue, List, Some, None};
 ghost use Rattle.recovery.specs.declared.state.Known.TheVariants.{Unsure};
 ghost use Rattle.sigv4.specs.Keys.{secret_of};
-ghost use Rattle.signing.specs.Signing.{AnswersFirst, SignsOn};
-ghost use Rattle.signing.specs.declared.first.Signing.{Signing};
+ghost use Rattle.sign_cmd.specs.Signing.{AnswersFirst, SignsOn};
+ghost use Rattle.sign_cmd.specs.declared.first.Signing.{Signing};
 ghost use Rattle.gateway.specs.World.{world, Continues};
-ghost use Rattle.gateway_words.specs.Words.{command_of};
-ghost use Rattle.gateway_words.specs.declared.command.Command.TheVariants as commands;
+ghost use Rattle.gateway_cli.specs.Words.{command_of};
+ghost use Rattle.gateway_cli.specs.declared.command.Command.TheVariants as commands;
 ghost use Rattle.gateway_cmd.specs.Report.{Admits, asked_for, is_admitted, is_line, is_possible, task_of, to_sign, end_of};
-ghost use Rattle.gateway_cmd.specs.declared.status.Ended.TheVariants as ended;
+ghost use Rattle.gateway_cmd.specs.declared.status.RunOutcome.TheVariants as ended;
 ghost use Rattle.gateway_cmd.specs.declared.status.Status.TheVariants as status;
 ghost use Rattle.gateway_cmd.specs.Session.{RunServes, RunSigns, Serving, serving_of};
 
 use crate::service::{read_keys, service};
 use crate::session::session;
-use crate::status::{Ended, Status};
+use crate::status::{RunOutcome, Status};
 use gate_base::{Bytes, Clock, Draws, Line};
-use gateway_words::{Command, WordsFault, read_words};
+use gateway_cli::{Command, WordsFault, read_words};
 use recovery::Known;
-use signing::{Signing, sign_first};
+use sign_cmd::{Signing, sign_first};
 use sigv4::{Keys, KeysFault};
 use std::alloc::Global;
 use swift_calls::Swift;
@@ -32,7 +32,7 @@ pub fn attempt<N: Line<W>, W: Swift, C: Clock, D: Draws>(
     store: &mut W,
     clock: &mut C,
     draws: &mut D,
-) -> Ended
+) -> RunOutcome
     ensures admits { Admits (is_admitted words.now keys.now) (asked_for words.now) result }
     ensures idle { is_admitted words.now keys.now ≡ false → (line.new ≡ line.old) × (store.new ≡ store.old) × (clock.new ≡ clock.old) × (draws.new ≡ draws.old) }
     ensures apart { asked_for words.now ≡ to_sign → (store.new ≡ store.old) × (clock.new ≡ clock.old) × (draws.new ≡ draws.old) }
@@ -46,8 +46,8 @@ pub fn attempt<N: Line<W>, W: Swift, C: Clock, D: Draws>(
 {
     match read_words(alloc, words) {
         Ok(command) => perform(alloc, command, keys, line, store, clock, draws),
-        Err(WordsFault::Refused) => Ended::Plain(Status::Usage),
-        Err(WordsFault::Memory) => Ended::Plain(Status::Memory),
+        Err(WordsFault::Refused) => RunOutcome::Plain(Status::Usage),
+        Err(WordsFault::Memory) => RunOutcome::Plain(Status::Memory),
     }
 }
 
@@ -60,7 +60,7 @@ fn perform<N: Line<W>, W: Swift, C: Clock, D: Draws>(
     store: &mut W,
     clock: &mut C,
     draws: &mut D,
-) -> Ended
+) -> RunOutcome
     ensures admits { Admits (is_possible (Some command) keys.now) (task_of (Some command)) result }
     ensures idle { is_possible (Some command) keys.now ≡ false → (line.new ≡ line.old) × (store.new ≡ store.old) × (clock.new ≡ clock.old) × (draws.new ≡ draws.old) }
     ensures apart { task_of (Some command) ≡ to_sign → (store.new ≡ store.old) × (clock.new ≡ clock.old) × (draws.new ≡ draws.old) }
@@ -77,13 +77,13 @@ fn perform<N: Line<W>, W: Swift, C: Clock, D: Draws>(
             Command::Session { region } => {
                 let service = service(region, keys);
                 let mut known = Known::Unsure;
-                Ended::Plain(session(alloc, &service, line, store, &mut known, clock, draws))
+                RunOutcome::Plain(session(alloc, &service, line, store, &mut known, clock, draws))
             }
             Command::Sign { key, region } => sign(alloc, &keys, &key, &region, line, store),
         },
-        Err(KeysFault::BadLine(_)) => Ended::Plain(Status::Usage),
-        Err(KeysFault::Twice(_)) => Ended::Plain(Status::Usage),
-        Err(KeysFault::Memory) => Ended::Plain(Status::Memory),
+        Err(KeysFault::BadLine(_)) => RunOutcome::Plain(Status::Usage),
+        Err(KeysFault::Twice(_)) => RunOutcome::Plain(Status::Usage),
+        Err(KeysFault::Memory) => RunOutcome::Plain(Status::Memory),
     }
 }
 
@@ -95,28 +95,28 @@ fn sign<N: Line<W>, W: Swift>(
     region: &Bytes,
     line: &mut N,
     store: &W,
-) -> Ended
+) -> RunOutcome
     ensures usage { result ≡ ended.Plain status.Usage → secret_of id.now keys.now ≡ None }
     ensures refused { secret_of id.now keys.now ≡ None → (result ≡ ended.Plain status.Usage) × (line.new ≡ line.old) }
     ensures other { result ≢ ended.Plain status.Done }
     ensures line { SignsOn (is_line result) (N.model line.old) (N.model line.new) }
-    ensures told { (secret : List ℕ) → secret_of id.now keys.now ≡ Some secret → IsTrue (N.model line.old).tells
-        → (signing : Signing) × AnswersFirst secret region.now (N.model line.old).wire.waiting signing × (result ≡ end_of signing) }
+    ensures effect { (secret : List ℕ) → secret_of id.now keys.now ≡ Some secret → IsTrue (N.model line.old).observable
+        → (signing : Signing) × AnswersFirst secret region.now (N.model line.old).transcript.waiting signing × (result ≡ end_of signing) }
 {
     match keys.secret(id.as_slice()) {
         Some(secret) => end_of(sign_first(alloc, secret, region.as_slice(), line, store)),
-        None => Ended::Plain(Status::Usage),
+        None => RunOutcome::Plain(Status::Usage),
     }
 }
 
 /// How a run ends that was to sign.
-fn end_of(signing: Signing) -> Ended
+fn end_of(signing: Signing) -> RunOutcome
     ensures { result ≡ end_of signing }
 {
     match signing {
-        Signing::Signed(signed) => Ended::Signed(signed),
-        Signing::NoRequest => Ended::Plain(Status::Request),
-        Signing::LineFailed => Ended::Plain(Status::Line),
-        Signing::Memory => Ended::Plain(Status::Memory),
+        Signing::Signed(signed) => RunOutcome::Signed(signed),
+        Signing::NoRequest => RunOutcome::Plain(Status::Request),
+        Signing::LineFailed => RunOutcome::Plain(Status::Line),
+        Signing::Memory => RunOutcome::Plain(Status::Memory),
     }
 }

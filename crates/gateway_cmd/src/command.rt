@@ -1,24 +1,24 @@
 ghost use Rattle.std.specs.Prelude.{◌≡◌, ◌==◌, ◌<◌, ℕ, true, false, IsTrue, List, Some};
 ghost use Rattle.gate_base.specs.Causes.{Rose};
-ghost use Rattle.swift_calls.specs.History.{budget, NoneFails};
+ghost use Rattle.swift_calls.specs.History.{budget, FaultFree};
 ghost use Rattle.recovery.specs.declared.state.Known.TheVariants.{Unsure};
 ghost use Rattle.recovery.specs.Calls.{Met};
 ghost use Rattle.recovery.specs.Settling.{Anything};
 ghost use Rattle.sigv4.specs.Keys.{keys_of, are_keys, secret_of};
-ghost use Rattle.signing.specs.Signing.{AnswersFirst, SignsOn};
-ghost use Rattle.signing.specs.declared.first.Signing.{Signing};
-ghost use Rattle.gateway.specs.World.{world, IsTold, Continues};
-ghost use Rattle.gateway_words.specs.Words.{command_of};
-ghost use Rattle.gateway_words.specs.declared.command.Command.TheVariants as commands;
+ghost use Rattle.sign_cmd.specs.Signing.{AnswersFirst, SignsOn};
+ghost use Rattle.sign_cmd.specs.declared.first.Signing.{Signing};
+ghost use Rattle.gateway.specs.World.{world, IsObservable, Continues};
+ghost use Rattle.gateway_cli.specs.Words.{command_of};
+ghost use Rattle.gateway_cli.specs.declared.command.Command.TheVariants as commands;
 ghost use Rattle.gateway_cmd.specs.Report.{asked_for, is_admitted, is_plain, to_serve, to_sign, IsStatus, Fits, Says, Reports, end_of, code_of, line_of};
-ghost use Rattle.gateway_cmd.specs.declared.status.Ended.{Ended as how};
-ghost use Rattle.gateway_cmd.specs.declared.status.Ended.TheVariants as ends;
+ghost use Rattle.gateway_cmd.specs.declared.status.RunOutcome.{RunOutcome as how};
+ghost use Rattle.gateway_cmd.specs.declared.status.RunOutcome.TheVariants as ends;
 ghost use Rattle.gateway_cmd.specs.declared.status.Status.TheVariants.{Done};
 ghost use Rattle.gateway_cmd.specs.Run.{RunHeard, RunStands, RunTold};
 ghost use Rattle.gateway_cmd.specs.Session.{LineServed, Serving, service_of, serving_of};
 
 use crate::attempt::attempt;
-use crate::status::{Ended, Status, signed_lines};
+use crate::status::{RunOutcome, Status, signed_lines};
 use gate_base::{Clock, Draws, Line, Sink};
 use sigv4::Signed;
 use std::alloc::Global;
@@ -27,26 +27,27 @@ use swift_calls::Swift;
 /// A whole run of `s3gate` with these words, which follow the program's name, by the keys of a key text (see
 /// [`sigv4::Keys::read`]). `session` serves the connections of the line, and `sign` signs its first request. The answer is
 /// the exit status: 0 where each connection was served, or the signature was reported; 2 where the words are refused (see
-/// [`gateway_words::read_words`]), or the key text, or it hasn't the key that is to sign; 3 where the line failed to give
-/// another connection, or at all while a request was to be signed; 5 where memory was wanted; 6 where the report of a
+/// [`gateway_cli::read_words`]), or the key text, or it hasn't the key that is to sign; 3 where the line failed to give
+/// another connection, or at all while a request was to be signed; 5 where memory ran out; 6 where the report of a
 /// signature failed; 8 where no request stood first on the line, or one that can't be signed.
 ///
-/// Of a run that serves, three clauses say what became of its requests, each with its turn: the numbers of calls before it,
-/// as its operation began, at its turning point, and after it.
+/// Of a run that serves, three clauses say what became of its requests, each with its span: the numbers of calls before
+/// it, as its operation began, at its commit point, and after it.
 ///
-/// `heard`, where line, clock and draws tell, over every store: the connections were served in order, none skipped, and in
-/// each the requests that stand in its bytes were answered in order. The bytes that are due for a request, or where the line
-/// failed under them the first of these, were sent at its turning point or later, and before the next request's first call. A
-/// request that is no operation got its code without a call, ServiceUnavailable came only where the store's count of faults
-/// rose, and the turns follow one another from entry to exit, with no call outside them.
+/// `heard`, where line, clock and draws are observable, over every store: the connections were served in order, none
+/// skipped, and in each the requests that stand in its bytes were answered in order. The bytes that are expected for a
+/// request, or where the line failed under them the first of these, were sent at its commit point or later, and before
+/// the next request's first call. A request that is no operation got its code without a call, ServiceUnavailable came
+/// only where the store's count of faults rose, and the spans follow one another from entry to exit, with no call outside
+/// them.
 ///
-/// `stands`, where the store tells and its account is sound at entry, whatever the line tells: there are requests whose turns
-/// follow one another from entry to exit, and the account goes through the steps of each. At each number of calls it is
-/// sound, and one that the request which has the number goes through. So it is left where a run is stopped (see
-/// [`gateway::law_many_runs`]).
+/// `stands`, where the store is observable and its account is consistent at entry, whatever the line tells: there are
+/// requests whose spans follow one another from entry to exit, and the account goes through the steps of each. At each
+/// number of calls it is consistent, and one that the request which has the number goes through. So it is left where a
+/// run is stopped (see [`gateway::law_many_runs`]).
 ///
 /// `told`, where all of these hold: both of the same requests, and the reply to an operation is the machine's, by the step
-/// that the account took, or tells that the store failed or that memory was wanted.
+/// that the account took, or tells that the store failed or that memory ran out.
 pub fn run<N: Line<W>, R: Sink, W: Swift, C: Clock, D: Draws>(
     alloc: Global,
     words: &[String],
@@ -83,39 +84,39 @@ pub fn run<N: Line<W>, R: Sink, W: Swift, C: Clock, D: Draws>(
     ensures unreported { result ≡ 6 → (asked_for words.now ≡ to_sign) × Rose (R.model report.old).faults (R.model report.new).faults }
     ensures reported { asked_for words.now ≡ to_sign → result ≡ 0 → (R.model report.new).faults ≡ (R.model report.old).faults }
 
-    // What told still tells, and what the store told of its calls before the run stays. Where its count of faults did not rise
-    // and calls are left, no call failed.
+    // What was observable still is, and what the store told of its calls before the run stays. Where its count of faults
+    // did not rise and calls are left, no call failed.
     ensures on { Continues
         (world (N.model line.old) (W.history store.old) Unsure (C.model clock.old) (D.model draws.old))
         (world (N.model line.new) (W.history store.new) Unsure (C.model clock.new) (D.model draws.new)) }
-    ensures undisturbed { IsTrue (W.history store.old).tells → (W.history store.new).called < budget → (Rose (W.history store.old).faults (W.history store.new).faults → ⊥)
-        → NoneFails (W.history store.new) (W.history store.old).called (W.history store.new).called }
+    ensures fault_free { IsTrue (W.history store.old).observable → (W.history store.new).called < budget → (Rose (W.history store.old).faults (W.history store.new).faults → ⊥)
+        → FaultFree (W.history store.new) (W.history store.old).called (W.history store.new).called }
 
-    // Where line, clock and draws tell, a run that serves is a talk: the requests of its connections in order, each with its
-    // turn. Over every store a request that is no operation gets its code without a call, and ServiceUnavailable comes only
-    // where the store's count of faults rose.
+    // Where line, clock and draws are observable, a run that serves is a trace: the requests of its connections in order,
+    // each with its span. Over every store a request that is no operation gets its code without a call, and
+    // ServiceUnavailable comes only where the store's count of faults rose.
     ensures heard { (serving : Serving) → serving_of (command_of words.now) ≡ Some serving
-        → IsTold (world (N.model line.old) (W.history store.old) Unsure (C.model clock.old) (D.model draws.old))
+        → IsObservable (world (N.model line.old) (W.history store.old) Unsure (C.model clock.old) (D.model draws.old))
         → RunHeard (service_of serving keys.now)
         (world (N.model line.old) (W.history store.old) Unsure (C.model clock.old) (D.model draws.old))
         (λ known. world (N.model line.new) (W.history store.new) known (C.model clock.new) (D.model draws.new)) }
 
-    // Where the store tells, and its account is sound at entry, the account stays sound, and goes through the steps of requests
-    // that follow one another, whatever the line tells of them.
+    // Where the store is observable, and its account is consistent at entry, the account stays consistent, and goes
+    // through the steps of requests that follow one another, whatever the line tells of them.
     ensures stands { (serving : Serving) → serving_of (command_of words.now) ≡ Some serving → Met Anything (W.history store.old)
         → RunStands serving.settings (W.history store.new) (W.history store.old).called (W.history store.new).called }
 
     // Where all of these hold, the replies are the machine's too, each after its step.
-    ensures told { (serving : Serving) → serving_of (command_of words.now) ≡ Some serving
-        → IsTold (world (N.model line.old) (W.history store.old) Unsure (C.model clock.old) (D.model draws.old)) → Met Anything (W.history store.old)
+    ensures effect { (serving : Serving) → serving_of (command_of words.now) ≡ Some serving
+        → IsObservable (world (N.model line.old) (W.history store.old) Unsure (C.model clock.old) (D.model draws.old)) → Met Anything (W.history store.old)
         → RunTold (service_of serving keys.now) (W.history store.new)
         (world (N.model line.old) (W.history store.old) Unsure (C.model clock.old) (D.model draws.old))
         (λ known. world (N.model line.new) (W.history store.new) known (C.model clock.new) (D.model draws.new)) }
 
     // What is signed is the line's first request, by the secret of the key.
-    ensures told_signed { (id region secret : List ℕ) → command_of words.now ≡ Some (commands.Sign id region)
-        → are_keys (keys_of keys.now) ≡ true → secret_of id (keys_of keys.now) ≡ Some secret → IsTrue (N.model line.old).tells → (result ≡ 5 → ⊥)
-        → (signing : Signing) × AnswersFirst secret region (N.model line.old).wire.waiting signing
+    ensures effect_signed { (id region secret : List ℕ) → command_of words.now ≡ Some (commands.Sign id region)
+        → are_keys (keys_of keys.now) ≡ true → secret_of id (keys_of keys.now) ≡ Some secret → IsTrue (N.model line.old).observable → (result ≡ 5 → ⊥)
+        → (signing : Signing) × AnswersFirst secret region (N.model line.old).transcript.waiting signing
         × (text : List ℕ) × Says (end_of signing) result text × Reports text (R.model report.old) (R.model report.new) }
 {
     let ended = attempt(alloc, words, keys, line, store, clock, draws);
@@ -123,15 +124,15 @@ pub fn run<N: Line<W>, R: Sink, W: Swift, C: Clock, D: Draws>(
 }
 
 /// Reports how a run ended. The answer is its exit status.
-fn tell<R: Sink>(alloc: Global, ended: Ended, report: &mut R) -> u8
+fn tell<R: Sink>(alloc: Global, ended: RunOutcome, report: &mut R) -> u8
     ensures says { (text : List ℕ) × Says ended result text × Reports text (R.model report.old) (R.model report.new) }
     ensures silent { ended ≡ ends.Plain Done → report.new ≡ report.old }
     ensures unreported { result ≡ 6 → (is_plain ended ≡ false) × Rose (R.model report.old).faults (R.model report.new).faults }
     ensures reported { is_plain ended ≡ false → result ≡ 0 → (R.model report.new).faults ≡ (R.model report.old).faults }
 {
     match ended {
-        Ended::Signed(signed) => tell_signed(alloc, &signed, report),
-        Ended::Plain(status) => tell_plain(status, report),
+        RunOutcome::Signed(signed) => tell_signed(alloc, &signed, report),
+        RunOutcome::Plain(status) => tell_plain(status, report),
     }
 }
 

@@ -9,4 +9,4 @@ mod session;
 mod status;
 
 pub use command::run;
-pub use laws::{law_talk_stands, law_talk_undisturbed, law_turns_follow};
+pub use laws::{law_spans_follow, law_trace_fault_free, law_trace_stands};

@@ -1,7 +1,7 @@
 //! The command `session`: the connections of the line, in turn.
 ghost use Rattle.gateway.specs.World.{world, ServesOver};
-ghost use Rattle.gateway_cmd.specs.Run.{Talks};
-ghost use Rattle.gateway_cmd.specs.Session.{LineServesAll, LineServesNext, NextPlace};
+ghost use Rattle.gateway_cmd.specs.Run.{RunTraces};
+ghost use Rattle.gateway_cmd.specs.Session.{LineServesAll, LineServesNext, NextCursor};
 
 use crate::status::Status;
 use gate_base::{Clock, Draws, Line};
@@ -21,7 +21,7 @@ pub fn session<N: Line<W>, W: Swift, C: Clock, D: Draws>(
     draws: &mut D,
 ) -> Status
     ensures line { LineServesAll result (N.model line.old) (N.model line.new) }
-    ensures serves { ServesOver service.now.settings (Talks service.now)
+    ensures serves { ServesOver service.now.settings (RunTraces service.now)
         (world (N.model line.old) (W.history store.old) known.old (C.model clock.old) (D.model draws.old))
         (world (N.model line.new) (W.history store.new) known.new (C.model clock.new) (D.model draws.new)) }
 {
@@ -44,7 +44,7 @@ fn serve_another<N: Line<W>, W: Swift, C: Clock, D: Draws>(
     draws: &mut D,
 ) -> Option<Status>
     ensures line { LineServesNext result (N.model line.old) (N.model line.new) }
-    ensures serves { ServesOver service.now.settings (λ R. NextPlace service.now R result)
+    ensures serves { ServesOver service.now.settings (λ R. NextCursor service.now R result)
         (world (N.model line.old) (W.history store.old) known.old (C.model clock.old) (D.model draws.old))
         (world (N.model line.new) (W.history store.new) known.new (C.model clock.new) (D.model draws.new)) }
 {

@@ -16,7 +16,7 @@ pub enum Status {
     Line,
     /// No request stood first on the line, or one that can't be signed.
     Request,
-    /// Memory was wanted and not there.
+    /// Memory ran out.
     Memory,
 }
 
@@ -51,7 +51,7 @@ impl Status {
 
 /// How a run ended.
 #[derive(Clone, Copy, Debug, PartialEq, Eq)]
-pub enum Ended {
+pub enum RunOutcome {
     /// The first request of the line signs to this.
     Signed(Signature),
     Plain(Status),

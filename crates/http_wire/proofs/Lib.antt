@@ -1,8 +1,8 @@
 pub mod FillLemmas
-pub mod ScanLemmas
+pub mod FirstMessageLemmas
 pub mod LookLemmas
-pub mod SeenLemmas
 pub mod MessageLemmas
-pub mod FrontLemmas
+pub mod ScanLemmas
+pub mod SeenLemmas
 pub mod TakeLemmas
 pub mod UniqueLemmas

@@ -12,7 +12,7 @@ use Rattle.httparse.specs.Grammar.{is_token_byte, is_uri_byte, IsToken, LineEnd,
 use Rattle.httparse.specs.Spans.{RequestExceeds}
 use Rattle.httparse.proofs.GrammarLemmas.{print_request-append}
 use Rattle.httparse.proofs.OpenLemmas.{letter_is_token}
-use Rattle.http_wire.specs.Front.{stays_in_target, EndsInside, IsDead, HasDeadPrefix}
+use Rattle.http_wire.specs.FirstMessage.{stays_in_target, EndsInside, CannotBecomeHead, HasDeadPrefix}
 
 -- ---- room for header lines
 
@@ -98,13 +98,13 @@ shortest_reads blank method token = (
 )
 
 -- a prefix of bytes that a head begins with is not dead
-pub begun_lives : (bytes more : List ℕ) (h : RequestHead) → ReadsRequest (bytes ++ more) h [] → (n : ℕ) → ¬ (IsDead (take n bytes))
+pub begun_lives : (bytes more : List ℕ) (h : RequestHead) → ReadsRequest (bytes ++ more) h [] → (n : ℕ) → ¬ (CannotBecomeHead (take n bytes))
 begun_lives bytes more h reads n dead =
     dead.0 (drop n bytes ++ more) h []
     (reads.0, sym (append_assoc (take n bytes) (drop n bytes) more) ∙ ap (λ v. v ++ more) (take-append-drop n bytes) ∙ reads.1)
 
 -- nor is a prefix of bytes that end inside a target
-pub inside_lives : (bytes : List ℕ) → EndsInside bytes → (n : ℕ) → ¬ (IsDead (take n bytes))
+pub inside_lives : (bytes : List ℕ) → EndsInside bytes → (n : ℕ) → ¬ (CannotBecomeHead (take n bytes))
 inside_lives bytes (blank, method, target, token, stays, e) n dead =
     ⊎_elim early late (cases_lt (length line) n)
   where
@@ -113,7 +113,7 @@ inside_lives bytes (blank, method, target, token, stays, e) n dead =
 
     late : n ≤ length line → ⊥
     late short = begun_lives line ending (shortest blank method) (shortest_reads blank method token) n
-        (subst IsDead (ap (take n) e ∙ take-append-le n line (32 ∷ target) short) dead)
+        (subst CannotBecomeHead (ap (take n) e ∙ take-append-le n line (32 ∷ target) short) dead)
 
     early : length line < n → ⊥
     early long =

@@ -14,7 +14,7 @@ use Rattle.httparse.specs.Grammar.{Field}
 use Rattle.httparse.specs.Spans.{AreFieldsAt, header_bytes, name_and_value}
 use Rattle.http_wire.specs.declared.message.Kind.{Kind}
 use Rattle.http_wire.specs.declared.message.Kind.TheVariants.{BadLength, NoLength}
-use Rattle.http_wire.specs.Front.{header_of, has_name, value_of, values_of, is_digit, is_length, number_after, number_of, value_judged, length_judged}
+use Rattle.http_wire.specs.FirstMessage.{header_of, has_name, value_of, values_of, is_digit, is_length, number_after, number_of, value_judged, length_judged}
 use Rattle.http_wire.specs.Headers.{header_at}
 
 -- the header of a name and a value

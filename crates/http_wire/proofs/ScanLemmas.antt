@@ -7,7 +7,7 @@ use Rattle.std.proofs.lemmas.List.{take_rest}
 use Rattle.std.proofs.lemmas.List.Elements.{All-cons, All-nil, All-head, All-tail}
 use Rattle.std.proofs.lemmas.List.Sums.{AllPass-from_list_all, list_all-from_AllPass}
 use Rattle.httparse.specs.Grammar.{is_token_byte, IsToken, AllPass, LineEnd, crlf, lf, print_blank}
-use Rattle.http_wire.specs.Front.{EndsInside, stays_in_target}
+use Rattle.http_wire.specs.FirstMessage.{EndsInside, stays_in_target}
 use Rattle.http_wire.specs.Scan.{in_method, is_inside, line_end_len, skip_blank, starts_lf, starts_method}
 
 -- ---- the steps of the two loops

@@ -3,7 +3,7 @@ use Rattle.std.proofs.Common.{◌≡◌, ℕ, ◌<◌, ◌≤◌, List, [], ◌�
 use Rattle.httparse.specs.declared.spans.HeaderSpan.{HeaderSpan}
 use Rattle.httparse.specs.Grammar.{HasNoRequest}
 use Rattle.http_wire.specs.declared.advance.Found.TheVariants.{Long}
-use Rattle.http_wire.specs.Front.{HasDeadPrefix}
+use Rattle.http_wire.specs.FirstMessage.{HasDeadPrefix}
 use Rattle.http_wire.specs.Seen.{AtEnd, IsFound, end_of, window}
 
 pub found_long : (bytes seen : List ℕ) (headers : List HeaderSpan) → seen ≡ window bytes → HasNoRequest seen

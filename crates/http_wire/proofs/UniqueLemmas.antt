@@ -10,7 +10,7 @@ use Rattle.httparse.proofs.GrammarLemmas.{request_unique, ReadsRequest-append}
 use Rattle.http_wire.specs.declared.message.Message.{Message}
 use Rattle.http_wire.specs.declared.message.Kind.{Kind}
 use Rattle.http_wire.specs.declared.message.Kind.TheVariants.{BadHead, LongHead, ManyHeaders, NoLength, BadLength, LongBody, Transfer, ShortBody}
-use Rattle.http_wire.specs.Front.{Front, EndsInBody, HasDeadPrefix, HasHead, HasNoHead, IsAsked, IsFront, IsJudged, IsRefused, Spells, asks, cut_short, is_head, judge, message_of, message_with, nothing, refused}
+use Rattle.http_wire.specs.FirstMessage.{FirstMessage, EndsInBody, HasDeadPrefix, HasHead, HasNoHead, IsAsked, BeginsWith, IsJudged, IsRefused, Spells, asks, cut_short, is_head, judge, message_of, message_with, nothing, refused}
 use Rattle.http_wire.proofs.LookLemmas.{head_has_byte, nothing_lives}
 
 same_head : (bytes : List ℕ) (h k : RequestHead) (n m : ℕ) → HasHead bytes h n → HasHead bytes k m → h ≡ k
@@ -28,13 +28,13 @@ not_empty bytes h n has none =
 -- ---- what stands first, by the head
 
 -- what stands first where a whole head does, by how it is judged
-abbrev behind : List ℕ → RequestHead → ℕ → Result ℕ Kind → Front
+abbrev behind : List ℕ → RequestHead → ℕ → Result ℕ Kind → FirstMessage
 behind bytes h n (Ok m) =
     cond (nat_le (n + m) (length bytes)) (asks (message_with h (take m (drop n bytes))) (n + m)) (refused ShortBody (is_head h.method))
 behind bytes h n (Err kind) = refused kind (is_head h.method)
 
 -- either a head stands first, and then only one thing can, or it is one of the four others
-data Sort (bytes : List ℕ) (front : Front) : Type 0 where
+data Sort (bytes : List ℕ) (front : FirstMessage) : Type 0 where
   headed : (h : RequestHead) (n : ℕ) → HasHead bytes h n → front ≡ behind bytes h n (judge (message_of h)) → Sort bytes front
   empty : bytes ≡ [] → front ≡ nothing → Sort bytes front
   dead : HasNoHead bytes → HasDeadPrefix bytes → front ≡ refused BadHead false → Sort bytes front
@@ -74,13 +74,13 @@ sort_refused bytes LongBody head is = judged bytes LongBody head is
 sort_refused bytes Transfer head is = judged bytes Transfer head is
 sort_refused bytes ShortBody head is = shorter bytes head is
 
-sort : (bytes : List ℕ) (front : Front) → IsFront bytes front → Sort bytes front
+sort : (bytes : List ℕ) (front : FirstMessage) → BeginsWith bytes front → Sort bytes front
 sort bytes (asks message size) is = asked bytes message size is
 sort bytes nothing is = empty is refl
 sort bytes cut_short (some, short, none, lives) = cut none lives some short refl
 sort bytes (refused kind head) is = sort_refused bytes kind head is
 
-one : (bytes : List ℕ) (a b : Front) → Sort bytes a → Sort bytes b → a ≡ b
+one : (bytes : List ℕ) (a b : FirstMessage) → Sort bytes a → Sort bytes b → a ≡ b
 one bytes a b (headed h n has is) (headed k m had was) =
     is ∙ ap₂ (λ g l. behind bytes g l (judge (message_of g))) (same_head bytes h k n m has had) (same_size bytes h k n m has had) ∙ sym was
 one bytes a b (headed h n has is) (empty none was) = absurd (not_empty bytes h n has none)
@@ -108,15 +108,15 @@ one bytes a b (cut none lives some short is) (dead too prefix was) = absurd (liv
 one bytes a b (cut none lives some short is) (long too live far was) = absurd (omega (arith, far, short))
 one bytes a b (cut none lives some short is) (cut too live any near was) = is ∙ sym was
 
-pub one_front : (bytes : List ℕ) (a b : Front) → IsFront bytes a → IsFront bytes b → a ≡ b
+pub one_front : (bytes : List ℕ) (a b : FirstMessage) → BeginsWith bytes a → BeginsWith bytes b → a ≡ b
 one_front bytes a b is was = one bytes a b (sort bytes a is) (sort bytes b was)
 
 -- ---- how long a request is
 
-pub request_some : (bytes : List ℕ) (message : Message) (size : ℕ) → IsFront bytes (asks message size) → 0 < size
+pub request_some : (bytes : List ℕ) (message : Message) (size : ℕ) → BeginsWith bytes (asks message size) → 0 < size
 request_some bytes message size (h, n, m, has, is, sized, within, spelt) = omega (arith, head_has_byte h, has.1, sized)
 
-pub request_within : (bytes : List ℕ) (message : Message) (size : ℕ) → IsFront bytes (asks message size) → size ≤ length bytes
+pub request_within : (bytes : List ℕ) (message : Message) (size : ℕ) → BeginsWith bytes (asks message size) → size ≤ length bytes
 request_within bytes message size (h, n, m, has, is, sized, within, spelt) = within
 
 -- ---- what spells a message
@@ -133,7 +133,7 @@ longer_head bytes size h n has within =
 
 -- what spells a message stands first
 pub spelt_front : (bytes : List ℕ) (message : Message) (size : ℕ) → size ≤ length bytes → Spells (take size bytes) message
-    → IsFront bytes (asks message size)
+    → BeginsWith bytes (asks message size)
 spelt_front bytes message size within (h, n, m, has, is, sized, spelt) =
     let exact : size ≡ n + m = omega (arith, within, sized, length-take size bytes) in (
       h,
@@ -147,7 +147,7 @@ spelt_front bytes message size within (h, n, m, has, is, sized, spelt) =
     )
 
 -- and what stands first is spelt by its bytes
-pub front_spells : (bytes : List ℕ) (message : Message) (size : ℕ) → IsFront bytes (asks message size) → Spells (take size bytes) message
+pub front_spells : (bytes : List ℕ) (message : Message) (size : ℕ) → BeginsWith bytes (asks message size) → Spells (take size bytes) message
 front_spells bytes message size (h, n, m, has, is, sized, within, spelt) =
     let reads = has.0 in (
       h,

@@ -4,7 +4,7 @@ use Rattle.http_wire.specs.declared.message.Got.{Got}
 use Rattle.http_wire.specs.declared.message.Got.TheVariants.{Request, End, CutShort, Refused}
 use Rattle.http_wire.specs.declared.message.ReadFault.{ReadFault}
 use Rattle.http_wire.specs.declared.message.ReadFault.TheVariants.{Failed, Memory}
-use Rattle.http_wire.specs.Front.{IsFront, asks, nothing, cut_short, refused}
+use Rattle.http_wire.specs.FirstMessage.{BeginsWith, asks, nothing, cut_short, refused}
 
 -- the state of a reader
 pub record Pending : Type 0 where
@@ -22,13 +22,13 @@ place_after place size = min (place + size) (2 ^ 64 - 1)
 -- the answer is the front of all bytes that are left, read or not, and just the bytes of a request are gone from them
 abbrev pub Gives : Pending → List ℕ → Got → Pending → List ℕ → Type 0
 Gives old all (Request message) new left =
-    (size : ℕ) × (old.ended ≡ false) × IsFront all (asks message size) × (left ≡ drop size all) × (new.place ≡ place_after old.place size)
+    (size : ℕ) × (old.ended ≡ false) × BeginsWith all (asks message size) × (left ≡ drop size all) × (new.place ≡ place_after old.place size)
 Gives old all End new left =
-    ((old.ended ≡ true) ⊎ IsFront all nothing) × (left ≡ all) × (new.place ≡ old.place)
+    ((old.ended ≡ true) ⊎ BeginsWith all nothing) × (left ≡ all) × (new.place ≡ old.place)
 Gives old all (CutShort place) new left =
-    (old.ended ≡ false) × IsFront all cut_short × (place ≡ old.place) × (left ≡ all) × (new.place ≡ old.place)
+    (old.ended ≡ false) × BeginsWith all cut_short × (place ≡ old.place) × (left ≡ all) × (new.place ≡ old.place)
 Gives old all (Refused kind place head) new left =
-    (old.ended ≡ false) × IsFront all (refused kind head) × (place ≡ old.place) × (left ≡ all) × (new.place ≡ old.place)
+    (old.ended ≡ false) × BeginsWith all (refused kind head) × (place ≡ old.place) × (left ≡ all) × (new.place ≡ old.place)
 
 -- whether the reader answers End after this answer: after any but a request
 abbrev pub ends : Result Got ReadFault → Bool

@@ -1,4 +1,4 @@
-pub mod Front
+pub mod FirstMessage
 pub mod Gives
 pub mod Headers
 pub mod Print

@@ -6,7 +6,7 @@ use Rattle.gate_base.specs.declared.page.Pair.{Pair}
 use Rattle.gate_base.specs.declared.page.Page.{Page}
 use Rattle.http.specs.StatusCode.{reason_phrase}
 use Rattle.httparse.specs.Ascii.{crlf_bytes}
-use Rattle.http_wire.specs.Front.{is_head}
+use Rattle.http_wire.specs.FirstMessage.{is_head}
 
 -- the statuses of this profile's replies
 abbrev pub reply_statuses : List ℕ
@@ -56,11 +56,11 @@ page_text page method closing =
     status_line page.status ++ flat_map header_line page.headers ++ length_line page ++ closing_line closing ++ crlf_bytes
     ++ sent_body page method
 
--- the body of the reply for want of memory
+-- the body of the out-of-memory reply
 abbrev pub memory_body : List ℕ
 memory_body = codes "<Error><Code>InternalError</Code><Message>Memory</Message></Error>"
 
--- the reply for want of memory, which closes the connection; the argument says whether the method is HEAD (this profile)
+-- the out-of-memory reply, which closes the connection; the argument says whether the method is HEAD (this profile)
 abbrev pub memory_reply : Bool → List ℕ
 memory_reply false =
     codes "HTTP/1.1 500 Internal Server Error" ++ crlf_bytes ++ codes "Content-Type: application/xml" ++ crlf_bytes

@@ -3,7 +3,7 @@ use Rattle.std.specs.Prelude.{ℕ, Bool, false, ◌&&◌, ◌==◌, List, [], �
 use Rattle.std.specs.List.{list_all}
 use Rattle.httparse.specs.Ascii.{line_feed, carriage_return, space}
 use Rattle.httparse.specs.Grammar.{is_token_byte}
-use Rattle.http_wire.specs.Front.{stays_in_target}
+use Rattle.http_wire.specs.FirstMessage.{stays_in_target}
 
 -- the first byte is LF
 abbrev pub starts_lf : List ℕ → Bool

@@ -7,13 +7,13 @@ use Rattle.http_wire.specs.declared.look.Verdict.{Verdict}
 use Rattle.http_wire.specs.declared.look.Verdict.TheVariants.{Whole, More, Dead}
 use Rattle.http_wire.specs.declared.advance.Found.{Found}
 use Rattle.http_wire.specs.declared.advance.Found.TheVariants.{Head, Bad, Long, Cut, Nothing}
-use Rattle.http_wire.specs.Front.{IsDead, HasDeadPrefix}
+use Rattle.http_wire.specs.FirstMessage.{CannotBecomeHead, HasDeadPrefix}
 
 -- what the first of the bytes are
 abbrev pub Sees : List ℕ → List HeaderSpan → Verdict → Type 0
 Sees bytes headers (Whole spans) = IsRequestOf bytes headers spans × IsRequestWithin bytes headers spans
 Sees bytes headers More = HasNoRequest bytes × ¬ (HasDeadPrefix bytes)
-Sees bytes headers Dead = IsDead bytes
+Sees bytes headers Dead = CannotBecomeHead bytes
 
 -- the bytes among which a head has to end
 abbrev pub window : List ℕ → List ℕ
@@ -22,7 +22,7 @@ window bytes = take 16384 bytes
 -- what was found in all bytes that came
 abbrev pub IsFound : List ℕ → List HeaderSpan → Found → Type 0
 IsFound bytes headers (Head spans) = IsRequestOf (window bytes) headers spans × IsRequestWithin (window bytes) headers spans
-IsFound bytes headers Bad = IsDead (window bytes)
+IsFound bytes headers Bad = CannotBecomeHead (window bytes)
 IsFound bytes headers Long = HasNoRequest (window bytes) × ¬ (HasDeadPrefix (window bytes)) × (16384 ≤ length bytes)
 IsFound bytes headers Cut = (0 < length bytes) × (length bytes < 16384) × HasNoRequest (window bytes) × ¬ (HasDeadPrefix (window bytes))
 IsFound bytes headers Nothing = bytes ≡ []

@@ -3,7 +3,7 @@ use Rattle.std.specs.Prelude.{◌≡◌, ◌⊎◌, ℕ, ◌+◌, ◌<◌, ◌�
 use Rattle.http_wire.specs.declared.message.Kind.TheVariants.{ShortBody}
 use Rattle.http_wire.specs.declared.take.Taken.{Taken}
 use Rattle.http_wire.specs.declared.take.Taken.TheVariants.{Whole, Not}
-use Rattle.http_wire.specs.Front.{judge, message_of, message_with, is_head}
+use Rattle.http_wire.specs.FirstMessage.{judge, message_of, message_with, is_head}
 use Rattle.httparse.specs.Grammar.{RequestHead}
 
 -- the message of the head h, of n bytes, with its body, and what is left behind them; or why it is refused, and then all is left

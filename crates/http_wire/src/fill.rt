@@ -22,8 +22,8 @@ pub(crate) fn fill<N: Line<C>, C: Counted>(
     ensures falls { IfOk result (λ count. 0 < count
         → weight (N.model line.new).spent pending.new.items < weight (N.model line.old).spent pending.old.items) }
     ensures same { IfOk result (λ count. count ≡ 0 → pending.new.items ≡ pending.old.items) }
-    ensures kept { IsTrue (N.model line.old).tells → pending.new.items ++ (N.model line.new).wire.rest ≡ pending.old.items ++ (N.model line.old).wire.rest }
-    ensures at_end { IsTrue (N.model line.old).tells → IfOk result (λ count. count ≡ 0 → (N.model line.new).wire.rest ≡ []) }
+    ensures kept { IsTrue (N.model line.old).observable → pending.new.items ++ (N.model line.new).transcript.rest ≡ pending.old.items ++ (N.model line.old).transcript.rest }
+    ensures at_end { IsTrue (N.model line.old).observable → IfOk result (λ count. count ≡ 0 → (N.model line.new).transcript.rest ≡ []) }
 {
     let came = pending.len();
     pending.resize(came + READ_SIZE, 0)?;
@@ -54,10 +54,10 @@ pub(crate) fn read_room<N: Line<C>, C: Counted>(
     ensures length { length bytes.new.items ≡ length bytes.old.items }
     ensures within { IfOk result (λ count. came + count ≤ length bytes.old.items) }
     ensures front { take came bytes.new.items ≡ take came bytes.old.items }
-    ensures kept { IsTrue (N.model line.old).tells → IfOk result (λ count.
-        take (came + count) bytes.new.items ++ (N.model line.new).wire.rest ≡ take came bytes.old.items ++ (N.model line.old).wire.rest) }
-    ensures kept_err { IsTrue (N.model line.old).tells → OnErr result ((N.model line.new).wire.rest ≡ (N.model line.old).wire.rest) }
-    ensures at_end { IsTrue (N.model line.old).tells → IfOk result (λ count. count ≡ 0 → (N.model line.new).wire.rest ≡ []) }
+    ensures kept { IsTrue (N.model line.old).observable → IfOk result (λ count.
+        take (came + count) bytes.new.items ++ (N.model line.new).transcript.rest ≡ take came bytes.old.items ++ (N.model line.old).transcript.rest) }
+    ensures kept_err { IsTrue (N.model line.old).observable → OnErr result ((N.model line.new).transcript.rest ≡ (N.model line.old).transcript.rest) }
+    ensures at_end { IsTrue (N.model line.old).observable → IfOk result (λ count. count ≡ 0 → (N.model line.new).transcript.rest ≡ []) }
 {
     match line.read(&mut bytes[came..]) {
         Ok(count) => Ok(count),

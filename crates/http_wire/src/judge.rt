@@ -1,7 +1,7 @@
 //! Whether a whole head is accepted, and how long its body is.
 ghost use Rattle.std.specs.Prelude.{◌≡◌, ◌↔◌, ◌≤◌, [], length, IsTrue, IfOk, position, codes, nat_lt};
 ghost use Rattle.std.specs.List.{list_all, list_any};
-ghost use Rattle.http_wire.specs.Front.{has_name, values_of, is_digit, is_length, is_put, number_of, value_judged, length_judged, judge};
+ghost use Rattle.http_wire.specs.FirstMessage.{has_name, values_of, is_digit, is_length, is_put, number_of, value_judged, length_judged, judge};
 
 use crate::{Kind, Message};
 use gate_base::Pair;

@@ -2,7 +2,7 @@ ghost use Rattle.std.specs.Prelude.{◌≡◌, map, length, All, IfOk};
 ghost use Rattle.std.specs.Char.{to_ascii_lowercase};
 ghost use Rattle.httparse.specs.Grammar.{RequestHead};
 ghost use Rattle.httparse.specs.Spans.{IsRequestAt, IsRequestWithin, IsHeaderWithin, IsWithin, span_bytes};
-ghost use Rattle.http_wire.specs.Front.{message_of};
+ghost use Rattle.http_wire.specs.FirstMessage.{message_of};
 ghost use Rattle.http_wire.specs.Headers.{header_at};
 
 use gate_base::{Bytes, Copying, Failed, List, Memory, Pair};
@@ -100,7 +100,7 @@ impl Copying for Got {
     }
 }
 
-/// Why no answer came: the line failed, or memory was wanted.
+/// Why no answer came: the line failed, or memory ran out.
 #[derive(Clone, Copy, Debug, PartialEq, Eq)]
 pub enum ReadFault {
     Failed,

@@ -25,7 +25,7 @@ pub fn print_page(alloc: Global, page: &Page, method: &[u8], closing: bool) -> R
     Ok(text)
 }
 
-/// The reply for want of memory, which takes none: it closes the connection. `head` says that the method is HEAD, and
+/// The out-of-memory reply, which takes none: it closes the connection. `head` says that the method is HEAD, and
 /// then the reply has no body (this profile).
 pub fn print_memory(head: bool) -> &'static [u8]
     ensures { result.now ≡ memory_reply head }

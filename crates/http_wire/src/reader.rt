@@ -59,7 +59,7 @@ impl Reader {
     /// byte is left, `CutShort` where the connection ends inside a head that could still go on or inside its target,
     /// and `Refused` for all else, by its kind. Failed comes only where the line failed. After an error, and after any
     /// answer but a request, the reader answers `End` and leaves the line alone. No byte is lost by an error: what was
-    /// read of the line stays with the reader, where the line tells.
+    /// read of the line stays with the reader, where the line is observable.
     pub fn next_request<N: Line<C>, C: Counted>(
         &mut self,
         line: &mut N,
@@ -76,11 +76,11 @@ impl Reader {
         ensures ends { self.new.ended ≡ ends result }
         ensures ended { self.old.ended ≡ true → (result ≡ Ok Got.End) × (line.new ≡ line.old) × (self.new ≡ self.old) }
 
-        // Where the line tells: the answer is the front of all that is left, read or not.
-        ensures told { IsTrue (N.model line.old).tells → IfOk result (λ got. Gives
-            self.old (self.old.bytes ++ (N.model line.old).wire.rest) got self.new (self.new.bytes ++ (N.model line.new).wire.rest)) }
-        ensures told_err { IsTrue (N.model line.old).tells → OnErr result
-            (self.new.bytes ++ (N.model line.new).wire.rest ≡ self.old.bytes ++ (N.model line.old).wire.rest) }
+        // Where the line is observable: the answer is the front of all that is left, read or not.
+        ensures effect { IsTrue (N.model line.old).observable → IfOk result (λ got. Gives
+            self.old (self.old.bytes ++ (N.model line.old).transcript.rest) got self.new (self.new.bytes ++ (N.model line.new).transcript.rest)) }
+        ensures effect_err { IsTrue (N.model line.old).observable → OnErr result
+            (self.new.bytes ++ (N.model line.new).transcript.rest ≡ self.old.bytes ++ (N.model line.old).transcript.rest) }
         ensures place_err { OnErr result (self.new.place ≡ self.old.place) }
     {
         if self.over {

@@ -1,7 +1,7 @@
 ghost use Rattle.std.specs.Prelude.{◌≡◌, ◌≤◌, ◌↔◌, IsTrue, length};
 ghost use Rattle.std.specs.List.{list_all};
 ghost use Rattle.httparse.specs.Grammar.{is_token_byte};
-ghost use Rattle.http_wire.specs.Front.{EndsInside, stays_in_target};
+ghost use Rattle.http_wire.specs.FirstMessage.{EndsInside, stays_in_target};
 ghost use Rattle.http_wire.specs.Scan.{in_method, line_end_len, skip_blank, starts_lf, starts_method};
 
 /// Whether the bytes end inside a target: after any empty lines a method, one space and no space, CR or LF since.

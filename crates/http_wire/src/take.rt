@@ -3,7 +3,7 @@ ghost use Rattle.std.specs.Prelude.{true, false, ◌≡◌, ◌≤◌, ◌<◌, 
 ghost use Rattle.gate_base.specs.Line.{OnlyReads};
 ghost use Rattle.httparse.specs.Grammar.{RequestHead};
 ghost use Rattle.httparse.specs.Spans.{IsRequestAt, IsRequestWithin};
-ghost use Rattle.http_wire.specs.Front.{is_head};
+ghost use Rattle.http_wire.specs.FirstMessage.{is_head};
 ghost use Rattle.http_wire.specs.Seen.{window};
 ghost use Rattle.http_wire.specs.Taken.{BodyFrom, OnWhole, TakenFrom};
 ghost use Rattle.http_wire.specs.Gives.{is_failed};
@@ -47,10 +47,10 @@ pub(crate) fn take_message<N: Line<C>, C: Counted>(
     ensures reads { OnlyReads (is_failed result) (N.model line.old) (N.model line.new) }
     ensures none { IfOk result (OnWhole (partial.new.items ≡ [])) }
     ensures fewer { IfOk result (OnWhole (length pending.new.items + spans.now.len ≤ length pending.old.items)) }
-    ensures told { IsTrue (N.model line.old).tells → IfOk result (λ taken. (h : RequestHead) → IsRequestAt (window pending.old.items) lines.now spans.now h
-        → TakenFrom (pending.old.items ++ (N.model line.old).wire.rest) h spans.now.len taken ((pending.new.items ++ partial.new.items) ++ (N.model line.new).wire.rest)) }
-    ensures told_err { IsTrue (N.model line.old).tells → OnErr result
-        ((pending.new.items ++ partial.new.items) ++ (N.model line.new).wire.rest ≡ pending.old.items ++ (N.model line.old).wire.rest) }
+    ensures effect { IsTrue (N.model line.old).observable → IfOk result (λ taken. (h : RequestHead) → IsRequestAt (window pending.old.items) lines.now spans.now h
+        → TakenFrom (pending.old.items ++ (N.model line.old).transcript.rest) h spans.now.len taken ((pending.new.items ++ partial.new.items) ++ (N.model line.new).transcript.rest)) }
+    ensures effect_err { IsTrue (N.model line.old).observable → OnErr result
+        ((pending.new.items ++ partial.new.items) ++ (N.model line.new).transcript.rest ≡ pending.old.items ++ (N.model line.old).transcript.rest) }
 {
     let alloc = *pending.allocator();
     let mut message = message_at(alloc, window(pending), lines, spans)?;
@@ -97,10 +97,10 @@ fn take_body<N: Line<C>, C: Counted>(
     requires none { body.old.items ≡ [] }
     ensures reads { OnlyReads (is_failed result) (N.model line.old) (N.model line.new) }
     ensures fewer { IfOk result (λ whole. IsTrue whole → length pending.new.items + start ≤ length pending.old.items) }
-    ensures told { IsTrue (N.model line.old).tells → IfOk result (λ whole.
-        BodyFrom (pending.old.items ++ (N.model line.old).wire.rest) start size whole body.new.items pending.new.items (N.model line.new).wire.rest) }
-    ensures told_err { IsTrue (N.model line.old).tells → OnErr result
-        ((pending.new.items ++ body.new.items) ++ (N.model line.new).wire.rest ≡ pending.old.items ++ (N.model line.old).wire.rest) }
+    ensures effect { IsTrue (N.model line.old).observable → IfOk result (λ whole.
+        BodyFrom (pending.old.items ++ (N.model line.old).transcript.rest) start size whole body.new.items pending.new.items (N.model line.new).transcript.rest) }
+    ensures effect_err { IsTrue (N.model line.old).observable → OnErr result
+        ((pending.new.items ++ body.new.items) ++ (N.model line.new).transcript.rest ≡ pending.old.items ++ (N.model line.old).transcript.rest) }
 {
     if size <= pending.len() - start {
         body.extend_from_slice(&pending[start..start + size])?;
@@ -143,9 +143,9 @@ fn finish_body<N: Line<C>, C: Counted>(
     requires open { IsTrue (N.model line.old).is_open }
     requires short { length body.old.items ≤ size }
     ensures reads { OnlyReads (is_failed result) (N.model line.old) (N.model line.new) }
-    ensures kept { IsTrue (N.model line.old).tells → body.new.items ++ (N.model line.new).wire.rest ≡ body.old.items ++ (N.model line.old).wire.rest }
+    ensures kept { IsTrue (N.model line.old).observable → body.new.items ++ (N.model line.new).transcript.rest ≡ body.old.items ++ (N.model line.old).transcript.rest }
     ensures whole { IfOk result (λ whole. IsTrue whole → length body.new.items ≡ size) }
-    ensures short { IsTrue (N.model line.old).tells → IfOk result (λ whole. whole ≡ false → (length body.new.items < size) × ((N.model line.new).wire.rest ≡ [])) }
+    ensures short { IsTrue (N.model line.old).observable → IfOk result (λ whole. whole ≡ false → (length body.new.items < size) × ((N.model line.new).transcript.rest ≡ [])) }
 {
     let mut came = body.len();
     'pieces: while came < size {

@@ -11,7 +11,7 @@ pub(crate) struct OwnSink {
 }
 
 impl Sink for OwnSink {
-    ghost model = { λ _. record { faults = 0; tells = false; bytes = [] } };
+    ghost model = { λ _. record { faults = 0; observable = false; bytes = [] } };
 
     fn put(&mut self, bytes: &[u8]) -> Result<(), Failed> {
         self.size = self.size.saturating_add(bytes.len());

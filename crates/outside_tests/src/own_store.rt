@@ -46,13 +46,13 @@ impl Counted for OwnStore {
 }
 
 impl Swift for OwnStore {
-    ghost history = { λ store. record { tells = false; called = store.made; faults = 0; tree_at = λ _. empty; faults_at = λ _. 0 } };
+    ghost history = { λ store. record { observable = false; called = store.made; faults = 0; tree_at = λ _. empty; faults_at = λ _. 0 } };
 
     ghost counted = { λ store. refl };
 
-    ghost is_history = { λ store. record { last = λ tells left. refl; rise = λ tells j k order within. lit≤ tt } };
+    ghost is_history = { λ store. record { last = λ observable left. refl; rise = λ observable j k order within. lit≤ tt } };
 
-    /// After the last answer memory is wanted.
+    /// After the last answer memory runs out.
     fn call(&mut self, _request: &SwiftRequest) -> Result<SwiftReply, SwiftFault> {
         match self.answers.split_first() {
             Some((answer, later)) if self.made < 1000 => {

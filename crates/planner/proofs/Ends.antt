@@ -10,14 +10,14 @@ use Rattle.s3_machine.specs.declared.operation.Op.{Op}
 use Rattle.s3_machine.specs.declared.operation.Reply.{Reply}
 use Rattle.s3_machine.specs.State.{State}
 use Rattle.s3_machine.specs.Step.{S3Step}
-use Rattle.swift_calls.specs.Tree.{Tree}
-use Rattle.swift_calls.specs.History.{History, present, kept_trans}
-use Rattle.upload_records.specs.Native.{IsSettled, native}
+use Rattle.swift_calls.specs.Account.{SwiftAccount}
+use Rattle.swift_calls.specs.History.{History, present, extends_trans}
+use Rattle.upload_records.specs.Native.{IsSettled, s3_state}
 use Rattle.recovery.specs.declared.fault.PlanFault.{PlanFault}
 use Rattle.recovery.specs.declared.fault.PlanFault.TheVariants.{Failed, Memory, Inconsistent}
 use Rattle.recovery.specs.declared.state.Known.TheVariants.{Settled}
 use Rattle.recovery.specs.Fault.{CausesFault}
-use Rattle.recovery.specs.Quiet.{Quiet, OldBefore, LastFailed, was_lost}
+use Rattle.recovery.specs.Stutters.{Stutters, OldBefore, LastFailed, was_lost}
 use Rattle.recovery.specs.Calls.{Bound, always, by_account, IsWithin, Met, GoesOn, Grows, Given, Keeps, Tells, Asks, Commits, CommitsUntold, Writes, Changes, Any}
 use Rattle.recovery.specs.Answers.{Stepped, machine, unavailable, memory, ends_by_commit}
 use Rattle.recovery.proofs.Agree.{quiet_agree, passes_still, passes_at_once, passes_once, same_ids, answers_after}
@@ -27,7 +27,7 @@ use Rattle.planner.specs.Plan.{reply_of, IsOwnReply, Ends, ended, CausesEnd, Pla
 use Rattle.planner.proofs.Replies.{rose_of, steady_of, consistent_of, showable_of}
 
 -- quiet calls leave the old state at each number
-old_quiet : {h : History} {p q : ℕ} → Quiet h p q → OldBefore h p q
+old_quiet : {h : History} {p q : ℕ} → Stutters h p q → OldBefore h p q
 old_quiet quiet = λ k from to. quiet.same k from (omega arith)
 
 err_is : (end : Result Reply PlanFault) → IsErrAnd end (λ e. e ≡ Memory) → end ≡ Err Memory
@@ -36,29 +36,29 @@ err_is (Err e) is = ap Err is
 
 module _ (settings : Settings) (h : History) (p q : ℕ) (op : Op) (label : Label) where
   -- quiet calls, and one failed
-  quiet_failed : Quiet h p q → LastFailed h p q → Ends settings h p q op label (Err Failed)
+  quiet_failed : Stutters h p q → LastFailed h p q → Ends settings h p q op label (Err Failed)
   quiet_failed quiet failed = record {
-    turn = p;
+    committed = p;
     takes = 0;
     answers = record { passes = passes_still quiet; by = unavailable refl failed (old_quiet quiet); beside = tt };
     consistent = λ e. cc;
   }
 
-  -- quiet calls, and memory was wanted
-  quiet_memory : Quiet h p q → Ends settings h p q op label (Err Memory)
+  -- quiet calls, and memory ran out
+  quiet_memory : Stutters h p q → Ends settings h p q op label (Err Memory)
   quiet_memory quiet = record {
-    turn = p;
+    committed = p;
     takes = 0;
     answers = record { passes = passes_still quiet; by = memory refl (old_quiet quiet); beside = tt };
     consistent = λ e. cc;
   }
 
   -- what was read is answered, after quiet calls: a step that leaves the state, at the last number
-  quiet_step : (reply : Reply) → Quiet h p q → S3Step settings (native (h.tree_at p)) op label reply (native (h.tree_at p)) → Ends settings h p q op label (Ok reply)
+  quiet_step : (reply : Reply) → Stutters h p q → S3Step settings (s3_state (h.tree_at p)) op label reply (s3_state (h.tree_at p)) → Ends settings h p q op label (Ok reply)
   quiet_step reply quiet step =
-      let stepped : Stepped settings (h.tree_at p) op label reply (native (h.tree_at p)) = record { step = step; id = tt } in
+      let stepped : Stepped settings (h.tree_at p) op label reply (s3_state (h.tree_at p)) = record { step = step; id = tt } in
       record {
-        turn = p;
+        committed = p;
         takes = 1;
         answers = record {
           passes = passes_at_once quiet stepped;
@@ -68,16 +68,16 @@ module _ (settings : Settings) (h : History) (p q : ℕ) (op : Op) (label : Labe
         consistent = λ e. cc;
       }
 
-  module _ {T : Type 0} (P : Tree → Tree → T → Type 0) where
+  module _ {T : Type 0} (P : SwiftAccount → SwiftAccount → T → Type 0) where
     -- the calls told nothing
     not_read : (fault : PlanFault) → Keeps h p q P (Err fault) → Ends settings h p q op label (Err fault)
     not_read Failed (quiet, failed) = quiet_failed quiet failed
     not_read Memory (quiet, same) = quiet_memory quiet
     not_read Inconsistent never = absurd never
 
-  module _ {T : Type 0} (S : T → State → State → Type 0) (reply : T → Reply) (step : (told : T) (new : State) → S told (native (h.tree_at p)) new → S3Step settings (native (h.tree_at p)) op label (reply told) new) where
-    stepped : (told : T) → Commits h p q (S told) → Stepped settings (h.tree_at p) op label (reply told) (native (h.tree_at q))
-    stepped told done = record { step = step told (native (h.tree_at q)) done.made; id = tt }
+  module _ {T : Type 0} (S : T → State → State → Type 0) (reply : T → Reply) (step : (told : T) (new : State) → S told (s3_state (h.tree_at p)) new → S3Step settings (s3_state (h.tree_at p)) op label (reply told) new) where
+    stepped : (told : T) → Commits h p q (S told) → Stepped settings (h.tree_at p) op label (reply told) (s3_state (h.tree_at q))
+    stepped told done = record { step = step told (s3_state (h.tree_at q)) done.made; id = tt }
 
     old_before : {told : T} → Commits h p q (S told) → OldBefore h p q
     old_before done = λ k from to. let next = done.next in done.quiet.same k from (omega arith)
@@ -87,16 +87,16 @@ module _ (settings : Settings) (h : History) (p q : ℕ) (op : Op) (label : Labe
 
     commit_failed : CommitsUntold h p q S → Rose (h.faults_at p) (h.faults_at q) → Ends settings h p q op label (Err Failed)
     commit_failed (told, done) rose = record {
-      turn = q;
+      committed = q;
       takes = 1;
       answers = record { passes = passes_once done (stepped told done); by = unavailable refl (last_lost done rose) (old_before done); beside = tt };
       consistent = λ e. cc;
     }
 
-    write_memory : Quiet h p q ⊎ CommitsUntold h p q S → Ends settings h p q op label (Err Memory)
+    write_memory : Stutters h p q ⊎ CommitsUntold h p q S → Ends settings h p q op label (Err Memory)
     write_memory (inl quiet) = quiet_memory quiet
     write_memory (inr (told, done)) = record {
-      turn = q;
+      committed = q;
       takes = 1;
       answers = record { passes = passes_once done (stepped told done); by = memory refl (old_before done); beside = tt };
       consistent = λ e. cc;
@@ -105,7 +105,7 @@ module _ (settings : Settings) (h : History) (p q : ℕ) (op : Op) (label : Labe
     -- the call that may change the state ended
     is_written : (end : Result T PlanFault) → Writes h p q S end → Ends settings h p q op label (ended end reply)
     is_written (Ok told) (done, same) = record {
-      turn = q;
+      committed = q;
       takes = 1;
       answers = record { passes = passes_once done (stepped told done); by = machine refl (stepped told done); beside = tt };
       consistent = λ e. cc;
@@ -138,7 +138,7 @@ within_more (always n) (by_account most) p q wider from within = λ met. omega a
 within_more (by_account n) (always most) p q wider from within = absurd wider
 within_more (by_account n) (by_account most) p q wider from within = λ met. let near = within (from met) in omega arith
 
-grows_more : {n most : Bound} {given given' : Tree → Type 0} {a b : History} → IsWider n most → (Met given' a → Met given a) → Grows n given a b → Grows most given' a b
+grows_more : {n most : Bound} {given given' : SwiftAccount → Type 0} {a b : History} → IsWider n most → (Met given' a → Met given a) → Grows n given a b → Grows most given' a b
 grows_more {n = n} {most = most} {a = a} {b = b} wider from grows = record { on = grows.on; calls = within_more n most a.called b.called wider from grows.calls }
 
 goes_trans : {a b c : History} → GoesOn a b → GoesOn b c → GoesOn a c
@@ -150,8 +150,8 @@ goes_trans first then =
     record {
       ordered = omega arith;
       faults = omega arith;
-      tells = λ tells. then.tells (first.tells tells);
-      kept = λ tells. kept_trans first_ordered (first.kept tells) (then.kept (first.tells tells));
+      observable = λ observable. then.observable (first.observable observable);
+      kept = λ observable. extends_trans first_ordered (first.kept observable) (then.kept (first.observable observable));
     }
 
 within_trans : (m most : Bound) {P Q : Type 0} (p q r : ℕ) → IsOneMore m most → (Q → P) → q ≤ p + 1 → IsWithin m P q r → IsWithin most Q p r
@@ -170,20 +170,20 @@ cause_of false before now end cause = λ is. subst (CausesFault before now) is c
 
 -- the account is settled, of which something is given
 met_settled : {given : State → Type 0} {h : History} → Met (Given given) h → Met IsSettled h
-met_settled met = record { tells = met.tells; sound = met.sound; has = met.has.settled }
+met_settled met = record { observable = met.observable; sound = met.sound; has = met.has.settled }
 
 -- after a call that told of the state the rest of a plan begins on an account of which is given what it asks
 met_after : {given more : State → Type 0} {T : Type 0} {P : State → T → Type 0} {a b : History} {value told : T} → value ≡ told → Asks (always 1) a b IsSettled (Tells P) (Ok value)
     → ((state : State) → given state → P state told → more state) → Met (Given given) a → Met (Given more) b
 met_after {given = given} {more = more} {P = P} {a = a} {b = b} is asks gives met =
     let ordered = asks.grows.on.ordered in
-    let reads = asks.told (met_settled met) in
-    let from : b.tree_at a.called ≡ present a = (asks.grows.on.kept met.tells).accounts a.called (omega arith) in
-    let known = gives _ (subst (λ tree. given (native tree)) (sym from) met.has.state) (subst (P (native (b.tree_at a.called))) is reads.2.of_state) in
+    let reads = asks.effect (met_settled met) in
+    let from : b.tree_at a.called ≡ present a = (asks.grows.on.kept met.observable).accounts a.called (omega arith) in
+    let known = gives _ (subst (λ tree. given (s3_state tree)) (sym from) met.has.state) (subst (P (s3_state (b.tree_at a.called))) is reads.2.of_state) in
     record {
-      tells = asks.grows.on.tells met.tells;
+      observable = asks.grows.on.observable met.observable;
       sound = reads.0.sound b.called ordered (omega arith);
-      has = record { settled = asks.settled met.tells met.has.settled; state = subst (λ tree. more (native tree)) (sym reads.2.same) known };
+      has = record { settled = asks.settled met.observable met.has.settled; state = subst (λ tree. more (s3_state tree)) (sym reads.2.same) known };
     }
 
 module _ {settings : Settings} {given : State → Type 0} {op : Op} {label : Label} {most : Bound} where
@@ -193,18 +193,18 @@ module _ {settings : Settings} {given : State → Type 0} {op : Op} {label : Lab
     grows = grows_none most (Given given) h;
     cause = cause_of (ends_by_commit op) h.faults h.faults (Ok reply) refl;
     own = own;
-    told = λ met. quiet_step settings h h.called h.called op label reply (none_made refl met.sound) (step _ met.has.state);
-    knows = λ tells settled is. settled;
+    effect = λ met. quiet_step settings h h.called h.called op label reply (none_made refl met.sound) (step _ met.has.state);
+    knows = λ observable settled is. settled;
   }
 
-  -- memory was wanted before a call
+  -- memory ran out before a call
   pub wants_memory : (h : History) (end : Result Reply PlanFault) → IsErrAnd end (λ e. e ≡ Memory) → Plans most h h settings (Given given) op label Settled end
   wants_memory h end is = subst (Plans most h h settings (Given given) op label Settled) (sym (err_is end is)) (record {
     grows = grows_none most (Given given) h;
     cause = cause_of (ends_by_commit op) h.faults h.faults (Err Memory) refl;
     own = tt;
-    told = λ met. quiet_memory settings h h.called h.called op label (none_made refl met.sound);
-    knows = λ tells settled is. settled;
+    effect = λ met. quiet_memory settings h h.called h.called op label (none_made refl met.sound);
+    knows = λ observable settled is. settled;
   })
 
   module _ {T : Type 0} {P : State → T → Type 0} {a b : History} (within : IsWider (always 1) most) where
@@ -214,8 +214,8 @@ module _ {settings : Settings} {given : State → Type 0} {op : Op} {label : Lab
       grows = grows_more within met_settled asks.grows;
       cause = cause_of (ends_by_commit op) a.faults b.faults (Err fault) (cause_same fault asks.cause);
       own = tt;
-      told = λ met. not_read settings b a.called b.called op label (Tells P) fault (asks.told (met_settled met));
-      knows = λ tells settled is. asks.settled tells settled;
+      effect = λ met. not_read settings b a.called b.called op label (Tells P) fault (asks.effect (met_settled met));
+      knows = λ observable settled is. asks.settled observable settled;
     }
       where
         cause_same : (fault : PlanFault) → CausesFault {T = T} a.faults b.faults (Err fault) → CausesFault {T = Reply} a.faults b.faults (Err fault)
@@ -230,12 +230,12 @@ module _ {settings : Settings} {given : State → Type 0} {op : Op} {label : Lab
       grows = grows_more within met_settled asks.grows;
       cause = cause_of (ends_by_commit op) a.faults b.faults end (due_cause a.faults b.faults end asks.cause no_failure);
       own = own;
-      told = λ met.
-          let reads = asks.told (met_settled met) in
-          let from : b.tree_at a.called ≡ present a = (asks.grows.on.kept met.tells).accounts a.called (omega arith) in
-          let does = step _ (subst (λ tree. given (native tree)) (sym from) met.has.state) (subst (P (native (b.tree_at a.called))) is reads.2.of_state) in
+      effect = λ met.
+          let reads = asks.effect (met_settled met) in
+          let from : b.tree_at a.called ≡ present a = (asks.grows.on.kept met.observable).accounts a.called (omega arith) in
+          let does = step _ (subst (λ tree. given (s3_state tree)) (sym from) met.has.state) (subst (P (s3_state (b.tree_at a.called))) is reads.2.of_state) in
           subst (Ends settings b a.called b.called op label) (sym does.1) (quiet_step settings b a.called b.called op label does.0 reads.0 does.2);
-      knows = λ tells settled is. asks.settled tells settled;
+      knows = λ observable settled is. asks.settled observable settled;
     }
 
     -- what it told is answered
@@ -250,19 +250,19 @@ module _ {settings : Settings} {given : State → Type 0} {op : Op} {label : Lab
     grows = record { on = goes_trans asks.grows.on rest.grows.on; calls = within_trans m most a.called b.called c.called within (met_after is asks gives) asks.grows.calls rest.grows.calls };
     cause = cause_from (ends_by_commit op) a.faults b.faults c.faults end asks.cause rest.cause;
     own = rest.own;
-    told = λ met.
-        let reads = asks.told (met_settled met) in
-        let ends = subst (λ s. Ends s c b.called c.called op label end) same (rest.told (met_after is asks gives met)) in
-        let later = rest.grows.on.kept (asks.grows.on.tells met.tells) in
+    effect = λ met.
+        let reads = asks.effect (met_settled met) in
+        let ends = subst (λ s. Ends s c b.called c.called op label end) same (rest.effect (met_after is asks gives met)) in
+        let later = rest.grows.on.kept (asks.grows.on.observable met.observable) in
         let ordered = asks.grows.on.ordered in
         let unchanged : c.tree_at b.called ≡ c.tree_at a.called = later.accounts b.called (omega arith) ∙ reads.2.same ∙ sym (later.accounts a.called (omega arith)) in
         record {
-          turn = ends.turn;
+          committed = ends.committed;
           takes = ends.takes;
           answers = answers_after (quiet_agree later reads.0) (same_ids op label unchanged) (later.counts b.called (omega arith) ∙ reads.1 ∙ sym (later.counts a.called (omega arith))) ends.answers;
           consistent = ends.consistent;
         };
-    knows = λ tells settled is. rest.knows (asks.grows.on.tells tells) (asks.settled tells settled) is;
+    knows = λ observable settled is. rest.knows (asks.grows.on.observable observable) (asks.settled observable settled) is;
   }
 
   -- the call that changes the state is the last one, and its answer says how
@@ -273,15 +273,15 @@ module _ {settings : Settings} {given : State → Type 0} {op : Op} {label : Lab
     grows = grows_more within met_given changes.grows;
     cause = cause_of (ends_by_commit op) a.faults b.faults (ended end reply) (cause_ended end changes.cause);
     own = own_ended end;
-    told = λ met.
-        let from : b.tree_at a.called ≡ present a = (changes.grows.on.kept met.tells).accounts a.called (omega arith) in
-        let here : given (native (b.tree_at a.called)) = subst (λ tree. given (native tree)) (sym from) met.has.state in
-        is_written settings b a.called b.called op label S reply (λ told new does. step _ told new here does) end (changes.told (met_given met));
-    knows = λ tells settled is. changes.settled tells settled;
+    effect = λ met.
+        let from : b.tree_at a.called ≡ present a = (changes.grows.on.kept met.observable).accounts a.called (omega arith) in
+        let here : given (s3_state (b.tree_at a.called)) = subst (λ tree. given (s3_state tree)) (sym from) met.has.state in
+        is_written settings b a.called b.called op label S reply (λ told new does. step _ told new here does) end (changes.effect (met_given met));
+    knows = λ observable settled is. changes.settled observable settled;
   }
     where
       met_given : Met (Given given) a → Met (Given given') a
-      met_given met = record { tells = met.tells; sound = met.sound; has = record { settled = met.has.settled; state = gives _ met.has.state } }
+      met_given met = record { observable = met.observable; sound = met.sound; has = record { settled = met.has.settled; state = gives _ met.has.state } }
 
       cause_ended : (end : Result T PlanFault) → CausesFault a.faults b.faults end → CausesFault a.faults b.faults (ended end reply)
       cause_ended (Ok done) cause = cause
@@ -304,13 +304,13 @@ answered_by {most = most} {a = a} {b = b} {op = op} {end = end} plans = record {
   showable = showable_of end plans.own;
   unavailable = rose_of (ends_by_commit op) a.faults b.faults end plans.own plans.cause;
   steady = steady_of (ends_by_commit op) a.faults b.faults end plans.cause;
-  told = λ met. let ends = plans.told (any met) in (ends.turn, ends.takes, ends.answers);
-  consistent = λ met. consistent_of end plans.own (plans.told (any met)).consistent;
+  effect = λ met. let ends = plans.effect (any met) in (ends.committed, ends.takes, ends.answers);
+  consistent = λ met. consistent_of end plans.own (plans.effect (any met)).consistent;
   knows = plans.knows;
 }
   where
     any : Met IsSettled a → Met (Given Any) a
-    any met = record { tells = met.tells; sound = met.sound; has = record { settled = met.has; state = tt } }
+    any met = record { observable = met.observable; sound = met.sound; has = record { settled = met.has; state = tt } }
 
     within_same : (most : Bound) {P Q : Type 0} (p q : ℕ) → (Q → P) → IsWithin most P p q → IsWithin most Q p q
     within_same (always n) p q from within = within

@@ -1,4 +1,4 @@
 pub mod CreateBucket
 pub mod Ends
-pub mod Steps
 pub mod Replies
+pub mod Steps

@@ -8,7 +8,7 @@ use Rattle.s3_machine.specs.declared.operation.Op.{Op}
 use Rattle.s3_machine.specs.declared.operation.Reply.{Reply}
 use Rattle.s3_machine.specs.declared.operation.Reply.TheVariants.{Refused, Memory}
 use Rattle.s3_machine.specs.Shown.{IsShowable}
-use Rattle.swift_calls.specs.Tree.{Tree}
+use Rattle.swift_calls.specs.Account.{SwiftAccount}
 use Rattle.swift_calls.specs.History.{History, present}
 use Rattle.upload_records.specs.Native.{IsSettled}
 use Rattle.recovery.specs.Answers.{Answers, ends_by_commit}
@@ -35,9 +35,9 @@ pub record IsOwnReply (reply : Reply) : Type 0 where
 
 -- the calls of a plan, or of the rest of one, amount to the operation
 pub record Ends (settings : Settings) (h : History) (p q : ℕ) (op : Op) (label : Label) (end : Result Reply PlanFault) : Type 0 where
-  pub turn : ℕ
+  pub committed : ℕ
   pub takes : ℕ
-  pub answers : Answers settings h p turn q op label takes (reply_of end)
+  pub answers : Answers settings h p committed q op label takes (reply_of end)
   pub consistent : end ≢ Err fault.Inconsistent
 
 -- the end of a plan whose reply was made before its last call, by what that told
@@ -52,12 +52,12 @@ CausesEnd true before now end = CausesFault before now end
 CausesEnd false before now end = end ≡ Err fault.Failed → Rose before now
 
 -- a plan, or the rest of one, where this is given of the account that it begins on
-pub record Plans (most : Bound) (old new : History) (settings : Settings) (given : Tree → Type 0) (op : Op) (label : Label) (after : Known) (end : Result Reply PlanFault) : Type 0 where
+pub record Plans (most : Bound) (old new : History) (settings : Settings) (given : SwiftAccount → Type 0) (op : Op) (label : Label) (after : Known) (end : Result Reply PlanFault) : Type 0 where
   pub grows : Grows most given old new
   pub cause : CausesEnd (ends_by_commit op) old.faults new.faults end
   pub own : IfOk end IsOwnReply
-  pub told : Met given old → Ends settings new old.called new.called op label end
-  pub knows : IsTrue old.tells → IsSettled (present old) → IsKnown after (present new)
+  pub effect : Met given old → Ends settings new old.called new.called op label end
+  pub knows : IsTrue old.observable → IsSettled (present old) → IsKnown after (present new)
 
 -- an operation was answered on a settled store, of which this is known after it
 pub record Answered (most : Bound) (old new : History) (settings : Settings) (op : Op) (label : Label) (known : Known) (reply : Reply) : Type 0 where
@@ -65,6 +65,6 @@ pub record Answered (most : Bound) (old new : History) (settings : Settings) (op
   pub showable : IsShowable reply
   pub unavailable : reply ≡ Refused ServiceUnavailable → Rose old.faults new.faults
   pub steady : ends_by_commit op ≡ true → reply ≢ Refused ServiceUnavailable → new.faults ≡ old.faults
-  pub told : Met IsSettled old → (t : ℕ) × (takes : ℕ) × Answers settings new old.called t new.called op label takes reply
+  pub effect : Met IsSettled old → (t : ℕ) × (takes : ℕ) × Answers settings new old.called t new.called op label takes reply
   pub consistent : Met IsSettled old → reply ≢ Refused InconsistentStore
-  pub knows : IsTrue old.tells → IsSettled (present old) → IsKnown known (present new)
+  pub knows : IsTrue old.observable → IsSettled (present old) → IsKnown known (present new)

@@ -16,7 +16,7 @@ use s3_names::Acl;
 use swift_calls::Swift;
 
 /// CreateBucket: HEAD of the container, then its PUT, which commits. At most two calls. The reply is made before
-/// the PUT, so that no memory is wanted after it. The faults are those of the two calls.
+/// the PUT, so that no memory is needed after it. The faults are those of the two calls.
 pub(crate) fn create_bucket<W: Swift>(
     state: &mut Settled<'_, W>,
     bucket: &Bytes,

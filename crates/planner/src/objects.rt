@@ -4,7 +4,7 @@ ghost use Rattle.gate_base.specs.Told.{moment_limit};
 ghost use Rattle.s3_machine.specs.Step.{IsPlace, IsProperContent};
 ghost use Rattle.s3_machine.specs.declared.operation.Op.TheVariants.{PutObject, GetObject, HeadObject, DeleteObject};
 ghost use Rattle.recovery.specs.Calls.{always, Any, Given, TellsBucket};
-ghost use Rattle.recovery.specs.Due.{IsShownHead};
+ghost use Rattle.recovery.specs.Interpret.{IsShownHead};
 ghost use Rattle.recovery.specs.Lent.{Stays};
 ghost use Rattle.recovery.specs.declared.fault.PlanFault.TheVariants.{Failed};
 ghost use Rattle.recovery.specs.declared.state.Known.TheVariants as known;
@@ -20,7 +20,7 @@ use std::alloc::Global;
 use swift_calls::Swift;
 
 /// PutObject: HEAD of the bucket's container, then PUT of the object's file, which commits. At most two calls. The
-/// reply is made before the PUT, so that no memory is wanted after it. The faults are those of the two calls.
+/// reply is made before the PUT, so that no memory is needed after it. The faults are those of the two calls.
 pub(crate) fn put_object<W: Swift>(
     alloc: Global,
     state: &mut Settled<'_, W>,

@@ -17,8 +17,8 @@ use swift_calls::Swift;
 
 /// Answers one operation of Amazon S3. The reply is the service's own, and then the state is as its step leaves it. Or
 /// it is ServiceUnavailable, only where the store's count of faults rose in this call: the last call failed, no earlier
-/// one did, and the state is the old one or the step's. Or it is `Memory`, where memory was wanted, with the
-/// same two states. Or it is InconsistentStore, never over a told sound account. No call is repeated.
+/// one did, and the state is the old one or the step's. Or it is `Memory`, where memory ran out, with the
+/// same two states. Or it is InconsistentStore, never over an observable consistent account. No call is repeated.
 pub fn answer<W: Swift>(alloc: Global, state: &mut Settled<'_, W>, op: &Op, label: &Label) -> Reply
     requires { IsProper op.now label.now }
     ensures stays { Stays state.old state.new }

@@ -5,29 +5,29 @@ use Rattle.s3_machine.specs.declared.operation.Label.{Label}
 use Rattle.s3_machine.specs.declared.operation.Settings.{Settings}
 use Rattle.s3_machine.specs.declared.operation.Op.{Op}
 use Rattle.s3_machine.specs.declared.operation.Reply.{Reply}
-use Rattle.swift_calls.specs.History.{History, NoneFails}
-use Rattle.recovery.specs.Quiet.{Quiet, calm, LastFailed, was_lost, had_none}
+use Rattle.swift_calls.specs.History.{History, FaultFree}
+use Rattle.recovery.specs.Stutters.{Stutters, calm, LastFailed, was_lost, had_none}
 use Rattle.recovery.specs.Answers.{Passes, AnswersBy, machine, unavailable, memory, Answers}
 
 -- the accounts are the same, and quiet calls and steps speak of them alone
-pub quiet_calm : {h : History} {p q : ℕ} → Quiet h p q → Quiet (calm h) p q
+pub quiet_calm : {h : History} {p q : ℕ} → Stutters h p q → Stutters (calm h) p q
 quiet_calm quiet = record { ordered = quiet.ordered; same = quiet.same; sound = quiet.sound }
 
 pub passes_calm : {h : History} {settings : Settings} {p t q : ℕ} {op : Op} {label : Label} {takes : ℕ} → Passes settings h p t q op label takes → Passes settings (calm h) p t q op label takes
 passes_calm passes = record { after_p = passes.after_p; up_to_q = passes.up_to_q; stage = passes.stage; rises = passes.rises; before = passes.before; since = passes.since; is = passes.is; sound = passes.sound }
 
 -- where no call failed, the last one didn't
-pub none_failed : {h : History} {b c p q : ℕ} → NoneFails h b c → b ≤ p → p ≤ q → q ≤ c → LastFailed h p q → ⊥
+pub none_failed : {h : History} {b c p q : ℕ} → FaultFree h b c → b ≤ p → p ≤ q → q ≤ c → LastFailed h p q → ⊥
 none_failed {q = q} none from order to (was_lost last after_p next quiet rose) = none last q (omega arith) (omega arith) to (inl rose)
 none_failed {q = q} none from order to (had_none spent quiet same) = none q q (omega arith) (omega arith) to (inr spent)
 
-answers_by_calm : {h : History} {settings : Settings} {b c p q : ℕ} {op : Op} {label : Label} {takes : ℕ} {reply : Reply} → NoneFails h b c → b ≤ p → p ≤ q → q ≤ c
+answers_by_calm : {h : History} {settings : Settings} {b c p q : ℕ} {op : Op} {label : Label} {takes : ℕ} {reply : Reply} → FaultFree h b c → b ≤ p → p ≤ q → q ≤ c
     → AnswersBy settings h p q op label takes reply → AnswersBy settings (calm h) p q op label takes reply
 answers_by_calm none from order to (machine one stepped) = machine one stepped
 answers_by_calm none from order to (unavailable is failed old) = absurd (none_failed none from order to failed)
 answers_by_calm none from order to (memory is old) = memory is old
 
-pub answers_calm : {h : History} {settings : Settings} {b c p t q : ℕ} {op : Op} {label : Label} {takes : ℕ} {reply : Reply} → NoneFails h b c → b ≤ p → q ≤ c
+pub answers_calm : {h : History} {settings : Settings} {b c p t q : ℕ} {op : Op} {label : Label} {takes : ℕ} {reply : Reply} → FaultFree h b c → b ≤ p → q ≤ c
     → Answers settings h p t q op label takes reply → Answers settings (calm h) p t q op label takes reply
 answers_calm none from to answers =
     let first = answers.passes.after_p in

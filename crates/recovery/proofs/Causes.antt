@@ -1,4 +1,4 @@
--- An answer that is due has no fault of the store.
+-- An answer that is expected has no fault of the store.
 use Rattle.std.specs.Prelude.{◌≡◌, ℕ, Result, Ok, Err}
 use Rattle.std.proofs.Common.{refl}
 use Rattle.recovery.specs.declared.fault.PlanFault.{PlanFault}

@@ -6,19 +6,19 @@ use Rattle.std.proofs.Common.{refl, sym, ap, subst, ◌∙◌}
 use Rattle.s3_names.specs.declared.acl.Acl.{Acl}
 use Rattle.s3_names.specs.Bucket.{is_bucket}
 use Rattle.s3_machine.specs.Step as machine
-use Rattle.swift_calls.specs.Tree.{Folder, Tree}
+use Rattle.swift_calls.specs.Account.{SwiftContainer, SwiftAccount}
 use Rattle.swift_calls.specs.Step.{Answer, delete_by, delete_container, post_container, swift_step}
 use Rattle.swift_calls.specs.Step as store
 use Rattle.swift_calls.specs.declared.account.ReadList.{ReadList}
 use Rattle.swift_calls.specs.declared.calls.SwiftRequest.TheVariants.{DeleteContainer, PostContainer}
 use Rattle.upload_records.specs.Marks.{readers_of}
-use Rattle.upload_records.specs.Native.{IsSettled, native}
-use Rattle.upload_records.specs.Sound.{Sound}
-use Rattle.upload_records.proofs.Buckets.{native_there, native_bare, bucket_gone, acl_replaced}
+use Rattle.upload_records.specs.Native.{IsSettled, s3_state}
+use Rattle.upload_records.specs.Consistent.{IsConsistent}
+use Rattle.upload_records.proofs.Buckets.{s3_state_there, s3_state_bare, bucket_gone, acl_replaced}
 use Rattle.upload_records.proofs.Off.{settled_drop, settled_post}
 use Rattle.recovery.specs.declared.bucket.Dropped.TheVariants.{Gone, Full, Missing}
 use Rattle.recovery.specs.Calls.{Any, DropsBucket, SetsAcl}
-use Rattle.recovery.specs.Due.{dropped_due, set_due}
+use Rattle.recovery.specs.Interpret.{dropped_due, set_due}
 use Rattle.recovery.proofs.One.{Effect, IsWriting}
 
 none_of : {X Y : Type 0} (f : X → Y) (o : Option X) → option_map f o ≡ None → o ≡ None
@@ -27,37 +27,37 @@ none_of f (Some x) e = cc
 
 -- ---- DELETE
 
-module _ (tree : Tree) (bucket : List ℕ) (is : is_bucket bucket ≡ true) (sound : Sound tree) (settled : IsSettled tree) where
+module _ (tree : SwiftAccount) (bucket : List ℕ) (is : is_bucket bucket ≡ true) (sound : IsConsistent tree) (settled : IsSettled tree) where
   -- a container that has an object stays
-  stays_full : (o : Option Folder) → option_map store.is_bare o ≡ Some false → ((delete_container o bucket tree).tree ≡ tree) × (dropped_due (delete_container o bucket tree).reply ≡ Ok Full)
+  stays_full : (o : Option SwiftContainer) → option_map store.is_bare o ≡ Some false → ((delete_container o bucket tree).tree ≡ tree) × (dropped_due (delete_container o bucket tree).reply ≡ Ok Full)
   stays_full None e = cc
   stays_full (Some folder) e =
       let full : store.is_bare folder ≡ false = cc in
       (ap (λ t. (delete_by t bucket tree).tree) full, ap (λ t. dropped_due (delete_by t bucket tree).reply) full)
 
-  says_gone : (o : Option Folder) → option_map store.is_bare o ≡ Some true → dropped_due (delete_container o bucket tree).reply ≡ Ok Gone
+  says_gone : (o : Option SwiftContainer) → option_map store.is_bare o ≡ Some true → dropped_due (delete_container o bucket tree).reply ≡ Ok Gone
   says_gone None e = cc
   says_gone (Some folder) e = let bare : store.is_bare folder ≡ true = cc in ap (λ t. dropped_due (delete_by t bucket tree).reply) bare
 
-  bare : option_map machine.is_bare (get (native tree) bucket) ≡ option_map store.is_bare (get tree bucket)
-  bare = native_bare tree bucket is sound settled
+  bare : option_map machine.is_bare (get (s3_state tree) bucket) ≡ option_map store.is_bare (get tree bucket)
+  bare = s3_state_bare tree bucket is sound settled
 
   drop_by : (o : Option Bool) → option_map store.is_bare (get tree bucket) ≡ o → Effect tree (DeleteContainer bucket) dropped_due (DropsBucket bucket)
   drop_by None e =
       let none : get tree bucket ≡ None = none_of store.is_bare (get tree bucket) e in
       let same : (delete_container (get tree bucket) bucket tree).tree ≡ tree = ap (λ v. (delete_container v bucket tree).tree) none in
       record {
-        told = Missing;
+        answer = Missing;
         says = ap (λ v. dropped_due (delete_container v bucket tree).reply) none;
-        after = subst Sound (sym same) sound;
-        state = (none_of machine.is_bare (get (native tree) bucket) (bare ∙ e), ap native same);
+        after = subst IsConsistent (sym same) sound;
+        state = (none_of machine.is_bare (get (s3_state tree) bucket) (bare ∙ e), ap s3_state same);
       }
   drop_by (Some true) e =
       let done = bucket_gone tree bucket is sound settled e in
-      record { told = Gone; says = says_gone (get tree bucket) e; after = done.sound; state = (bare ∙ e, done.state) }
+      record { answer = Gone; says = says_gone (get tree bucket) e; after = done.sound; state = (bare ∙ e, done.state) }
   drop_by (Some false) e =
       let stays = stays_full (get tree bucket) e in
-      record { told = Full; says = stays.1; after = subst Sound (sym stays.0) sound; state = (bare ∙ e, ap native stays.0) }
+      record { answer = Full; says = stays.1; after = subst IsConsistent (sym stays.0) sound; state = (bare ∙ e, ap s3_state stays.0) }
 
 -- DELETE of a bucket's container takes the bucket away where it has no object
 pub drops : {name bucket : List ℕ} → name ≡ bucket → is_bucket bucket ≡ true → IsWriting (DeleteContainer name) dropped_due Any (DropsBucket bucket)
@@ -68,15 +68,15 @@ drops {bucket = bucket} named is = subst (λ n. IsWriting (DeleteContainer n) dr
 
 -- ---- POST
 
-module _ (tree : Tree) (bucket : List ℕ) (acl : Acl) (is : is_bucket bucket ≡ true) (sound : Sound tree) (settled : IsSettled tree) where
-  post_by : (o : Option Folder) → get tree bucket ≡ o → Effect tree (PostContainer bucket (readers_of acl)) set_due (SetsAcl bucket acl)
+module _ (tree : SwiftAccount) (bucket : List ℕ) (acl : Acl) (is : is_bucket bucket ≡ true) (sound : IsConsistent tree) (settled : IsSettled tree) where
+  post_by : (o : Option SwiftContainer) → get tree bucket ≡ o → Effect tree (PostContainer bucket (readers_of acl)) set_due (SetsAcl bucket acl)
   post_by None e =
       let same : (post_container (get tree bucket) bucket (readers_of acl) tree).tree ≡ tree = ap (λ v. (post_container v bucket (readers_of acl) tree).tree) e in
       record {
-        told = false;
+        answer = false;
         says = ap (λ v. set_due (post_container v bucket (readers_of acl) tree).reply) e;
-        after = subst Sound (sym same) sound;
-        state = (missing (get (native tree) bucket) (native_there tree bucket is settled ∙ ap is_some e), ap native same);
+        after = subst IsConsistent (sym same) sound;
+        state = (missing (get (s3_state tree) bucket) (s3_state_there tree bucket is settled ∙ ap is_some e), ap s3_state same);
       }
     where
       missing : {X : Type 0} (o : Option X) → is_some o ≡ false → o ≡ None
@@ -85,10 +85,10 @@ module _ (tree : Tree) (bucket : List ℕ) (acl : Acl) (is : is_bucket bucket �
   post_by (Some folder) e =
       let done = acl_replaced tree bucket acl is sound settled in
       record {
-        told = true;
+        answer = true;
         says = ap (λ v. set_due (post_container v bucket (readers_of acl) tree).reply) e;
         after = done.sound;
-        state = (native_there tree bucket is settled ∙ ap is_some e, done.state);
+        state = (s3_state_there tree bucket is settled ∙ ap is_some e, done.state);
       }
 
 -- POST of a bucket's container replaces who may read the bucket

@@ -15,7 +15,7 @@ use Rattle.s3_machine.specs.declared.operation.ObjectHead.{ObjectHead}
 use Rattle.s3_machine.specs.ETag.{body_etag}
 use Rattle.s3_machine.specs.Limits.{most_body_bytes}
 use Rattle.s3_machine.specs.Step.{IsProperContent, head_of}
-use Rattle.swift_calls.specs.Tree.{File, Folder, Tree, files, look}
+use Rattle.swift_calls.specs.Account.{SwiftObject, SwiftContainer, SwiftAccount, files, find_object}
 use Rattle.swift_calls.specs.Bodies.{bytes_of, etag_text}
 use Rattle.swift_calls.specs.Bodies as bodies
 use Rattle.swift_calls.specs.Step.{Answer, swift_step, head_reply, get_reply, body_reply, delete_object}
@@ -28,15 +28,15 @@ use Rattle.swift_marks.specs.Pack.{pack_of}
 use Rattle.swift_marks.proofs.TagLaws.{tag_text_reads}
 use Rattle.swift_marks.proofs.PackLaws.{pack_unpacks}
 use Rattle.upload_records.specs.Marks.{segments_name}
-use Rattle.upload_records.specs.Native.{IsSettled, native}
-use Rattle.upload_records.specs.Sound.{Sound, IsPlainObject, in_one_piece, IsStored}
+use Rattle.upload_records.specs.Native.{IsSettled, s3_state}
+use Rattle.upload_records.specs.Consistent.{IsConsistent, IsPlainObject, in_one_piece, IsStored}
 use Rattle.upload_records.specs.Laws.{ChangesBy, FindsObject, file_put, object_in}
-use Rattle.upload_records.proofs.Buckets.{native_there}
+use Rattle.upload_records.proofs.Buckets.{s3_state_there}
 use Rattle.upload_records.proofs.Objects.{plain_object, found, object_put, object_gone}
 use Rattle.upload_records.proofs.Off.{settled_put_file, settled_delete_file}
 use Rattle.recovery.specs.Calls.{TellsBucket, TellsObject, TellsBytes, acl_of_bucket, bytes_in, Any, Becomes, HasBucket, puts_object, drops_object}
 use Rattle.recovery.specs.declared.fault.PlanFault.TheVariants.{Inconsistent}
-use Rattle.recovery.specs.Due.{known, head_by, head_due, bytes_due, stored_due, gone_due, plain_tag, put_of}
+use Rattle.recovery.specs.Interpret.{known, head_by, head_due, bytes_due, stored_due, gone_due, plain_tag, put_of}
 use Rattle.recovery.proofs.Etags.{etag_agrees}
 use Rattle.recovery.proofs.Fits.{has_a_pack, tag_has_text}
 use Rattle.recovery.proofs.Names.{object_name}
@@ -48,9 +48,9 @@ use Rattle.recovery.proofs.One.{IsReading, Effect, IsWriting}
 plain_agrees : (body : List ℕ) → length body ≤ most_body_bytes → bytes_eq (etag_text body) (body_etag body) && nat_le (length body) most_body_bytes ≡ true
 plain_agrees body sized = and_from _ _ (etag_agrees body) (le-leb (length body) most_body_bytes sized)
 
-module _ (tree : Tree) (bucket key : List ℕ) where
-  head_told_by : (o : Option File) → FindsObject tree bucket key o → (reply : SwiftReply) → reply ≡ head_reply o
-      → (told : Option ObjectHead) × (head_due reply ≡ Ok told) × TellsObject bucket key (native tree) told
+module _ (tree : SwiftAccount) (bucket key : List ℕ) where
+  head_told_by : (o : Option SwiftObject) → FindsObject tree bucket key o → (reply : SwiftReply) → reply ≡ head_reply o
+      → (told : Option ObjectHead) × (head_due reply ≡ Ok told) × TellsObject bucket key (s3_state tree) told
   head_told_by None none reply e = (None, ap head_due e, ap (option_map head_of) none)
   head_told_by (Some file) (in_one_piece keyed plain, o, reads, is) reply e = (
     Some (head_of (object_in plain)),
@@ -60,24 +60,24 @@ module _ (tree : Tree) (bucket key : List ℕ) where
     ap (option_map head_of) (is ∙ sym reads ∙ plain_object (files tree (segments_name bucket)) key file plain),
   )
 
-  bytes_told_by : (o : Option File) → FindsObject tree bucket key o → (reply : SwiftReply) → reply ≡ get_reply (look tree) None o
-      → (told : Option (List ℕ)) × (bytes_due reply ≡ Ok told) × TellsBytes bucket key (native tree) told
+  bytes_told_by : (o : Option SwiftObject) → FindsObject tree bucket key o → (reply : SwiftReply) → reply ≡ get_reply (find_object tree) None o
+      → (told : Option (List ℕ)) × (bytes_due reply ≡ Ok told) × TellsBytes bucket key (s3_state tree) told
   bytes_told_by None none reply e = (None, ap bytes_due e, ap (option_map bytes_in) none)
   bytes_told_by (Some file) (in_one_piece keyed plain, o, reads, is) reply e = (
     Some plain.bytes,
-    ap bytes_due e ∙ (λ i. bytes_due (body_reply (bodies.head_of file) None (bytes_of (look tree) (plain.own i)))),
+    ap bytes_due e ∙ (λ i. bytes_due (body_reply (bodies.head_of file) None (bytes_of (find_object tree) (plain.own i)))),
     ap (option_map bytes_in) (is ∙ sym reads ∙ plain_object (files tree (segments_name bucket)) key file plain),
   )
 
-module _ (tree : Tree) (container name bucket key : List ℕ) (named : container ≡ bucket) (under : name ≡ key) (is : is_bucket bucket ≡ true) (sound : Sound tree) (settled : IsSettled tree) where
-  same_file : look tree container name ≡ look tree bucket key
-  same_file = λ i. look tree (named i) (under i)
+module _ (tree : SwiftAccount) (container name bucket key : List ℕ) (named : container ≡ bucket) (under : name ≡ key) (is : is_bucket bucket ≡ true) (sound : IsConsistent tree) (settled : IsSettled tree) where
+  same_file : find_object tree container name ≡ find_object tree bucket key
+  same_file = λ i. find_object tree (named i) (under i)
 
-  head_tells : (reply : SwiftReply) → reply ≡ (swift_step (HeadObject container name) tree).reply → (told : Option ObjectHead) × (head_due reply ≡ Ok told) × TellsObject bucket key (native tree) told
-  head_tells reply replied = head_told_by tree bucket key (look tree bucket key) (found tree bucket key is sound settled) reply (replied ∙ ap head_reply same_file)
+  head_tells : (reply : SwiftReply) → reply ≡ (swift_step (HeadObject container name) tree).reply → (told : Option ObjectHead) × (head_due reply ≡ Ok told) × TellsObject bucket key (s3_state tree) told
+  head_tells reply replied = head_told_by tree bucket key (find_object tree bucket key) (found tree bucket key is sound settled) reply (replied ∙ ap head_reply same_file)
 
-  get_tells : (reply : SwiftReply) → reply ≡ (swift_step (GetObject container name None) tree).reply → (told : Option (List ℕ)) × (bytes_due reply ≡ Ok told) × TellsBytes bucket key (native tree) told
-  get_tells reply replied = bytes_told_by tree bucket key (look tree bucket key) (found tree bucket key is sound settled) reply (replied ∙ ap (get_reply (look tree) None) same_file)
+  get_tells : (reply : SwiftReply) → reply ≡ (swift_step (GetObject container name None) tree).reply → (told : Option (List ℕ)) × (bytes_due reply ≡ Ok told) × TellsBytes bucket key (s3_state tree) told
+  get_tells reply replied = bytes_told_by tree bucket key (find_object tree bucket key) (found tree bucket key is sound settled) reply (replied ∙ ap (get_reply (find_object tree) None) same_file)
 
 module _ {container name bucket key : List ℕ} (named : container ≡ bucket) (under : name ≡ key) (is : is_bucket bucket ≡ true) where
   -- HEAD of an object's file tells of its head
@@ -106,7 +106,7 @@ pub record IsPutOf (request : SwiftRequest) (bucket key content_type : List ℕ)
   pub below : moment < moment_limit
 
 -- the file of an object as it is put
-abbrev file_of_put : List ℕ → List Pair → List ℕ → ℕ → File
+abbrev file_of_put : List ℕ → List Pair → List ℕ → ℕ → SwiftObject
 file_of_put content_type meta body moment = file_put (tag_text (plain_tag content_type (body_etag body) moment)) (pack_of meta) body
 
 is_there : {X Y : Type 0} (f : X → Y) (o : Option X) (y : Y) → option_map f o ≡ Some y → is_some o ≡ true
@@ -114,12 +114,12 @@ is_there f None y e = cc
 is_there f (Some x) y e = refl
 
 -- a bucket that is there has its container
-container_there : (tree : Tree) (bucket : List ℕ) (acl : Acl) → is_bucket bucket ≡ true → IsSettled tree → TellsBucket bucket (native tree) (Some acl) → (folder : Folder) × (get tree bucket ≡ Some folder)
-container_there tree bucket acl is settled told = some_value (get tree bucket) (sym (native_there tree bucket is settled) ∙ is_there acl_of_bucket (get (native tree) bucket) acl told)
+container_there : (tree : SwiftAccount) (bucket : List ℕ) (acl : Acl) → is_bucket bucket ≡ true → IsSettled tree → TellsBucket bucket (s3_state tree) (Some acl) → (folder : SwiftContainer) × (get tree bucket ≡ Some folder)
+container_there tree bucket acl is settled told = some_value (get tree bucket) (sym (s3_state_there tree bucket is settled) ∙ is_there acl_of_bucket (get (s3_state tree) bucket) acl told)
 
-module _ (tree : Tree) (request : SwiftRequest) (bucket key content_type : List ℕ) (meta : List Pair) (body : List ℕ) (moment : ℕ)
-    (put : IsPutOf request bucket key content_type meta body moment) (sound : Sound tree) (settled : IsSettled tree) (acl : Acl) (told : TellsBucket bucket (native tree) (Some acl)) where
-  there : (folder : Folder) × (get tree bucket ≡ Some folder)
+module _ (tree : SwiftAccount) (request : SwiftRequest) (bucket key content_type : List ℕ) (meta : List Pair) (body : List ℕ) (moment : ℕ)
+    (put : IsPutOf request bucket key content_type meta body moment) (sound : IsConsistent tree) (settled : IsSettled tree) (acl : Acl) (told : TellsBucket bucket (s3_state tree) (Some acl)) where
+  there : (folder : SwiftContainer) × (get tree bucket ≡ Some folder)
   there = container_there tree bucket acl put.is settled told
 
   abbrev plain_file : IsPlainObject (file_of_put content_type meta body moment)
@@ -154,10 +154,10 @@ module _ (tree : Tree) (request : SwiftRequest) (bucket key content_type : List 
       = object_put tree bucket key (tag_text (plain_tag content_type (body_etag body) moment)) (pack_of meta) body plain_file put.is put.keyed stored sound settled in
       let same : (swift_step request tree).tree ≡ (swift_step (put_of bucket key content_type meta body moment) tree).tree = ap (λ r. (swift_step r tree).tree) put.same in
       record {
-        told = tt;
+        answer = tt;
         says = ap (λ (a : Answer). stored_due (body_etag body) a.reply) answered ∙ ap (λ t. cond t (Ok tt) (Err Inconsistent)) (etag_agrees body);
-        after = subst Sound (sym same) done.sound;
-        state = ap native same ∙ done.state;
+        after = subst IsConsistent (sym same) done.sound;
+        state = ap s3_state same ∙ done.state;
       }
 
 -- PUT of an object's file puts the object, into a bucket that is there
@@ -170,22 +170,22 @@ puts {request = request} {bucket = bucket} {key = key} {content_type = content_t
 
 -- ---- DELETE
 
-gone_by : (tree : Tree) (bucket key : List ℕ) (o : Option File) → gone_due (delete_object o bucket key tree).reply ≡ Ok tt
+gone_by : (tree : SwiftAccount) (bucket key : List ℕ) (o : Option SwiftObject) → gone_due (delete_object o bucket key tree).reply ≡ Ok tt
 gone_by tree bucket key None = refl
 gone_by tree bucket key (Some file) = refl
 
-module _ (tree : Tree) (container name bucket key : List ℕ) (named : container ≡ bucket) (under : name ≡ key) (is : is_bucket bucket ≡ true) where
+module _ (tree : SwiftAccount) (container name bucket key : List ℕ) (named : container ≡ bucket) (under : name ≡ key) (is : is_bucket bucket ≡ true) where
   same_step : swift_step (DeleteObject container name) tree ≡ swift_step (DeleteObject bucket key) tree
   same_step = λ i. swift_step (DeleteObject (named i) (under i)) tree
 
-  delete_effect : Sound tree → IsSettled tree → Effect tree (DeleteObject container name) gone_due (Becomes (drops_object bucket key))
+  delete_effect : IsConsistent tree → IsSettled tree → Effect tree (DeleteObject container name) gone_due (Becomes (drops_object bucket key))
   delete_effect sound settled =
       let done = object_gone tree bucket key is sound settled in
       record {
-        told = tt;
-        says = ap (λ (a : Answer). gone_due a.reply) same_step ∙ gone_by tree bucket key (look tree bucket key);
-        after = subst Sound (sym (ap (λ (a : Answer). a.tree) same_step)) done.sound;
-        state = ap (λ (a : Answer). native a.tree) same_step ∙ done.state;
+        answer = tt;
+        says = ap (λ (a : Answer). gone_due a.reply) same_step ∙ gone_by tree bucket key (find_object tree bucket key);
+        after = subst IsConsistent (sym (ap (λ (a : Answer). a.tree) same_step)) done.sound;
+        state = ap (λ (a : Answer). s3_state a.tree) same_step ∙ done.state;
       }
 
   delete_settled : IsSettled tree → IsSettled (swift_step (DeleteObject container name) tree).tree

@@ -25,7 +25,7 @@ use Rattle.swift_marks.specs.Tag.{is_printable, is_field, is_content_type, is_et
 use Rattle.swift_marks.specs.Pack.{is_short, has_pack, pack_of}
 use Rattle.swift_marks.proofs.TagLaws.{weaken}
 use Rattle.swift_marks.proofs.FieldLaws.{tag_is_field, pack_is_small}
-use Rattle.recovery.specs.Due.{plain_tag}
+use Rattle.recovery.specs.Interpret.{plain_tag}
 use Rattle.recovery.proofs.Etags.{etag_is_etag}
 use Rattle.recovery.proofs.Names.{container_name, object_name}
 

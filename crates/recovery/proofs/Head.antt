@@ -5,42 +5,42 @@ use Rattle.std.specs.FinMap.{get}
 use Rattle.std.proofs.Common.{refl, sym, ap, ◌∙◌}
 use Rattle.s3_names.specs.declared.acl.Acl.{Acl}
 use Rattle.s3_names.specs.Bucket.{is_bucket}
-use Rattle.swift_calls.specs.Tree.{Folder, Tree}
+use Rattle.swift_calls.specs.Account.{SwiftContainer, SwiftAccount}
 use Rattle.swift_calls.specs.Step.{head_container, swift_step}
 use Rattle.swift_calls.specs.declared.calls.SwiftRequest.TheVariants.{HeadContainer}
 use Rattle.swift_calls.specs.declared.calls.SwiftReply.{SwiftReply}
 use Rattle.swift_calls.specs.declared.calls.SwiftReply.TheVariants.{Readers}
-use Rattle.upload_records.specs.Native.{IsSettled, native}
-use Rattle.upload_records.specs.Sound.{Sound, head_of}
-use Rattle.upload_records.proofs.Buckets.{native_acl}
+use Rattle.upload_records.specs.Native.{IsSettled, s3_state}
+use Rattle.upload_records.specs.Consistent.{IsConsistent, head_of}
+use Rattle.upload_records.proofs.Buckets.{s3_state_acl}
 use Rattle.upload_records.proofs.Plain.{acl_of_folder}
 use Rattle.recovery.specs.Calls.{TellsBucket}
-use Rattle.recovery.specs.Due.{bucket_due}
+use Rattle.recovery.specs.Interpret.{bucket_due}
 use Rattle.recovery.proofs.One.{IsReading}
 
-leaves_by : (o : Option Folder) (tree : Tree) → (head_container o tree).tree ≡ tree
+leaves_by : (o : Option SwiftContainer) (tree : SwiftAccount) → (head_container o tree).tree ≡ tree
 leaves_by None tree = refl
 leaves_by (Some folder) tree = refl
 
 -- a container that is there has a moment
-abbrev IsTimed : Option Folder → Type 0
+abbrev IsTimed : Option SwiftContainer → Type 0
 IsTimed None = Unit {0}
 IsTimed (Some folder) = (moment : ℕ) × (folder.created ≡ Some moment)
 
-timed_by : (tree : Tree) (bucket : List ℕ) → is_bucket bucket ≡ true → Sound tree → (o : Option Folder) → get tree bucket ≡ o → IsTimed o
+timed_by : (tree : SwiftAccount) (bucket : List ℕ) → is_bucket bucket ≡ true → IsConsistent tree → (o : Option SwiftContainer) → get tree bucket ≡ o → IsTimed o
 timed_by tree bucket is sound None found = tt
 timed_by tree bucket is sound (Some folder) found = let timed = sound.folders.timed bucket (head_of folder) (ap (option_map head_of) found) is in (timed.0, timed.1)
 
-due_by : (o : Option Folder) (tree : Tree) (reply : SwiftReply) → IsTimed o → reply ≡ (head_container o tree).reply → bucket_due reply ≡ Ok (option_map acl_of_folder o)
+due_by : (o : Option SwiftContainer) (tree : SwiftAccount) (reply : SwiftReply) → IsTimed o → reply ≡ (head_container o tree).reply → bucket_due reply ≡ Ok (option_map acl_of_folder o)
 due_by None tree reply timed e = ap bucket_due e
 due_by (Some folder) tree reply timed e = ap bucket_due e ∙ ap (λ created. bucket_due (Readers folder.readers created)) timed.1
 
-head_tells : (tree : Tree) (name bucket : List ℕ) → name ≡ bucket → is_bucket bucket ≡ true → Sound tree → IsSettled tree → (reply : SwiftReply) → reply ≡ (swift_step (HeadContainer name) tree).reply
-    → (told : Option Acl) × (bucket_due reply ≡ Ok told) × TellsBucket bucket (native tree) told
+head_tells : (tree : SwiftAccount) (name bucket : List ℕ) → name ≡ bucket → is_bucket bucket ≡ true → IsConsistent tree → IsSettled tree → (reply : SwiftReply) → reply ≡ (swift_step (HeadContainer name) tree).reply
+    → (told : Option Acl) × (bucket_due reply ≡ Ok told) × TellsBucket bucket (s3_state tree) told
 head_tells tree name bucket named is sound settled reply replied = (
   option_map acl_of_folder (get tree name),
   due_by (get tree name) tree reply (timed_by tree bucket is sound (get tree name) (ap (get tree) (sym named))) replied,
-  native_acl tree bucket is settled ∙ ap (λ n. option_map acl_of_folder (get tree n)) (sym named),
+  s3_state_acl tree bucket is settled ∙ ap (λ n. option_map acl_of_folder (get tree n)) (sym named),
 )
 
 -- HEAD of a bucket's container tells who may read the bucket

@@ -4,6 +4,7 @@ pub mod Causes
 pub mod Dates
 pub mod Drop
 pub mod Etags
+pub mod FaultFree
 pub mod Faults
 pub mod Files
 pub mod Fits
@@ -12,4 +13,3 @@ pub mod Names
 pub mod One
 pub mod Put
 pub mod Settling
-pub mod Undisturbed

@@ -4,20 +4,20 @@ use Rattle.std.specs.Result.{IsErrAnd}
 use Rattle.std.proofs.Common.{refl, sym, ap, subst, ◌∙◌, inl, inr, arith}
 use Rattle.std.proofs.lemmas.Bool.{cases_lt}
 use Rattle.s3_machine.specs.State.{State}
-use Rattle.swift_calls.specs.Tree.{Tree}
+use Rattle.swift_calls.specs.Account.{SwiftAccount}
 use Rattle.swift_calls.specs.Step.{swift_step}
-use Rattle.swift_calls.specs.History.{History, budget, present, CountsFaults, Either, Called, Replied, Lost, Calls, counts_near, kept_refl}
+use Rattle.swift_calls.specs.History.{History, budget, present, CountsFaults, Either, Called, Replied, Lost, Calls, counts_near, extends_refl}
 use Rattle.swift_calls.specs.declared.calls.SwiftRequest.{SwiftRequest}
 use Rattle.swift_calls.specs.declared.calls.SwiftReply.{SwiftReply}
 use Rattle.swift_calls.specs.declared.calls.SwiftFault.{SwiftFault}
 use Rattle.swift_calls.specs.declared.calls.SwiftFault.TheVariants.{Failed, Memory}
-use Rattle.upload_records.specs.Native.{IsSettled, native}
-use Rattle.upload_records.specs.Sound.{Sound}
+use Rattle.upload_records.specs.Native.{IsSettled, s3_state}
+use Rattle.upload_records.specs.Consistent.{IsConsistent}
 use Rattle.recovery.specs.declared.fault.PlanFault.{PlanFault}
 use Rattle.recovery.specs.declared.fault.PlanFault.TheVariants as fault
 use Rattle.recovery.specs.Fault.{plan_fault, CausesFault}
-use Rattle.recovery.specs.Due.{Gives}
-use Rattle.recovery.specs.Quiet.{Quiet, LastFailed, was_lost, had_none}
+use Rattle.recovery.specs.Interpret.{Gives}
+use Rattle.recovery.specs.Stutters.{Stutters, LastFailed, was_lost, had_none}
 use Rattle.recovery.specs.Calls.{Bound, always, by_account, GoesOn, Met, Grows, Given, Keeps, Tells, Asks, Commits, Writes, Changes}
 use Rattle.recovery.proofs.Causes.{due_cause}
 use Rattle.recovery.proofs.Faults.{err_is}
@@ -27,27 +27,27 @@ near_one : {p q : ℕ} (k : ℕ) → q ≤ p + 1 → p ≤ k → k ≤ q → (k 
 near_one {p = p} {q = q} k near from to = elim (cases_lt k q) [ inl below ↦ inl (omega arith) | inr above ↦ inr (omega arith) ]
 
 -- no call, or one that left the account
-stays : {h : History} {p q : ℕ} → p ≤ q → q ≤ p + 1 → h.tree_at q ≡ h.tree_at p → Sound (h.tree_at p) → Quiet h p q
+stays : {h : History} {p q : ℕ} → p ≤ q → q ≤ p + 1 → h.tree_at q ≡ h.tree_at p → IsConsistent (h.tree_at p) → Stutters h p q
 stays {h = h} {p = p} {q = q} ordered near same sound = record {
   ordered = ordered;
-  same = λ k from to. ap native (here k from to);
-  sound = λ k from to. subst Sound (sym (here k from to)) sound;
+  same = λ k from to. ap s3_state (here k from to);
+  sound = λ k from to. subst IsConsistent (sym (here k from to)) sound;
 }
   where
     here : (k : ℕ) → p ≤ k → k ≤ q → h.tree_at k ≡ h.tree_at p
     here k from to = elim (near_one k near from to) [ inl e ↦ ap h.tree_at e | inr e ↦ ap h.tree_at e ∙ same ]
 
 -- no call was made
-pub none_made : {h : History} {p q : ℕ} → q ≡ p → Sound (h.tree_at p) → Quiet h p q
+pub none_made : {h : History} {p q : ℕ} → q ≡ p → IsConsistent (h.tree_at p) → Stutters h p q
 none_made {h = h} same sound = stays (omega arith) (omega arith) (ap h.tree_at same) sound
 
 -- ---- how the history goes on
 
 -- no call was made
 pub goes_none : (h : History) → GoesOn h h
-goes_none h = record { ordered = omega arith; faults = omega arith; tells = λ tells. tells; kept = λ tells. kept_refl h.called h }
+goes_none h = record { ordered = omega arith; faults = omega arith; observable = λ observable. observable; kept = λ observable. extends_refl h.called h }
 
-pub grows_none : (most : Bound) (given : Tree → Type 0) (h : History) → Grows most given h h
+pub grows_none : (most : Bound) (given : SwiftAccount → Type 0) (h : History) → Grows most given h h
 grows_none (always n) given h = record { on = goes_none h; calls = omega arith }
 grows_none (by_account n) given h = record { on = goes_none h; calls = λ met. omega arith }
 
@@ -59,14 +59,14 @@ faults_near before now (Err Memory) counts = omega arith
 
 -- one call was
 pub goes_one : {old new : History} {request : SwiftRequest} {result : Result SwiftReply SwiftFault} → Calls old new request result → GoesOn old new
-goes_one {old = old} {new = new} {result = result} calls = record { ordered = (counts_near old.called new.called result calls.counts).0; faults = faults_near old.faults new.faults result calls.faults; tells = calls.tells; kept = calls.kept }
+goes_one {old = old} {new = new} {result = result} calls = record { ordered = (counts_near old.called new.called result calls.counts).0; faults = faults_near old.faults new.faults result calls.faults; observable = calls.observable; kept = calls.kept }
 
-pub grows_one : {old new : History} {request : SwiftRequest} {result : Result SwiftReply SwiftFault} (given : Tree → Type 0) → Calls old new request result → Grows (always 1) given old new
+pub grows_one : {old new : History} {request : SwiftRequest} {result : Result SwiftReply SwiftFault} (given : SwiftAccount → Type 0) → Calls old new request result → Grows (always 1) given old new
 grows_one {old = old} {new = new} {result = result} given calls = record { on = goes_one calls; calls = (counts_near old.called new.called result calls.counts).1 }
 
 -- the account at the number before the call is the one that it found
-found : {old new : History} {request : SwiftRequest} {result : Result SwiftReply SwiftFault} → Calls old new request result → IsTrue old.tells → new.tree_at old.called ≡ present old
-found {old = old} calls tells = (calls.kept tells).accounts old.called (omega arith)
+found : {old new : History} {request : SwiftRequest} {result : Result SwiftReply SwiftFault} → Calls old new request result → IsTrue old.observable → new.tree_at old.called ≡ present old
+found {old = old} calls observable = (calls.kept observable).accounts old.called (omega arith)
 
 fault_cause : (T : Type 0) (before now : ℕ) (fault : SwiftFault) → CountsFaults before now (Err fault) → CausesFault {T = T} before now (Err (plan_fault fault))
 fault_cause T before now Failed counts = counts
@@ -76,7 +76,7 @@ fault_cause T before now Memory counts = counts
 
 -- the request leaves each settled account settled
 abbrev pub LeavesSettled : SwiftRequest → Type 0
-LeavesSettled request = (tree : Tree) → IsSettled tree → IsSettled (swift_step request tree).tree
+LeavesSettled request = (tree : SwiftAccount) → IsSettled tree → IsSettled (swift_step request tree).tree
 
 module _ (h : History) (p q : ℕ) (request : SwiftRequest) (leaves : LeavesSettled request) (settled : IsSettled (h.tree_at p)) where
   settled_done : h.tree_at q ≡ (swift_step request (h.tree_at p)).tree → IsSettled (h.tree_at q)
@@ -97,9 +97,9 @@ module _ (h : History) (p q : ℕ) (request : SwiftRequest) (leaves : LeavesSett
   settled_after (Err Memory) (inr same) = settled_same (ap h.tree_at same)
 
 pub stays_settled : {old new : History} {request : SwiftRequest} {result : Result SwiftReply SwiftFault} → LeavesSettled request → Calls old new request result
-    → IsTrue old.tells → IsSettled (present old) → IsSettled (present new)
-stays_settled {old = old} {new = new} {request = request} {result = result} leaves calls tells settled =
-    settled_after new old.called new.called request leaves (subst IsSettled (sym (found calls tells)) settled) result (calls.told tells)
+    → IsTrue old.observable → IsSettled (present old) → IsSettled (present new)
+stays_settled {old = old} {new = new} {request = request} {result = result} leaves calls observable settled =
+    settled_after new old.called new.called request leaves (subst IsSettled (sym (found calls observable)) settled) result (calls.effect observable)
 
 -- ---- a call that failed
 
@@ -107,17 +107,17 @@ lost_last : {h : History} {p q : ℕ} {request : SwiftRequest} → Lost h p q re
 lost_last {p = p} c = was_lost p (omega arith) c.next refl c.rose
 
 spent_last : {h : History} {p q : ℕ} → budget ≤ p → q ≡ p → LastFailed h p q
-spent_last {h = h} spent same = had_none (omega arith) (ap h.faults_at same) (ap (λ k. native (h.tree_at k)) same)
+spent_last {h = h} spent same = had_none (omega arith) (ap h.faults_at same) (ap (λ k. s3_state (h.tree_at k)) same)
 
 -- ---- a call that tells of the state
 
--- over each sound and settled account the request leaves it, and its answer comes to what P says
+-- over each consistent and settled account the request leaves it, and its answer comes to what P says
 pub record IsReading {T : Type 0} (request : SwiftRequest) (due : SwiftReply → Result T PlanFault) (P : State → T → Type 0) : Type 0 where
-  pub leaves : (tree : Tree) → (swift_step request tree).tree ≡ tree
-  pub tells : (tree : Tree) → Sound tree → IsSettled tree → (reply : SwiftReply) → reply ≡ (swift_step request tree).reply → (told : T) × (due reply ≡ Ok told) × P (native tree) told
+  pub leaves : (tree : SwiftAccount) → (swift_step request tree).tree ≡ tree
+  pub tells : (tree : SwiftAccount) → IsConsistent tree → IsSettled tree → (reply : SwiftReply) → reply ≡ (swift_step request tree).reply → (told : T) × (due reply ≡ Ok told) × P (s3_state tree) told
 
 module _ {T : Type 0} {request : SwiftRequest} {due : SwiftReply → Result T PlanFault} {P : State → T → Type 0} (reading : IsReading request due P) (h : History) (p q : ℕ)
-    (sound : Sound (h.tree_at p)) (settled : IsSettled (h.tree_at p)) where
+    (sound : IsConsistent (h.tree_at p)) (settled : IsSettled (h.tree_at p)) where
   left : Either h p q request → h.tree_at q ≡ h.tree_at p
   left (inl same) = same
   left (inr done) = done ∙ reading.leaves (h.tree_at p)
@@ -136,10 +136,10 @@ module _ {T : Type 0} {request : SwiftRequest} {due : SwiftReply → Result T Pl
       let same = c.tree ∙ reading.leaves (h.tree_at p) in
       subst (Keeps h p q (Tells P)) (sym (is ∙ told.1)) (let next = c.next in (stays (omega arith) (omega arith) same sound, c.quiet, record { of_state = told.2; same = same }))
 
--- memory was wanted before the call
-pub not_asked : {T : Type 0} {given : Tree → Type 0} {P : Tree → Tree → T → Type 0} (most : Bound) (h : History) (result : Result T PlanFault) → IsErrAnd result (λ e. e ≡ fault.Memory) → Asks most h h given P result
+-- memory ran out before the call
+pub not_asked : {T : Type 0} {given : SwiftAccount → Type 0} {P : SwiftAccount → SwiftAccount → T → Type 0} (most : Bound) (h : History) (result : Result T PlanFault) → IsErrAnd result (λ e. e ≡ fault.Memory) → Asks most h h given P result
 not_asked {given = given} {P = P} most h result is =
-    subst (Asks most h h given P) (sym (err_is result fault.Memory is)) (record { grows = grows_none most given h; cause = refl; told = λ met. (none_made refl met.sound, refl); settled = λ tells settled. settled })
+    subst (Asks most h h given P) (sym (err_is result fault.Memory is)) (record { grows = grows_none most given h; cause = refl; effect = λ met. (none_made refl met.sound, refl); settled = λ observable settled. settled })
 
 -- a request that leaves each account leaves it settled
 leaves_settled : {T : Type 0} {request : SwiftRequest} {due : SwiftReply → Result T PlanFault} {P : State → T → Type 0} → IsReading request due P → LeavesSettled request
@@ -151,9 +151,9 @@ pub asked_in_vain : {T : Type 0} {old new : History} {request : SwiftRequest} {d
 asked_in_vain {T = T} {old = old} {new = new} {P = P} {fault = fault} reading calls result is = subst (Asks (always 1) old new IsSettled (Tells P)) (sym (err_is result (plan_fault fault) is)) (record {
   grows = grows_one IsSettled calls;
   cause = fault_cause T old.faults new.faults fault calls.faults;
-  told = λ met.
-      let same = sym (found calls met.tells) in
-      unread reading new old.called new.called (subst Sound same met.sound) (subst IsSettled same met.has) fault (calls.told met.tells);
+  effect = λ met.
+      let same = sym (found calls met.observable) in
+      unread reading new old.called new.called (subst IsConsistent same met.sound) (subst IsSettled same met.has) fault (calls.effect met.observable);
   settled = stays_settled (leaves_settled reading) calls;
 })
 
@@ -163,49 +163,51 @@ pub asked : {T : Type 0} {old new : History} {request : SwiftRequest} {due : Swi
 asked {old = old} {new = new} {reply = reply} reading calls result gives own = record {
   grows = grows_one IsSettled calls;
   cause = due_cause old.faults new.faults result calls.faults own;
-  told = λ met.
-      let same = sym (found calls met.tells) in
-      read reading new old.called new.called (subst Sound same met.sound) (subst IsSettled same met.has) reply result (calls.told met.tells) gives;
+  effect = λ met.
+      let same = sym (found calls met.observable) in
+      read reading new old.called new.called (subst IsConsistent same met.sound) (subst IsSettled same met.has) reply result (calls.effect met.observable) gives;
   settled = stays_settled (leaves_settled reading) calls;
 }
 
 -- ---- a call that may change the state
 
--- the effect of the request on this account is one that S allows where this is told, which its answer comes to; and it leaves the account sound
-pub record Effect {T : Type 0} (tree : Tree) (request : SwiftRequest) (due : SwiftReply → Result T PlanFault) (S : T → State → State → Type 0) : Type 0 where
-  pub told : T
-  pub says : due (swift_step request tree).reply ≡ Ok told
-  pub after : Sound (swift_step request tree).tree
-  pub state : S told (native tree) (native (swift_step request tree).tree)
+-- the effect of the request on this account is one that S allows where this is told, which its answer comes to; and it leaves
+-- the account consistent
+pub record Effect {T : Type 0} (tree : SwiftAccount) (request : SwiftRequest) (due : SwiftReply → Result T PlanFault) (S : T → State → State → Type 0) : Type 0 where
+  pub answer : T
+  pub says : due (swift_step request tree).reply ≡ Ok answer
+  pub after : IsConsistent (swift_step request tree).tree
+  pub state : S answer (s3_state tree) (s3_state (swift_step request tree).tree)
 
--- over each sound and settled account of which the given holds, the request has such an effect, and it leaves accounts settled
+-- over each consistent and settled account of which the given holds, the request has such an effect, and it leaves accounts
+-- settled
 pub record IsWriting {T : Type 0} (request : SwiftRequest) (due : SwiftReply → Result T PlanFault) (given : State → Type 0) (S : T → State → State → Type 0) : Type 0 where
-  pub effect : (tree : Tree) → Sound tree → IsSettled tree → given (native tree) → Effect tree request due S
+  pub effect : (tree : SwiftAccount) → IsConsistent tree → IsSettled tree → given (s3_state tree) → Effect tree request due S
   pub settled : LeavesSettled request
 
 module _ {T : Type 0} (h : History) (p q : ℕ) (request : SwiftRequest) (due : SwiftReply → Result T PlanFault) (S : T → State → State → Type 0)
-    (sound : Sound (h.tree_at p)) (effect : Effect (h.tree_at p) request due S) where
-  commits : q ≡ p + 1 → h.tree_at q ≡ (swift_step request (h.tree_at p)).tree → Commits h p q (S effect.told)
+    (sound : IsConsistent (h.tree_at p)) (effect : Effect (h.tree_at p) request due S) where
+  commits : q ≡ p + 1 → h.tree_at q ≡ (swift_step request (h.tree_at p)).tree → Commits h p q (S effect.answer)
   commits one done = record {
     last = p;
     quiet = none_made refl sound;
     no_fault = refl;
     next = one;
-    sound = subst Sound (sym done) effect.after;
-    made = subst (λ tree. S effect.told (native (h.tree_at p)) (native tree)) (sym done) effect.state;
+    sound = subst IsConsistent (sym done) effect.after;
+    made = subst (λ tree. S effect.answer (s3_state (h.tree_at p)) (s3_state tree)) (sym done) effect.state;
   }
 
   -- it was answered
-  written : (reply : SwiftReply) → Replied h p q request reply → Writes h p q S (Ok effect.told)
+  written : (reply : SwiftReply) → Replied h p q request reply → Writes h p q S (Ok effect.answer)
   written reply c = (commits c.next c.tree, c.quiet)
 
   lost_by : (c : Lost h p q request) → Either h p q request → Writes h p q S (Err fault.Failed)
   lost_by c (inl same) = let next = c.next in inl (stays (omega arith) (omega arith) same sound, lost_last c)
-  lost_by c (inr done) = inr ((effect.told, commits c.next done), c.rose)
+  lost_by c (inr done) = inr ((effect.answer, commits c.next done), c.rose)
 
   unread_by : q ≡ p + 1 → h.faults_at q ≡ h.faults_at p → Either h p q request → Writes h p q S (Err fault.Memory)
   unread_by next quiet (inl same) = (inl (stays (omega arith) (omega arith) same sound), quiet)
-  unread_by next quiet (inr done) = (inr (effect.told, commits next done), quiet)
+  unread_by next quiet (inr done) = (inr (effect.answer, commits next done), quiet)
 
   unwritten : (fault : SwiftFault) → Called h p q request (Err fault) → Writes h p q S (Err (plan_fault fault))
   unwritten Failed (inl c) = lost_by c c.either
@@ -213,16 +215,16 @@ module _ {T : Type 0} (h : History) (p q : ℕ) (request : SwiftRequest) (due : 
   unwritten Memory (inl c) = unread_by c.next c.quiet c.either
   unwritten Memory (inr same) = (inl (none_made same sound), ap h.faults_at same)
 
--- memory was wanted before the call
-pub not_sent : {T : Type 0} {given : Tree → Type 0} {S : T → State → State → Type 0} (h : History) (result : Result T PlanFault) → IsErrAnd result (λ e. e ≡ fault.Memory) → Changes (always 1) h h given S result
+-- memory ran out before the call
+pub not_sent : {T : Type 0} {given : SwiftAccount → Type 0} {S : T → State → State → Type 0} (h : History) (result : Result T PlanFault) → IsErrAnd result (λ e. e ≡ fault.Memory) → Changes (always 1) h h given S result
 not_sent {given = given} {S = S} h result is =
-    subst (Changes (always 1) h h given S) (sym (err_is result fault.Memory is)) (record { grows = grows_none (always 1) given h; cause = refl; told = λ met. (inl (none_made refl met.sound), refl); settled = λ tells settled. settled })
+    subst (Changes (always 1) h h given S) (sym (err_is result fault.Memory is)) (record { grows = grows_none (always 1) given h; cause = refl; effect = λ met. (inl (none_made refl met.sound), refl); settled = λ observable settled. settled })
 
 -- what is given of the account that the call found
 effect_found : {T : Type 0} {old new : History} {request : SwiftRequest} {result : Result SwiftReply SwiftFault} {due : SwiftReply → Result T PlanFault} {given : State → Type 0} {S : T → State → State → Type 0}
     → IsWriting request due given S → Calls old new request result → Met (Given given) old → Effect (new.tree_at old.called) request due S
 effect_found {request = request} {due = due} {S = S} writing calls met =
-    subst (λ tree. Effect tree request due S) (sym (found calls met.tells)) (writing.effect _ met.sound met.has.settled met.has.state)
+    subst (λ tree. Effect tree request due S) (sym (found calls met.observable)) (writing.effect _ met.sound met.has.settled met.has.state)
 
 -- it was not answered
 pub sent_in_vain : {T : Type 0} {old new : History} {request : SwiftRequest} {due : SwiftReply → Result T PlanFault} {given : State → Type 0} {S : T → State → State → Type 0} {fault : SwiftFault}
@@ -230,7 +232,7 @@ pub sent_in_vain : {T : Type 0} {old new : History} {request : SwiftRequest} {du
 sent_in_vain {T = T} {old = old} {new = new} {request = request} {due = due} {given = given} {S = S} {fault = fault} writing calls result is = subst (Changes (always 1) old new (Given given) S) (sym (err_is result (plan_fault fault) is)) (record {
   grows = grows_one (Given given) calls;
   cause = fault_cause T old.faults new.faults fault calls.faults;
-  told = λ met. unwritten new old.called new.called request due S (subst Sound (sym (found calls met.tells)) met.sound) (effect_found writing calls met) fault (calls.told met.tells);
+  effect = λ met. unwritten new old.called new.called request due S (subst IsConsistent (sym (found calls met.observable)) met.sound) (effect_found writing calls met) fault (calls.effect met.observable);
   settled = stays_settled writing.settled calls;
 })
 
@@ -240,10 +242,10 @@ pub sent : {T : Type 0} {old new : History} {request : SwiftRequest} {due : Swif
 sent {old = old} {new = new} {request = request} {due = due} {given = given} {S = S} {reply = reply} writing calls result is own = record {
   grows = grows_one (Given given) calls;
   cause = due_cause old.faults new.faults result calls.faults own;
-  told = λ met.
-      let replied = calls.told met.tells in
+  effect = λ met.
+      let replied = calls.effect met.observable in
       let effect = effect_found writing calls met in
       subst (Writes new old.called new.called S) (sym (is ∙ ap due replied.reply ∙ effect.says))
-      (written new old.called new.called request due S (subst Sound (sym (found calls met.tells)) met.sound) effect reply replied);
+      (written new old.called new.called request due S (subst IsConsistent (sym (found calls met.observable)) met.sound) effect reply replied);
   settled = stays_settled writing.settled calls;
 }

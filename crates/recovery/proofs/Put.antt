@@ -5,17 +5,17 @@ use Rattle.std.proofs.Common.{refl, sym, ap, subst, ◌∙◌}
 use Rattle.gate_base.specs.Told.{moment_limit}
 use Rattle.s3_names.specs.declared.acl.Acl.{Acl}
 use Rattle.s3_names.specs.Bucket.{is_bucket}
-use Rattle.swift_calls.specs.Tree.{Folder, Tree}
+use Rattle.swift_calls.specs.Account.{SwiftContainer, SwiftAccount}
 use Rattle.swift_calls.specs.Step.{Answer, put_container, swift_step}
 use Rattle.swift_calls.specs.declared.account.ReadList.{ReadList}
 use Rattle.swift_calls.specs.declared.calls.SwiftRequest.TheVariants.{PutContainer}
 use Rattle.upload_records.specs.Marks.{readers_of}
-use Rattle.upload_records.specs.Native.{IsSettled, native}
-use Rattle.upload_records.specs.Sound.{Sound}
-use Rattle.upload_records.proofs.Buckets.{native_there, bucket_made}
+use Rattle.upload_records.specs.Native.{IsSettled, s3_state}
+use Rattle.upload_records.specs.Consistent.{IsConsistent}
+use Rattle.upload_records.proofs.Buckets.{s3_state_there, bucket_made}
 use Rattle.upload_records.proofs.Off.{settled_put}
 use Rattle.recovery.specs.Calls.{Becomes, LacksBucket, makes_bucket}
-use Rattle.recovery.specs.Due.{made_due}
+use Rattle.recovery.specs.Interpret.{made_due}
 use Rattle.recovery.proofs.One.{Effect, IsWriting}
 
 -- the request, for the bucket's own name, access control list and moment
@@ -30,26 +30,26 @@ none_of None e = refl
 none_of (Some x) e = cc
 
 -- a bucket that is missing has no container
-no_container : (tree : Tree) (bucket : List ℕ) → is_bucket bucket ≡ true → IsSettled tree → get (native tree) bucket ≡ None → get tree bucket ≡ None
-no_container tree bucket is settled missing = none_of (get tree bucket) (sym (native_there tree bucket is settled) ∙ ap is_some missing)
+no_container : (tree : SwiftAccount) (bucket : List ℕ) → is_bucket bucket ≡ true → IsSettled tree → get (s3_state tree) bucket ≡ None → get tree bucket ≡ None
+no_container tree bucket is settled missing = none_of (get tree bucket) (sym (s3_state_there tree bucket is settled) ∙ ap is_some missing)
 
-put_replies : (o : Option Folder) (name : List ℕ) (readers : ReadList) (created : Option ℕ) (tree : Tree) → o ≡ None → made_due (put_container o name readers created tree).reply ≡ Ok tt
+put_replies : (o : Option SwiftContainer) (name : List ℕ) (readers : ReadList) (created : Option ℕ) (tree : SwiftAccount) → o ≡ None → made_due (put_container o name readers created tree).reply ≡ Ok tt
 put_replies o name readers created tree none = ap (λ v. made_due (put_container v name readers created tree).reply) none
 
-module _ (tree : Tree) (name bucket : List ℕ) (readers : ReadList) (acl : Acl) (moment : ℕ) (put : IsPutOf name bucket readers acl moment) where
+module _ (tree : SwiftAccount) (name bucket : List ℕ) (readers : ReadList) (acl : Acl) (moment : ℕ) (put : IsPutOf name bucket readers acl moment) where
   same_step : swift_step (PutContainer name readers (Some moment)) tree ≡ swift_step (PutContainer bucket (readers_of acl) (Some moment)) tree
   same_step = λ i. swift_step (PutContainer (put.named i) (put.listed i) (Some moment)) tree
 
   -- the bucket is made, and the store says so
-  put_effect : Sound tree → IsSettled tree → get (native tree) bucket ≡ None → Effect tree (PutContainer name readers (Some moment)) made_due (Becomes (makes_bucket bucket acl moment))
+  put_effect : IsConsistent tree → IsSettled tree → get (s3_state tree) bucket ≡ None → Effect tree (PutContainer name readers (Some moment)) made_due (Becomes (makes_bucket bucket acl moment))
   put_effect sound settled missing =
       let none : get tree bucket ≡ None = no_container tree bucket put.is settled missing in
       let done = bucket_made tree bucket acl moment put.is put.below sound settled none in
       record {
-        told = tt;
+        answer = tt;
         says = ap (λ (a : Answer). made_due a.reply) same_step ∙ put_replies (get tree bucket) bucket (readers_of acl) (Some moment) tree none;
-        after = subst Sound (sym (ap (λ (a : Answer). a.tree) same_step)) done.sound;
-        state = ap (λ (a : Answer). native a.tree) same_step ∙ done.state;
+        after = subst IsConsistent (sym (ap (λ (a : Answer). a.tree) same_step)) done.sound;
+        state = ap (λ (a : Answer). s3_state a.tree) same_step ∙ done.state;
       }
 
   put_settled : IsSettled tree → IsSettled (swift_step (PutContainer name readers (Some moment)) tree).tree

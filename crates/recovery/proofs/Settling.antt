@@ -12,8 +12,8 @@ settles_idle h = record {
   asks = record {
     grows = grows_none (most_settling (present h)) Anything h;
     cause = refl;
-    told = λ met. (none_made refl met.sound, refl, settled_always (present h));
-    settled = λ tells settled. settled;
+    effect = λ met. (none_made refl met.sound, refl, settled_always (present h));
+    settled = λ observable settled. settled;
   };
-  done = λ tells ok. settled_always (present h);
+  done = λ observable ok. settled_always (present h);
 }

@@ -9,25 +9,25 @@ use Rattle.s3_names.specs.declared.acl.Acl.{Acl}
 use Rattle.s3_machine.specs.declared.operation.ObjectHead.{ObjectHead}
 use Rattle.s3_machine.specs.State.{Object, Bucket, State}
 use Rattle.s3_machine.specs.Step.{new_bucket, is_bare, with_acl, new_object, head_of, put_object, drop_object}
-use Rattle.swift_calls.specs.Tree.{Tree}
-use Rattle.swift_calls.specs.History.{History, present, Kept}
-use Rattle.upload_records.specs.Native.{object_at, IsSettled, native}
-use Rattle.upload_records.specs.Sound.{Sound}
+use Rattle.swift_calls.specs.Account.{SwiftAccount}
+use Rattle.swift_calls.specs.History.{History, present, Extends}
+use Rattle.upload_records.specs.Native.{object_at, IsSettled, s3_state}
+use Rattle.upload_records.specs.Consistent.{IsConsistent}
 use Rattle.recovery.specs.declared.bucket.Dropped.{Dropped}
 use Rattle.recovery.specs.declared.bucket.Dropped.TheVariants.{Gone, Full, Missing}
 use Rattle.recovery.specs.declared.fault.PlanFault.{PlanFault}
 use Rattle.recovery.specs.declared.fault.PlanFault.TheVariants.{Failed, Memory, Inconsistent}
 use Rattle.recovery.specs.Fault.{CausesFault}
-use Rattle.recovery.specs.Quiet.{Quiet, LastFailed}
+use Rattle.recovery.specs.Stutters.{Stutters, LastFailed}
 
 -- calls were made, and the history went on
 pub record GoesOn (old new : History) : Type 0 where
   pub ordered : old.called ≤ new.called
   pub faults : old.faults ≤ new.faults
-  pub tells : IsTrue old.tells → IsTrue new.tells
-  pub kept : IsTrue old.tells → Kept old.called old new
+  pub observable : IsTrue old.observable → IsTrue new.observable
+  pub kept : IsTrue old.observable → Extends old.called old new
 
--- how many calls are made at most: over every store, or by the account, where the store tells it and it is sound
+-- how many calls are made at most: over every store, or by the account, where the store tells it and it is consistent
 pub data Bound : Type 0 where
   always : ℕ → Bound
   by_account : ℕ → Bound
@@ -41,46 +41,46 @@ abbrev pub IsWithin : Bound → Type 0 → ℕ → ℕ → Type 0
 IsWithin (always n) premises p q = q ≤ p + n
 IsWithin (by_account n) premises p q = premises → q ≤ p + n
 
--- the store tells, its account is sound, and this is given of it
-pub record Met (given : Tree → Type 0) (h : History) : Type 0 where
-  pub tells : IsTrue h.tells
-  pub sound : Sound (present h)
+-- the store is observable, its account is consistent, and this is given of it
+pub record Met (given : SwiftAccount → Type 0) (h : History) : Type 0 where
+  pub observable : IsTrue h.observable
+  pub sound : IsConsistent (present h)
   pub has : given (present h)
 
 -- the history went on, by at most so many calls
-pub record Grows (most : Bound) (given : Tree → Type 0) (old new : History) : Type 0 where
+pub record Grows (most : Bound) (given : SwiftAccount → Type 0) (old new : History) : Type 0 where
   pub on : GoesOn old new
   pub calls : IsWithin most (Met given old) old.called new.called
 
--- ---- where the store tells, and its account is sound
+-- ---- where the store is observable, and its account is consistent
 
 -- what is given of the account that the calls begin on: no completion is sealed, and this of the state
-pub record Given (P : State → Type 0) (tree : Tree) : Type 0 where
+pub record Given (P : State → Type 0) (tree : SwiftAccount) : Type 0 where
   pub settled : IsSettled tree
-  pub state : P (native tree)
+  pub state : P (s3_state tree)
 
 -- calls that leave the state, whether they write or not: answered, P says it of the account before and after them; for
 -- want of memory, or where the store failed, they told nothing
-abbrev pub Keeps : {T : Type 0} → History → ℕ → ℕ → (Tree → Tree → T → Type 0) → Result T PlanFault → Type 0
-Keeps h p q P (Ok told) = Quiet h p q × (h.faults_at q ≡ h.faults_at p) × P (h.tree_at p) (h.tree_at q) told
-Keeps h p q P (Err Failed) = Quiet h p q × LastFailed h p q
-Keeps h p q P (Err Memory) = Quiet h p q × (h.faults_at q ≡ h.faults_at p)
+abbrev pub Keeps : {T : Type 0} → History → ℕ → ℕ → (SwiftAccount → SwiftAccount → T → Type 0) → Result T PlanFault → Type 0
+Keeps h p q P (Ok told) = Stutters h p q × (h.faults_at q ≡ h.faults_at p) × P (h.tree_at p) (h.tree_at q) told
+Keeps h p q P (Err Failed) = Stutters h p q × LastFailed h p q
+Keeps h p q P (Err Memory) = Stutters h p q × (h.faults_at q ≡ h.faults_at p)
 Keeps h p q P (Err Inconsistent) = ⊥
 
 -- what is told is of the state, and the account is left as it is
-pub record Tells {T : Type 0} (P : State → T → Type 0) (old new : Tree) (told : T) : Type 0 where
-  pub of_state : P (native old) told
+pub record Tells {T : Type 0} (P : State → T → Type 0) (old new : SwiftAccount) (told : T) : Type 0 where
+  pub of_state : P (s3_state old) told
   pub same : new ≡ old
 
 -- the last call before q had its effect: S allows the state after it by the state at p, and it may be the same. The calls before
 -- it left the state, and none of them failed
 pub record Commits (h : History) (p q : ℕ) (S : State → State → Type 0) : Type 0 where
   pub last : ℕ
-  pub quiet : Quiet h p last
+  pub quiet : Stutters h p last
   pub no_fault : h.faults_at last ≡ h.faults_at p
   pub next : q ≡ last + 1
-  pub sound : Sound (h.tree_at q)
-  pub made : S (native (h.tree_at p)) (native (h.tree_at q))
+  pub sound : IsConsistent (h.tree_at q)
+  pub made : S (s3_state (h.tree_at p)) (s3_state (h.tree_at q))
 
 -- the last call had its effect, whatever it would have told
 abbrev pub CommitsUntold : {T : Type 0} → History → ℕ → ℕ → (T → State → State → Type 0) → Type 0
@@ -90,25 +90,25 @@ CommitsUntold {T = T} h p q S = (told : T) × Commits h p q (S told)
 -- failed, the state stayed, or the last one took its effect and was counted as failed
 abbrev pub Writes : {T : Type 0} → History → ℕ → ℕ → (T → State → State → Type 0) → Result T PlanFault → Type 0
 Writes h p q S (Ok told) = Commits h p q (S told) × (h.faults_at q ≡ h.faults_at p)
-Writes h p q S (Err Failed) = (Quiet h p q × LastFailed h p q) ⊎ (CommitsUntold h p q S × Rose (h.faults_at p) (h.faults_at q))
-Writes h p q S (Err Memory) = (Quiet h p q ⊎ CommitsUntold h p q S) × (h.faults_at q ≡ h.faults_at p)
+Writes h p q S (Err Failed) = (Stutters h p q × LastFailed h p q) ⊎ (CommitsUntold h p q S × Rose (h.faults_at p) (h.faults_at q))
+Writes h p q S (Err Memory) = (Stutters h p q ⊎ CommitsUntold h p q S) × (h.faults_at q ≡ h.faults_at p)
 Writes h p q S (Err Inconsistent) = ⊥
 
 -- ---- a function that makes calls, over every store
 
 -- calls that leave the state, where this is given of the account that they begin on
-pub record Asks {T : Type 0} (most : Bound) (old new : History) (given : Tree → Type 0) (P : Tree → Tree → T → Type 0) (result : Result T PlanFault) : Type 0 where
+pub record Asks {T : Type 0} (most : Bound) (old new : History) (given : SwiftAccount → Type 0) (P : SwiftAccount → SwiftAccount → T → Type 0) (result : Result T PlanFault) : Type 0 where
   pub grows : Grows most given old new
   pub cause : CausesFault old.faults new.faults result
-  pub told : Met given old → Keeps new old.called new.called P result
-  pub settled : IsTrue old.tells → IsSettled (present old) → IsSettled (present new)
+  pub effect : Met given old → Keeps new old.called new.called P result
+  pub settled : IsTrue old.observable → IsSettled (present old) → IsSettled (present new)
 
 -- calls of which the last may change the state, where this is given of the account that they begin on
-pub record Changes {T : Type 0} (most : Bound) (old new : History) (given : Tree → Type 0) (S : T → State → State → Type 0) (result : Result T PlanFault) : Type 0 where
+pub record Changes {T : Type 0} (most : Bound) (old new : History) (given : SwiftAccount → Type 0) (S : T → State → State → Type 0) (result : Result T PlanFault) : Type 0 where
   pub grows : Grows most given old new
   pub cause : CausesFault old.faults new.faults result
-  pub told : Met given old → Writes new old.called new.called S result
-  pub settled : IsTrue old.tells → IsSettled (present old) → IsSettled (present new)
+  pub effect : Met given old → Writes new old.called new.called S result
+  pub settled : IsTrue old.observable → IsSettled (present old) → IsSettled (present new)
 
 -- ---- what is told, and what is changed
 

@@ -1,7 +1,7 @@
 pub mod Answers
 pub mod Calls
-pub mod Due
 pub mod Fault
+pub mod Interpret
 pub mod Lent
-pub mod Quiet
 pub mod Settling
+pub mod Stutters

@@ -1,6 +1,6 @@
 -- What is known of a store between two operations, and how it is settled. Source: this profile.
 use Rattle.std.specs.Prelude.{◌≡◌, IsTrue, Result, Ok, Err}
-use Rattle.swift_calls.specs.Tree.{Tree}
+use Rattle.swift_calls.specs.Account.{SwiftAccount}
 use Rattle.swift_calls.specs.History.{History, present}
 use Rattle.upload_records.specs.Native.{IsSettled}
 use Rattle.recovery.specs.declared.fault.PlanFault.{PlanFault}
@@ -13,7 +13,7 @@ use Rattle.recovery.specs.Answers.{most_settling}
 use Rattle.recovery.specs.Calls.{Asks}
 
 -- what is known of an account is so
-abbrev pub IsKnown : Known → Tree → Type 0
+abbrev pub IsKnown : Known → SwiftAccount → Type 0
 IsKnown known tree = known ≡ Settled → IsSettled tree
 
 -- the fault of a plan whose store could not be settled
@@ -27,13 +27,13 @@ as_plan (Ok done) = Ok done
 as_plan (Err fault) = Err (settle_fault fault)
 
 -- nothing is given of the account
-abbrev pub Anything : Tree → Type 0
+abbrev pub Anything : SwiftAccount → Type 0
 Anything tree = Unit {0}
 
-abbrev pub SettlesIt : Tree → Tree → Unit {0} → Type 0
+abbrev pub SettlesIt : SwiftAccount → SwiftAccount → Unit {0} → Type 0
 SettlesIt old new done = IsSettled new
 
--- a store was settled: the state stays, and after Ok no completion is sealed, also where the account is not sound
+-- a store was settled: the state stays, and after Ok no completion is sealed, also where the account is not consistent
 pub record Settles (old new : History) (result : Result (Unit {0}) SettleFault) : Type 0 where
   pub asks : Asks (most_settling (present old)) old new Anything SettlesIt (as_plan result)
-  pub done : IsTrue old.tells → result ≡ Ok tt → IsSettled (present new)
+  pub done : IsTrue old.observable → result ≡ Ok tt → IsSettled (present new)

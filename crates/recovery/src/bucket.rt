@@ -6,7 +6,7 @@ ghost use Rattle.upload_records.specs.Native.{IsSettled};
 ghost use Rattle.recovery.specs.Calls.{always, Any, Asks, Becomes, Changes, DropsBucket, Given, LacksBucket, SetsAcl, Tells, TellsBucket, makes_bucket};
 ghost use Rattle.recovery.specs.Lent.{Stays};
 
-use crate::due::{bucket_in, dropped_in, made_in, set_in};
+use crate::interpret::{bucket_in, dropped_in, made_in, set_in};
 use crate::{PlanFault, Settled};
 use gate_base::{Bytes, Copying};
 use s3_names::Acl;
@@ -16,8 +16,8 @@ use upload_records::readers;
 #[tactic(auto, using(crate::proofs::Names::container_name))]
 /// The access control list of a bucket, and `None` where the bucket is missing, by HEAD of its container (Object
 /// Storage API v1, "Show container metadata"). At most one call, and the S3 state stays. Failed comes only where the
-/// store's count of faults rose; Memory where memory was wanted, before the call or to read its answer; Inconsistent
-/// never over a told sound account.
+/// store's count of faults rose; Memory where memory ran out, before the call or to read its answer; Inconsistent
+/// never over an observable consistent account.
 pub fn head_bucket<W: Swift>(
     state: &mut Settled<'_, W>,
     bucket: &Bytes,
@@ -35,10 +35,10 @@ pub fn head_bucket<W: Swift>(
 
 #[tactic(auto, using(crate::proofs::Names::container_name))]
 /// Makes a bucket that isn't there, by PUT of its container (Object Storage API v1, "Create container"): the one call
-/// that commits. At most one call. The moment is in seconds since the beginning of 1970, before the year 10000. After
-/// Ok the S3 state has the new bucket. After Failed, which comes only where the store's count of faults rose, and
-/// after Memory the state is the old one or the new one. Inconsistent never comes over a told sound account, on which
-/// the bucket is missing.
+/// that commits. At most one call. The moment is in seconds since the beginning of 1970, before the year 10000. After Ok
+/// the S3 state has the new bucket. After Failed, which comes only where the store's count of faults rose, and after
+/// Memory the state is the old one or the new one. Inconsistent never comes over an observable consistent account, on
+/// which the bucket is missing.
 pub fn make_bucket<W: Swift>(
     state: &mut Settled<'_, W>,
     bucket: &Bytes,
@@ -74,7 +74,7 @@ pub enum Dropped {
 /// Deletes a bucket that has no object, by DELETE of its container (Object Storage API v1, "Delete container"): the one
 /// call that commits. At most one call. After Ok the S3 state is as the answer says. After Failed, which comes only where
 /// the store's count of faults rose, and after Memory the state is the old one or one of those that an answer tells.
-/// Inconsistent never comes over a told sound account.
+/// Inconsistent never comes over an observable consistent account.
 pub fn drop_bucket<W: Swift>(
     state: &mut Settled<'_, W>,
     bucket: &Bytes,

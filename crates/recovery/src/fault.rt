@@ -11,9 +11,9 @@ use swift_marks::MarkFault;
 pub enum PlanFault {
     /// The last call of the store failed: its count of faults rose.
     Failed,
-    /// Memory was wanted and not there.
+    /// Memory ran out.
     Memory,
-    /// The store answered what Object Storage API v1 doesn't let it answer over a sound account.
+    /// The store answered what Object Storage API v1 doesn't let it answer over a consistent account.
     Inconsistent,
 }
 

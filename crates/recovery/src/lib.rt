@@ -3,14 +3,14 @@
 #![tactic(auto)]
 
 mod bucket;
-mod due;
 mod fault;
+mod interpret;
 mod laws;
 mod object;
 mod state;
 
 pub use bucket::{Dropped, drop_bucket, head_bucket, make_bucket, set_acl};
 pub use fault::PlanFault;
-pub use laws::{law_answered_undisturbed, law_never_unavailable};
+pub use laws::{law_answered_fault_free, law_never_unavailable};
 pub use object::{delete_object, get_object, head_object, put_object};
 pub use state::{Known, SettleFault, Settled, Unsure};

@@ -8,12 +8,12 @@ ghost use Rattle.s3_machine.specs.Step.{IsProperContent};
 ghost use Rattle.swift_calls.specs.Step.{Fit};
 ghost use Rattle.swift_marks.specs.Tag.{has_text, tag_text};
 ghost use Rattle.s3_names.specs.Meta.{names_ascend};
-ghost use Rattle.recovery.specs.Due.{IsShownHead, plain_tag, put_of};
+ghost use Rattle.recovery.specs.Interpret.{IsShownHead, plain_tag, put_of};
 ghost use Rattle.upload_records.specs.Native.{IsSettled};
 ghost use Rattle.recovery.specs.Calls.{always, Any, Asks, Becomes, Changes, Given, HasBucket, Tells, TellsBytes, TellsObject, drops_object, puts_object};
 ghost use Rattle.recovery.specs.Lent.{Stays};
 
-use crate::due::{bytes_in, gone_in, head_in, stored_in};
+use crate::interpret::{bytes_in, gone_in, head_in, stored_in};
 use crate::{PlanFault, Settled};
 use gate_base::{Bytes, Copying, Memory};
 use s3_machine::{ObjectHead, body_etag};
@@ -24,8 +24,8 @@ use swift_marks::{Tag, pack};
 
 /// The head of an object, and `None` where it is missing, by HEAD of its file (Object Storage API v1, "Show object
 /// metadata"). At most one call, and the S3 state stays. Failed comes only where the store's count of faults rose;
-/// Memory where memory was wanted, before the call, to read its answer or to read the marks of the file; Inconsistent
-/// never over a told sound account.
+/// Memory where memory ran out, before the call, to read its answer or to read the marks of the file; Inconsistent
+/// never over an observable consistent account.
 #[tactic(auto, using(crate::proofs::Names::container_name, crate::proofs::Names::object_name))]
 pub fn head_object<W: Swift>(
     alloc: Global,
@@ -74,7 +74,7 @@ pub fn get_object<W: Swift>(
 /// the one call that commits. At most one call. The moment is in seconds since the beginning of 1970, before the year
 /// 10000. After Ok the S3 state has the new object in place of what stood under the key. After Failed, which comes only
 /// where the store's count of faults rose, and after Memory the state is the old one or the new one. Inconsistent never
-/// comes over a told sound account in which the bucket is there.
+/// comes over an observable consistent account in which the bucket is there.
 pub fn put_object<W: Swift>(
     alloc: Global,
     state: &mut Settled<'_, W>,
@@ -147,7 +147,7 @@ fn tag_text(alloc: Global, content_type: &Bytes, etag: &[u8], moment: u64) -> Re
 /// Deletes an object of a bucket, by DELETE of its file (Object Storage API v1, "Delete object"): the one call that
 /// commits. At most one call. After Ok the S3 state has no object under the key; also one that wasn't there is gone.
 /// After Failed, which comes only where the store's count of faults rose, and after Memory the state is the old one or
-/// the new one. Inconsistent never comes over a told sound account.
+/// the new one. Inconsistent never comes over an observable consistent account.
 #[tactic(auto, using(crate::proofs::Names::container_name, crate::proofs::Names::object_name))]
 pub fn delete_object<W: Swift>(
     state: &mut Settled<'_, W>,

@@ -34,7 +34,7 @@ pub struct Settled<'a, W: Swift> {
 pub enum SettleFault {
     /// The last call of the store failed: its count of faults rose.
     Failed,
-    /// Memory was wanted and not there.
+    /// Memory ran out.
     Memory,
     /// A mark or a record on the store can't be read.
     Inconsistent,
@@ -51,8 +51,8 @@ impl<'a, W: Swift> Unsure<'a, W> {
     }
 
     /// Settles the store, so that it can be held as [`Settled`]: a sealed completion is finished, by at most five calls,
-    /// and the S3 state stays. Failed comes only where the store's count of faults rose; Memory where memory was wanted;
-    /// Inconsistent never over a told sound account. After a fault a completion may still be sealed.
+    /// and the S3 state stays. Failed comes only where the store's count of faults rose; Memory where memory ran out;
+    /// Inconsistent never over an observable consistent account. After a fault a completion may still be sealed.
     ///
     /// Nothing that is built seals a completion, so it makes no call and is Ok.
     pub fn settle(&mut self) -> Result<(), SettleFault>

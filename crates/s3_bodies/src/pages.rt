@@ -16,7 +16,7 @@ use std::alloc::Global;
 /// reply, in seconds since the beginning of 1970, lie before the year 10000, and an object's range ends at most at 2^63
 /// and isn't empty where it is partial. The page of an object has `Content-Length` as its last header, also where its
 /// body is empty; other headers that belong to the message and not to the reply are not among these. The reply for want
-/// of memory has no page: its bytes are fixed. The call fails only for want of memory.
+/// of memory has no page: its bytes are fixed. The call fails only where memory runs out.
 pub fn page(alloc: Global, reply: &Reply, label: &Label, resource: &[u8]) -> Result<Page, Memory>
     requires reply { reply.now ≢ Reply.Memory }
     requires showable { IsShowable reply.now }

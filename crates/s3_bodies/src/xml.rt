@@ -5,7 +5,7 @@ ghost use Rattle.s3_bodies.specs.Xml.{declaration, element, escape_of, escaped};
 use gate_base::{Bytes, Memory};
 use std::alloc::Global;
 
-/// A document that is being written. Of one whose writing wanted memory nothing is known.
+/// A document that is being written. Of one whose writing ran out of memory nothing is known.
 #[derive(Drop)]
 pub struct Xml {
     pub text: Bytes,

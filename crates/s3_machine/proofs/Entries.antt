@@ -12,16 +12,16 @@ use Rattle.std.specs.FinMap.Entries.{by_order, find-put}
 use Rattle.std.proofs.lemmas.Bool.{cond-false, cond-true}
 use Rattle.gate_base.specs.Maps.{IsKeyOrder, adjust, adjust_there, at_insert, off_insert, at_remove, off_remove, key_itself, same_at_and_off}
 
--- keys of type J stand for keys of type K
+-- keys of type J represent keys of type K
 module _ {J K : Type 0} (R : K → K → Ordering) (key : J → K) where
   abbrev pub order : J → J → Ordering
   order j i = R (key j) (key i)
 
-  -- a key stands for q
+  -- a key represents q
   abbrev pub stands_for : K → J → Bool
   stands_for q j = is_eq (R q (key j))
 
-  -- a key that stands for one name stands for no other
+  -- a key that represents one name represents no other
   stands_apart : IsKeyOrder R → (q name : K) (j : J) → eq_by_cmp R q name ≡ false → stands_for name j ≡ true → stands_for q j ≡ false
   stands_apart o q name j a t = ap (λ k. eq_by_cmp R q k) (sym (o.antisymmetric name (key j) ((Equal-is (R name (key j))).0 t))) ∙ a
 

@@ -1,4 +1,4 @@
--- The state that the running form stands for.
+-- The state that the running form represents.
 use Rattle.std.specs.FinMap.{empty}
 use Rattle.s3_machine.specs.declared.native.Native.TheInside as native
 use Rattle.s3_machine.specs.declared.native.NativeBucket.TheInside as bucket

@@ -1,4 +1,4 @@
--- The map that a table stands for.
+-- The map that a table represents.
 use Rattle.std.specs.Prelude.{ℕ, List, map}
 use Rattle.std.specs.Global.{Vec}
 use Rattle.std.specs.FinMap.{from_entries}

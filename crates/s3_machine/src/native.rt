@@ -168,7 +168,7 @@ impl Table<NativeBucket> {
     ghost use Rattle.gate_base.specs.Maps.{adjust};
     ghost use Rattle.s3_machine.specs.Step.{drop_object, put_object};
 
-    /// Puts an object into a bucket, in place of what stands under its key. For want of memory all is as before.
+    /// Puts an object into a bucket, in place of what stands under its key. Where memory runs out, all is as before.
     fn put_object(&mut self, bucket: &[u8], key: &[u8], object: NativeObject) -> Result<(), Memory>
         ensures ok { OnOk result (self.new ≡ adjust bucket.now (put_object key.now object) self.old) }
         ensures err { OnErr result (self.new ≡ self.old) }
@@ -223,7 +223,7 @@ impl Native {
         }
     }
 
-    /// One step: what the operation is answered, and the state after it. For want of memory the state is as before.
+    /// One step: what the operation is answered, and the state after it. Where memory runs out, the state is as before.
     pub fn step(&mut self, op: &Op, label: &Label) -> Result<Reply, Memory>
         requires { IsProper op.now label.now }
         ensures settings { self.new.settings ≡ self.old.settings }
@@ -246,7 +246,7 @@ impl Native {
         }
     }
 
-    /// For want of memory the state is as before.
+    /// Where memory runs out, the state is as before.
     fn create_bucket(&mut self, bucket: &Bytes, acl: Acl, label: &Label) -> Result<Reply, Memory>
         ensures settings { self.new.settings ≡ self.old.settings }
         ensures ok { IfOk result (λ reply. S3Step self.old.settings self.old.state (CreateBucket bucket.now acl) label.now reply self.new.state) }
@@ -263,7 +263,7 @@ impl Native {
         Ok(reply)
     }
 
-    /// For want of memory the state is as before.
+    /// Where memory runs out, the state is as before.
     fn put_object(
         &mut self,
         bucket: &Bytes,

@@ -140,7 +140,7 @@ impl Copying for ObjectHead {
     }
 }
 
-/// What an operation is answered. `Memory` says that memory was wanted; the machine itself never gives it. An
+/// What an operation is answered. `Memory` says that memory ran out; the machine itself never gives it. An
 /// `Object` has `length` bytes from the byte `from` on, all of them in `body` or, in the reply to a HEAD, none; it is
 /// `partial` where a range was asked for. ETags stand without quotes.
 #[derive(Debug, Drop)]

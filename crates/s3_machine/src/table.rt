@@ -47,7 +47,7 @@ impl<V> Table<V> {
 }
 
 impl<V: Drop> Table<V> {
-    /// Puts a value under a name, in place of what stands there. For want of memory the table is as before, and the
+    /// Puts a value under a name, in place of what stands there. Where memory runs out, the table is as before, and the
     /// value is dropped.
     pub(crate) fn put(&mut self, name: &[u8], value: V) -> Result<(), Memory>
         ensures ok { OnOk result (self.new ≡ insert self.old name.now value) }

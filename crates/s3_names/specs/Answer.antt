@@ -3,7 +3,7 @@ use Rattle.std.specs.Prelude.{◌≡◌, ⊤, Result, Ok, Err}
 use Rattle.s3_names.specs.declared.fault.NameFault.{NameFault}
 use Rattle.s3_names.specs.declared.fault.NameFault.TheVariants.{BadBucket, EmptyKey, LongKey, NotUtf8, BadEscape, Memory}
 
--- the answer is the one that is due, or memory was wanted
+-- the answer is the one that is expected, or memory ran out
 abbrev pub Gives : {T : Type 0} → Result T NameFault → Result T NameFault → Type 0
 Gives (Ok value) due = due ≡ Ok value
 Gives (Err BadBucket) due = due ≡ Err BadBucket

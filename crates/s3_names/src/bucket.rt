@@ -29,7 +29,7 @@ impl Model for BucketName {
 impl BucketName {
     ghost use Rattle.std.specs.Prelude.{true};
 
-    /// The bucket name that these bytes are. `BadBucket` exactly where they are none; memory is wanted only where
+    /// The bucket name that these bytes are. `BadBucket` exactly where they are none; memory runs out only where
     /// they are one.
     pub fn read(alloc: Global, name: &[u8]) -> Result<BucketName, NameFault>
         ensures answer { Gives result (bucket_of name.now) }

@@ -15,7 +15,7 @@ pub enum NameFault {
     NotUtf8,
     /// A `%` without two hexadecimal digits behind it, or a path that doesn't begin with `/`.
     BadEscape,
-    /// Memory was wanted and not there.
+    /// Memory ran out.
     Memory,
 }
 

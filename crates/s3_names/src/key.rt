@@ -40,7 +40,7 @@ impl Key {
     ghost use Rattle.std.specs.Prelude.{true};
 
     /// The key that these bytes are. `EmptyKey` for no byte; else `LongKey` above 1024 bytes; else `NotUtf8` where
-    /// they aren't UTF-8 or have a byte 0. Memory is wanted only where none of these fits.
+    /// they aren't UTF-8 or have a byte 0. Memory runs out only where none of these fits.
     #[tactic(auto, unfolding(crate::specs::Key::key_of, crate::specs::Key::is_key))]
     pub fn read(alloc: Global, name: &[u8]) -> Result<Key, NameFault>
         ensures answer { Gives result (key_of name.now) }

@@ -40,7 +40,7 @@ impl Meta {
     }
 
     /// Puts a pair in its place and answers true. It answers false and changes nothing exactly where the name is
-    /// there. For want of memory the metadata is as before.
+    /// there. Where memory runs out, the metadata is as before.
     #[tactic(auto, using(crate::proofs::MetaLemmas::with_pair_ascends), unfolding(crate::specs::Meta::with_pair))]
     pub fn add(&mut self, name: &[u8], value: &[u8]) -> Result<bool, Memory>
         ensures answer { IfOk result (λ added. added ≡ not (has_name name.now self.old)) }

@@ -12,7 +12,7 @@ use std::process::ExitCode;
 use std::{env, fs, io};
 use swift_calls::{Account, MemSwift};
 
-/// The exit status where memory was wanted before the run began.
+/// The exit status where memory ran out before the run began.
 const MEMORY: u8 = 5;
 
 /// The exit status where the key file can't be read.

@@ -66,7 +66,7 @@ IsBadAt n keys = (are_keys (take n keys) ≡ true) × MatchOption (slice_get key
 abbrev pub IsTwiceAt : ℕ → List AccessKey → Type 0
 IsTwiceAt n keys = (are_keys (take n keys) ≡ true) × MatchOption (slice_get keys n) ⊥ (λ key. (is_key key ≡ true) × (list_any (has_id key.id) (take n keys) ≡ true))
 
--- what reading the keys of a text answers; want of memory may come for any text
+-- what reading the keys of a text answers; memory may run out for any text
 abbrev pub ReadsKeys : List AccessKey → Result (List AccessKey) KeysFault → Type 0
 ReadsKeys keys (Ok read) = (read ≡ keys) × (are_keys keys ≡ true)
 ReadsKeys keys (Err (BadLine n)) = IsBadAt n keys

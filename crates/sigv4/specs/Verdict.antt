@@ -9,7 +9,7 @@ use Rattle.gate_base.specs.declared.page.Caller.{Caller}
 use Rattle.gate_base.specs.declared.page.Caller.TheVariants.{Owner, Anonymous}
 use Rattle.gate_base.specs.declared.page.Pair.{Pair}
 use Rattle.s3_names.specs.declared.target.Target.{Target}
-use Rattle.http_wire.specs.Front.{has_name, value_of}
+use Rattle.http_wire.specs.FirstMessage.{has_name, value_of}
 use Rattle.http_wire.specs.declared.message.Message.{Message}
 use Rattle.sigv4.specs.Authorization.{is_hex, authorization_of}
 use Rattle.sigv4.specs.Canonical.{canonical_text}
@@ -133,14 +133,14 @@ abbrev pub judged : List AccessKey → List ℕ → Message → Target → ℕ �
 judged keys region message target moment None = Err HeaderMalformed
 judged keys region message target moment (Some claim) = first_refusal (reasons keys region message target moment claim)
 
--- the owner, nobody in particular, or the first refusal that is due
-unfoldable pub signed : List AccessKey → List ℕ → Message → Target → ℕ → Result Caller Refusal
-signed keys region message target moment =
+-- the owner, an anonymous caller, or the first refusal that is expected
+unfoldable pub caller_or_refusal : List AccessKey → List ℕ → Message → Target → ℕ → Result Caller Refusal
+caller_or_refusal keys region message target moment =
     if list_any (has_name (codes "authorization")) message.headers
     then judged keys region message target moment (claim_of message.headers)
     else Ok Anonymous
 
--- the answer is the one that is due, or memory was wanted
+-- the answer is the one that is expected, or memory ran out
 abbrev pub Gives : Result Caller Refusal → Result Caller Refusal → Type 0
 Gives (Ok caller) due = due ≡ Ok caller
 Gives (Err HeaderMalformed) due = due ≡ Err HeaderMalformed

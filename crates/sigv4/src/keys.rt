@@ -29,7 +29,7 @@ impl Copying for AccessKey {
 
 /// Why a text of keys isn't read. `BadLine`: the first line, counted from 0, that isn't an id of 1 to 128 letters and
 /// digits, a space and a secret of 1 to 128 bytes of visible ASCII. `Twice`: the first line whose id an earlier line
-/// has. The lines before it are good. `Memory`: memory was wanted.
+/// has. The lines before it are good. `Memory`: memory ran out.
 #[derive(Clone, Copy, Debug, PartialEq, Eq)]
 pub enum KeysFault {
     BadLine(u64),

@@ -1,7 +1,7 @@
 use gate_base::Memory;
 
 /// Why a request isn't taken for its signature's sake, in the order in which the reasons are tried: the first that fits
-/// is answered. `Memory` may stand in place of any other, where memory was wanted.
+/// is answered. `Memory` may stand in place of any other, where memory ran out.
 #[derive(Clone, Copy, Debug, PartialEq, Eq)]
 pub enum Refusal {
     /// More than one Authorization header, or one that hasn't the form of Signature Version 4 (S3's code
@@ -28,7 +28,7 @@ pub enum Refusal {
     SignatureDiffers([u8; 32]),
     /// The hash isn't that of the body (XAmzContentSHA256Mismatch).
     PayloadDiffers,
-    /// Memory was wanted.
+    /// Memory ran out.
     Memory,
 }
 

@@ -1,5 +1,5 @@
 ghost use Rattle.std.specs.Prelude.{◌≡◌, ◌==◌, ◌++◌, map, flat_map, IfOk, OnOk};
-ghost use Rattle.http_wire.specs.Front.{has_name, values_of};
+ghost use Rattle.http_wire.specs.FirstMessage.{has_name, values_of};
 ghost use Rattle.sigv4.specs.Canonical.{is_blank, skip_blanks, cut_blanks, begins_with_space, single_spaced, clean, canonical_value, canonical_header, canonical_headers, escaped_pair, pair_cmp, ordered, pair_text, canonical_query, canonical_text};
 
 use crate::join::joined;

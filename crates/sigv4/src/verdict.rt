@@ -1,9 +1,9 @@
 ghost use Rattle.std.specs.Prelude.{◌≡◌, false, [], count_by, find, unwrap_or, IfOk};
 ghost use Rattle.std.specs.List.{list_any};
 ghost use Rattle.std.specs.Option.{option_copied};
-ghost use Rattle.http_wire.specs.Front.{has_name};
+ghost use Rattle.http_wire.specs.FirstMessage.{has_name};
 ghost use Rattle.sigv4.specs.Keys.{secret_of};
-ghost use Rattle.sigv4.specs.Verdict.{has_one, first_value, claim_of, is_unknown, has_wrong_scope, is_among, must_be_signed, is_left_out, leaves_unsigned, time_of, lacks_date, hash_of, announces_pieces, is_streaming, is_unsigned_payload, lacks_payload_hash, expected, signature_differs, payload_differs, first_refusal, reasons, signed, Gives};
+ghost use Rattle.sigv4.specs.Verdict.{has_one, first_value, claim_of, is_unknown, has_wrong_scope, is_among, must_be_signed, is_left_out, leaves_unsigned, time_of, lacks_date, hash_of, announces_pieces, is_streaming, is_unsigned_payload, lacks_payload_hash, expected, signature_differs, payload_differs, first_refusal, reasons, caller_or_refusal, Gives};
 
 use crate::authorization::{Authorization, is_hex};
 use crate::moment::{is_of_day, is_skewed, is_time};
@@ -26,7 +26,7 @@ const PAYLOAD: &[u8] = b"x-amz-content-sha256";
 /// "Authenticating requests: using the Authorization header"): without one `Anonymous`, and `Owner` where one of the keys
 /// signed it for this region. Else the first refusal that fits, in the order of `Refusal`; `Memory` may come for any
 /// request.
-#[tactic(auto, unfolding(crate::specs::Verdict::signed))]
+#[tactic(auto, unfolding(crate::specs::Verdict::caller_or_refusal))]
 pub fn verify(
     alloc: Global,
     keys: &Keys,
@@ -35,7 +35,7 @@ pub fn verify(
     target: &Target,
     moment: u64,
 ) -> Result<Caller, Refusal>
-    ensures { Gives result (signed keys.now region.now message.now target.now moment) }
+    ensures { Gives result (caller_or_refusal keys.now region.now message.now target.now moment) }
 {
     if !has_some(AUTHORIZATION, message.headers.as_slice()) {
         return Ok(Caller::Anonymous);

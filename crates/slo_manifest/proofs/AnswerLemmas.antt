@@ -16,7 +16,7 @@ abbrev pub behind_segment : Segment → Answer → Answer
 behind_segment s (Ok segments) = Ok (s ∷ segments)
 behind_segment s (Err fault) = Err fault
 
--- the answer that is due for entries, the first of which has this index
+-- the answer that is expected for entries, the first of which has this index
 abbrev pub due_from : ℕ → List Entry → Answer
 due_from index [] = Ok []
 due_from index (whole s ∷ es) = behind_segment s (due_from (suc index) es)
@@ -27,7 +27,7 @@ abbrev pub due_of : Option (List Entry) → Answer
 due_of None = Err NotAList
 due_of (Some es) = cond (nat_lt 1000 (length es)) (Err TooManySegments) (due_from 0 es)
 
--- ---- an answer is the one that is due
+-- ---- an answer is the one that is expected
 
 whole_due : (index : ℕ) (segments : List Segment) → due_from index (map whole segments) ≡ Ok segments
 whole_due index [] = refl
@@ -61,7 +61,7 @@ answer_due form text (Err (EmptySegment index)) other h =
 answer_due form text (Err TooManySegments) other h = sym (ap due_of h.1 ∙ many_due h.0 h.2)
 answer_due form text (Err Memory) other h = absurd (other refl)
 
--- ---- the answer that is due is one
+-- ---- the answer that is expected is one
 
 abbrev SaysFrom : ℕ → List Entry → Answer → Type 0
 SaysFrom index es (Ok segments) = es ≡ map whole segments

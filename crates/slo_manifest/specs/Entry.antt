@@ -56,7 +56,7 @@ entry_from (Some etag) (Some path) (Some size) = segment_of etag path size
 unfoldable pub entry_of : Form → Data → Entry
 entry_of form entry = entry_from (text_at (etag_field form) entry) (text_at (path_field form) entry) (number_at (size_field form) entry)
 
--- the answer is what the entry says, or memory was wanted
+-- the answer is what the entry says, or memory ran out
 abbrev pub EntryGives : Result Segment EntryFault → Entry → Type 0
 EntryGives (Ok s) entry = entry ≡ whole s
 EntryGives (Err Bad) entry = entry ≡ bad

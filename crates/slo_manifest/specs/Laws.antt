@@ -10,7 +10,7 @@ use Rattle.slo_manifest.specs.declared.manifest.Form.{Form}
 use Rattle.slo_manifest.specs.declared.manifest.ManifestFault.{ManifestFault}
 use Rattle.slo_manifest.specs.declared.manifest.ManifestFault.TheVariants.{Memory}
 
--- a text has an answer, and but for want of memory no other
+-- a text has an answer, and unless memory runs out no other
 abbrev pub OneAnswer : Type 0
 OneAnswer = (form : Form) (text : List ℕ) → (due : Result (List Segment) ManifestFault) × (due ≢ Err Memory) × Reads form text due × ((other : Result (List Segment) ManifestFault) → other ≢ Err Memory → Reads form text other → other ≡ due)
 

@@ -17,7 +17,7 @@ use Rattle.slo_manifest.specs.declared.manifest.ManifestFault.TheVariants.{NotAL
 abbrev pub json_of : List ℕ → Option Data
 json_of text = if is_utf8 text then read text else None
 
--- the value is that of the text, or memory was wanted
+-- the value is that of the text, or memory ran out
 abbrev pub Parses : Option Data → Result Value ManifestFault → Type 0
 Parses json (Ok value) = json ≡ Some (view value)
 Parses json (Err NotAList) = json ≡ None
@@ -39,7 +39,7 @@ entries_of form text = option_map (entries form) (option_and_then as_array (json
 abbrev pub StandsFirst : List Entry → ℕ → Entry → Type 0
 StandsFirst es index entry = (before : List Segment) × (after : List Entry) × (es ≡ map whole before ++ entry ∷ after) × (length before ≡ index)
 
--- the answer is what the entries are, not counted, or memory was wanted
+-- the answer is what the entries are, not counted, or memory ran out
 abbrev pub ReadsEntries : List Entry → Result (List Segment) ManifestFault → Type 0
 ReadsEntries es (Ok segments) = es ≡ map whole segments
 ReadsEntries es (Err NotAList) = ⊥
@@ -52,7 +52,7 @@ ReadsEntries es (Err Memory) = ⊤
 abbrev pub FaultStands : Form → List ℕ → ℕ → Entry → Type 0
 FaultStands form text index entry = (es : List Entry) × (entries_of form text ≡ Some es) × (length es ≤ 1000) × StandsFirst es index entry
 
--- the answer is the one that is due for the text, or memory was wanted
+-- the answer is the one that is expected for the text, or memory ran out
 abbrev pub Reads : Form → List ℕ → Result (List Segment) ManifestFault → Type 0
 Reads form text (Ok segments) = (entries_of form text ≡ Some (map whole segments)) × (length segments ≤ 1000)
 Reads form text (Err NotAList) = entries_of form text ≡ None

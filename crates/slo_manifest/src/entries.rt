@@ -22,7 +22,7 @@ pub enum EntryFault {
     Bad,
     /// It is a segment of size 0.
     Empty,
-    /// Memory was wanted and not there.
+    /// Memory ran out.
     Memory,
 }
 

@@ -8,7 +8,7 @@ use md5::{Digest, Md5};
 use std::alloc::Global;
 
 /// The ETag of a static large object over these segments: the hexadecimal MD5 of their ETags, joined (Object Storage
-/// API v1, "Static large objects"). It fails only for want of memory.
+/// API v1, "Static large objects"). It fails only where memory runs out.
 pub fn joined_etag(alloc: Global, segments: &[Segment]) -> Result<Bytes, Memory>
     ensures { IfOk result (λ text. text ≡ joined_etag segments.now) }
 {

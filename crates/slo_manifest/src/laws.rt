@@ -1,7 +1,7 @@
 //! The laws of the definitions: contracts of functions that do nothing.
 ghost use Rattle.slo_manifest.specs.Laws.{ByteLies, OneAnswer, TextReadsBack};
 
-/// Each text has just one answer of `read`, but for want of memory.
+/// Each text has just one answer of `read`, unless memory runs out.
 pub fn law_one_answer()
     ensures { OneAnswer }
 {}

@@ -26,7 +26,7 @@ pub enum ManifestFault {
     EmptySegment(u64),
     /// There are more than 1000 entries.
     TooManySegments,
-    /// Memory was wanted and not there.
+    /// Memory ran out.
     Memory,
 }
 

@@ -13,7 +13,7 @@ use std::alloc::Global;
 /// The text of a manifest with these segments, in the form (Object Storage API v1, "Static large objects"): JSON
 /// without a space, the fields of an entry in the order of their names. A Got form has the type
 /// `application/octet-stream` and a fixed time, for a store that has neither. It asks that the segments have a text,
-/// which `is_manifest` tests, and fails only for want of memory.
+/// which `is_manifest` tests, and fails only where memory runs out.
 #[tactic(auto, using(crate::proofs::ListLemmas::segment_at, crate::proofs::ListLemmas::map_more))]
 pub fn write(alloc: Global, segments: &[Segment], form: Form) -> Result<Bytes, Memory>
     requires { is_manifest segments.now ≡ true }

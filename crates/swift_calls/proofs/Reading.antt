@@ -1,7 +1,7 @@
 -- Calls that only read.
 use Rattle.std.specs.Prelude.{◌≡◌, ℕ, true, Option, None, Some, Result, Ok, Err}
 use Rattle.std.proofs.Common.{refl, sym, ap, ◌∙◌, inl, inr, true≢false}
-use Rattle.swift_calls.specs.Tree.{Tree, Folder}
+use Rattle.swift_calls.specs.Account.{SwiftAccount, SwiftContainer}
 use Rattle.swift_calls.specs.Step.{swift_step, head_container, only_reads}
 use Rattle.swift_calls.specs.History.{History, Called, Either}
 use Rattle.swift_calls.specs.declared.calls.SwiftRequest.{SwiftRequest}
@@ -10,11 +10,11 @@ use Rattle.swift_calls.specs.declared.calls.SwiftReply.{SwiftReply}
 use Rattle.swift_calls.specs.declared.calls.SwiftFault.{SwiftFault}
 use Rattle.swift_calls.specs.declared.calls.SwiftFault.TheVariants.{Failed, Memory}
 
-head_leaves : (v : Option Folder) (tree : Tree) → (head_container v tree).tree ≡ tree
+head_leaves : (v : Option SwiftContainer) (tree : SwiftAccount) → (head_container v tree).tree ≡ tree
 head_leaves None tree = refl
 head_leaves (Some folder) tree = refl
 
-pub reads_leave : (request : SwiftRequest) (tree : Tree) → only_reads request ≡ true → (swift_step request tree).tree ≡ tree
+pub reads_leave : (request : SwiftRequest) (tree : SwiftAccount) → only_reads request ≡ true → (swift_step request tree).tree ≡ tree
 reads_leave (ListContainers marker limit) tree is = refl
 reads_leave (HeadContainer n) tree is = head_leaves _ tree
 reads_leave (PutContainer n readers created) tree is = absurd (true≢false (sym is))

@@ -5,7 +5,7 @@ use Rattle.std.proofs.Common.{refl, sym, ap, subst, ◌∙◌, get_or, add-one, 
 use Rattle.std.proofs.lemmas.Bool.{lt-ltb}
 use Rattle.gate_base.specs.Named.{ascends, changed, ascends_placed, names_changed, all_placed, all_changed, both, first_of_two, second_of_two}
 use Rattle.std.proofs.Math.Seq.{take-suc}
-use Rattle.swift_calls.specs.Tree.{IsOrdered, is_sized_object, IsSized}
+use Rattle.swift_calls.specs.Account.{IsOrdered, is_sized_object, IsSized}
 use Rattle.swift_calls.specs.Step.{Fit}
 use Rattle.swift_calls.specs.Lists.{name_of, object_name, is_nil, without, with_readers, with_list, with_object, without_object, with_container, without_container, served, is_small}
 use Rattle.swift_calls.specs.Replay.{left_by, replayed, all_small}

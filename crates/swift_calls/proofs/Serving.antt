@@ -8,7 +8,7 @@ use Rattle.std.proofs.lemmas.Bool.{ltb-true, eq-eqb, ne_eqb, cond-true, cond-fal
 use Rattle.std.proofs.lemmas.Option.{none-some, same_Some}
 use Rattle.gate_base.specs.Maps.{name_cmp, adjust, by_name, get_empty, adjust_missing, adjust_stays, remove_missing}
 use Rattle.gate_base.specs.Named.{ascends, map_of, named, index_named, changed, first_of_two, second_of_two, get-map_of, map_placed, map_changed, index_changed}
-use Rattle.swift_calls.specs.Tree.{Tree, File, Folder, file_of, folder_of, files_of, look, tree_of, size_of, is_sized_object, with_head, with_readers as with_list_of, put_file, remove_file, on_files}
+use Rattle.swift_calls.specs.Account.{SwiftAccount, SwiftObject, SwiftContainer, file_of, folder_of, files_of, find_object, tree_of, size_of, is_sized_object, with_head, with_readers as with_list_of, put_file, remove_file, on_files}
 use Rattle.swift_calls.specs.Bodies.{etag_of, head_of, item_of}
 use Rattle.swift_calls.specs.Step.{page, swift_step, items_reply, head_container, put_container, post_container, delete_container, delete_by, is_bare, put_object, head_reply, get_reply, delete_object, is_listed}
 use Rattle.swift_calls.specs.Lists.{name_of, object_name, listed, look_in, stored, stored_in, stored_item, AreOrdered, AreSized, AreSizedObjects, is_nil, without, with_readers, with_list, with_object, without_object, with_container, without_container, served}
@@ -50,14 +50,14 @@ sized_stored c n cs s sized e = ltb-true _ _ (sized_in n s (named name_of c cs) 
 
 pub names_listed : (limit : ℕ) (marker : List ℕ) (cs : List Container) (names : List (List ℕ)) → AreOrdered cs → names ≡ page limit name_of (λ c. is_listed [] marker c.name) cs → Containers names ≡ (swift_step (ListContainers marker limit) (tree_of (listed cs))).reply
 names_listed limit marker cs names ordered e =
-    let first : List ℕ × Folder → List ℕ = λ p. p.0 in
-    let test : List ℕ × Folder → Bool = λ p. is_listed [] marker p.0 in
+    let first : List ℕ × SwiftContainer → List ℕ = λ p. p.0 in
+    let test : List ℕ × SwiftContainer → Bool = λ p. is_listed [] marker p.0 in
     ap Containers (e ∙ sym (ap (page limit first test) (entries_list name_of folder_of cs (first_of_two _ _ ordered)) ∙ page_map first test (λ c. (name_of c, folder_of c)) limit cs))
 
 pub items_listed : (limit : ℕ) (prefix marker n : List ℕ) (cs : List Container) (c : Container) (items : List NameItem) (objects : List StoredObject) → AreOrdered cs → Some c ≡ named name_of n cs → objects ≡ c.objects → items ≡ page limit stored_item (λ s. is_listed prefix marker s.name) objects → Names items ≡ (swift_step (ListNames n prefix marker limit) (tree_of (listed cs))).reply
 items_listed limit prefix marker n cs c items objects ordered e same is =
-    let item : List ℕ × File → NameItem = λ p. item_of p.0 p.1 in
-    let test : List ℕ × File → Bool = λ p. is_listed prefix marker p.0 in
+    let item : List ℕ × SwiftObject → NameItem = λ p. item_of p.0 p.1 in
+    let test : List ℕ × SwiftObject → Bool = λ p. is_listed prefix marker p.0 in
     let ascending = all_named name_of (λ x. ascends (map (λ s. s.name) x.objects)) n cs c (second_of_two _ _ ordered) e in
     ap Names (is ∙ ap (page limit stored_item (λ s. is_listed prefix marker s.name)) same ∙ sym (ap (page limit item test) (entries_list object_name file_of c.objects ascending) ∙ page_map item test (λ s. (object_name s, file_of s)) limit c.objects))
     ∙ ap (items_reply limit prefix marker) (sym (get_named n cs (Some c) e))
@@ -107,7 +107,7 @@ missed n f cs e = changed_missing name_of n f cs (found_none name_of n cs e)
 -- ---- DELETE of a container
 
 bare_objects : (objects : List StoredObject) → nat_eq (len (map_of object_name file_of objects)) 0 ≡ is_nil objects
-bare_objects [] = eq-eqb _ 0 (len-empty name_cmp File)
+bare_objects [] = eq-eqb _ 0 (len-empty name_cmp SwiftObject)
 bare_objects (s ∷ rest) = ne_eqb _ 0 (filled (map_of object_name file_of rest) s.name (file_of s))
 
 bare_folder : (c : Container) → is_bare (folder_of c) ≡ is_nil c.objects
@@ -117,7 +117,7 @@ bare_folder c = bare_objects c.objects
 abbrev pub bare_in : List ℕ → List Container → Option Bool
 bare_in n cs = option_map (λ c. is_nil c.objects) (named name_of n cs)
 
-module _ (n : List ℕ) (tree : Tree) where
+module _ (n : List ℕ) (tree : SwiftAccount) where
   gone_by : (v : Option Container) → Some true ≡ option_map (λ c. is_nil c.objects) v → (delete_container (option_map folder_of v) n tree).reply ≡ Gone
   gone_by None e = absurd (none-some true (sym e))
   gone_by (Some c) e = ap (λ b. (delete_by b n tree).reply) (bare_folder c ∙ same_Some _ _ (sym e))
@@ -195,7 +195,7 @@ get_object_none c n range cs e = ap (get_reply (look_in cs) range) (look_named c
 delete_object_at : (c n : List ℕ) (cs : List Container) (v : Option Container) → v ≡ named name_of c cs → look_in cs c n ≡ option_map file_of (stored_in n v)
 delete_object_at c n cs v e = look_named c n cs (stored_in n v) (ap (stored_in n) e)
 
-module _ (c n : List ℕ) (tree : Tree) where
+module _ (c n : List ℕ) (tree : SwiftAccount) where
   object_gone_by : (v : Option StoredObject) → is_some v ≡ true → (delete_object (option_map file_of v) c n tree).reply ≡ Gone
   object_gone_by None e = absurd (true≢false (sym e))
   object_gone_by (Some s) e = refl
@@ -218,7 +218,7 @@ object_deleted c n cs i x e at = index_changed name_of c (without_object n) cs i
 
 -- ---- the account after a call, as maps
 
-head_tree : (v : Option Folder) (tree : Tree) → (head_container v tree).tree ≡ tree
+head_tree : (v : Option SwiftContainer) (tree : SwiftAccount) → (head_container v tree).tree ≡ tree
 head_tree None tree = refl
 head_tree (Some folder) tree = refl
 
@@ -226,7 +226,7 @@ put_tree : (v : Option Container) (n : List ℕ) (readers : ReadList) (created :
 put_tree None n readers created cs = map_placed name_of folder_of _ cs
 put_tree (Some c) n readers created cs = map_changed name_of folder_of n (with_readers readers created) (with_head readers created) (λ c. refl) (λ c. refl) cs
 
-post_tree : (n : List ℕ) (readers : ReadList) (tree : Tree) (v : Option Folder) → get tree n ≡ v → (post_container v n readers tree).tree ≡ adjust n (with_list_of readers) tree
+post_tree : (n : List ℕ) (readers : ReadList) (tree : SwiftAccount) (v : Option SwiftContainer) → get tree n ≡ v → (post_container v n readers tree).tree ≡ adjust n (with_list_of readers) tree
 post_tree n readers tree None e = sym (adjust_missing by_name n (with_list_of readers) tree e)
 post_tree n readers tree (Some folder) e = refl
 
@@ -239,17 +239,17 @@ delete_tree (Some c) n cs =
       | false ↦ λ e. ap (λ b. (delete_by b n tree).tree) (sym e)
     ] (bare_folder c)
 
-object_tree : (c n : List ℕ) (file : File) (tree : Tree) (v : Option Folder) → get tree c ≡ v → (put_object v c n file tree).tree ≡ put_file c n file tree
+object_tree : (c n : List ℕ) (file : SwiftObject) (tree : SwiftAccount) (v : Option SwiftContainer) → get tree c ≡ v → (put_object v c n file tree).tree ≡ put_file c n file tree
 object_tree c n file tree None e = sym (adjust_missing by_name c (on_files (λ fs. insert fs n file)) tree e)
 object_tree c n file tree (Some folder) e = refl
 
 -- an object that isn't there is taken away
-nothing_removed : (c n : List ℕ) (tree : Tree) → look tree c n ≡ None → remove_file c n tree ≡ tree
+nothing_removed : (c n : List ℕ) (tree : SwiftAccount) → find_object tree c n ≡ None → remove_file c n tree ≡ tree
 nothing_removed c n tree e = adjust_stays by_name c (on_files (λ fs. remove fs n)) tree (λ folder is.
     let missing : get folder.files n ≡ None = ap (λ o. get (files_of o) n) (sym is) ∙ e in
     λ i. record folder { files = remove_missing by_name folder.files n missing i })
 
-gone_tree : (c n : List ℕ) (tree : Tree) (v : Option File) → look tree c n ≡ v → (delete_object v c n tree).tree ≡ remove_file c n tree
+gone_tree : (c n : List ℕ) (tree : SwiftAccount) (v : Option SwiftObject) → find_object tree c n ≡ v → (delete_object v c n tree).tree ≡ remove_file c n tree
 gone_tree c n tree None e = sym (nothing_removed c n tree e)
 gone_tree c n tree (Some file) e = refl
 

@@ -5,7 +5,7 @@ use Rattle.std.proofs.Math.Seq.{take-append_seam, take-length}
 use Rattle.std.proofs.lemmas.List.{length-append}
 use Rattle.std.proofs.lemmas.List.Sums.{sum_by_push}
 use Rattle.gate_base.specs.Causes.{Rose}
-use Rattle.swift_calls.specs.Tree.{tree_of}
+use Rattle.swift_calls.specs.Account.{tree_of}
 use Rattle.swift_calls.specs.Step.{swift_step}
 use Rattle.swift_calls.specs.History.{History, Called}
 use Rattle.swift_calls.specs.Replay.{left_by, replayed, is_lost, failures, Logs, Goes}
@@ -66,7 +66,7 @@ rose_by false n m is e = absurd (true≢false (sym is))
 
 -- the history of a store that began with this account, by the record of its calls
 abbrev told_by : Account → List Entry → History
-told_by first log = record { tells = true; called = length log; faults = failures log; tree_at = λ k. tree_of (account_at first log k); faults_at = λ k. failures (take k log) }
+told_by first log = record { observable = true; called = length log; faults = failures log; tree_at = λ k. tree_of (account_at first log k); faults_at = λ k. failures (take k log) }
 
 abbrev TellsOf : Account → SwiftRequest → List Entry → List Entry → Result SwiftReply SwiftFault → Type 0
 TellsOf first request old new result = Called (told_by first new) (length old) (length new) request result

@@ -8,7 +8,7 @@ use Rattle.std.specs.Str.{bytes_eq}
 use Rattle.md5.specs.Md5.{md5}
 use Rattle.hex.specs.Hex.{encode_lower}
 use Rattle.slo_manifest.specs.declared.Segment.{Segment}
-use Rattle.swift_calls.specs.Tree.{File, size_of}
+use Rattle.swift_calls.specs.Account.{SwiftObject, size_of}
 use Rattle.swift_calls.specs.declared.account.Content.{Content}
 use Rattle.swift_calls.specs.declared.account.Content.TheVariants.{Plain, Segments}
 use Rattle.swift_calls.specs.declared.heads.StoredHead.{StoredHead}
@@ -31,16 +31,16 @@ etag_of (Segments segments) = etag_text (joined_etags segments)
 
 -- how objects are found: by container and name
 abbrev pub Look : Type 0
-Look = List ℕ → List ℕ → Option File
+Look = List ℕ → List ℕ → Option SwiftObject
 
-abbrev pub has_etag : Segment → File → Bool
+abbrev pub has_etag : Segment → SwiftObject → Bool
 has_etag s f = bytes_eq (etag_of f.content) s.etag
 
 -- an object that is there as a segment says: with its ETag and its size
-abbrev pub is_segment : Segment → File → Bool
+abbrev pub is_segment : Segment → SwiftObject → Bool
 is_segment s f = has_etag s f && nat_eq (size_of f.content) s.size
 
-abbrev pub as_segment : Segment → Option File → Option Content
+abbrev pub as_segment : Segment → Option SwiftObject → Option Content
 as_segment s None = None
 as_segment s (Some f) = cond (is_segment s f) (Some f.content) None
 
@@ -91,9 +91,9 @@ is_list (Plain bytes) = false
 is_list (Segments segments) = true
 
 -- the head of an object
-abbrev pub head_of : File → StoredHead
+abbrev pub head_of : SwiftObject → StoredHead
 head_of f = record { content_type = f.content_type; size = size_of f.content; etag = etag_of f.content; manifest = is_list f.content; meta = f.meta }
 
 -- an object in a listing
-abbrev pub item_of : List ℕ → File → NameItem
+abbrev pub item_of : List ℕ → SwiftObject → NameItem
 item_of name f = record { name = name; hash = etag_of f.content; size = size_of f.content; content_type = f.content_type }

@@ -1,3 +1,4 @@
+pub mod Account
 pub mod Bodies
 pub mod History
 pub mod Laws
@@ -6,4 +7,3 @@ pub mod Lists
 pub mod MemSwift
 pub mod Replay
 pub mod Step
-pub mod Tree

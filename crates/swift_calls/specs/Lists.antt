@@ -2,7 +2,7 @@
 use Rattle.std.specs.Prelude.{ℕ, ◌^◌, List, [], ◌∷◌, length, Bool, true, false, cond, not, nat_lt, IsTrue, Option, None, Some}
 use Rattle.std.specs.List.{filter, list_all}
 use Rattle.gate_base.specs.Named.{has_name, named, placed, changed}
-use Rattle.swift_calls.specs.Tree.{file_of, look, tree_of, is_sized_object, IsSized, IsOrdered}
+use Rattle.swift_calls.specs.Account.{file_of, find_object, tree_of, is_sized_object, IsSized, IsOrdered}
 use Rattle.swift_calls.specs.Bodies.{Look, item_of}
 use Rattle.swift_calls.specs.declared.heads.NameItem.{NameItem}
 use Rattle.swift_calls.specs.declared.account.ReadList.{ReadList}
@@ -36,7 +36,7 @@ listed cs = record { containers = cs }
 
 -- the objects of containers by container and name
 abbrev pub look_in : List Container → Look
-look_in cs = look (tree_of (listed cs))
+look_in cs = find_object (tree_of (listed cs))
 
 -- an object in a listing
 abbrev pub stored_item : Stored → NameItem

@@ -5,7 +5,7 @@ use Rattle.std.proofs.lemmas.List.{take-take}
 use Rattle.std.proofs.lemmas.List.Sums.{sum_by-take-le}
 use Rattle.std.proofs.Math.Seq.{take-length}
 use Rattle.swift_calls.specs.History.{History, IsHistory}
-use Rattle.swift_calls.specs.Tree.{Tree, tree_of}
+use Rattle.swift_calls.specs.Account.{SwiftAccount, tree_of}
 use Rattle.swift_calls.specs.Replay.{outcome_at, replayed, failures}
 use Rattle.swift_calls.specs.declared.account.Account.{Account}
 use Rattle.swift_calls.specs.declared.memory.Outcome.{Outcome}
@@ -21,7 +21,7 @@ abbrev pub account_after : MemSwift → ℕ → Account
 account_after m k = replayed m.first (take k m.log.items)
 
 -- the same as maps
-abbrev pub tree_after : MemSwift → ℕ → Tree
+abbrev pub tree_after : MemSwift → ℕ → SwiftAccount
 tree_after m k = tree_of (account_after m k)
 
 -- how many of them failed
@@ -30,7 +30,7 @@ faults_after m k = failures (take k m.log.items)
 
 -- what it counts and tells
 abbrev pub history_of : MemSwift → History
-history_of m = record { tells = true; called = calls_of m; faults = failures m.log.items; tree_at = tree_after m; faults_at = faults_after m }
+history_of m = record { observable = true; called = calls_of m; faults = failures m.log.items; tree_at = tree_after m; faults_at = faults_after m }
 
 -- how the call of a number goes
 abbrev pub planned : MemSwift → ℕ → Outcome
@@ -54,4 +54,4 @@ failures_rise m j k order =
     subst P (take-take j k m.log.items order) (sum_by-take-le _ (take k m.log.items) j)
 
 pub mem_is_history : (m : MemSwift) → IsHistory (history_of m)
-mem_is_history m = record { last = λ tells left. failures_of_all m; rise = λ tells j k order within. failures_rise m j k order }
+mem_is_history m = record { last = λ observable left. failures_of_all m; rise = λ observable j k order within. failures_rise m j k order }

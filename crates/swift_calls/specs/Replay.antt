@@ -47,7 +47,7 @@ is_lost LostAfter = true
 abbrev pub failures : List Entry → ℕ
 failures entries = count_by (λ e. is_lost e.outcome) entries
 
--- what a call answers, and the account that it leaves; for want of memory it leaves all as it was
+-- what a call answers, and the account that it leaves; where memory runs out it leaves all as it was
 abbrev pub Goes : Outcome → SwiftRequest → Result SwiftReply SwiftFault → Account → Account → Type 0
 Goes outcome request (Ok reply) old new = (outcome ≡ Answered) × (new ≡ served request old)
 Goes outcome request (Err Failed) old new = (is_lost outcome ≡ true) × (new ≡ left_by outcome request old)

@@ -4,7 +4,7 @@ use Rattle.std.specs.FinMap.{entries, get, insert, len, remove}
 use Rattle.std.specs.List.{filter, starts_with}
 use Rattle.std.specs.Ordering.{is_gt}
 use Rattle.gate_base.specs.Maps.{adjust, name_cmp}
-use Rattle.swift_calls.specs.Tree.{Tree, File, Folder, look, put_file, remove_file, with_head, with_readers, new_folder}
+use Rattle.swift_calls.specs.Account.{SwiftAccount, SwiftObject, SwiftContainer, find_object, put_file, remove_file, with_head, with_readers, new_folder}
 use Rattle.swift_calls.specs.Bodies.{Look, etag_of, bytes_of, ranged, head_of, item_of}
 use Rattle.swift_calls.specs.Limits.{IsObjectName, IsMark, IsLimit, IsRange, is_content_type, is_meta, most_body}
 use Rattle.swift_calls.specs.declared.account.ReadList.{ReadList}
@@ -42,7 +42,7 @@ Fit (DeleteObject container name) = IsContainerName container × IsObjectName na
 -- an answer, and the account after it
 pub record Answer : Type 0 where
   pub reply : SwiftReply
-  pub tree : Tree
+  pub tree : SwiftAccount
 
 -- ---- listings
 
@@ -55,52 +55,52 @@ unfoldable pub page : {A B : Type 0} → ℕ → (A → B) → (A → Bool) → 
 page limit f test things = take limit (map f (filter test things))
 
 -- GET of an account: the names of containers, in byte order
-abbrev pub names_reply : ℕ → List ℕ → Tree → SwiftReply
+abbrev pub names_reply : ℕ → List ℕ → SwiftAccount → SwiftReply
 names_reply limit marker tree = Containers (page limit (λ e. e.0) (λ e. is_listed [] marker e.0) (entries tree))
 
 -- GET of a container: its objects in byte order of their names
-abbrev pub items_reply : ℕ → List ℕ → List ℕ → Option Folder → SwiftReply
+abbrev pub items_reply : ℕ → List ℕ → List ℕ → Option SwiftContainer → SwiftReply
 items_reply limit prefix marker None = NotFound
 items_reply limit prefix marker (Some folder) = Names (page limit (λ e. item_of e.0 e.1) (λ e. is_listed prefix marker e.0) (entries folder.files))
 
 -- ---- containers
 
 -- HEAD of a container: its read list and creation time
-abbrev pub head_container : Option Folder → Tree → Answer
+abbrev pub head_container : Option SwiftContainer → SwiftAccount → Answer
 head_container None tree = record { reply = NotFound; tree = tree }
 head_container (Some folder) tree = record { reply = Readers folder.readers folder.created; tree = tree }
 
 -- PUT of a container: a new one without objects, or one with its read list and creation time written over
-abbrev pub put_container : Option Folder → List ℕ → ReadList → Option ℕ → Tree → Answer
+abbrev pub put_container : Option SwiftContainer → List ℕ → ReadList → Option ℕ → SwiftAccount → Answer
 put_container None name readers created tree = record { reply = Made; tree = insert tree name (new_folder readers created) }
 put_container (Some folder) name readers created tree = record { reply = There; tree = adjust name (with_head readers created) tree }
 
 -- POST of a container: its read list written over
-abbrev pub post_container : Option Folder → List ℕ → ReadList → Tree → Answer
+abbrev pub post_container : Option SwiftContainer → List ℕ → ReadList → SwiftAccount → Answer
 post_container None name readers tree = record { reply = NotFound; tree = tree }
 post_container (Some folder) name readers tree = record { reply = Gone; tree = adjust name (with_readers readers) tree }
 
 -- whether a container has no object
-abbrev pub is_bare : Folder → Bool
+abbrev pub is_bare : SwiftContainer → Bool
 is_bare folder = nat_eq (len folder.files) 0
 
 -- DELETE of a container: only an empty one goes
-abbrev pub delete_by : Bool → List ℕ → Tree → Answer
+abbrev pub delete_by : Bool → List ℕ → SwiftAccount → Answer
 delete_by true name tree = record { reply = Gone; tree = remove tree name }
 delete_by false name tree = record { reply = NotEmpty; tree = tree }
 
-abbrev pub delete_container : Option Folder → List ℕ → Tree → Answer
+abbrev pub delete_container : Option SwiftContainer → List ℕ → SwiftAccount → Answer
 delete_container None name tree = record { reply = NotFound; tree = tree }
 delete_container (Some folder) name tree = delete_by (is_bare folder) name tree
 
 -- ---- objects
 
 -- PUT of an object: it is new as a whole; its container has to be there
-abbrev pub put_object : Option Folder → List ℕ → List ℕ → File → Tree → Answer
+abbrev pub put_object : Option SwiftContainer → List ℕ → List ℕ → SwiftObject → SwiftAccount → Answer
 put_object None container name file tree = record { reply = NotFound; tree = tree }
 put_object (Some folder) container name file tree = record { reply = Stored (etag_of file.content); tree = put_file container name file tree }
 
-abbrev pub head_reply : Option File → SwiftReply
+abbrev pub head_reply : Option SwiftObject → SwiftReply
 head_reply None = NotFound
 head_reply (Some file) = Head (head_of file)
 
@@ -113,19 +113,19 @@ body_reply head range None = NotFound
 body_reply head range (Some bytes) = part_reply head (ranged range bytes)
 
 -- GET of an object: that its segments are there is tested before the range
-abbrev pub get_reply : Look → Option (ℕ × ℕ) → Option File → SwiftReply
+abbrev pub get_reply : Look → Option (ℕ × ℕ) → Option SwiftObject → SwiftReply
 get_reply looks range None = NotFound
 get_reply looks range (Some file) = body_reply (head_of file) range (bytes_of looks file.content)
 
 -- DELETE of an object
-abbrev pub delete_object : Option File → List ℕ → List ℕ → Tree → Answer
+abbrev pub delete_object : Option SwiftObject → List ℕ → List ℕ → SwiftAccount → Answer
 delete_object None container name tree = record { reply = NotFound; tree = tree }
 delete_object (Some file) container name tree = record { reply = Gone; tree = remove_file container name tree }
 
 -- ---- the step
 
 -- the answer to a call on an account
-abbrev pub swift_step : SwiftRequest → Tree → Answer
+abbrev pub swift_step : SwiftRequest → SwiftAccount → Answer
 swift_step (ListContainers marker limit) tree = record { reply = names_reply limit marker tree; tree = tree }
 swift_step (HeadContainer container) tree = head_container (get tree container) tree
 swift_step (PutContainer container readers created) tree = put_container (get tree container) container readers created tree
@@ -133,9 +133,9 @@ swift_step (PostContainer container readers) tree = post_container (get tree con
 swift_step (DeleteContainer container) tree = delete_container (get tree container) container tree
 swift_step (ListNames container prefix marker limit) tree = record { reply = items_reply limit prefix marker (get tree container); tree = tree }
 swift_step (PutObject container name content_type meta body) tree = put_object (get tree container) container name (record { content_type = content_type; meta = meta; content = Plain body }) tree
-swift_step (HeadObject container name) tree = record { reply = head_reply (look tree container name); tree = tree }
-swift_step (GetObject container name range) tree = record { reply = get_reply (look tree) range (look tree container name); tree = tree }
-swift_step (DeleteObject container name) tree = delete_object (look tree container name) container name tree
+swift_step (HeadObject container name) tree = record { reply = head_reply (find_object tree container name); tree = tree }
+swift_step (GetObject container name range) tree = record { reply = get_reply (find_object tree) range (find_object tree container name); tree = tree }
+swift_step (DeleteObject container name) tree = delete_object (find_object tree container name) container name tree
 
 -- the calls that leave every account as it is
 abbrev pub only_reads : SwiftRequest → Bool

@@ -238,7 +238,7 @@ impl Copying for SwiftReply {
 pub enum SwiftFault {
     /// The request or its answer was lost, or no call was left.
     Failed,
-    /// Memory was wanted and not there.
+    /// Memory ran out.
     Memory,
 }
 
@@ -285,7 +285,7 @@ impl<T: Drop> From<AllocFailed<T>> for SwiftFault {
 /// A Swift store. It takes 2^63 calls and counts them. Where it tells its contents, it tells the account and the
 /// count of faults as they stood after each call that it has counted.
 pub trait Swift: Counted {
-    /// What the store counts, and where it tells, the account and the count of faults after each number of calls.
+    /// What the store counts, and where it is observable, the account and the count of faults after each number of calls.
     ghost history: { Self → History };
 
     /// Makes one call. Ok is the store's answer, and the account is as the call leaves it. Failed comes only with a

@@ -7,7 +7,7 @@ pub fn law_reads_leave()
 {}
 
 /// A call that only reads leaves the account in each history: where it was answered, where it or its answer was lost,
-/// where memory was wanted, and where no call was left.
+/// where memory ran out, and where no call was left.
 pub fn law_reads_keep()
     ensures { ReadsKeep }
 {}

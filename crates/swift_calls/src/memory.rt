@@ -1,6 +1,6 @@
 //! A store in memory: what it keeps.
 ghost use Rattle.std.specs.Prelude.{◌≡◌, IsTrue};
-ghost use Rattle.swift_calls.specs.Tree.{IsOrdered, IsSized};
+ghost use Rattle.swift_calls.specs.Account.{IsOrdered, IsSized};
 ghost use Rattle.swift_calls.specs.Replay.{replayed, all_small};
 
 use crate::{Account, SwiftRequest};

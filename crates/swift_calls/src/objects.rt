@@ -3,7 +3,7 @@
 ghost use Rattle.std.specs.Prelude.{◌≡◌, ◌<◌, ◌^◌, IfOk};
 ghost use Rattle.std.specs.Option.{option_copied};
 ghost use Rattle.gate_base.specs.Named.{named};
-ghost use Rattle.swift_calls.specs.Tree.{file_of, size_of};
+ghost use Rattle.swift_calls.specs.Account.{file_of, size_of};
 ghost use Rattle.swift_calls.specs.Bodies.{etag_text, etag_of, joined_etags, is_list, head_of, item_of};
 ghost use Rattle.swift_calls.specs.Lists.{stored};
 

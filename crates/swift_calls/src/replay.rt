@@ -1,7 +1,7 @@
 //! A store in memory: its calls, and its accounts again.
 ghost use Rattle.std.specs.Prelude.{◌≡◌, ℕ, ◌≤◌, ◌+◌, ◌&&◌, ◌==◌, nat_lt, nat_le, refl, IfOk, OnErr, OnOk, IsErrOf};
 ghost use Rattle.std.specs.List.{list_any};
-ghost use Rattle.swift_calls.specs.Tree.{tree_of, IsOrdered, IsSized};
+ghost use Rattle.swift_calls.specs.Account.{tree_of, IsOrdered, IsSized};
 ghost use Rattle.swift_calls.specs.Step.{Fit, swift_step};
 ghost use Rattle.swift_calls.specs.History.{Calls};
 ghost use Rattle.swift_calls.specs.Replay.{outcome_at, left_by, reply_by, Goes, Logs};
@@ -86,7 +86,7 @@ impl MemSwift {
         outcome_at(before, self.after.as_slice(), self.stop, number)
     }
 
-    /// Makes a call and records it. For want of memory all is as it was.
+    /// Makes a call and records it. Where memory runs out, all is as it was.
     #[tactic(auto, using(crate::proofs::Replaying::replayed_more, crate::proofs::Replaying::ordered_at, crate::proofs::Replaying::sized_at, crate::proofs::Replaying::small_more, crate::proofs::Replaying::small_fit))]
     fn make(&mut self, request: &SwiftRequest) -> Result<SwiftReply, SwiftFault>
         requires { Fit request.now }
@@ -136,7 +136,7 @@ fn is_stopped(stop: u64, number: u64) -> bool
 }
 
 impl Entry {
-    /// Makes the call as its outcome says, and gives its reply where it is answered. For want of memory nothing
+    /// Makes the call as its outcome says, and gives its reply where it is answered. Where memory runs out, nothing
     /// changes.
     fn go(&self, alloc: Global, account: &mut Account) -> Result<Option<SwiftReply>, Memory>
         requires ordered { IsOrdered account.old }
@@ -164,7 +164,7 @@ impl Counted for MemSwift {
     }
 }
 
-/// A call goes as its number was told to. For want of memory it is not counted and changes nothing, so the next
+/// A call goes as its number was told to. Where memory runs out, it is not counted and changes nothing, so the next
 /// call has its number.
 impl Swift for MemSwift {
     ghost history = { history_of };

@@ -1,6 +1,6 @@
 //! The bytes of an object that is kept in memory, those of its segments in a row among them.
 ghost use Rattle.std.specs.Prelude.{◌≡◌, ◌<◌, ◌^◌, IfOk};
-ghost use Rattle.swift_calls.specs.Tree.{file_of, size_of};
+ghost use Rattle.swift_calls.specs.Account.{file_of, size_of};
 ghost use Rattle.swift_calls.specs.Bodies.{is_segment, plain_bytes, inner_bytes, segment_bytes_of, outer_bytes, joined, ranged};
 ghost use Rattle.swift_calls.specs.Step.{part_reply, get_reply};
 ghost use Rattle.swift_calls.specs.Lists.{look_in, AreSized};

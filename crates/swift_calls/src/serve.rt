@@ -3,7 +3,7 @@ ghost use Rattle.std.specs.Prelude.{◌≡◌, not, is_some, IfOk, OnOk, OnErr};
 ghost use Rattle.std.specs.FinMap.{get};
 ghost use Rattle.std.specs.Option.{option_map};
 ghost use Rattle.gate_base.specs.Named.{has_name, named, changed};
-ghost use Rattle.swift_calls.specs.Tree.{tree_of, file_of, IsOrdered, IsSized};
+ghost use Rattle.swift_calls.specs.Account.{tree_of, file_of, IsOrdered, IsSized};
 ghost use Rattle.swift_calls.specs.Step.{swift_step, put_object};
 ghost use Rattle.swift_calls.specs.Lists.{served, name_of, object_name, is_nil, without, with_object, listed, AreOrdered, AreSized};
 
@@ -166,7 +166,7 @@ fn serve_list_names(
     }
 }
 
-/// Puts an object into a container that is there. For want of memory nothing changes.
+/// Puts an object into a container that is there. Where memory runs out, nothing changes.
 #[tactic(auto, using(crate::proofs::Serving::stored_missing, crate::proofs::Serving::stored_there, crate::proofs::Serving::stored_put, crate::proofs::Serving::missed, crate::proofs::ByName::set_same))]
 fn serve_put_object(
     alloc: Global,
@@ -257,7 +257,7 @@ fn serve_delete_object(
     }
 }
 
-/// Makes a call on an account. For want of memory nothing changes.
+/// Makes a call on an account. Where memory runs out, nothing changes.
 pub(crate) fn serve(
     alloc: Global,
     account: &mut Account,

@@ -95,7 +95,7 @@ unfoldable pub unpacked : List (List ℕ) → Option (List Pair)
 unpacked pieces =
     if names_ascend (packed_entries pieces) && pointwise bytes_eq pieces (pack_of (packed_entries pieces)) then Some (packed_entries pieces) else None
 
--- what unpacking answers; want of memory may come for any pieces
+-- what unpacking answers; memory may run out for any pieces
 abbrev pub Unpacks : Option (List Pair) → Result (List Pair) MarkFault → Type 0
 Unpacks due (Ok entries) = due ≡ Some entries
 Unpacks due (Err BadPack) = due ≡ None

@@ -67,7 +67,7 @@ unfoldable pub read_tag : List ℕ → Option Tag
 read_tag text =
     if has_text (tag_parts text) && bytes_eq (tag_text (tag_parts text)) text then Some (tag_parts text) else None
 
--- what reading a tag answers; want of memory may come for any text
+-- what reading a tag answers; memory may run out for any text
 abbrev pub ReadsTag : Option Tag → Result Tag MarkFault → Type 0
 ReadsTag due (Ok tag) = due ≡ Some tag
 ReadsTag due (Err NoTag) = due ≡ None

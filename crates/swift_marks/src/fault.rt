@@ -9,7 +9,7 @@ pub enum MarkFault {
     NoTag,
     /// The pieces are no pack.
     BadPack,
-    /// Memory was wanted and not there.
+    /// Memory ran out.
     Memory,
 }
 

@@ -48,7 +48,7 @@ fn is_digit(byte: u8) -> bool
     byte.is_ascii_digit()
 }
 
-/// Adds a number in decimal. For want of memory the text is as before.
+/// Adds a number in decimal. Where memory runs out, the text is as before.
 pub(crate) fn append_decimal(text: &mut Bytes, number: u64) -> Result<(), Memory>
     ensures { OnOk result (text.new ≡ text.old ++ decimal number) }
 {

@@ -9,70 +9,70 @@ use Rattle.s3_names.specs.Key.{is_key}
 use Rattle.s3_machine.specs.State.{Object}
 use Rattle.s3_machine.specs.Step.{put_object, drop_object}
 use Rattle.swift_calls.specs.declared.calls.SwiftRequest.TheVariants.{PutObject, DeleteObject}
-use Rattle.swift_calls.specs.Tree.{File, Folder, Tree, files, files_of, look, on_files, put_file, remove_file}
+use Rattle.swift_calls.specs.Account.{SwiftObject, SwiftContainer, SwiftAccount, files, files_of, find_object, on_files, put_file, remove_file}
 use Rattle.swift_calls.specs.Bodies.{bytes_of}
 use Rattle.swift_calls.specs.Step as store
 use Rattle.upload_records.specs.Marks.{segments_name}
-use Rattle.upload_records.specs.Native.{within, object_by, object_of, object_at, IsSettled, native}
-use Rattle.upload_records.specs.Sound.{Sound, IsPlainObject, IsObject, in_one_piece, IsStored}
+use Rattle.upload_records.specs.Native.{within, object_by, object_of, object_at, IsSettled, s3_state}
+use Rattle.upload_records.specs.Consistent.{IsConsistent, IsPlainObject, IsObject, in_one_piece, IsStored}
 use Rattle.upload_records.specs.Laws.{ChangesBy, FindsObject, file_put, object_in}
-use Rattle.upload_records.proofs.Settled.{native_settled}
+use Rattle.upload_records.proofs.Settled.{s3_state_settled}
 use Rattle.upload_records.proofs.Plain.{plain_at, plain_put, plain_removed}
 use Rattle.upload_records.proofs.Carried.{sound_object, sound_put, sound_removed}
 use Rattle.upload_records.proofs.Leaves.{changes_by}
 
--- ---- what a file stands for
+-- ---- what a file represents
 
-pub plain_object : (segments : Names File) (key : List ℕ) (file : File) (plain : IsPlainObject file) → object_of segments key file ≡ Some (object_in plain)
+pub plain_object : (segments : Names SwiftObject) (key : List ℕ) (file : SwiftObject) (plain : IsPlainObject file) → object_of segments key file ≡ Some (object_in plain)
 plain_object segments key file plain = λ i. object_by (plain.tagged i) (plain.packed i) (bytes_of (within segments) (plain.own i))
 
--- each form of a file that is an object stands for one
-pub reads_as : (segments : Names File) (folder key : List ℕ) (file : File) → IsObject segments folder key file → (o : Object) × (object_of segments key file ≡ Some o)
+-- each form of a file that is an object represents one
+pub reads_as : (segments : Names SwiftObject) (folder key : List ℕ) (file : SwiftObject) → IsObject segments folder key file → (o : Object) × (object_of segments key file ≡ Some o)
 reads_as segments folder key file (in_one_piece keyed plain) = (object_in plain, plain_object segments key file plain)
 
-pub object_reads : (tree : Tree) (b key : List ℕ) (file : File) → Sound tree → is_bucket b ≡ true → look tree b key ≡ Some file → is_some (object_of (files tree (segments_name b)) key file) ≡ true
+pub object_reads : (tree : SwiftAccount) (b key : List ℕ) (file : SwiftObject) → IsConsistent tree → is_bucket b ≡ true → find_object tree b key ≡ Some file → is_some (object_of (files tree (segments_name b)) key file) ≡ true
 object_reads tree b key file sound is found = ap is_some (reads_as (files tree (segments_name b)) (segments_name b) key file (sound_object tree b key file sound is found)).1
 
 -- ---- what is found
 
--- over a settled account an object of the state is what the file of its key stands for
-native_at : (tree : Tree) (b key : List ℕ) → is_bucket b ≡ true → IsSettled tree
-    → object_at (get (native tree) b) key ≡ option_and_then (object_of (files tree (segments_name b)) key) (look tree b key)
-native_at tree b key is settled = ap (λ s. object_at (get s b) key) (native_settled tree settled) ∙ plain_at tree b key is
+-- over a settled account an object of the state is what the file of its key represents
+s3_state_at : (tree : SwiftAccount) (b key : List ℕ) → is_bucket b ≡ true → IsSettled tree
+    → object_at (get (s3_state tree) b) key ≡ option_and_then (object_of (files tree (segments_name b)) key) (find_object tree b key)
+s3_state_at tree b key is settled = ap (λ s. object_at (get s b) key) (s3_state_settled tree settled) ∙ plain_at tree b key is
 
-finds : (tree : Tree) (b key : List ℕ) (o : Option File) → is_bucket b ≡ true → Sound tree → IsSettled tree → look tree b key ≡ o → FindsObject tree b key o
-finds tree b key None is sound settled e = native_at tree b key is settled ∙ ap (option_and_then (object_of (files tree (segments_name b)) key)) e
+finds : (tree : SwiftAccount) (b key : List ℕ) (o : Option SwiftObject) → is_bucket b ≡ true → IsConsistent tree → IsSettled tree → find_object tree b key ≡ o → FindsObject tree b key o
+finds tree b key None is sound settled e = s3_state_at tree b key is settled ∙ ap (option_and_then (object_of (files tree (segments_name b)) key)) e
 finds tree b key (Some file) is sound settled e =
     let object = sound_object tree b key file sound is e in
     let reads = reads_as (files tree (segments_name b)) (segments_name b) key file object in
-    (object, reads.0, reads.1, native_at tree b key is settled ∙ ap (option_and_then (object_of (files tree (segments_name b)) key)) e ∙ reads.1)
+    (object, reads.0, reads.1, s3_state_at tree b key is settled ∙ ap (option_and_then (object_of (files tree (segments_name b)) key)) e ∙ reads.1)
 
-pub found : (tree : Tree) (b key : List ℕ) → is_bucket b ≡ true → Sound tree → IsSettled tree → FindsObject tree b key (look tree b key)
-found tree b key is sound settled = finds tree b key (look tree b key) is sound settled refl
+pub found : (tree : SwiftAccount) (b key : List ℕ) → is_bucket b ≡ true → IsConsistent tree → IsSettled tree → FindsObject tree b key (find_object tree b key)
+found tree b key is sound settled = finds tree b key (find_object tree b key) is sound settled refl
 
 -- ---- an object comes, or goes
 
 -- what the PUT of a file leaves, also where the container is missing
-put_leaves : (o : Option Folder) (b key : List ℕ) (file : File) (tree : Tree) → get tree b ≡ o → (store.put_object o b key file tree).tree ≡ put_file b key file tree
+put_leaves : (o : Option SwiftContainer) (b key : List ℕ) (file : SwiftObject) (tree : SwiftAccount) → get tree b ≡ o → (store.put_object o b key file tree).tree ≡ put_file b key file tree
 put_leaves None b key file tree none = sym (adjust_missing by_name b _ tree none)
 put_leaves (Some folder) b key file tree there = refl
 
 -- what the DELETE of a file leaves, also where the file is missing
-delete_leaves : (o : Option File) (b key : List ℕ) (tree : Tree) → look tree b key ≡ o → (store.delete_object o b key tree).tree ≡ remove_file b key tree
+delete_leaves : (o : Option SwiftObject) (b key : List ℕ) (tree : SwiftAccount) → find_object tree b key ≡ o → (store.delete_object o b key tree).tree ≡ remove_file b key tree
 delete_leaves None b key tree none =
     sym (adjust_stays by_name b _ tree (λ folder is i. record folder { files = remove_missing by_name folder.files key (ap (λ v. get (files_of v) key) (sym is) ∙ none) i }))
 delete_leaves (Some file) b key tree there = refl
 
-pub object_put : (tree : Tree) (b key content_type : List ℕ) (meta : List (List ℕ)) (body : List ℕ) (plain : IsPlainObject (file_put content_type meta body))
-    → is_bucket b ≡ true → is_key key ≡ true → IsStored key (file_put content_type meta body) → Sound tree → IsSettled tree
+pub object_put : (tree : SwiftAccount) (b key content_type : List ℕ) (meta : List (List ℕ)) (body : List ℕ) (plain : IsPlainObject (file_put content_type meta body))
+    → is_bucket b ≡ true → is_key key ≡ true → IsStored key (file_put content_type meta body) → IsConsistent tree → IsSettled tree
     → ChangesBy tree (PutObject b key content_type meta body) (adjust b (put_object key (object_in plain)))
 object_put tree b key content_type meta body plain is keyed stored sound settled =
-    let file : File = file_put content_type meta body in
+    let file : SwiftObject = file_put content_type meta body in
     changes_by tree (put_file b key file tree) b (PutObject b key content_type meta body) (adjust b (put_object key (object_in plain))) is settled (off_adjust by_name b (on_files (λ fs. insert fs key file)) tree)
     (put_leaves (get tree b) b key file tree refl) (sound_put tree b key file is sound (in_one_piece keyed plain) stored)
     (plain_put tree b key file (object_in plain) (plain_object (files tree (segments_name b)) key file plain) is)
 
-pub object_gone : (tree : Tree) (b key : List ℕ) → is_bucket b ≡ true → Sound tree → IsSettled tree → ChangesBy tree (DeleteObject b key) (adjust b (drop_object key))
+pub object_gone : (tree : SwiftAccount) (b key : List ℕ) → is_bucket b ≡ true → IsConsistent tree → IsSettled tree → ChangesBy tree (DeleteObject b key) (adjust b (drop_object key))
 object_gone tree b key is sound settled =
     changes_by tree (remove_file b key tree) b (DeleteObject b key) (adjust b (drop_object key)) is settled (off_adjust by_name b (on_files (λ fs. remove fs key)) tree)
-    (delete_leaves (look tree b key) b key tree refl) (sound_removed tree b key is sound) (plain_removed tree b key is)
+    (delete_leaves (find_object tree b key) b key tree refl) (sound_removed tree b key is sound) (plain_removed tree b key is)

@@ -6,37 +6,37 @@ use Rattle.gate_base.specs.Maps.{by_name, off_insert, off_adjust, off_remove}
 use Rattle.s3_names.specs.Bucket.{is_bucket}
 use Rattle.swift_calls.specs.declared.account.ReadList.{ReadList}
 use Rattle.swift_calls.specs.declared.calls.SwiftRequest.TheVariants.{PutContainer, PostContainer, DeleteContainer, PutObject, DeleteObject}
-use Rattle.swift_calls.specs.Tree.{File, Folder, Tree, look, on_files, with_head, with_readers}
+use Rattle.swift_calls.specs.Account.{SwiftObject, SwiftContainer, SwiftAccount, find_object, on_files, with_head, with_readers}
 use Rattle.swift_calls.specs.Step.{swift_step, is_bare, put_container, post_container, delete_by, delete_container, put_object, delete_object}
 use Rattle.upload_records.specs.Native.{IsSettled}
 use Rattle.upload_records.specs.Laws.{file_put}
 use Rattle.upload_records.proofs.Settled.{OffSame, settled_off}
 
-put_off : (o : Option Folder) (b : List ℕ) (readers : ReadList) (created : Option ℕ) (tree : Tree) → OffSame tree (put_container o b readers created tree).tree b
+put_off : (o : Option SwiftContainer) (b : List ℕ) (readers : ReadList) (created : Option ℕ) (tree : SwiftAccount) → OffSame tree (put_container o b readers created tree).tree b
 put_off None b readers created tree = off_insert by_name tree b _
 put_off (Some folder) b readers created tree = off_adjust by_name b (with_head readers created) tree
 
-post_off : (o : Option Folder) (b : List ℕ) (readers : ReadList) (tree : Tree) → OffSame tree (post_container o b readers tree).tree b
+post_off : (o : Option SwiftContainer) (b : List ℕ) (readers : ReadList) (tree : SwiftAccount) → OffSame tree (post_container o b readers tree).tree b
 post_off None b readers tree = λ n apart. refl
 post_off (Some folder) b readers tree = off_adjust by_name b (with_readers readers) tree
 
-drop_off_by : (t : Bool) (b : List ℕ) (tree : Tree) → OffSame tree (delete_by t b tree).tree b
+drop_off_by : (t : Bool) (b : List ℕ) (tree : SwiftAccount) → OffSame tree (delete_by t b tree).tree b
 drop_off_by true b tree = off_remove by_name tree b
 drop_off_by false b tree = λ n apart. refl
 
-drop_off : (o : Option Folder) (b : List ℕ) (tree : Tree) → OffSame tree (delete_container o b tree).tree b
+drop_off : (o : Option SwiftContainer) (b : List ℕ) (tree : SwiftAccount) → OffSame tree (delete_container o b tree).tree b
 drop_off None b tree = λ n apart. refl
 drop_off (Some folder) b tree = drop_off_by (is_bare folder) b tree
 
-put_file_off : (o : Option Folder) (b key : List ℕ) (file : File) (tree : Tree) → OffSame tree (put_object o b key file tree).tree b
+put_file_off : (o : Option SwiftContainer) (b key : List ℕ) (file : SwiftObject) (tree : SwiftAccount) → OffSame tree (put_object o b key file tree).tree b
 put_file_off None b key file tree = λ n apart. refl
 put_file_off (Some folder) b key file tree = off_adjust by_name b (on_files (λ fs. insert fs key file)) tree
 
-delete_file_off : (o : Option File) (b key : List ℕ) (tree : Tree) → OffSame tree (delete_object o b key tree).tree b
+delete_file_off : (o : Option SwiftObject) (b key : List ℕ) (tree : SwiftAccount) → OffSame tree (delete_object o b key tree).tree b
 delete_file_off None b key tree = λ n apart. refl
 delete_file_off (Some file) b key tree = off_adjust by_name b (on_files (λ fs. remove fs key)) tree
 
-module _ (tree : Tree) (b : List ℕ) (is : is_bucket b ≡ true) (settled : IsSettled tree) where
+module _ (tree : SwiftAccount) (b : List ℕ) (is : is_bucket b ≡ true) (settled : IsSettled tree) where
   pub settled_put : (readers : ReadList) (created : Option ℕ) → IsSettled (swift_step (PutContainer b readers created) tree).tree
   settled_put readers created = settled_off tree _ b is (put_off (get tree b) b readers created tree) settled
 
@@ -50,4 +50,4 @@ module _ (tree : Tree) (b : List ℕ) (is : is_bucket b ≡ true) (settled : IsS
   settled_put_file key content_type meta body = settled_off tree _ b is (put_file_off (get tree b) b key (file_put content_type meta body) tree) settled
 
   pub settled_delete_file : (key : List ℕ) → IsSettled (swift_step (DeleteObject b key) tree).tree
-  settled_delete_file key = settled_off tree _ b is (delete_file_off (look tree b key) b key tree) settled
+  settled_delete_file key = settled_off tree _ b is (delete_file_off (find_object tree b key) b key tree) settled

@@ -11,7 +11,7 @@ use Rattle.s3_names.specs.Bucket.{is_bucket}
 use Rattle.s3_machine.specs.State.{Object, Bucket}
 use Rattle.s3_machine.specs.Step.{new_bucket, with_acl, put_object, drop_object}
 use Rattle.swift_calls.specs.declared.account.ReadList.{ReadList}
-use Rattle.swift_calls.specs.Tree.{File, Folder, Tree, files, files_of, look, new_folder, on_files, with_readers, put_file, remove_file}
+use Rattle.swift_calls.specs.Account.{SwiftObject, SwiftContainer, SwiftAccount, files, files_of, find_object, new_folder, on_files, with_readers, put_file, remove_file}
 use Rattle.upload_records.specs.Marks.{uploads_name, segments_name, readers_of, acl_of}
 use Rattle.upload_records.specs.Native.{object_of, object_at, upload_of, kept_of, bucket_from, bucket_of, plain}
 use Rattle.upload_records.proofs.Apart.{uploads_apart, segments_apart}
@@ -19,9 +19,9 @@ use Rattle.upload_records.proofs.Settled.{OffSame}
 
 -- ---- a change of one container
 
-module _ (tree tree' : Tree) (b : List ℕ) (is : is_bucket b ≡ true) (off : OffSame tree tree' b) where
+module _ (tree tree' : SwiftAccount) (b : List ℕ) (is : is_bucket b ≡ true) (off : OffSame tree tree' b) where
   -- a bucket is no container beside one
-  pub beside_stays : (name : List ℕ) (folder : Folder) → bucket_of tree' name folder ≡ bucket_of tree name folder
+  pub beside_stays : (name : List ℕ) (folder : SwiftContainer) → bucket_of tree' name folder ≡ bucket_of tree name folder
   beside_stays name folder =
       let records : files tree' (uploads_name name) ≡ files tree (uploads_name name) = ap files_of (off (uploads_name name) (uploads_apart b name is)) in
       let segments : files tree' (segments_name name) ≡ files tree (segments_name name) = ap files_of (off (segments_name name) (segments_apart b name is)) in
@@ -32,15 +32,15 @@ module _ (tree tree' : Tree) (b : List ℕ) (is : is_bucket b ≡ true) (off : O
   plain_by_old = picked_same by_name (bucket_of tree') (bucket_of tree) tree' (λ k x found. beside_stays k x)
 
 -- a change of what stands in a bucket's container is one of the bucket
-pub plain_changes : (tree : Tree) (b : List ℕ) (h : Folder → Folder) (g : Bucket → Bucket) → is_bucket b ≡ true
-    → ((folder : Folder) → get tree b ≡ Some folder → bucket_from (files tree (uploads_name b)) (files tree (segments_name b)) (h folder) ≡ g (bucket_from (files tree (uploads_name b)) (files tree (segments_name b)) folder))
+pub plain_changes : (tree : SwiftAccount) (b : List ℕ) (h : SwiftContainer → SwiftContainer) (g : Bucket → Bucket) → is_bucket b ≡ true
+    → ((folder : SwiftContainer) → get tree b ≡ Some folder → bucket_from (files tree (uploads_name b)) (files tree (segments_name b)) (h folder) ≡ g (bucket_from (files tree (uploads_name b)) (files tree (segments_name b)) folder))
     → plain (adjust b h tree) ≡ adjust b g (plain tree)
 unfolding plain
 plain_changes tree b h g is along =
     plain_by_old tree (adjust b h tree) b is (off_adjust by_name b h tree)
     ∙ picked_adjust by_name (bucket_of tree) g b h tree (λ folder found. taken_both folder (along folder found))
   where
-    taken_both : (folder : Folder) → bucket_from (files tree (uploads_name b)) (files tree (segments_name b)) (h folder) ≡ g (bucket_from (files tree (uploads_name b)) (files tree (segments_name b)) folder)
+    taken_both : (folder : SwiftContainer) → bucket_from (files tree (uploads_name b)) (files tree (segments_name b)) (h folder) ≡ g (bucket_from (files tree (uploads_name b)) (files tree (segments_name b)) folder)
         → bucket_of tree b (h folder) ≡ option_map g (bucket_of tree b folder)
     taken_both folder e =
         ap (λ t. cond t (Some (bucket_from (files tree (uploads_name b)) (files tree (segments_name b)) (h folder))) None) is ∙ ap Some e
@@ -61,7 +61,7 @@ nothing : {X Y : Type 0} (m : Names X) (f : List ℕ → X → Option Y) → f �
 nothing m f e = ap (λ g. picked g m) e ∙ same_names _ _ (λ q. get-picked by_name no_entry m q ∙ of_none q (get m q) ∙ sym (get_empty by_name q))
 
 -- a container without objects is a bucket without any
-bucket_of_new : (records segments : Names File) (readers : ReadList) (created : Option ℕ) → bucket_from records segments (new_folder readers created) ≡ new_bucket (unwrap_or created 0) (acl_of readers)
+bucket_of_new : (records segments : Names SwiftObject) (readers : ReadList) (created : Option ℕ) → bucket_from records segments (new_folder readers created) ≡ new_bucket (unwrap_or created 0) (acl_of readers)
 unfolding no_entry
 bucket_of_new records segments readers created = λ i. record {
   created = unwrap_or created 0;
@@ -75,16 +75,16 @@ read_back : (acl : Acl) → acl_of (readers_of acl) ≡ acl
 read_back Private = refl
 read_back PublicRead = refl
 
-made_of : (tree : Tree) (b : List ℕ) (acl : Acl) (moment : ℕ) → is_bucket b ≡ true → bucket_of tree b (new_folder (readers_of acl) (Some moment)) ≡ Some (new_bucket moment acl)
+made_of : (tree : SwiftAccount) (b : List ℕ) (acl : Acl) (moment : ℕ) → is_bucket b ≡ true → bucket_of tree b (new_folder (readers_of acl) (Some moment)) ≡ Some (new_bucket moment acl)
 made_of tree b acl moment is =
     ap (λ t. cond t (Some (bucket_from (files tree (uploads_name b)) (files tree (segments_name b)) (new_folder (readers_of acl) (Some moment)))) None) is
     ∙ ap Some (bucket_of_new (files tree (uploads_name b)) (files tree (segments_name b)) (readers_of acl) (Some moment) ∙ (λ i. new_bucket moment (read_back acl i)))
 
 -- the PUT of a new container is the making of the bucket
-pub plain_made : (tree : Tree) (b : List ℕ) (acl : Acl) (moment : ℕ) → is_bucket b ≡ true → plain (insert tree b (new_folder (readers_of acl) (Some moment))) ≡ insert (plain tree) b (new_bucket moment acl)
+pub plain_made : (tree : SwiftAccount) (b : List ℕ) (acl : Acl) (moment : ℕ) → is_bucket b ≡ true → plain (insert tree b (new_folder (readers_of acl) (Some moment))) ≡ insert (plain tree) b (new_bucket moment acl)
 unfolding plain
 plain_made tree b acl moment is =
-    let folder : Folder = new_folder (readers_of acl) (Some moment) in
+    let folder : SwiftContainer = new_folder (readers_of acl) (Some moment) in
     plain_by_old tree (insert tree b folder) b is (off_insert by_name tree b folder)
     ∙ picked_insert by_name (bucket_of tree) tree b folder (new_bucket moment acl) (made_of tree b acl moment is)
 
@@ -96,60 +96,60 @@ plain_empty = picked_empty by_name (bucket_of empty)
 -- ---- a container goes, and its read list is replaced
 
 -- the DELETE of a bucket's container takes the bucket away
-pub plain_dropped : (tree : Tree) (b : List ℕ) → is_bucket b ≡ true → plain (remove tree b) ≡ remove (plain tree) b
+pub plain_dropped : (tree : SwiftAccount) (b : List ℕ) → is_bucket b ≡ true → plain (remove tree b) ≡ remove (plain tree) b
 unfolding plain
 plain_dropped tree b is =
     plain_by_old tree (remove tree b) b is (off_remove by_name tree b)
     ∙ picked_remove by_name (bucket_of tree) tree b
 
 -- the POST of a bucket's container replaces who may read it
-pub plain_posted : (tree : Tree) (b : List ℕ) (acl : Acl) → is_bucket b ≡ true → plain (adjust b (with_readers (readers_of acl)) tree) ≡ adjust b (with_acl acl) (plain tree)
+pub plain_posted : (tree : SwiftAccount) (b : List ℕ) (acl : Acl) → is_bucket b ≡ true → plain (adjust b (with_readers (readers_of acl)) tree) ≡ adjust b (with_acl acl) (plain tree)
 plain_posted tree b acl is =
     plain_changes tree b (with_readers (readers_of acl)) (with_acl acl) is
     (λ folder found i. record (bucket_from (files tree (uploads_name b)) (files tree (segments_name b)) folder) { acl = read_back acl i })
 
 -- ---- what is found of a bucket
 
-pub get_plain : (tree : Tree) (b : List ℕ) → get (plain tree) b ≡ option_and_then (bucket_of tree b) (get tree b)
+pub get_plain : (tree : SwiftAccount) (b : List ℕ) → get (plain tree) b ≡ option_and_then (bucket_of tree b) (get tree b)
 unfolding plain
 get_plain tree b = get-picked by_name (bucket_of tree) tree b
 
-taken : (tree : Tree) (b : List ℕ) (o : Option Folder) → is_bucket b ≡ true → is_some (option_and_then (bucket_of tree b) o) ≡ is_some o
+taken : (tree : SwiftAccount) (b : List ℕ) (o : Option SwiftContainer) → is_bucket b ≡ true → is_some (option_and_then (bucket_of tree b) o) ≡ is_some o
 taken tree b None is = refl
 taken tree b (Some folder) is = ap (λ t. is_some (cond t (Some (bucket_from (files tree (uploads_name b)) (files tree (segments_name b)) folder)) None)) is
 
 -- a bucket is where its container is
-pub plain_there : (tree : Tree) (b : List ℕ) → is_bucket b ≡ true → is_some (get (plain tree) b) ≡ is_some (get tree b)
+pub plain_there : (tree : SwiftAccount) (b : List ℕ) → is_bucket b ≡ true → is_some (get (plain tree) b) ≡ is_some (get tree b)
 plain_there tree b is = ap is_some (get_plain tree b) ∙ taken tree b (get tree b) is
 
 -- who may read a bucket, by its container
-abbrev pub acl_of_folder : Folder → Acl
+abbrev pub acl_of_folder : SwiftContainer → Acl
 acl_of_folder folder = acl_of folder.readers
 
-acl_taken : (tree : Tree) (b : List ℕ) (o : Option Folder) → is_bucket b ≡ true → option_map (λ (n : Bucket). n.acl) (option_and_then (bucket_of tree b) o) ≡ option_map acl_of_folder o
+acl_taken : (tree : SwiftAccount) (b : List ℕ) (o : Option SwiftContainer) → is_bucket b ≡ true → option_map (λ (n : Bucket). n.acl) (option_and_then (bucket_of tree b) o) ≡ option_map acl_of_folder o
 acl_taken tree b None is = refl
 acl_taken tree b (Some folder) is = ap (λ t. option_map (λ (n : Bucket). n.acl) (cond t (Some (bucket_from (files tree (uploads_name b)) (files tree (segments_name b)) folder)) None)) is
 
 -- HEAD of a bucket's container tells who may read the bucket
-pub plain_acl : (tree : Tree) (b : List ℕ) → is_bucket b ≡ true → option_map (λ (n : Bucket). n.acl) (get (plain tree) b) ≡ option_map acl_of_folder (get tree b)
+pub plain_acl : (tree : SwiftAccount) (b : List ℕ) → is_bucket b ≡ true → option_map (λ (n : Bucket). n.acl) (get (plain tree) b) ≡ option_map acl_of_folder (get tree b)
 plain_acl tree b is = ap (option_map (λ (n : Bucket). n.acl)) (get_plain tree b) ∙ acl_taken tree b (get tree b) is
 
 -- ---- objects
 
-found_by : (tree : Tree) (b key : List ℕ) (o : Option Folder) → is_bucket b ≡ true
+found_by : (tree : SwiftAccount) (b key : List ℕ) (o : Option SwiftContainer) → is_bucket b ≡ true
     → object_at (option_and_then (bucket_of tree b) o) key ≡ option_and_then (object_of (files tree (segments_name b)) key) (get (files_of o) key)
 found_by tree b key None is = sym (ap (option_and_then (object_of (files tree (segments_name b)) key)) (get_empty by_name key))
 found_by tree b key (Some folder) is =
     ap (λ t. object_at (cond t (Some (bucket_from (files tree (uploads_name b)) (files tree (segments_name b)) folder)) None) key) is
     ∙ get-picked by_name (object_of (files tree (segments_name b))) folder.files key
 
--- an object is what the file of its key stands for
-pub plain_at : (tree : Tree) (b key : List ℕ) → is_bucket b ≡ true
-    → object_at (get (plain tree) b) key ≡ option_and_then (object_of (files tree (segments_name b)) key) (look tree b key)
+-- an object is what the file of its key represents
+pub plain_at : (tree : SwiftAccount) (b key : List ℕ) → is_bucket b ≡ true
+    → object_at (get (plain tree) b) key ≡ option_and_then (object_of (files tree (segments_name b)) key) (find_object tree b key)
 plain_at tree b key is = ap (λ v. object_at v key) (get_plain tree b) ∙ found_by tree b key (get tree b) is
 
--- the PUT of an object's file puts the object that it stands for
-pub plain_put : (tree : Tree) (b key : List ℕ) (file : File) (o : Object) → object_of (files tree (segments_name b)) key file ≡ Some o → is_bucket b ≡ true
+-- the PUT of an object's file puts the object that it represents
+pub plain_put : (tree : SwiftAccount) (b key : List ℕ) (file : SwiftObject) (o : Object) → object_of (files tree (segments_name b)) key file ≡ Some o → is_bucket b ≡ true
     → plain (put_file b key file tree) ≡ adjust b (put_object key o) (plain tree)
 plain_put tree b key file o reads is =
     plain_changes tree b (on_files (λ fs. insert fs key file)) (put_object key o) is
@@ -158,7 +158,7 @@ plain_put tree b key file o reads is =
     })
 
 -- the DELETE of a file takes the object of its key away
-pub plain_removed : (tree : Tree) (b key : List ℕ) → is_bucket b ≡ true → plain (remove_file b key tree) ≡ adjust b (drop_object key) (plain tree)
+pub plain_removed : (tree : SwiftAccount) (b key : List ℕ) → is_bucket b ≡ true → plain (remove_file b key tree) ≡ adjust b (drop_object key) (plain tree)
 plain_removed tree b key is =
     plain_changes tree b (on_files (λ fs. remove fs key)) (drop_object key) is
     (λ folder found i. record (bucket_from (files tree (uploads_name b)) (files tree (segments_name b)) folder) {

@@ -1,7 +1,7 @@
 //! Laws of the definitions, each the contract of a function that does nothing.
-ghost use Rattle.upload_records.specs.Laws.{AclReplaced, BucketBare, BucketGone, BucketMade, BucketThere, EmptySound, ObjectFound, ObjectGone, ObjectPut, ReadsAreQuiet};
+ghost use Rattle.upload_records.specs.Laws.{AclReplaced, BucketBare, BucketGone, BucketMade, BucketThere, EmptyConsistent, ObjectFound, ObjectGone, ObjectPut, ReadsStutter};
 
-/// The PUT of the container of a bucket that isn't there makes the bucket, and leaves the account sound and settled.
+/// The PUT of the container of a bucket that isn't there makes the bucket, and leaves the account consistent and settled.
 pub fn law_bucket_made()
     ensures { BucketMade }
 {}
@@ -16,37 +16,38 @@ pub fn law_bucket_bare()
     ensures { BucketBare }
 {}
 
-/// The DELETE of a bucket's container that has no object takes the bucket away, and leaves the account sound and settled.
+/// The DELETE of a bucket's container that has no object takes the bucket away, and leaves the account consistent and
+/// settled.
 pub fn law_bucket_gone()
     ensures { BucketGone }
 {}
 
-/// The POST of a bucket's container replaces who may read it, and leaves the account sound and settled.
+/// The POST of a bucket's container replaces who may read it, and leaves the account consistent and settled.
 pub fn law_acl_replaced()
     ensures { AclReplaced }
 {}
 
-/// The empty account is sound, no completion is sealed on it, and it stands for the state without a bucket.
-pub fn law_empty_sound()
-    ensures { EmptySound }
+/// The empty account is consistent, no completion is sealed on it, and it represents the state without a bucket.
+pub fn law_empty_consistent()
+    ensures { EmptyConsistent }
 {}
 
-/// The PUT of an object's file into a bucket puts the object, and leaves the account sound and settled.
+/// The PUT of an object's file into a bucket puts the object, and leaves the account consistent and settled.
 pub fn law_object_put()
     ensures { ObjectPut }
 {}
 
-/// The DELETE of an object's file takes the object away, and leaves the account sound and settled.
+/// The DELETE of an object's file takes the object away, and leaves the account consistent and settled.
 pub fn law_object_gone()
     ensures { ObjectGone }
 {}
 
-/// Over a sound account an object of a bucket is what the file of its key stands for.
+/// Over a consistent account an object of a bucket is what the file of its key represents.
 pub fn law_object_found()
     ensures { ObjectFound }
 {}
 
-/// A call that only reads is quiet: it leaves the account sound, and standing for the same state.
-pub fn law_reads_are_quiet()
-    ensures { ReadsAreQuiet }
+/// A call that only reads is quiet: it leaves the account consistent, and representing the same state.
+pub fn law_reads_stutter()
+    ensures { ReadsStutter }
 {}

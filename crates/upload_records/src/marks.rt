@@ -14,7 +14,7 @@ pub fn readers(acl: Acl) -> ReadList
     }
 }
 
-/// The canned access control list that a read list stands for (this profile).
+/// The canned access control list that a read list represents (this profile).
 pub fn acl(readers: ReadList) -> Acl
     ensures { result ≡ acl_of readers }
 {

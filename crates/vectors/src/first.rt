@@ -1,4 +1,4 @@
-//! Cases of `signing`. `first` signs the first request of a line of one connection, of the bytes of its lines; `first CALL`
+//! Cases of `sign_cmd`. `first` signs the first request of a line of one connection, of the bytes of its lines; `first CALL`
 //! does so while the line's call of that number fails: `next` is the first call, the reads follow. `first-of-none` has a line
 //! of no connection. The answer is the hash of the canonical request and the signature. The secret is that of the Amazon S3
 //! API Reference's examples, and the region `us-east-1`.
@@ -7,7 +7,7 @@ use crate::messages::line_of;
 use crate::signatures::add_hex;
 use case_text::Fault;
 use gate_base::{Bytes, List, MemLine, NoCount};
-use signing::{Signing, sign_first};
+use sign_cmd::{Signing, sign_first};
 use std::alloc::Global;
 
 const SECRET: &[u8] = b"wJalrXUtnFEMI/K7MDENG/bPxRfiCYEXAMPLEKEY";

@@ -5,7 +5,7 @@
 //! another request. It answers with a line a message, and tells where the same bytes in other pieces give other lines.
 //! `failing SIZE CALL` does so in pieces of one size while the line's call of a number fails: `next` is the first call, the
 //! reads follow. `message` shows the first message whole. `page STATUS METHOD [close]` prints the page of its lines, which
-//! are headers, an empty line and a body. `memory METHOD` is the reply for want of memory.
+//! are headers, an empty line and a body. `memory METHOD` is the out-of-memory reply.
 ghost use Rattle.std.specs.Prelude.{IsTrue, IfOk};
 ghost use Rattle.gate_base.specs.MemLine.{is_open_of};
 ghost use Rattle.http_wire.specs.Print.{IsReplyStatus};

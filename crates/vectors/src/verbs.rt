@@ -24,9 +24,9 @@ pub(crate) fn answer(
         "s3_bodies" => pages::answer(alloc, verb, text, given),
         "http_wire" => messages::answer(alloc, verb, text, given),
         "sigv4" => signatures::answer(alloc, verb, text, given),
-        "signing" => first::answer(alloc, verb, text, given),
+        "sign_cmd" => first::answer(alloc, verb, text, given),
         "gateway" => meanings::answer(alloc, verb, text, given),
-        "gateway_words" => words::answer(alloc, verb, text, given),
+        "gateway_cli" => words::answer(alloc, verb, text, given),
         _ => Err(Fault::Unread("a file is named for a crate that has cases")),
     }
 }

@@ -1,8 +1,8 @@
-//! Cases of `gateway_words`: `read WORDS`, with a space between the words. The word `''` is the empty one.
+//! Cases of `gateway_cli`: `read WORDS`, with a space between the words. The word `''` is the empty one.
 use crate::answers::{NO_VERB, refused, text as told};
 use case_text::Fault;
 use gate_base::Bytes;
-use gateway_words::{Command, WordsFault, read_words};
+use gateway_cli::{Command, WordsFault, read_words};
 use std::alloc::Global;
 
 pub(crate) fn answer(alloc: Global, verb: &str, text: &str, _given: &[u8]) -> Result<Bytes, Fault> {

@@ -1,6 +1,6 @@
 //! The account that a store begins with.
 ghost use Rattle.std.specs.Prelude.{◌<◌, ◌^◌, IfOk, ◌≡◌};
-ghost use Rattle.swift_calls.specs.Tree.{size_of, IsOrdered, IsSized};
+ghost use Rattle.swift_calls.specs.Account.{size_of, IsOrdered, IsSized};
 
 use crate::answers::cut;
 use crate::manifests;

@@ -1,5 +1,5 @@
 use Rattle.std.proofs.Common.{◌≡◌, take}
-use Rattle.http_wire.specs.Front.{values_of}
+use Rattle.http_wire.specs.FirstMessage.{values_of}
 use Rattle.gateway.proofs.headers.values_of.Given as goal
 
 abbrev pub invariant-loop-header : goal.invariant-loop-header

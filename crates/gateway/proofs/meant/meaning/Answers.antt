@@ -1,5 +1,5 @@
 use Rattle.std.proofs.Common.{sym, subst}
-use Rattle.gateway.specs.Heard.{IsProperMeant}
+use Rattle.gateway.specs.ResolvedRequest.{IsProperMeant}
 use Rattle.gateway.proofs.Proper.{meaning_proper}
 use Rattle.gateway.proofs.meant.meaning.Goals as goal
 

@@ -1,13 +1,13 @@
 use Rattle.gateway.specs.Exchange.{RepliesBy}
-use Rattle.gateway.proofs.Serving.{turn_ends, turn_breaks}
+use Rattle.gateway.proofs.Serving.{handled_ends, handled_breaks}
 use Rattle.gateway.proofs.serve.answer.Goals as goal
 
 pub returns-in-Served-clause-serves : goal.returns-in-Served-clause-serves
 returns-in-Served-clause-serves g c =
     let serves = c.in-Served.ensures.serves in
-    record { on = serves.on; stands = serves.stands; told = λ told all met. turn_ends {R = RepliesBy all c.args.service.now.settings (g.W.Swift.history c.take_turn.new.store)} _ _ _ _ _ (serves.told told all met) }
+    record { on = serves.on; stands = serves.stands; effect = λ told all met. handled_ends {R = RepliesBy all c.args.service.now.settings (g.W.Swift.history c.handle_request.new.store)} _ _ _ _ _ (serves.effect told all met) }
 
 pub returns-in-Broken-clause-serves : goal.returns-in-Broken-clause-serves
 returns-in-Broken-clause-serves g c =
     let serves = c.in-Broken.ensures.serves in
-    record { on = serves.on; stands = serves.stands; told = λ told all met. turn_breaks {R = RepliesBy all c.args.service.now.settings (g.W.Swift.history c.take_turn.new.store)} _ _ _ _ (serves.told told all met) }
+    record { on = serves.on; stands = serves.stands; effect = λ told all met. handled_breaks {R = RepliesBy all c.args.service.now.settings (g.W.Swift.history c.handle_request.new.store)} _ _ _ _ (serves.effect told all met) }

@@ -2,19 +2,19 @@ use Rattle.std.proofs.Common.{ℕ, None, Some, refl, ap, subst, arith}
 use Rattle.http_wire.specs.Gives.{Pending}
 use Rattle.gateway.specs.Exchange.{RepliesBy}
 use Rattle.gateway.specs.Serving.{NextOne}
-use Rattle.gateway.specs.World.{World, world, start_of, point_of}
+use Rattle.gateway.specs.World.{World, world, start_of, cursor_of}
 use Rattle.gateway.proofs.Looping.{answered_agree, answered_more, answered_ends, answered_none, unread_at_once, line_serves_on}
 use Rattle.gateway.proofs.Worlds.{serves_none, serves_trans}
 use Rattle.gateway.proofs.serve.serve_connection.Goals as goal
 
 pub returns-in-Err-clause-serves : goal.returns-in-Err-clause-serves
 returns-in-Err-clause-serves g c =
-    serves_none c.end_unread.ensures.writes.serves.tells (λ told R. unread_at_once _ R _ _ _ (g.N.Line.model c.args.line.now).wire (g.N.Line.model c.end_unread.new.line).wire _ (c.end_unread.ensures.told told.line))
+    serves_none c.end_unread.ensures.writes.serves.observable (λ told R. unread_at_once _ R _ _ _ (g.N.Line.model c.args.line.now).transcript (g.N.Line.model c.end_unread.new.line).transcript _ (c.end_unread.ensures.effect told.line))
 
 pub requests-init : goal.requests-init
 requests-init g c = record {
   goes = ap (λ (r : Pending). r.ended) c.in-Ok.ensures;
-  line = record { is_open = c.requires; faults = refl; next_faults = refl; spent = omega arith; tells = λ t. t; wire = λ t. record { waiting = refl; begun = refl; marks = refl } };
+  line = record { is_open = c.requires; faults = refl; next_faults = refl; spent = omega arith; observable = λ t. t; transcript = λ t. record { waiting = refl; begun = refl; marks = refl } };
   serves = serves_none (λ t. t) (λ told R. answered_none _ _ _ _ _ _ c.in-Ok.ensures);
 }
 
@@ -28,9 +28,9 @@ returns-in-Some-clause-serves g c =
     let present : World = world (g.N.Line.model c.requests.line) (g.W.Swift.history c.requests.store) c.requests.known (g.C.Clock.model c.requests.clock) (g.D.Draws.model c.requests.draws) in
     let next : World = world (g.N.Line.model c.serve_next.new.line) (g.W.Swift.history c.serve_next.new.store) c.serve_next.new.known (g.C.Clock.model c.serve_next.new.clock) (g.D.Draws.model c.serve_next.new.draws) in
     serves_trans {old = begin} {middle = present} {new = next} i.serves c.in-Some.ensures.serves (λ told all kept answered ends.
-    let P : ℕ → Type 0 = λ n. NextOne c.args.service.now (RepliesBy all c.args.service.now.settings next.store) n (point_of c.requests.reader present) (Some c.in-Some.ended) (point_of c.serve_next.new.reader next) in
-    let before = answered_agree c.args.service.now.settings present.store next.store all begin.line.wire.begun (start_of begin) (point_of c.requests.reader present) kept answered in
-    answered_ends begin.line.wire.begun (start_of begin) (point_of c.requests.reader present) (point_of c.serve_next.new.reader next) c.in-Some.ended before (subst P (i.line.wire told.line).begun ends))
+    let P : ℕ → Type 0 = λ n. NextOne c.args.service.now (RepliesBy all c.args.service.now.settings next.store) n (cursor_of c.requests.reader present) (Some c.in-Some.ended) (cursor_of c.serve_next.new.reader next) in
+    let before = answered_agree c.args.service.now.settings present.store next.store all begin.line.transcript.begun (start_of begin) (cursor_of c.requests.reader present) kept answered in
+    answered_ends begin.line.transcript.begun (start_of begin) (cursor_of c.requests.reader present) (cursor_of c.serve_next.new.reader next) c.in-Some.ended before (subst P (i.line.transcript told.line).begun ends))
 
 pub requests-preserved : goal.requests-preserved
 requests-preserved g c =
@@ -42,7 +42,7 @@ requests-preserved g c =
       goes = c.in-None.ensures.goes refl;
       line = line_serves_on i.line c.in-None.ensures.line;
       serves = serves_trans {old = begin} {middle = present} {new = next} i.serves c.in-None.ensures.serves (λ told all kept answered one.
-          let P : ℕ → Type 0 = λ n. NextOne c.args.service.now (RepliesBy all c.args.service.now.settings next.store) n (point_of c.requests.reader present) None (point_of c.serve_next.new.reader next) in
-          let before = answered_agree c.args.service.now.settings present.store next.store all begin.line.wire.begun (start_of begin) (point_of c.requests.reader present) kept answered in
-          answered_more begin.line.wire.begun (start_of begin) (point_of c.requests.reader present) (point_of c.serve_next.new.reader next) before (subst P (i.line.wire told.line).begun one));
+          let P : ℕ → Type 0 = λ n. NextOne c.args.service.now (RepliesBy all c.args.service.now.settings next.store) n (cursor_of c.requests.reader present) None (cursor_of c.serve_next.new.reader next) in
+          let before = answered_agree c.args.service.now.settings present.store next.store all begin.line.transcript.begun (start_of begin) (cursor_of c.requests.reader present) kept answered in
+          answered_more begin.line.transcript.begun (start_of begin) (cursor_of c.requests.reader present) (cursor_of c.serve_next.new.reader next) before (subst P (i.line.transcript told.line).begun one));
     }

@@ -1,5 +1,5 @@
 use Rattle.std.proofs.Common.{◌≡◌, ◌∙◌, Some, refl, sym, subst}
-use Rattle.gateway_words.specs.declared.command.Command.TheVariants as commands
+use Rattle.gateway_cli.specs.declared.command.Command.TheVariants as commands
 use Rattle.gateway_cmd.specs.Session.{serving_of}
 use Rattle.gateway_cmd.proofs.Sessions.{run_serves_none, run_signs_none}
 use Rattle.gateway_cmd.proofs.attempt.attempt.Goals as goal

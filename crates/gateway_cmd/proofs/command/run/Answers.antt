@@ -1,8 +1,8 @@
 use Rattle.std.proofs.Common.{◌∙◌, refl, subst, arith}
 use Rattle.gate_base.specs.Causes.{Rose}
-use Rattle.swift_calls.specs.History.{none_fails}
+use Rattle.swift_calls.specs.History.{is_fault_free}
 use Rattle.recovery.specs.declared.state.Known.TheVariants.{Unsure}
-use Rattle.signing.specs.Signing.{SignsOn}
+use Rattle.sign_cmd.specs.Signing.{SignsOn}
 use Rattle.gateway.specs.World.{world}
 use Rattle.gateway_cmd.specs.declared.status.Status.TheVariants.{Memory}
 use Rattle.gateway_cmd.specs.Report.{Says}
@@ -62,17 +62,17 @@ returns-clause-reported g c = λ signing e.
     let command = sign_command _ signing in
     c.tell.ensures.reported (exits_signed _ _ (says_exits _ _ _ c.tell.ensures.says.1) e (c.attempt-ended.ensures.signs command.0 command.1 command.2).other) e
 
-pub returns-clause-undisturbed : goal.returns-clause-undisturbed
-returns-clause-undisturbed g c = λ tells left still.
+pub returns-clause-fault_free : goal.returns-clause-fault_free
+returns-clause-fault_free g c = λ observable left still.
     let old = g.W.Swift.history c.args.store.now in
     let new = g.W.Swift.history c.attempt-ended.new.store in
     let before = g.met.W.Swift.is_history c.args.store.now in
     let after = g.met.W.Swift.is_history c.attempt-ended.new.store in
     let on = c.attempt-ended.ensures.on.store in
-    let later = on.tells tells in
+    let later = on.observable observable in
     let ordered = on.ordered in
-    let first = (on.kept tells).counts old.called (omega arith) ∙ before.last tells (omega arith) in
-    none_fails new old.called new.called (after.rise later) left
+    let first = (on.kept observable).counts old.called (omega arith) ∙ before.last observable (omega arith) in
+    is_fault_free new old.called new.called (after.rise later) left
     (λ rose. still (subst (λ n. Rose n new.faults) first (subst (Rose (new.faults_at old.called)) (after.last later left) rose)))
 
 pub returns-clause-heard : goal.returns-clause-heard
@@ -83,15 +83,15 @@ returns-clause-stands g c = λ serving is met.
     let run = c.attempt-ended.ensures.serves serving is in
     run_stands run.serves.on.store run.serves.stands (unsure_met met)
 
-pub returns-clause-told : goal.returns-clause-told
-returns-clause-told g c = λ serving is told met.
+pub returns-clause-effect : goal.returns-clause-effect
+returns-clause-effect g c = λ serving is told met.
     run_told
     (world (g.N.Line.model c.args.line.now) (g.W.Swift.history c.args.store.now) Unsure (g.C.Clock.model c.args.clock.now) (g.D.Draws.model c.args.draws.now))
     (λ known. world (g.N.Line.model c.attempt-ended.new.line) (g.W.Swift.history c.attempt-ended.new.store) known (g.C.Clock.model c.attempt-ended.new.clock) (g.D.Draws.model c.attempt-ended.new.draws))
     (g.W.Swift.history c.attempt-ended.new.store) (λ known. refl) told met refl (c.attempt-ended.ensures.serves serving is)
 
-pub returns-clause-told_signed : goal.returns-clause-told_signed
-returns-clause-told_signed g c = λ id region secret asked good known tells other.
+pub returns-clause-effect_signed : goal.returns-clause-effect_signed
+returns-clause-effect_signed g c = λ id region secret asked good known observable other.
     let says = c.tell.ensures.says in
-    let signs = (c.attempt-ended.ensures.signs id region asked).told secret good known tells (exits_other _ Memory _ (says_exits _ _ _ says.1) other) in
+    let signs = (c.attempt-ended.ensures.signs id region asked).effect secret good known observable (exits_other _ Memory _ (says_exits _ _ _ says.1) other) in
     (signs.0, signs.1, says.0, subst (λ how. Says how c.tell.result says.0) signs.2 says.1, says.2)

@@ -3,18 +3,18 @@ use Rattle.gate_base.specs.Causes.{RisesIf}
 use Rattle.gateway.specs.World.{World, world}
 use Rattle.gateway.proofs.Worlds.{serves_none, serves_trans}
 use Rattle.gateway_cmd.specs.Report.{is_line}
-use Rattle.gateway_cmd.specs.Run.{none, place_of}
-use Rattle.gateway_cmd.specs.declared.status.Ended.TheVariants.{Plain}
+use Rattle.gateway_cmd.specs.Run.{none, run_cursor_of}
+use Rattle.gateway_cmd.specs.declared.status.RunOutcome.TheVariants.{Plain}
 use Rattle.gateway_cmd.proofs.Marks.{unmarked_none, unmarked_next, done_next}
-use Rattle.gateway_cmd.proofs.Sessions.{talks_more, talks_end}
+use Rattle.gateway_cmd.proofs.Sessions.{run_traces_more, run_traces_end}
 use Rattle.gateway_cmd.proofs.session.session.Goals as goal
 
 pub connections-init : goal.connections-init
 connections-init g c = record {
   next_faults = refl;
   faults = omega arith;
-  unmarked = λ tells still. unmarked_none _ _ refl;
-  serves = serves_none (λ t. t) (λ told R. ([], none (place_of (world (g.N.Line.model c.args.line.now) (g.W.Swift.history c.args.store.now) c.args.known.now (g.C.Clock.model c.args.clock.now) (g.D.Draws.model c.args.draws.now)))));
+  unmarked = λ observable still. unmarked_none _ _ refl;
+  serves = serves_none (λ t. t) (λ told R. ([], none (run_cursor_of (world (g.N.Line.model c.args.line.now) (g.W.Swift.history c.args.store.now) c.args.known.now (g.C.Clock.model c.args.clock.now) (g.D.Draws.model c.args.draws.now)))));
 }
 
 pub returns-in-Some-clause-line : goal.returns-in-Some-clause-line
@@ -24,7 +24,7 @@ returns-in-Some-clause-line g c =
     record {
       ends = s.ends;
       next_faults = subst (λ n. RisesIf (is_line (Plain c.in-Some.status)) n (g.N.Line.model c.serve_another.new.line).next_faults) i.next_faults s.next_faults;
-      done = λ tells is. done_next s (i.serves.on.line tells) is;
+      done = λ observable is. done_next s (i.serves.on.line observable) is;
       unmarked = unmarked_next (g.N.Line.model c.args.line.now) (g.N.Line.model c.connections.line) (g.N.Line.model c.serve_another.new.line) i.serves.on.line i.faults i.unmarked s;
     }
 
@@ -33,7 +33,7 @@ returns-in-Some-clause-serves g c =
     let begin : World = world (g.N.Line.model c.args.line.now) (g.W.Swift.history c.args.store.now) c.args.known.now (g.C.Clock.model c.args.clock.now) (g.D.Draws.model c.args.draws.now) in
     let present : World = world (g.N.Line.model c.connections.line) (g.W.Swift.history c.connections.store) c.connections.known (g.C.Clock.model c.connections.clock) (g.D.Draws.model c.connections.draws) in
     let next : World = world (g.N.Line.model c.serve_another.new.line) (g.W.Swift.history c.serve_another.new.store) c.serve_another.new.known (g.C.Clock.model c.serve_another.new.clock) (g.D.Draws.model c.serve_another.new.draws) in
-    serves_trans {old = begin} {middle = present} {new = next} c.connections.invariant.serves c.in-Some.ensures.serves (λ told all kept talks one. talks_end all c.args.service.now begin present next c.in-Some.status kept talks one)
+    serves_trans {old = begin} {middle = present} {new = next} c.connections.invariant.serves c.in-Some.ensures.serves (λ told all kept traces one. run_traces_end all c.args.service.now begin present next c.in-Some.status kept traces one)
 
 pub connections-preserved : goal.connections-preserved
 connections-preserved g c =
@@ -46,5 +46,5 @@ connections-preserved g c =
       next_faults = s.next_faults ∙ i.next_faults;
       faults = (let a = i.faults in let b = s.faults in omega arith);
       unmarked = unmarked_next (g.N.Line.model c.args.line.now) (g.N.Line.model c.connections.line) (g.N.Line.model c.serve_another.new.line) i.serves.on.line i.faults i.unmarked s;
-      serves = serves_trans {old = begin} {middle = present} {new = next} i.serves c.in-None.ensures.serves (λ told all kept talks one. talks_more all c.args.service.now begin present next kept talks one);
+      serves = serves_trans {old = begin} {middle = present} {new = next} i.serves c.in-None.ensures.serves (λ told all kept traces one. run_traces_more all c.args.service.now begin present next kept traces one);
     }

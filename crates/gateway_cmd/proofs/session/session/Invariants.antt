@@ -1,7 +1,7 @@
 use Rattle.std.proofs.Common.{◌≡◌, ◌≤◌, ◌-◌, ◌^◌, IsTrue}
 use Rattle.gate_base.specs.Causes.{Rose}
 use Rattle.gateway.specs.World.{world, ServesOver}
-use Rattle.gateway_cmd.specs.Run.{Talks}
+use Rattle.gateway_cmd.specs.Run.{RunTraces}
 use Rattle.gateway_cmd.specs.Session.{Unmarked}
 use Rattle.gateway_cmd.proofs.session.session.Given as goal
 
@@ -9,9 +9,9 @@ abbrev pub invariant-connections : goal.invariant-connections
 invariant-connections g l = record {
   next_faults : (g.N.Line.model l.line).next_faults ≡ (g.N.Line.model l.initial.line).next_faults;
   faults : (g.N.Line.model l.initial.line).faults ≤ (g.N.Line.model l.line).faults;
-  unmarked : IsTrue (g.N.Line.model l.initial.line).tells → (Rose (g.N.Line.model l.initial.line).faults (g.N.Line.model l.line).faults → ⊥)
-      → Unmarked (g.N.Line.model l.initial.line).wire (g.N.Line.model l.line).wire;
-  serves : ServesOver l.service.settings (Talks l.service)
+  unmarked : IsTrue (g.N.Line.model l.initial.line).observable → (Rose (g.N.Line.model l.initial.line).faults (g.N.Line.model l.line).faults → ⊥)
+      → Unmarked (g.N.Line.model l.initial.line).transcript (g.N.Line.model l.line).transcript;
+  serves : ServesOver l.service.settings (RunTraces l.service)
       (world (g.N.Line.model l.initial.line) (g.W.Swift.history l.initial.store) l.initial.known (g.C.Clock.model l.initial.clock) (g.D.Draws.model l.initial.draws))
       (world (g.N.Line.model l.line) (g.W.Swift.history l.store) l.known (g.C.Clock.model l.clock) (g.D.Draws.model l.draws));
 }

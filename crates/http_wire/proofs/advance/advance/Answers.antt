@@ -19,8 +19,8 @@ returns-then-branch-eq0-clause-found g c =
     (omega (arith, c.if-len-ge-HEAD_LIMIT.false, c.len.ensures, c.deref.ensures.len, ap length c.deref.ensures.value)))
 
 pub returns-then-branch-eq0-clause-at_end : goal.returns-then-branch-eq0-clause-at_end
-returns-then-branch-eq0-clause-at_end g c tells =
+returns-then-branch-eq0-clause-at_end g c observable =
     let ended : c.ended.result ≡ end_of c.fill.new.pending.items = c.ended.ensures ∙ ap end_of c.deref-then-branch-eq0.ensures.value in
-    subst (λ v. AtEnd v (g.N.Line.model c.fill.new.line).wire.rest) (sym ended)
-    (at_end c.fill.new.pending.items (g.N.Line.model c.fill.new.line).wire.rest
-    (c.in_ok-fill.ensures.at_end (c.come.invariant.reads.serves.tells tells) c.if-branch-eq0.true))
+    subst (λ v. AtEnd v (g.N.Line.model c.fill.new.line).transcript.rest) (sym ended)
+    (at_end c.fill.new.pending.items (g.N.Line.model c.fill.new.line).transcript.rest
+    (c.in_ok-fill.ensures.at_end (c.come.invariant.reads.serves.observable observable) c.if-branch-eq0.true))

@@ -9,8 +9,8 @@ invariant-come g l = record {
   reads : OnlyReads false (g.N.Line.model l.initial.line) (g.N.Line.model l.line);
   room : 8192 ≤ length l.headers;
   weighs : weight (g.N.Line.model l.line).spent l.pending.items ≤ weight (g.N.Line.model l.initial.line).spent l.initial.pending.items;
-  kept : IsTrue (g.N.Line.model l.initial.line).tells
-      → l.pending.items ++ (g.N.Line.model l.line).wire.rest ≡ l.initial.pending.items ++ (g.N.Line.model l.initial.line).wire.rest;
+  kept : IsTrue (g.N.Line.model l.initial.line).observable
+      → l.pending.items ++ (g.N.Line.model l.line).transcript.rest ≡ l.initial.pending.items ++ (g.N.Line.model l.initial.line).transcript.rest;
 }
 
 -- each round but the last reads some bytes

@@ -1,7 +1,7 @@
 use Rattle.std.proofs.Common.{◌≡◌, ◌+◌, ◌-◌, suc, [], length, take, drop, codes, ap, sym, ◌∙◌, arith}
 use Rattle.std.proofs.lemmas.Bool.{false≢true}
 use Rattle.std.proofs.lemmas.List.{take_rest}
-use Rattle.http_wire.specs.Front.{value_judged, values_of}
+use Rattle.http_wire.specs.FirstMessage.{value_judged, values_of}
 use Rattle.http_wire.proofs.MessageLemmas.{first_of, none_of, judged_one, judged_many, judged_none, judged_none_by, judged_some_by}
 use Rattle.http_wire.proofs.judge.judge_length.Goals as goal
 

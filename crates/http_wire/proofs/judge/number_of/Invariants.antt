@@ -1,5 +1,5 @@
 use Rattle.std.proofs.Common.{◌≡◌, drop}
-use Rattle.http_wire.specs.Front.{number_after, number_of}
+use Rattle.http_wire.specs.FirstMessage.{number_after, number_of}
 use Rattle.http_wire.proofs.judge.number_of.Given as goal
 
 -- the number so far, and the digits to come

@@ -8,8 +8,8 @@ invariant-pieces g l = record {
   reads : OnlyReads false (g.N.Line.model l.initial.line) (g.N.Line.model l.line);
   within : l.came ≤ length l.body.items;
   short : length l.body.items ≤ l.size;
-  kept : IsTrue (g.N.Line.model l.initial.line).tells
-      → take l.came l.body.items ++ (g.N.Line.model l.line).wire.rest ≡ l.initial.body.items ++ (g.N.Line.model l.initial.line).wire.rest;
+  kept : IsTrue (g.N.Line.model l.initial.line).observable
+      → take l.came l.body.items ++ (g.N.Line.model l.line).transcript.rest ≡ l.initial.body.items ++ (g.N.Line.model l.initial.line).transcript.rest;
 }
 
 -- each round but the last reads some bytes

@@ -1,4 +1,4 @@
-use Rattle.recovery.proofs.Undisturbed.{own_or_memory, calm_never_fails}
+use Rattle.recovery.proofs.FaultFree.{own_or_memory, calm_never_fails}
 use Rattle.recovery.proofs.laws.law_never_unavailable.Goals as goal
 
 pub returns : goal.returns

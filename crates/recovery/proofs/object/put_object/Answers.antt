@@ -1,6 +1,6 @@
 use Rattle.std.proofs.Common.{ap, ◌∙◌}
 use Rattle.s3_machine.specs.ETag.{body_etag}
-use Rattle.recovery.specs.Due.{stored_due}
+use Rattle.recovery.specs.Interpret.{stored_due}
 use Rattle.recovery.proofs.Files.{puts}
 use Rattle.recovery.proofs.One.{not_sent, sent_in_vain, sent}
 use Rattle.recovery.proofs.object.put_object.Goals as goal

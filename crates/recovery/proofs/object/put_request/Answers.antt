@@ -1,6 +1,6 @@
 use Rattle.std.proofs.Common.{ap, ◌∙◌}
 use Rattle.swift_marks.specs.Tag.{tag_text}
-use Rattle.recovery.specs.Due.{plain_tag}
+use Rattle.recovery.specs.Interpret.{plain_tag}
 use Rattle.recovery.proofs.Fits.{put_fits}
 use Rattle.recovery.proofs.object.put_request.Goals as goal
 

@@ -1,5 +1,5 @@
 use Rattle.std.proofs.Common.{◌≡◌, map, take}
-use Rattle.http_wire.specs.Front.{values_of}
+use Rattle.http_wire.specs.FirstMessage.{values_of}
 use Rattle.sigv4.specs.Canonical.{clean}
 use Rattle.sigv4.proofs.request.values_of.Given as goal
 

@@ -11,9 +11,9 @@ returns-clause-calls c =
     record {
       counts = grind (arith, common_steps);
       faults = grind (arith, common_steps);
-      tells = λ tells. tells;
-      kept = λ tells. grind (arith, common_steps);
-      told = λ tells. called_by old.first new.first c.make.ensures.plan.first c.args.request.now (planned old (calls_of old + 1)) c.make.result old.log.items new.log.items old.present c.make.ensures.logs old.replays c.make.ensures.reply;
+      observable = λ observable. observable;
+      kept = λ observable. grind (arith, common_steps);
+      effect = λ observable. called_by old.first new.first c.make.ensures.plan.first c.args.request.now (planned old (calls_of old + 1)) c.make.result old.log.items new.log.items old.present c.make.ensures.logs old.replays c.make.ensures.reply;
     }
 
 pub returns-clause-exact : goal.returns-clause-exact

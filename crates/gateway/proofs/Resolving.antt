@@ -1,0 +1,163 @@
+-- A message as it is resolved.
+use Rattle.std.proofs.Common.{◌≡◌, ◌≢◌, ℕ, Bool, true, false, cond, List, [], Option, None, Some, Result, Ok, Err, codes, refl, sym, ap}
+use Rattle.gate_base.specs.declared.page.Caller.{Caller}
+use Rattle.gate_base.specs.declared.page.Caller.TheVariants.{Owner, Anonymous}
+use Rattle.s3_machine.specs.declared.code.Code.TheVariants.{AccessDenied, AuthorizationHeaderMalformed, InvalidAccessKeyId, InvalidRequest, InvalidURI, NotImplemented, RequestTimeTooSkewed, SignatureDoesNotMatch, XAmzContentSHA256Mismatch}
+use Rattle.s3_machine.specs.declared.operation.Settings.{Settings}
+use Rattle.s3_names.specs.declared.fault.NameFault.{NameFault}
+use Rattle.s3_names.specs.declared.target.Target.{Target}
+use Rattle.s3_names.specs.Target.{target_of}
+use Rattle.http_wire.specs.declared.message.Message.{Message}
+use Rattle.http_wire.specs.declared.message.Kind.{Kind}
+use Rattle.http_wire.specs.declared.message.Kind.TheVariants.{BadHead, LongHead, ManyHeaders, NoLength, BadLength, LongBody, Transfer, ShortBody}
+use Rattle.sigv4.specs.declared.authorization.Authorization.{Authorization}
+use Rattle.sigv4.specs.declared.keys.AccessKey.{AccessKey}
+use Rattle.sigv4.specs.declared.refusal.Refusal.{Refusal}
+use Rattle.sigv4.specs.declared.refusal.Refusal.TheVariants as signature
+use Rattle.sigv4.specs.Verdict.{is_unknown, has_wrong_scope, leaves_unsigned, lacks_date, time_of, is_streaming, lacks_payload_hash, signature_differs, expected, payload_differs, claim_of, judged, caller_or_refusal, Gives}
+use Rattle.sigv4.specs.Moment.{is_skewed}
+use Rattle.gateway.specs.declared.ended.Ended.TheVariants as ended
+use Rattle.gateway.specs.declared.resolved.ResolvedRequest.{ResolvedRequest}
+use Rattle.gateway.specs.declared.meant.Meant.TheVariants.{Refused, Memory}
+use Rattle.gateway.specs.declared.service.Service.{Service}
+use Rattle.gateway.specs.Request.{raw_path, end_after, refused_by, admitted, caller_or_anonymous, caller_of, caller_or_refusal_at, resolve_target, request_of, refused_request, code_of}
+use Rattle.gateway.specs.ResolvedRequest.{Is, IsProperMeant}
+use Rattle.gateway.specs.Proper.{IsProperCode}
+use Rattle.gateway.proofs.Proper.{is_store_fault, proper_code, meaning_known, meaning_proper}
+
+-- ---- signatures
+
+known_if : (b : Bool) (refusal : Refusal) (rest : Result Caller Refusal) → refusal ≢ signature.Memory → rest ≢ Err signature.Memory → cond b (Err refusal) rest ≢ Err signature.Memory
+known_if true refusal rest one others = λ e. one (let same : refusal ≡ signature.Memory = cc in same)
+known_if false refusal rest one others = others
+
+-- no reason to refuse a signature is a lack of memory
+judged_known : (keys : List AccessKey) (region : List ℕ) (message : Message) (target : Target) (moment : ℕ) (claim : Option Authorization) → judged keys region message target moment claim ≢ Err signature.Memory
+judged_known keys region message target moment None = λ e. cc
+judged_known keys region message target moment (Some claim) =
+    known_if (is_unknown keys claim) signature.UnknownKey _ (λ e. cc)
+    (known_if (has_wrong_scope region claim) signature.WrongScope _ (λ e. cc)
+    (known_if (leaves_unsigned claim message.headers) signature.UnsignedHeader _ (λ e. cc)
+    (known_if (lacks_date claim message.headers) signature.NoDate _ (λ e. cc)
+    (known_if (is_skewed (time_of message.headers) moment) signature.Skewed _ (λ e. cc)
+    (known_if (is_streaming message.headers) signature.Streaming _ (λ e. cc)
+    (known_if (lacks_payload_hash message.headers) signature.NoPayloadHash _ (λ e. cc)
+    (known_if (signature_differs claim (expected keys region message target claim)) (signature.SignatureDiffers (expected keys region message target claim).canonical_hash) _ (λ e. cc)
+    (known_if (payload_differs message) signature.PayloadDiffers (Ok Owner) (λ e. cc) (λ e. cc)))))))))
+
+claimed_known : (b : Bool) (judgement : Result Caller Refusal) → judgement ≢ Err signature.Memory → cond b judgement (Ok Anonymous) ≢ Err signature.Memory
+claimed_known true judgement known = known
+claimed_known false judgement known = λ e. cc
+
+caller_or_refusal_known : (keys : List AccessKey) (region : List ℕ) (message : Message) (target : Target) (moment : ℕ) → caller_or_refusal keys region message target moment ≢ Err signature.Memory
+unfolding caller_or_refusal
+caller_or_refusal_known keys region message target moment =
+    claimed_known _ (judged keys region message target moment (claim_of message.headers)) (judged_known keys region message target moment (claim_of message.headers))
+
+refusal_known : (refusal : Refusal) → refusal ≢ signature.Memory → refused_by refusal ≢ Memory
+refusal_known signature.HeaderMalformed other = λ e. cc
+refusal_known signature.UnknownKey other = λ e. cc
+refusal_known signature.WrongScope other = λ e. cc
+refusal_known signature.UnsignedHeader other = λ e. cc
+refusal_known signature.NoDate other = λ e. cc
+refusal_known signature.Skewed other = λ e. cc
+refusal_known signature.Streaming other = λ e. cc
+refusal_known signature.NoPayloadHash other = λ e. cc
+refusal_known (signature.SignatureDiffers hash) other = λ e. cc
+refusal_known signature.PayloadDiffers other = λ e. cc
+refusal_known signature.Memory other = absurd (other refl)
+
+-- a refusal that isn't a lack of memory is the one that is expected
+gives_refusal : (refusal : Refusal) (due : Result Caller Refusal) → Gives (Err refusal) due → refused_by refusal ≢ Memory → due ≡ Err refusal
+gives_refusal signature.HeaderMalformed due gives known = gives
+gives_refusal signature.UnknownKey due gives known = gives
+gives_refusal signature.WrongScope due gives known = gives
+gives_refusal signature.UnsignedHeader due gives known = gives
+gives_refusal signature.NoDate due gives known = gives
+gives_refusal signature.Skewed due gives known = gives
+gives_refusal signature.Streaming due gives known = gives
+gives_refusal signature.NoPayloadHash due gives known = gives
+gives_refusal (signature.SignatureDiffers hash) due gives known = gives
+gives_refusal signature.PayloadDiffers due gives known = gives
+gives_refusal signature.Memory due gives known = absurd (known refl)
+
+pub refused_means : (settings : Settings) (message : Message) (target : Target) (refusal : Refusal) (due : Result Caller Refusal) → Gives (Err refusal) due
+    → refused_by refusal ≢ Memory → refused_by refusal ≡ admitted settings message target due
+refused_means settings message target refusal due gives known = sym (ap (admitted settings message target) (gives_refusal refusal due gives known))
+
+pub refused_caller : (refusal : Refusal) (due : Result Caller Refusal) → Gives (Err refusal) due → refused_by refusal ≢ Memory → Anonymous ≡ caller_or_anonymous due
+refused_caller refusal due gives known = sym (ap caller_or_anonymous (gives_refusal refusal due gives known))
+
+pub refused_proper : (refusal : Refusal) → IsProperMeant (refused_by refusal)
+refused_proper signature.HeaderMalformed = proper_code AuthorizationHeaderMalformed refl
+refused_proper signature.UnknownKey = proper_code InvalidAccessKeyId refl
+refused_proper signature.WrongScope = proper_code AuthorizationHeaderMalformed refl
+refused_proper signature.UnsignedHeader = proper_code AccessDenied refl
+refused_proper signature.NoDate = proper_code AccessDenied refl
+refused_proper signature.Skewed = proper_code RequestTimeTooSkewed refl
+refused_proper signature.Streaming = proper_code NotImplemented refl
+refused_proper signature.NoPayloadHash = proper_code InvalidRequest refl
+refused_proper (signature.SignatureDiffers hash) = proper_code SignatureDoesNotMatch refl
+refused_proper signature.PayloadDiffers = proper_code XAmzContentSHA256Mismatch refl
+refused_proper signature.Memory = tt
+
+-- ---- messages
+
+admitted_known : (settings : Settings) (message : Message) (target : Target) (verdict : Result Caller Refusal) → verdict ≢ Err signature.Memory → admitted settings message target verdict ≢ Memory
+admitted_known settings message target (Ok caller) known = meaning_known settings message target caller
+admitted_known settings message target (Err refusal) known = refusal_known refusal (λ e. known (ap Err e))
+
+resolve_target_known : (service : Service) (moment : ℕ) (message : Message) (read : Result Target NameFault) → resolve_target service moment message read ≢ Memory
+resolve_target_known service moment message (Ok target) =
+    admitted_known service.settings message target (caller_or_refusal_at service moment message target) (caller_or_refusal_known service.keys service.settings.region message target moment)
+resolve_target_known service moment message (Err fault) = λ e. cc
+
+admitted_proper : (settings : Settings) (message : Message) (target : Target) (verdict : Result Caller Refusal) → IsProperMeant (admitted settings message target verdict)
+admitted_proper settings message target (Ok caller) = meaning_proper settings message target caller
+admitted_proper settings message target (Err refusal) = refused_proper refusal
+
+resolve_target_proper : (service : Service) (moment : ℕ) (message : Message) (read : Result Target NameFault) → IsProperMeant (resolve_target service moment message read)
+resolve_target_proper service moment message (Ok target) = admitted_proper service.settings message target (caller_or_refusal_at service moment message target)
+resolve_target_proper service moment message (Err fault) = proper_code InvalidURI refl
+
+pub message_is : (resolved : ResolvedRequest) (service : Service) (moment : ℕ) (message : Message)
+    → (resolved.means ≢ Memory → resolved.caller ≡ caller_of service moment message (target_of message.target))
+    → resolved.method.now ≡ message.method → resolved.resource.now ≡ raw_path message.target
+    → (resolved.means ≢ Memory → resolved.means ≡ resolve_target service moment message (target_of message.target))
+    → resolved.end ≡ end_after message → Is resolved (request_of service moment message)
+message_is resolved service moment message caller method resource means end = record {
+  caller = caller;
+  method = method;
+  resource = resource;
+  understands = record {
+    meant = resolve_target_known service moment message (target_of message.target);
+    proper = resolve_target_proper service moment message (target_of message.target);
+    same = means;
+  };
+  end = end;
+}
+
+-- no code of a request that was refused before is one for a store that failed
+own_code : (kind : Kind) → is_store_fault (code_of kind) ≡ false
+own_code BadHead = refl
+own_code LongHead = refl
+own_code ManyHeaders = refl
+own_code NoLength = refl
+own_code BadLength = refl
+own_code LongBody = refl
+own_code Transfer = refl
+own_code ShortBody = refl
+
+pub code_is_proper : (kind : Kind) → IsProperCode (code_of kind)
+code_is_proper kind = proper_code (code_of kind) (own_code kind)
+
+-- a request that was refused before it was understood
+pub refused_is : (resolved : ResolvedRequest) (kind : Kind) (place : ℕ) (head : Bool) → resolved.caller ≡ Anonymous → resolved.method.now ≡ cond head (codes "HEAD") [] → resolved.resource.now ≡ codes "/"
+    → resolved.means ≡ Refused (code_of kind) → resolved.end ≡ Some (ended.Refused kind place) → Is resolved (refused_request kind place head)
+refused_is resolved kind place head caller method resource means end = record {
+  caller = λ _. caller;
+  method = method;
+  resource = resource;
+  understands = record { meant = λ e. cc; proper = code_is_proper kind; same = λ _. means };
+  end = end;
+}

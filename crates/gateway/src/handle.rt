@@ -1,0 +1,72 @@
+ghost use Rattle.std.specs.Prelude.{IsTrue};
+ghost use Rattle.gate_base.specs.Line.{OnlyWrites};
+ghost use Rattle.gateway.specs.Request.{asks_of, end_of};
+ghost use Rattle.gateway.specs.Handled.{HandledOnce, EndsWith, IsServed, is_broken};
+ghost use Rattle.gateway.specs.World.{world, progress_of, ServesOver};
+
+use crate::label::{next_label, sent_by};
+use crate::received::Received;
+use crate::reply::reply_to;
+use crate::resolve::resolve;
+use crate::write::{Written, write_reply};
+use crate::{Ended, Service};
+use gate_base::{Clock, Draws, Line};
+use recovery::Known;
+use std::alloc::Global;
+use swift_calls::Swift;
+
+/// What became of one request.
+#[derive(Debug, Drop)]
+pub enum Handled {
+    /// It was answered in whole. Then the connection ends so, if it does.
+    Served(Option<Ended>),
+    /// The line failed under the reply.
+    Broken,
+}
+
+/// Answers what was received: the clock is read once and two words are drawn, the request is resolved and its reply
+/// found, and that is written as one piece.
+pub fn handle_request<N: Line<W>, W: Swift, C: Clock, D: Draws>(
+    alloc: Global,
+    store: &mut W,
+    known: &mut Known,
+    service: &Service,
+    line: &mut N,
+    clock: &mut C,
+    draws: &mut D,
+    received: &Received,
+) -> Handled
+    requires { IsTrue (N.model line.old).is_open }
+    ensures endings { EndsWith (end_of received.now) result }
+    ensures served { IsServed result }
+    ensures writes { OnlyWrites (is_broken result) (N.model line.old) (N.model line.new) }
+    ensures serves { ServesOver service.now.settings (λ R old new. HandledOnce R old.line.transcript.begun (progress_of old) (progress_of new) (asks_of service.now received.now) result)
+        (world (N.model line.old) (W.history store.old) known.old (C.model clock.old) (D.model draws.old))
+        (world (N.model line.new) (W.history store.new) known.new (C.model clock.new) (D.model draws.new)) }
+{
+    let next = next_label(clock, draws);
+    let resolved = resolve(alloc, service, received, next.moment);
+    let label = sent_by(resolved.caller, next);
+    let reply = reply_to(
+        alloc,
+        store,
+        known,
+        &service.settings,
+        &resolved.means,
+        &label,
+    );
+    match write_reply(
+        alloc,
+        line,
+        store,
+        &reply,
+        &label,
+        resolved.method,
+        resolved.resource,
+        resolved.end.is_some(),
+    ) {
+        Written::Whole => Handled::Served(resolved.end),
+        Written::Memory => Handled::Served(Some(Ended::Memory)),
+        Written::Failed => Handled::Broken,
+    }
+}

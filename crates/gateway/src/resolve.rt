@@ -1,0 +1,215 @@
+//! How a request is resolved: a message that was read, or one that was refused before it was understood.
+ghost use Rattle.std.specs.Prelude.{◌≡◌, ◌≢◌, false, cond, codes, [], Some, position, IfSome, ◌<◌, length};
+ghost use Rattle.gate_base.specs.declared.page.Caller.TheVariants.{Anonymous as anonymous};
+ghost use Rattle.s3_names.specs.Target.{target_of};
+ghost use Rattle.gateway.specs.ResolvedRequest.{Is, IsProperMeant};
+ghost use Rattle.gateway.specs.Request.{raw_path, end_after, resolve_target, admitted, caller_of, caller_or_anonymous, caller_or_refusal_at, refused_by, request_of, refused_request, asks_of, end_of, code_of, is_question_mark};
+ghost use Rattle.gateway.specs.Serving.{has_ended_failed};
+ghost use Rattle.gateway.specs.declared.ended.Ended.TheVariants as ended;
+ghost use Rattle.gateway.specs.declared.meant.Meant.TheVariants as variant;
+
+use crate::closing::closing;
+use crate::received::Received;
+use crate::{Ended, Meant, ResolvedRequest, Service, meaning};
+use gate_base::Caller;
+use http_wire::{Kind, Message};
+use s3_machine::Code;
+use s3_names::{NameFault, Target};
+use sigv4::{Refusal, verify};
+use std::alloc::Global;
+
+/// What was received, as it is answered at that moment.
+pub fn resolve<'a>(
+    alloc: Global,
+    service: &Service,
+    received: &'a Received,
+    moment: u64,
+) -> ResolvedRequest<'a>
+    ensures proper { IsProperMeant result.means }
+    ensures ends { result.end ≡ end_of received.now }
+    ensures served { has_ended_failed result.end ≡ false }
+    ensures is { Is result (asks_of service.now received.now moment) }
+{
+    match received {
+        Received::Message(message) => resolve_message(alloc, service, message, moment),
+        Received::Refused { kind, place, head } => resolve_refused(*kind, *place, *head),
+    }
+}
+
+/// A message that was read, as it is answered.
+fn resolve_message<'a>(
+    alloc: Global,
+    service: &Service,
+    message: &'a Message,
+    moment: u64,
+) -> ResolvedRequest<'a>
+    ensures proper { IsProperMeant result.means }
+    ensures ends { result.end ≡ end_after message.now }
+    ensures served { has_ended_failed result.end ≡ false }
+    ensures is { Is result (request_of service.now moment message.now) }
+{
+    let understood = understand(alloc, service, message, moment);
+    ResolvedRequest {
+        caller: understood.caller,
+        method: message.method.as_slice(),
+        resource: path_of(message.target.as_slice()),
+        means: understood.means,
+        end: end_of(message),
+    }
+}
+
+/// What was understood of a message: who sent it, and what it means.
+#[derive(Debug, Drop)]
+struct Understood {
+    caller: Caller,
+    means: Meant,
+}
+
+fn refused(code: Code) -> Understood
+    ensures means { result.means ≡ variant.Refused code }
+    ensures caller { result.caller ≡ anonymous }
+{
+    Understood {
+        caller: Caller::Anonymous,
+        means: Meant::Refused(code),
+    }
+}
+
+fn unknown() -> Understood
+    ensures means { result.means ≡ variant.Memory }
+{
+    Understood {
+        caller: Caller::Anonymous,
+        means: Meant::Memory,
+    }
+}
+
+/// The target is read, then the signature is verified, and then the meaning is found.
+fn understand(alloc: Global, service: &Service, message: &Message, moment: u64) -> Understood
+    ensures proper { IsProperMeant result.means }
+    ensures means { result.means ≢ variant.Memory → result.means ≡ resolve_target service.now moment message.now (target_of message.now.target) }
+    ensures caller { result.means ≢ variant.Memory → result.caller ≡ caller_of service.now moment message.now (target_of message.now.target) }
+{
+    match Target::read(alloc, message.target.as_slice()) {
+        Ok(target) => authenticate(alloc, service, message, &target, moment),
+        Err(NameFault::Memory) => unknown(),
+        Err(
+            NameFault::BadBucket
+            | NameFault::EmptyKey
+            | NameFault::LongKey
+            | NameFault::NotUtf8
+            | NameFault::BadEscape,
+        ) => refused(Code::InvalidURI),
+    }
+}
+
+/// The signature is verified, and then the meaning is found.
+#[tactic(auto, using(crate::proofs::Resolving::refused_means, crate::proofs::Resolving::refused_caller, crate::proofs::Resolving::refused_proper))]
+fn authenticate(
+    alloc: Global,
+    service: &Service,
+    message: &Message,
+    target: &Target,
+    moment: u64,
+) -> Understood
+    ensures proper { IsProperMeant result.means }
+    ensures means { result.means ≢ variant.Memory → result.means ≡ admitted service.now.settings message.now target.now (caller_or_refusal_at service.now moment message.now target.now) }
+    ensures caller { result.means ≢ variant.Memory → result.caller ≡ caller_or_anonymous (caller_or_refusal_at service.now moment message.now target.now) }
+{
+    let region = service.settings.region.as_slice();
+    match verify(alloc, &service.keys, region, message, target, moment) {
+        Ok(caller) => Understood {
+            caller,
+            means: meaning(alloc, message, target, &caller, &service.settings),
+        },
+        Err(refusal) => Understood {
+            caller: Caller::Anonymous,
+            means: refused_by(refusal),
+        },
+    }
+}
+
+/// What a request is answered whose signature is refused.
+fn refused_by(refusal: Refusal) -> Meant
+    ensures { result ≡ refused_by refusal }
+{
+    match refusal {
+        Refusal::HeaderMalformed | Refusal::WrongScope => {
+            Meant::Refused(Code::AuthorizationHeaderMalformed)
+        }
+        Refusal::UnknownKey => Meant::Refused(Code::InvalidAccessKeyId),
+        Refusal::UnsignedHeader | Refusal::NoDate => Meant::Refused(Code::AccessDenied),
+        Refusal::Skewed => Meant::Refused(Code::RequestTimeTooSkewed),
+        Refusal::Streaming => Meant::Refused(Code::NotImplemented),
+        Refusal::NoPayloadHash => Meant::Refused(Code::InvalidRequest),
+        Refusal::SignatureDiffers(_) => Meant::Refused(Code::SignatureDoesNotMatch),
+        Refusal::PayloadDiffers => Meant::Refused(Code::XAmzContentSHA256Mismatch),
+        Refusal::Memory => Meant::Memory,
+    }
+}
+
+/// How the connection ends after the reply to a message, if it does.
+fn end_of(message: &Message) -> Option<Ended>
+    ensures is { result ≡ end_after message.now }
+    ensures served { has_ended_failed result ≡ false }
+{
+    if closing(message) {
+        Some(Ended::Closed)
+    } else {
+        None
+    }
+}
+
+/// A request that was refused before it was understood, as it is answered: with the code of its kind, on `/`.
+#[tactic(auto, using(crate::proofs::Resolving::refused_is, crate::proofs::Resolving::code_is_proper))]
+fn resolve_refused(kind: Kind, place: u64, head: bool) -> ResolvedRequest<'static>
+    ensures proper { IsProperMeant result.means }
+    ensures ends { result.end ≡ Some (ended.Refused kind place) }
+    ensures served { has_ended_failed result.end ≡ false }
+    ensures is { Is result (refused_request kind place head) }
+{
+    ResolvedRequest {
+        caller: Caller::Anonymous,
+        method: method_for(head),
+        resource: b"/",
+        means: Meant::Refused(code(kind)),
+        end: Some(Ended::Refused { kind, place }),
+    }
+}
+
+fn method_for(head: bool) -> &'static [u8]
+    ensures { result.now ≡ cond head (codes "HEAD") [] }
+{
+    if head { b"HEAD" } else { b"" }
+}
+
+fn code(kind: Kind) -> Code
+    ensures { result ≡ code_of kind }
+{
+    match kind {
+        Kind::BadHead | Kind::LongHead | Kind::ManyHeaders | Kind::BadLength => {
+            Code::InvalidRequest
+        }
+        Kind::NoLength => Code::MissingContentLength,
+        Kind::LongBody => Code::EntityTooLarge,
+        Kind::Transfer => Code::NotImplemented,
+        Kind::ShortBody => Code::IncompleteBody,
+    }
+}
+
+// The text before a `?`.
+fn path_of(target: &[u8]) -> &[u8]
+    ensures { result.now ≡ raw_path target.now }
+{
+    match question_mark(target) {
+        Some(at) => &target[..at],
+        None => target,
+    }
+}
+
+fn question_mark(target: &[u8]) -> Option<usize>
+    ensures place { result ≡ position is_question_mark target.now }
+    ensures within { IfSome result (λ at. at < length target.now) }
+{
+    target.iter().position(|byte| *byte == b'?')
+}

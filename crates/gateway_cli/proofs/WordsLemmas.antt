@@ -1,0 +1,84 @@
+-- How the steps of reading the words follow one another.
+use Rattle.std.proofs.Common.{◌≡◌, ◌≢◌, ◌∙◌, refl, sym, ap, subst, inl, inr, arith, ℕ, Bool, true, false, if◌then◌else◌, List, [], ◌∷◌, Option, Result, Err, codes, bytes_eq}
+use Rattle.clap.specs.Matches.{first_value}
+use Rattle.clap.specs.Walk.{Text, first_of, is_empty, rows_of}
+use Rattle.clap.specs.Simple.{App, HasMatchesOf, is_simple, subcommand_of, subcommand_rows_of}
+use Rattle.clap.specs.Faults.{fault_of, is_simple_and_free}
+use Rattle.clap.specs.Kinds.{HasKind, Kinds}
+use Rattle.clap.specs.Values.{kind_of}
+use Rattle.clap.specs.declared.error.Error.{Error}
+use Rattle.clap.specs.declared.error.kind.ErrorKind.TheVariants.{OutOfMemory}
+use Rattle.clap.specs.declared.parser.matches.ArgMatches.{ArgMatches}
+use Rattle.clap.specs.declared.parser.matches.Found.{Found}
+use Rattle.clap.proofs.OnLiterals.{clap_on_literals}
+use Rattle.clap.proofs.WalkLemmas.{first_value-rows}
+use Rattle.gateway_cli.specs.Description.{gate_app}
+use Rattle.gateway_cli.specs.Words.{FaultOf, Parses, ReadsWords, command_in, met_in, session_with, sign_with}
+use Rattle.gateway_cli.specs.declared.command.Command.{Command}
+use Rattle.gateway_cli.specs.declared.command.WordsFault.{WordsFault}
+use Rattle.gateway_cli.specs.declared.command.WordsFault.TheVariants.{Refused, Memory}
+
+-- ---- the steps
+
+pub reads_where : (meant known : Option Command) (result : Result Command WordsFault) → meant ≡ known → ReadsWords known result → ReadsWords meant result
+reads_where meant known result same reads = let P : Option Command → Type 0 = λ m. ReadsWords m result in subst P (sym same) reads
+
+pub choice_where : {X : Type 0} (test : Bool) (this that : X) → test ≡ true → (if test then this else that) ≡ this
+choice_where test this that holds = ap (λ t. if t then this else that) holds
+
+pub choice_unless : {X : Type 0} (test : Bool) (this that : X) → test ≡ false → (if test then this else that) ≡ that
+choice_unless test this that fails = ap (λ t. if t then this else that) fails
+
+-- ---- a command by its name
+
+pub named_session : (name : Text) (found : Found) (region : Option (List ℕ)) → bytes_eq name (codes "session") ≡ true
+    → region ≡ first_value found (codes "region")
+    → command_in name (rows_of found) ≡ session_with region
+named_session name found region named region_is =
+    choice_where (bytes_eq name (codes "session")) _ _ named
+    ∙ ap session_with (sym (region_is ∙ first_value-rows found (codes "region")))
+
+pub named_sign : (name : Text) (found : Found) (key region : Option (List ℕ)) → bytes_eq name (codes "session") ≡ false
+    → bytes_eq name (codes "sign") ≡ true
+    → key ≡ first_value found (codes "key") → region ≡ first_value found (codes "region")
+    → command_in name (rows_of found) ≡ sign_with key region
+named_sign name found key region other named key_is region_is =
+    choice_unless (bytes_eq name (codes "session")) _ _ other
+    ∙ (choice_where (bytes_eq name (codes "sign")) _ _ named
+    ∙ (ap (λ k. sign_with k (first_of (codes "region") (rows_of found))) (sym (key_is ∙ first_value-rows found (codes "key")))
+    ∙ ap (sign_with key) (sym (region_is ∙ first_value-rows found (codes "region")))))
+
+-- ---- what `clap` answers
+
+gate_is_simple : is_simple gate_app ≡ true
+unfolding gate_app clap_on_literals
+gate_is_simple = refl
+
+gate_is_free : is_simple_and_free gate_app ≡ true
+unfolding gate_app clap_on_literals
+gate_is_free = refl
+
+pub met_where : (app : App) (words : List Text) (matches : ArgMatches) → app ≡ gate_app
+    → (is_simple_and_free app ≡ true → fault_of app words ≡ [])
+    → HasMatchesOf app words matches
+    → met_in words ≡ subcommand_rows_of matches
+unfolding met_in
+met_where app words matches app_is faults has =
+    let taken : fault_of gate_app words ≡ [] = sym (ap (λ a. fault_of a words) app_is) ∙ faults (ap is_simple_and_free app_is ∙ gate_is_free) in
+    let met : subcommand_rows_of matches ≡ subcommand_of gate_app words = (has (ap is_simple app_is ∙ gate_is_simple)).1 ∙ ap (λ a. subcommand_of a words) app_is in
+    choice_where (is_empty (fault_of gate_app words)) _ _ (ap is_empty taken) ∙ sym met
+
+some_kind : (kinds : Kinds) (error : Error) → HasKind kinds error → kind_of error ≢ OutOfMemory → is_empty kinds ≡ false
+some_kind [] error has other = elim has [ inl h ↦ absurd (other h) | inr h ↦ absurd h ]
+some_kind (kind ∷ kinds) error has other = grind arith
+
+pub met_unless : (app : App) (words : List Text) (error : Error) (fault : WordsFault) → app ≡ gate_app
+    → (is_simple_and_free app ≡ true → HasKind (fault_of app words) error)
+    → FaultOf (kind_of error) fault
+    → Parses words (Err fault)
+unfolding met_in
+met_unless app words error Memory app_is faults fault_is = tt
+met_unless app words error Refused app_is faults fault_is =
+    let has : HasKind (fault_of gate_app words) error =
+    let P : App → Type 0 = λ a. HasKind (fault_of a words) error in subst P app_is (faults (ap is_simple_and_free app_is ∙ gate_is_free)) in
+    choice_unless (is_empty (fault_of gate_app words)) _ _ (some_kind _ error has fault_is)

@@ -1,0 +1,14 @@
+use Rattle.std.proofs.Common.{◌∙◌, sym}
+use Rattle.clap.specs.Matches.{found_of}
+use Rattle.gateway_cli.proofs.WordsLemmas.{reads_where, named_session, named_sign}
+use Rattle.gateway_cli.proofs.read.command_named.Goals as goal
+
+pub returns-then-eq : goal.returns-then-eq
+returns-then-eq c = reads_where _ _ c.session_with.result
+    (named_session c.args.name.now (found_of c.args.found.now) _ (sym c.eq.ensures ∙ c.if-eq.true) c.get_str.ensures)
+    c.session_with.ensures
+
+pub returns-then-eq-2 : goal.returns-then-eq-2
+returns-then-eq-2 c = reads_where _ _ c.sign_with.result
+    (named_sign c.args.name.now (found_of c.args.found.now) _ _ (sym c.eq.ensures ∙ c.if-eq.false) (sym c.eq-else-eq.ensures ∙ c.if-eq-2.true) c.get_str-then-eq-2.ensures c.get_str-then-eq-2-2.ensures)
+    c.sign_with.ensures

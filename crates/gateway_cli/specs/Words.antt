@@ -1,0 +1,75 @@
+-- What the words that follow the program's name ask for (this profile).
+use Rattle.std.specs.Prelude.{◌≡◌, ◌≢◌, ℕ, Bool, ◌&&◌, ◌||◌, ◌==◌, nat_le, if◌then◌else◌, List, length, map, codes, bytes_eq, Option, Some, None, option_and_then, unwrap_or, Result, Ok, Err, String, string_bytes}
+use Rattle.std.specs.List.{list_all}
+use Rattle.std.specs.declared.alloc.Global.{Global}
+use Rattle.clap.specs.Walk.{Row, Text, first_of, is_empty}
+use Rattle.clap.specs.Simple.{subcommand_of, subcommand_rows_of}
+use Rattle.clap.specs.Faults.{fault_of}
+use Rattle.clap.specs.declared.error.kind.ErrorKind.{ErrorKind}
+use Rattle.clap.specs.declared.error.kind.ErrorKind.TheVariants.{OutOfMemory}
+use Rattle.clap.specs.declared.parser.matches.ArgMatches.{ArgMatches}
+use Rattle.gateway_cli.specs.Description.{gate_app}
+use Rattle.gateway_cli.specs.declared.command.Command.{Command}
+use Rattle.gateway_cli.specs.declared.command.Command.TheVariants.{Session, Sign}
+use Rattle.gateway_cli.specs.declared.command.WordsFault.{WordsFault}
+use Rattle.gateway_cli.specs.declared.command.WordsFault.TheVariants.{Refused, Memory}
+
+-- `a` to `z`, `0` to `9`, `-`
+abbrev pub is_region_byte : ℕ → Bool
+is_region_byte byte = (nat_le 97 byte && nat_le byte 122) || (nat_le 48 byte && nat_le byte 57) || (byte == 45)
+
+-- 1 to 32 of these bytes
+abbrev pub is_region : List ℕ → Bool
+is_region text = nat_le 1 (length text) && nat_le (length text) 32 && list_all is_region_byte text
+
+-- `0` to `9`, `A` to `Z`, `a` to `z`
+abbrev pub is_letter_or_digit : ℕ → Bool
+is_letter_or_digit byte = (nat_le 48 byte && nat_le byte 57) || (nat_le 65 byte && nat_le byte 90) || (nat_le 97 byte && nat_le byte 122)
+
+-- 1 to 128 of these bytes
+abbrev pub is_key_id : List ℕ → Bool
+is_key_id text = nat_le 1 (length text) && nat_le (length text) 128 && list_all is_letter_or_digit text
+
+-- the region that is given, or the usual one
+abbrev pub region_of : Option (List ℕ) → List ℕ
+region_of given = unwrap_or given (codes "us-east-1")
+
+-- `session`, with the region that is given
+abbrev pub session_with : Option (List ℕ) → Option Command
+session_with given = if is_region (region_of given) then Some (Session (region_of given)) else None
+
+-- `sign`, with the key and the region that are given
+abbrev pub sign_with : Option (List ℕ) → Option (List ℕ) → Option Command
+sign_with None given = None
+sign_with (Some key) given = if is_key_id key && is_region (region_of given) then Some (Sign key (region_of given)) else None
+
+-- the command of a name, with what `clap` found for it
+abbrev pub command_in : Text → List Row → Option Command
+command_in name rows = if bytes_eq name (codes "session") then session_with (first_of (codes "region") rows)
+    else (if bytes_eq name (codes "sign") then sign_with (first_of (codes "key") rows) (first_of (codes "region") rows)
+    else None)
+
+-- what `clap` finds in the words, where it takes them: the name of the command and what was found for it
+unfoldable pub met_in : List Text → Option (Text × List Row)
+met_in words = if is_empty (fault_of gate_app words) then subcommand_of gate_app words else None
+
+-- what the words mean; none where they are refused
+abbrev pub command_of : List (String Global) → Option Command
+command_of words = option_and_then (λ p. command_in p.0 p.1) (met_in (map string_bytes words))
+
+-- what reading words of that meaning answers; memory may run out for any words
+abbrev pub ReadsWords : Option Command → Result Command WordsFault → Type 0
+ReadsWords meant (Ok command) = meant ≡ Some command
+ReadsWords meant (Err Refused) = meant ≡ None
+ReadsWords meant (Err Memory) = Unit {0}
+
+-- what `clap` makes of the words
+abbrev pub Parses : List Text → Result ArgMatches WordsFault → Type 0
+Parses words (Ok matches) = met_in words ≡ subcommand_rows_of matches
+Parses words (Err Refused) = met_in words ≡ None
+Parses words (Err Memory) = Unit {0}
+
+-- the fault of an error of that kind
+abbrev pub FaultOf : ErrorKind → WordsFault → Type 0
+FaultOf kind Refused = kind ≢ OutOfMemory
+FaultOf kind Memory = kind ≡ OutOfMemory

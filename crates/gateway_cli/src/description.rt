@@ -1,0 +1,44 @@
+ghost use Rattle.std.specs.Prelude.{◌≡◌, false, IfOk};
+ghost use Rattle.clap.specs.Words.{app_of};
+ghost use Rattle.clap.specs.declared.builder.command.Command.TheViews.{out-Command as fields_of};
+ghost use Rattle.gateway_cli.specs.Description.{gate_app, session_app, sign_app};
+
+use clap::{Arg, ArgAction, Command};
+use std::alloc::{AllocError, Global};
+
+/// The words as `clap` takes them: one level of commands, each with its options.
+pub(crate) fn gate<'a>(alloc: Global) -> Result<Command<'a>, AllocError>
+    ensures { IfOk result (λ command. app_of command ≡ gate_app) }
+{
+    let session = session(alloc)?;
+    let sign = sign(alloc)?;
+    Command::new(alloc, "s3gate")
+        .no_binary_name(true)
+        .subcommand_required(true)
+        .subcommand(session)?
+        .subcommand(sign)
+}
+
+fn session<'a>(alloc: Global) -> Result<Command<'a>, AllocError>
+    ensures app { IfOk result (λ command. app_of command ≡ session_app) }
+    ensures local { IfOk result (λ command. (fields_of command).has_globals ≡ false) }
+{
+    let region = Arg::new(alloc, "region")
+        .long("region")
+        .action(ArgAction::Set);
+    Command::new(alloc, "session").arg(region)
+}
+
+fn sign<'a>(alloc: Global) -> Result<Command<'a>, AllocError>
+    ensures app { IfOk result (λ command. app_of command ≡ sign_app) }
+    ensures local { IfOk result (λ command. (fields_of command).has_globals ≡ false) }
+{
+    let key = Arg::new(alloc, "key")
+        .long("key")
+        .action(ArgAction::Set)
+        .required(true);
+    let region = Arg::new(alloc, "region")
+        .long("region")
+        .action(ArgAction::Set);
+    Command::new(alloc, "sign").arg(key)?.arg(region)
+}

@@ -1,0 +1,102 @@
+ghost use Rattle.std.specs.Prelude.{◌≡◌, map, option_and_then, option_map, string_bytes};
+ghost use Rattle.clap.specs.Words.{found_of, kind_of, rows_of, subcommand_rows_of};
+ghost use Rattle.gateway_cli.specs.Words.{FaultOf, Parses, ReadsWords, command_in, command_of, region_of, session_with, sign_with};
+
+use crate::description::gate;
+use crate::text::{is_key_id, is_region};
+use crate::{Command, WordsFault};
+use clap::error::ErrorKind;
+use clap::{ArgMatches, Error};
+use gate_base::Bytes;
+use std::alloc::Global;
+
+/// The region where the words give none.
+const USUAL_REGION: &str = "us-east-1";
+
+/// The command that the words name. The words are those behind the program's name. They are refused where `clap`
+/// refuses them or answers with a help text, where a region isn't 1 to 32 bytes of `a-z 0-9 -`, and where the id of a
+/// key isn't 1 to 128 letters and digits.
+pub fn read_words(alloc: Global, words: &[String]) -> Result<Command, WordsFault>
+    ensures { ReadsWords (command_of words.now) result }
+{
+    let matches = parse(alloc, words)?;
+    command_met(alloc, &matches)
+}
+
+fn parse<'a>(alloc: Global, words: &'a [String]) -> Result<ArgMatches<'a>, WordsFault>
+    ensures { Parses (map string_bytes words.entry.now) result }
+{
+    let gate = gate(alloc)?;
+    match gate.try_get_matches_from(words) {
+        Ok(matches) => Ok(matches),
+        Err(error) => Err(fault_of(&error)),
+    }
+}
+
+fn fault_of(error: &Error) -> WordsFault
+    ensures { FaultOf (kind_of error.now) result }
+{
+    match error.kind() {
+        ErrorKind::OutOfMemory => WordsFault::Memory,
+        _ => WordsFault::Refused,
+    }
+}
+
+fn command_met(alloc: Global, matches: &ArgMatches) -> Result<Command, WordsFault>
+    ensures { ReadsWords (option_and_then (λ p. command_in p.0 p.1) (subcommand_rows_of matches.now)) result }
+{
+    match matches.subcommand() {
+        Some((name, found)) => command_named(alloc, name, found),
+        None => Err(WordsFault::Refused),
+    }
+}
+
+fn command_named(alloc: Global, name: &str, found: &ArgMatches) -> Result<Command, WordsFault>
+    ensures { ReadsWords (command_in name.now (rows_of (found_of found.now))) result }
+{
+    if name == "session" {
+        session_with(alloc, found.get_str("region"))
+    } else if name == "sign" {
+        sign_with(alloc, found.get_str("key"), found.get_str("region"))
+    } else {
+        Err(WordsFault::Refused)
+    }
+}
+
+fn session_with(alloc: Global, region: Option<&str>) -> Result<Command, WordsFault>
+    ensures { ReadsWords (session_with (option_map (λ text. text.now) region.entry)) result }
+{
+    let region = region_of(region);
+    if !is_region(region) {
+        return Err(WordsFault::Refused);
+    }
+    Ok(Command::Session {
+        region: Bytes::from_slice(alloc, region)?,
+    })
+}
+
+fn sign_with(alloc: Global, key: Option<&str>, region: Option<&str>) -> Result<Command, WordsFault>
+    ensures { ReadsWords (sign_with (option_map (λ text. text.now) key.entry) (option_map (λ text. text.now) region.entry)) result }
+{
+    let Some(key) = key else {
+        return Err(WordsFault::Refused);
+    };
+    let key = key.as_bytes();
+    let region = region_of(region);
+    if !is_key_id(key) || !is_region(region) {
+        return Err(WordsFault::Refused);
+    }
+    Ok(Command::Sign {
+        key: Bytes::from_slice(alloc, key)?,
+        region: Bytes::from_slice(alloc, region)?,
+    })
+}
+
+fn region_of<'a>(given: Option<&'a str>) -> &'a [u8]
+    ensures { result.now ≡ region_of (option_map (λ text. text.now) given.entry) }
+{
+    match given {
+        Some(region) => region.as_bytes(),
+        None => USUAL_REGION.as_bytes(),
+    }
+}

@@ -1,0 +1,45 @@
+ghost use Rattle.std.specs.Prelude.{◌≡◌};
+ghost use Rattle.std.specs.List.{list_all};
+ghost use Rattle.gateway_cli.specs.Words.{is_region, is_region_byte, is_key_id, is_letter_or_digit};
+
+/// The longest name of a region, in bytes.
+const LONGEST_REGION: usize = 32;
+
+/// The longest id of a key, in bytes.
+const LONGEST_KEY_ID: usize = 128;
+
+pub(crate) fn is_region(text: &[u8]) -> bool
+    ensures { result ≡ is_region text.now }
+{
+    1 <= text.len() && text.len() <= LONGEST_REGION && all_region_bytes(text)
+}
+
+fn all_region_bytes(text: &[u8]) -> bool
+    ensures { result ≡ list_all is_region_byte text.now }
+{
+    text.iter().all(|byte| is_region_byte(*byte))
+}
+
+fn is_region_byte(byte: u8) -> bool
+    ensures { result ≡ is_region_byte byte }
+{
+    byte.is_ascii_lowercase() || byte.is_ascii_digit() || byte == b'-'
+}
+
+pub(crate) fn is_key_id(text: &[u8]) -> bool
+    ensures { result ≡ is_key_id text.now }
+{
+    1 <= text.len() && text.len() <= LONGEST_KEY_ID && all_letters_or_digits(text)
+}
+
+fn all_letters_or_digits(text: &[u8]) -> bool
+    ensures { result ≡ list_all is_letter_or_digit text.now }
+{
+    text.iter().all(|byte| is_letter_or_digit(*byte))
+}
+
+fn is_letter_or_digit(byte: u8) -> bool
+    ensures { result ≡ is_letter_or_digit byte }
+{
+    byte.is_ascii_digit() || byte.is_ascii_uppercase() || byte.is_ascii_lowercase()
+}

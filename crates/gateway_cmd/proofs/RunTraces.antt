@@ -1,0 +1,120 @@
+-- What follows from the connections of a run, one after another: their numbers, counts of faults and spans, for whatever is
+-- said of their replies; what is said of them said otherwise; and over an observable store, what the account goes through.
+use Rattle.std.specs.Prelude.{◌≡◌, ◌≤◌, ℕ, ◌+◌, ◌-◌, Bool, true, false, List, [], ◌∷◌, ◌++◌, length, slice_set, if◌then◌else◌}
+use Rattle.std.proofs.Common.{refl, ap, ◌∙◌, arith}
+use Rattle.std.proofs.lemmas.List.{length-set, length-append}
+use Rattle.gate_base.specs.Causes.{Rose}
+use Rattle.s3_machine.specs.declared.operation.Label.{Label}
+use Rattle.s3_machine.specs.declared.operation.Reply.{Reply}
+use Rattle.swift_calls.specs.History.{History, Extends}
+use Rattle.upload_records.specs.Consistent.{IsConsistent}
+use Rattle.gateway.specs.declared.service.Service.{Service}
+use Rattle.gateway.specs.Request.{Request}
+use Rattle.gateway.specs.Exchange.{Mark, Span, IsKnownOf, Replies, RepliesBy, FaultFreeReplies}
+use Rattle.gateway.specs.Connection.{has_failed}
+use Rattle.gateway.specs.Stands.{Follows, AllPass, StandsThroughout}
+use Rattle.gateway.proofs.Order.{follows_none, follows_append, connection_trace_order, connection_trace_order_faults, connection_trace_follow}
+use Rattle.gateway.proofs.Map.{Between, between_ends, FollowsBetween, connection_trace_map, by_agree, fault_free_map}
+use Rattle.gateway.proofs.Passing.{all_pass_none, all_pass_append, connection_trace_pass, connection_trace_sound, connection_trace_known}
+use Rattle.gateway.proofs.Standing.{stands_throughout}
+use Rattle.gateway_cmd.specs.Run.{RunCursor, ServesNext, RunTrace, none, more}
+
+-- ---- whatever is said of replies
+
+-- one more mark, whether the line failed or not
+marks_more : (failed : Bool) (marks : List Bool) (i : ℕ) → length (if failed then slice_set (marks ++ false ∷ []) i true else marks ++ false ∷ []) ≡ length marks + 1
+marks_more true marks i = length-set (marks ++ false ∷ []) i true ∙ length-append marks (false ∷ [])
+marks_more false marks i = length-append marks (false ∷ [])
+
+module _ {service : Service} {R : Mark → Span → Mark → Request → Label → Reply → Type 0} where
+  -- the numbers rise
+  pub run_trace_order : {old new : RunCursor} {spans : List Span} → RunTrace service R old spans new → old.progress.mark.number ≤ new.progress.mark.number
+  run_trace_order (none cursor) = omega arith
+  run_trace_order (more old middle new spans next trace serves) = let first = run_trace_order trace in let last = connection_trace_order serves.trace in omega arith
+
+  -- and so do the counts of faults
+  pub run_trace_faults : {old new : RunCursor} {spans : List Span} → RunTrace service R old spans new → old.progress.mark.faults ≤ new.progress.mark.faults
+  run_trace_faults (none cursor) = omega arith
+  run_trace_faults (more old middle new spans next trace serves) = let first = run_trace_faults trace in let last = connection_trace_order_faults serves.trace in omega arith
+
+  -- the spans of all requests follow one another
+  pub run_trace_follow : {old new : RunCursor} {spans : List Span} → RunTrace service R old spans new → Follows old.progress.mark.number spans new.progress.mark.number
+  run_trace_follow (none cursor) = follows_none refl
+  run_trace_follow (more old middle new spans next trace serves) =
+      follows_append old.progress.mark.number middle.progress.mark.number new.progress.mark.number spans next (run_trace_follow trace) (connection_trace_follow serves.trace)
+
+  -- ---- how many began, and their marks
+
+  pub run_trace_begun : {old new : RunCursor} {spans : List Span} → RunTrace service R old spans new → old.begun ≤ new.begun
+  run_trace_begun (none cursor) = omega arith
+  run_trace_begun (more old middle new spans next trace serves) = let rises = run_trace_begun trace in let begun = serves.begun in omega arith
+
+  -- each connection that began has its mark
+  pub run_trace_marks : {old new : RunCursor} {spans : List Span} → RunTrace service R old spans new → length new.marks ≡ length old.marks + (new.begun - old.begun)
+  run_trace_marks (none cursor) = omega arith
+  run_trace_marks (more old middle new spans next trace serves) =
+      let rises = run_trace_begun trace in
+      let before = run_trace_marks trace in
+      let begun = serves.begun in
+      let one = ap length serves.marks ∙ marks_more (has_failed serves.ended) middle.marks (new.begun - 1) in
+      omega arith
+
+-- ---- what is said of replies, said otherwise
+
+module _ {R R' : Mark → Span → Mark → Request → Label → Reply → Type 0} {first last : Mark} (f : FollowsBetween R R' first last) where
+  serves_next_map : {service : Service} {old new : RunCursor} {spans : List Span} → Between first last old.progress.mark new.progress.mark → ServesNext service R old spans new → ServesNext service R' old spans new
+  serves_next_map between serves = record {
+    bytes = serves.bytes;
+    ended = serves.ended;
+    waiting = serves.waiting;
+    begun = serves.begun;
+    marks = serves.marks;
+    trace = connection_trace_map f between serves.trace;
+  }
+
+  pub run_trace_map : {service : Service} {old new : RunCursor} {spans : List Span} → Between first last old.progress.mark new.progress.mark → RunTrace service R old spans new → RunTrace service R' old spans new
+  run_trace_map between (none cursor) = none cursor
+  run_trace_map between (more old middle new spans next trace serves) =
+      let rises = run_trace_order trace in
+      let rises_faults = run_trace_faults trace in
+      let rises_then = connection_trace_order serves.trace in
+      let rises_faults_then = connection_trace_order_faults serves.trace in
+      more old middle new spans next
+      (run_trace_map (record { since = between.since; until = omega arith; since_faults = between.since_faults; until_faults = omega arith }) trace)
+      (serves_next_map (record { since = omega arith; until = between.until; since_faults = omega arith; until_faults = between.until_faults }) serves)
+
+-- what the connections were in a history, they are in each later one
+pub run_trace_agree : (all : Bool) (service : Service) {h h' : History} {old new : RunCursor} {spans : List Span} → Extends new.progress.mark.number h h'
+    → RunTrace service (RepliesBy all service.settings h) old spans new → RunTrace service (RepliesBy all service.settings h') old spans new
+run_trace_agree all service {old = old} {new = new} kept trace =
+    run_trace_map (by_agree all service.settings {first = old.progress.mark} {last = new.progress.mark} kept) (between_ends old.progress.mark new.progress.mark) trace
+
+-- where the count of faults did not rise, no request of theirs is answered ServiceUnavailable
+pub run_trace_fault_free : (all : Bool) (service : Service) (h : History) {old new : RunCursor} {spans : List Span} → (Rose old.progress.mark.faults new.progress.mark.faults → ⊥)
+    → RunTrace service (RepliesBy all service.settings h) old spans new → RunTrace service (FaultFreeReplies (RepliesBy all service.settings h)) old spans new
+run_trace_fault_free all service h {old = old} {new = new} still trace =
+    run_trace_map (fault_free_map all service.settings h old.progress.mark new.progress.mark still) (between_ends old.progress.mark new.progress.mark) trace
+
+-- ---- over an observable store
+
+module _ {service : Service} {h : History} where
+  -- the account goes through the steps of all requests
+  pub run_trace_pass : {old new : RunCursor} {spans : List Span} → RunTrace service (Replies service.settings h) old spans new → AllPass service.settings h spans
+  run_trace_pass (none cursor) = all_pass_none service.settings h
+  run_trace_pass (more old middle new spans next trace serves) = all_pass_append service.settings h spans next (run_trace_pass trace) (connection_trace_pass serves.trace)
+
+  -- it is left consistent
+  pub run_trace_sound : {old new : RunCursor} {spans : List Span} → IsConsistent (h.tree_at old.progress.mark.number) → RunTrace service (Replies service.settings h) old spans new → IsConsistent (h.tree_at new.progress.mark.number)
+  run_trace_sound sound (none cursor) = sound
+  run_trace_sound sound (more old middle new spans next trace serves) = connection_trace_sound (run_trace_sound sound trace) serves.trace
+
+  -- and as it is known to be
+  pub run_trace_known : {old new : RunCursor} {spans : List Span} → IsKnownOf h old.progress.mark → RunTrace service (Replies service.settings h) old spans new → IsKnownOf h new.progress.mark
+  run_trace_known known (none cursor) = known
+  run_trace_known known (more old middle new spans next trace serves) = connection_trace_known (run_trace_known known trace) serves.trace
+
+  -- at each number it is consistent, and one that the request which has the number goes through
+  pub run_trace_stands : {old new : RunCursor} {spans : List Span} → IsConsistent (h.tree_at old.progress.mark.number) → RunTrace service (Replies service.settings h) old spans new
+      → StandsThroughout service.settings h spans old.progress.mark.number new.progress.mark.number
+  run_trace_stands {old = old} {new = new} {spans = spans} sound trace =
+      stands_throughout service.settings h spans old.progress.mark.number new.progress.mark.number sound (run_trace_follow trace) (run_trace_pass trace)

@@ -1,0 +1,161 @@
+-- What stands first in the bytes that are left of a connection: a request, nothing, a head that was cut short, or what is
+-- refused (RFC 9112, sections 2, 3, 5 and 6, and this profile's limits). Each is said of the whole list of these bytes.
+use Rattle.std.specs.Prelude.{◌≡◌, ℕ, ◌+◌, ◌-◌, ◌*◌, ◌<◌, ◌≤◌, nat_lt, nat_le, Bool, false, not, ◌&&◌, ◌==◌, if◌then◌else◌, List, [], ◌∷◌, ◌++◌, length, take, drop, map, filter, codes, bytes_eq, Result, Ok, Err}
+use Rattle.std.specs.List.{list_all, list_any}
+use Rattle.std.specs.Char.{to_ascii_lowercase}
+use Rattle.gate_base.specs.declared.page.Pair.{Pair}
+use Rattle.http_wire.specs.declared.message.Message.{Message}
+use Rattle.http_wire.specs.declared.message.Kind.{Kind}
+use Rattle.http_wire.specs.declared.message.Kind.TheVariants.{BadHead, LongHead, ManyHeaders, NoLength, BadLength, LongBody, Transfer, ShortBody}
+use Rattle.httparse.specs.Ascii.{line_feed, carriage_return, space}
+use Rattle.httparse.specs.Grammar.{IsToken, AllPass, LineEnd, print_blank, Field, field_value, RequestHead, print_request, ReadsRequest, NeverHasRequest}
+
+-- the first of what stands in the bytes
+pub data FirstMessage : Type 0 where
+  -- a request, and how many bytes it has
+  asks : Message → ℕ → FirstMessage
+  -- no byte is left
+  nothing : FirstMessage
+  -- the bytes end inside a head that could still go on, or inside its target
+  cut_short : FirstMessage
+  -- anything else, by its kind, and whether it is a whole head whose method is HEAD
+  refused : Kind → Bool → FirstMessage
+
+-- a byte that a target may have while its end has not come: any but space, CR and LF (this profile, wider than RFC 9112, section 3.2)
+abbrev pub stays_in_target : ℕ → Bool
+stays_in_target b = not (b == space) && (not (b == carriage_return) && not (b == line_feed))
+
+-- the bytes end inside a target: after any empty lines a method, one space and the target so far (RFC 9112, sections 2.2 and 3)
+abbrev pub EndsInside : List ℕ → Type 0
+EndsInside bytes =
+    (blank : List LineEnd) × (method : List ℕ) × (target : List ℕ)
+    × IsToken method × AllPass stays_in_target target × (bytes ≡ print_blank blank ++ method ++ space ∷ target)
+
+-- no bytes can follow that make a head, of any length, and the bytes don't end inside a target
+abbrev pub CannotBecomeHead : List ℕ → Type 0
+CannotBecomeHead bytes = NeverHasRequest bytes × ¬ (EndsInside bytes)
+
+-- the bytes begin with the head h, of n bytes, no more than 16,384 (this profile)
+abbrev pub HasHead : List ℕ → RequestHead → ℕ → Type 0
+HasHead bytes h n = ReadsRequest bytes h (drop n bytes) × (n ≡ length (print_request h)) × (n ≤ 16384)
+
+-- the bytes begin with no head of up to 16,384 bytes
+abbrev pub HasNoHead : List ℕ → Type 0
+HasNoHead bytes = (h : RequestHead) (n : ℕ) → ¬ (HasHead bytes h n)
+
+-- one of the prefixes of up to 16,384 bytes is dead
+abbrev pub HasDeadPrefix : List ℕ → Type 0
+HasDeadPrefix bytes = (n : ℕ) × (n ≤ 16384) × CannotBecomeHead (take n bytes)
+
+-- a header as a message has it: the name in lower case, the value without the white space around it (RFC 9110, sections 5.1 and 5.5)
+abbrev pub header_of : Field → Pair
+header_of f = record { name = map to_ascii_lowercase f.name; value = field_value f }
+
+-- the message of a head, with no body; it is old where the version is HTTP/1.0
+abbrev pub message_of : RequestHead → Message
+message_of h = record { method = h.method; target = h.target; old = h.minor == 0; headers = map header_of h.fields; body = [] }
+
+abbrev pub value_of : Pair → List ℕ
+value_of header = header.value
+
+abbrev pub has_name : List ℕ → Pair → Bool
+has_name name header = bytes_eq header.name name
+
+-- the values of the headers of a name, in order
+abbrev pub values_of : List ℕ → List Pair → List (List ℕ)
+values_of name headers = map value_of (filter (has_name name) headers)
+
+-- a decimal digit (RFC 5234, appendix B.1)
+abbrev pub is_digit : ℕ → Bool
+is_digit b = nat_le 48 b && nat_le b 57
+
+-- a length as it is taken: 1 to 19 digits (RFC 9110, section 8.6, and this profile)
+abbrev pub is_length : List ℕ → Bool
+is_length value = nat_lt 0 (length value) && (nat_le (length value) 19 && list_all is_digit value)
+
+-- the number that the digits write after those of n
+unfoldable pub number_after : ℕ → List ℕ → ℕ
+number_after n [] = n
+number_after n (digit ∷ digits) = number_after (n * 10 + (digit - 48)) digits
+
+-- the number that the digits write
+abbrev pub number_of : List ℕ → ℕ
+number_of digits = number_after 0 digits
+
+-- how many bytes of body a length asks for, at most 16,777,216, or why it is refused (this profile)
+abbrev pub value_judged : List ℕ → Result ℕ Kind
+value_judged value =
+    if is_length value then (if nat_lt 16777216 (number_of value) then Err LongBody else Ok (number_of value)) else Err BadLength
+
+-- the same by all lengths that are given: one at most, and none only where the method isn't PUT (RFC 9112, section 6.3, and this profile)
+abbrev pub length_judged : Bool → List (List ℕ) → Result ℕ Kind
+length_judged put [] = if put then Err NoLength else Ok 0
+length_judged put (value ∷ []) = value_judged value
+length_judged put (value ∷ other ∷ values) = Err BadLength
+
+-- the method is PUT (RFC 9110, section 9.3.4)
+abbrev pub is_put : List ℕ → Bool
+is_put method = bytes_eq method (codes "PUT")
+
+-- how many bytes of body follow a whole head, or the first reason why it is refused: more than 100 headers, a Transfer-Encoding, a bad length, no length, a long body
+abbrev pub judge : Message → Result ℕ Kind
+judge message =
+    if nat_lt 100 (length message.headers) then Err ManyHeaders
+    else (if list_any (has_name (codes "transfer-encoding")) message.headers then Err Transfer
+    else length_judged (is_put message.method) (values_of (codes "content-length") message.headers))
+
+-- the method is HEAD (RFC 9110, section 9.3.2)
+abbrev pub is_head : List ℕ → Bool
+is_head method = bytes_eq method (codes "HEAD")
+
+-- the message of a head and a body
+abbrev pub message_with : RequestHead → List ℕ → Message
+message_with h body = record (message_of h) { body = body }
+
+-- the bytes are one whole head that is accepted, followed by exactly the body whose length it gives
+abbrev pub Spells : List ℕ → Message → Type 0
+Spells bytes message =
+    (h : RequestHead) × (n m : ℕ) × HasHead bytes h n × (judge (message_of h) ≡ Ok m) × (length bytes ≡ n + m)
+    × (message ≡ message_with h (drop n bytes))
+
+-- the bytes begin with an accepted head and its whole body, of so many bytes together
+abbrev pub IsAsked : List ℕ → Message → ℕ → Type 0
+IsAsked bytes message size =
+    (h : RequestHead) × (n m : ℕ) × HasHead bytes h n × (judge (message_of h) ≡ Ok m) × (size ≡ n + m) × (size ≤ length bytes)
+    × (message ≡ message_with h (take m (drop n bytes)))
+
+-- a whole head that is refused
+abbrev pub IsJudged : List ℕ → Kind → Bool → Type 0
+IsJudged bytes kind head =
+    (h : RequestHead) × (n : ℕ) × HasHead bytes h n × (judge (message_of h) ≡ Err kind) × (head ≡ is_head h.method)
+
+-- the bytes end inside the body of a head that is accepted
+abbrev pub EndsInBody : List ℕ → Bool → Type 0
+EndsInBody bytes head =
+    (h : RequestHead) × (n m : ℕ) × HasHead bytes h n × (judge (message_of h) ≡ Ok m) × (length bytes < n + m) × (head ≡ is_head h.method)
+
+-- no whole head, and a prefix of which none can come and that doesn't end inside a target
+abbrev pub IsDeadHead : List ℕ → Bool → Type 0
+IsDeadHead bytes head = HasNoHead bytes × HasDeadPrefix bytes × (head ≡ false)
+
+-- no end of a head within 16,384 bytes, though none of their prefixes is dead
+abbrev pub IsLongHead : List ℕ → Bool → Type 0
+IsLongHead bytes head = HasNoHead bytes × ¬ (HasDeadPrefix bytes) × (16384 ≤ length bytes) × (head ≡ false)
+
+-- what is refused, by its kind
+abbrev pub IsRefused : List ℕ → Kind → Bool → Type 0
+IsRefused bytes BadHead head = IsDeadHead bytes head
+IsRefused bytes LongHead head = IsLongHead bytes head
+IsRefused bytes ManyHeaders head = IsJudged bytes ManyHeaders head
+IsRefused bytes NoLength head = IsJudged bytes NoLength head
+IsRefused bytes BadLength head = IsJudged bytes BadLength head
+IsRefused bytes LongBody head = IsJudged bytes LongBody head
+IsRefused bytes Transfer head = IsJudged bytes Transfer head
+IsRefused bytes ShortBody head = EndsInBody bytes head
+
+-- what stands first in the bytes. The interim line of 100 Continue will be owed where an accepted head asks for it
+abbrev pub BeginsWith : List ℕ → FirstMessage → Type 0
+BeginsWith bytes (asks message size) = IsAsked bytes message size
+BeginsWith bytes nothing = bytes ≡ []
+BeginsWith bytes cut_short = (0 < length bytes) × (length bytes < 16384) × HasNoHead bytes × ¬ (HasDeadPrefix bytes)
+BeginsWith bytes (refused kind head) = IsRefused bytes kind head

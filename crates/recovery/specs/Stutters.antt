@@ -1,0 +1,27 @@
+-- What the calls between two numbers do to the S3 state: nothing, or the last of them failed. Each definition takes the
+-- history first. Source: this profile.
+use Rattle.std.specs.Prelude.{◌≡◌, ◌<◌, ◌≤◌, ℕ, ◌+◌}
+use Rattle.gate_base.specs.Causes.{Rose}
+use Rattle.swift_calls.specs.History.{History, budget}
+use Rattle.upload_records.specs.Native.{s3_state}
+use Rattle.upload_records.specs.Consistent.{IsConsistent}
+
+-- from p to q the account is consistent and represents one state
+pub record Stutters (h : History) (p q : ℕ) : Type 0 where
+  pub ordered : p ≤ q
+  pub same : (k : ℕ) → p ≤ k → k ≤ q → s3_state (h.tree_at k) ≡ s3_state (h.tree_at p)
+  pub sound : (k : ℕ) → p ≤ k → k ≤ q → IsConsistent (h.tree_at k)
+
+-- at each number from p on and before q the account represents the state at p
+abbrev pub OldBefore : History → ℕ → ℕ → Type 0
+OldBefore h p q = (k : ℕ) → p ≤ k → k < q → s3_state (h.tree_at k) ≡ s3_state (h.tree_at p)
+
+-- the history with the same accounts in which no call failed
+abbrev pub calm : History → History
+calm h = record h { faults_at = λ k. 0 }
+
+-- a call failed, and no earlier one from p on did: it was the last before q, and the count of faults rose with it; or no call
+-- was left for it, and the state stayed
+pub data LastFailed (h : History) (p q : ℕ) : Type 0 where
+  was_lost : (last : ℕ) → p ≤ last → q ≡ last + 1 → h.faults_at last ≡ h.faults_at p → Rose (h.faults_at last) (h.faults_at q) → LastFailed h p q
+  had_none : budget ≤ q → h.faults_at q ≡ h.faults_at p → s3_state (h.tree_at q) ≡ s3_state (h.tree_at p) → LastFailed h p q

@@ -1,0 +1,220 @@
+//! What an answer of the store comes to.
+ghost use Rattle.std.specs.Prelude.{◌≡◌, ◌≢◌, Err, IfOk};
+ghost use Rattle.recovery.specs.Interpret.{Gives, agrees, bucket_due, bytes_due, dropped_due, gone_due, head_due, head_from, known, IsShownHead, made_due, set_due, stored_due};
+ghost use Rattle.recovery.specs.declared.fault.PlanFault.TheVariants as fault;
+
+use crate::{Dropped, PlanFault};
+use gate_base::Bytes;
+use s3_machine::{MOST_BODY_BYTES, ObjectHead};
+use s3_names::Acl;
+use std::alloc::Global;
+use swift_calls::{StoredHead, SwiftReply};
+use swift_marks::{Tag, unpack};
+use upload_records::acl;
+
+/// The answer to HEAD of a bucket's container, which has the moment at which the bucket was made.
+pub(crate) fn bucket_in(reply: &SwiftReply) -> Result<Option<Acl>, PlanFault>
+    ensures due { result ≡ bucket_due reply.now }
+    ensures own { result ≢ Err fault.Failed }
+{
+    match reply {
+        SwiftReply::Readers {
+            readers,
+            created: Some(_),
+        } => Ok(Some(acl(*readers))),
+        SwiftReply::NotFound => Ok(None),
+        SwiftReply::Readers { created: None, .. }
+        | SwiftReply::Made
+        | SwiftReply::There
+        | SwiftReply::Gone
+        | SwiftReply::Stored { .. }
+        | SwiftReply::NotEmpty
+        | SwiftReply::Unsatisfiable
+        | SwiftReply::Containers(_)
+        | SwiftReply::Names(_)
+        | SwiftReply::Head(_)
+        | SwiftReply::Bytes { .. } => Err(PlanFault::Inconsistent),
+    }
+}
+
+/// The answer to HEAD of an object's file.
+pub(crate) fn head_in(alloc: Global, reply: &SwiftReply) -> Result<Option<ObjectHead>, PlanFault>
+    ensures due { Gives result (head_due reply.now) }
+    ensures own { result ≢ Err fault.Failed }
+    ensures shown { IfOk result IsShownHead }
+{
+    match reply {
+        SwiftReply::Head(head) => read_head(alloc, head),
+        SwiftReply::NotFound => Ok(None),
+        SwiftReply::Made
+        | SwiftReply::There
+        | SwiftReply::Gone
+        | SwiftReply::Stored { .. }
+        | SwiftReply::NotEmpty
+        | SwiftReply::Unsatisfiable
+        | SwiftReply::Containers(_)
+        | SwiftReply::Readers { .. }
+        | SwiftReply::Names(_)
+        | SwiftReply::Bytes { .. } => Err(PlanFault::Inconsistent),
+    }
+}
+
+/// What the head of a file says of the object: its type is the object's tag, with which the file agrees, and its
+/// metadata the object's pack.
+#[tactic(auto, using(crate::proofs::Dates::tag_is_dated))]
+fn read_head(alloc: Global, head: &StoredHead) -> Result<Option<ObjectHead>, PlanFault>
+    ensures due { Gives result (known (head_from head.now)) }
+    ensures own { result ≢ Err fault.Failed }
+    ensures shown { IfOk result IsShownHead }
+{
+    let tag = Tag::read(alloc, head.content_type.as_slice())?;
+    let meta = unpack(alloc, head.meta.as_slice())?;
+    if !agrees(head, &tag) {
+        return Err(PlanFault::Inconsistent);
+    }
+    Ok(Some(ObjectHead {
+        etag: tag.etag,
+        modified: tag.moment,
+        size: head.size,
+        content_type: tag.content_type,
+        meta,
+    }))
+}
+
+/// The file is what its tag says that was put in one piece: of no upload, with bytes of its own, as many as a body may
+/// have, and with their ETag.
+fn agrees(head: &StoredHead, tag: &Tag) -> bool
+    ensures { result ≡ agrees head.now tag.now }
+{
+    tag.id.is_none()
+        && !head.manifest
+        && head.etag.as_slice() == tag.etag.as_slice()
+        && head.size <= MOST_BODY_BYTES
+}
+
+/// The answer to GET of an object's file.
+pub(crate) fn bytes_in(reply: SwiftReply) -> Result<Option<Bytes>, PlanFault>
+    ensures due { result ≡ bytes_due reply }
+    ensures own { result ≢ Err fault.Failed }
+{
+    match reply {
+        SwiftReply::Bytes { body, .. } => Ok(Some(body)),
+        SwiftReply::NotFound => Ok(None),
+        SwiftReply::Made
+        | SwiftReply::There
+        | SwiftReply::Gone
+        | SwiftReply::Stored { .. }
+        | SwiftReply::NotEmpty
+        | SwiftReply::Unsatisfiable
+        | SwiftReply::Containers(_)
+        | SwiftReply::Readers { .. }
+        | SwiftReply::Names(_)
+        | SwiftReply::Head(_) => Err(PlanFault::Inconsistent),
+    }
+}
+
+/// The answer to PUT of an object's file whose bytes have this ETag: the store has them with the same.
+pub(crate) fn stored_in(reply: &SwiftReply, etag: &[u8]) -> Result<(), PlanFault>
+    ensures due { result ≡ stored_due etag.now reply.now }
+    ensures own { result ≢ Err fault.Failed }
+{
+    match reply {
+        SwiftReply::Stored { etag: stored } if stored.as_slice() == etag => Ok(()),
+        SwiftReply::Stored { .. }
+        | SwiftReply::Made
+        | SwiftReply::There
+        | SwiftReply::Gone
+        | SwiftReply::NotFound
+        | SwiftReply::NotEmpty
+        | SwiftReply::Unsatisfiable
+        | SwiftReply::Containers(_)
+        | SwiftReply::Readers { .. }
+        | SwiftReply::Names(_)
+        | SwiftReply::Head(_)
+        | SwiftReply::Bytes { .. } => Err(PlanFault::Inconsistent),
+    }
+}
+
+/// The answer to DELETE of an object's file.
+pub(crate) fn gone_in(reply: &SwiftReply) -> Result<(), PlanFault>
+    ensures due { result ≡ gone_due reply.now }
+    ensures own { result ≢ Err fault.Failed }
+{
+    match reply {
+        SwiftReply::Gone => Ok(()),
+        SwiftReply::NotFound => Ok(()),
+        SwiftReply::Made
+        | SwiftReply::There
+        | SwiftReply::Stored { .. }
+        | SwiftReply::NotEmpty
+        | SwiftReply::Unsatisfiable
+        | SwiftReply::Containers(_)
+        | SwiftReply::Readers { .. }
+        | SwiftReply::Names(_)
+        | SwiftReply::Head(_)
+        | SwiftReply::Bytes { .. } => Err(PlanFault::Inconsistent),
+    }
+}
+
+/// The answer to PUT of a container that is missing.
+pub(crate) fn made_in(reply: &SwiftReply) -> Result<(), PlanFault>
+    ensures due { result ≡ made_due reply.now }
+    ensures own { result ≢ Err fault.Failed }
+{
+    match reply {
+        SwiftReply::Made => Ok(()),
+        SwiftReply::There
+        | SwiftReply::Gone
+        | SwiftReply::Stored { .. }
+        | SwiftReply::NotFound
+        | SwiftReply::NotEmpty
+        | SwiftReply::Unsatisfiable
+        | SwiftReply::Containers(_)
+        | SwiftReply::Readers { .. }
+        | SwiftReply::Names(_)
+        | SwiftReply::Head(_)
+        | SwiftReply::Bytes { .. } => Err(PlanFault::Inconsistent),
+    }
+}
+
+/// The answer to DELETE of a bucket's container.
+pub(crate) fn dropped_in(reply: &SwiftReply) -> Result<Dropped, PlanFault>
+    ensures due { result ≡ dropped_due reply.now }
+    ensures own { result ≢ Err fault.Failed }
+{
+    match reply {
+        SwiftReply::Gone => Ok(Dropped::Gone),
+        SwiftReply::NotEmpty => Ok(Dropped::Full),
+        SwiftReply::NotFound => Ok(Dropped::Missing),
+        SwiftReply::Made
+        | SwiftReply::There
+        | SwiftReply::Stored { .. }
+        | SwiftReply::Unsatisfiable
+        | SwiftReply::Containers(_)
+        | SwiftReply::Readers { .. }
+        | SwiftReply::Names(_)
+        | SwiftReply::Head(_)
+        | SwiftReply::Bytes { .. } => Err(PlanFault::Inconsistent),
+    }
+}
+
+/// The answer to POST of a bucket's container.
+pub(crate) fn set_in(reply: &SwiftReply) -> Result<bool, PlanFault>
+    ensures due { result ≡ set_due reply.now }
+    ensures own { result ≢ Err fault.Failed }
+{
+    match reply {
+        SwiftReply::Gone => Ok(true),
+        SwiftReply::NotFound => Ok(false),
+        SwiftReply::Made
+        | SwiftReply::There
+        | SwiftReply::NotEmpty
+        | SwiftReply::Stored { .. }
+        | SwiftReply::Unsatisfiable
+        | SwiftReply::Containers(_)
+        | SwiftReply::Readers { .. }
+        | SwiftReply::Names(_)
+        | SwiftReply::Head(_)
+        | SwiftReply::Bytes { .. } => Err(PlanFault::Inconsistent),
+    }
+}

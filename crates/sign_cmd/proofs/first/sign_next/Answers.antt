@@ -1,0 +1,17 @@
+use Rattle.sign_cmd.proofs.SigningLemmas.{request_first, cut_first, refused_first}
+use Rattle.sign_cmd.proofs.first.sign_next.Goals as goal
+
+pub returns-in-Ok-Request-clause-effect : goal.returns-in-Ok-Request-clause-effect
+returns-in-Ok-Request-clause-effect g c = λ line.
+    let gives = rw c.in-Ok-Request.field-0-is at (c.in-Ok-Request.ensures.effect line) in
+    request_first _ _ _ c.in-Ok.reader c.next_request.new.self _ c.in-Ok-Request.message c.answer.result c.in-Ok.ensures gives c.answer.ensures.effect
+
+pub returns-in-Ok-CutShort-clause-effect : goal.returns-in-Ok-CutShort-clause-effect
+returns-in-Ok-CutShort-clause-effect g c = λ line.
+    let gives = rw c.in-Ok-CutShort.field-0-is at (c.in-Ok-CutShort.ensures.effect line) in
+    cut_first c.args.secret.now c.args.region.now _ c.in-Ok.reader c.next_request.new.self _ c.in-Ok-CutShort.field-0-0 c.in-Ok.ensures gives
+
+pub returns-in-Ok-Refused-clause-effect : goal.returns-in-Ok-Refused-clause-effect
+returns-in-Ok-Refused-clause-effect g c = λ line.
+    let gives = rw c.in-Ok-Refused.field-0-is at (c.in-Ok-Refused.ensures.effect line) in
+    refused_first c.args.secret.now c.args.region.now _ c.in-Ok.reader c.next_request.new.self _ c.in-Ok-Refused.field-0-0 c.in-Ok-Refused.field-0-1 c.in-Ok-Refused.field-0-2 c.in-Ok.ensures gives

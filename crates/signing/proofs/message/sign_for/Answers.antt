@@ -1,5 +1,0 @@
-use Rattle.signing.proofs.SigningLemmas.{marks_dated}
-use Rattle.signing.proofs.message.sign_for.Goals as goal
-
-pub sign-requires : goal.sign-requires
-sign-requires c = rw (c.time_of.ensures, c.as_slice-headers.ensures) (marks_dated c.args.message.now.headers c.requires)
