@@ -26,7 +26,7 @@ pub record World : Type 0 where
 abbrev pub world : LineModel → History → Known → SourceModel → SourceModel → World
 world line store known clock draws = record { line = line; store = store; known = known; clock = clock; draws = draws }
 
--- line, clock and source of draws are observable. Whether the store does is asked apart, by `Met`
+-- line, clock and source of draws are observable. Whether the store is too is asked apart, by `Met`
 pub record IsObservable (w : World) : Type 0 where
   pub line : IsTrue w.line.observable
   pub clock : IsTrue w.clock.observable

@@ -46,7 +46,7 @@ use swift_calls::Swift;
 /// number of calls it is consistent, and one that the request which has the number goes through. So it is left where a
 /// run is stopped (see [`gateway::law_many_runs`]).
 ///
-/// `told`, where all of these hold: both of the same requests, and the reply to an operation is the machine's, by the step
+/// `effect`, where all of these hold: both of the same requests, and the reply to an operation is the machine's, by the step
 /// that the account took, or tells that the store failed or that memory ran out.
 pub fn run<N: Line<W>, R: Sink, W: Swift, C: Clock, D: Draws>(
     alloc: Global,
@@ -58,7 +58,7 @@ pub fn run<N: Line<W>, R: Sink, W: Swift, C: Clock, D: Draws>(
     clock: &mut C,
     draws: &mut D,
 ) -> u8
-    // The causes of the status. Want of memory, 5, is free.
+    // The causes of the status. Running out of memory, 5, is free.
     ensures status { IsStatus result }
     ensures usage { result ≡ 2 → is_admitted words.now keys.now ≡ false }
     ensures refused { is_admitted words.now keys.now ≡ false → (result ≡ 5 → ⊥) → result ≡ 2 }

@@ -59,8 +59,8 @@ pub record Given (P : State → Type 0) (tree : SwiftAccount) : Type 0 where
   pub settled : IsSettled tree
   pub state : P (s3_state tree)
 
--- calls that leave the state, whether they write or not: answered, P says it of the account before and after them; for
--- want of memory, or where the store failed, they told nothing
+-- calls that leave the state, whether they write or not: answered, P says it of the account before and after them; where
+-- memory ran out, or where the store failed, they told nothing
 abbrev pub Keeps : {T : Type 0} → History → ℕ → ℕ → (SwiftAccount → SwiftAccount → T → Type 0) → Result T PlanFault → Type 0
 Keeps h p q P (Ok told) = Stutters h p q × (h.faults_at q ≡ h.faults_at p) × P (h.tree_at p) (h.tree_at q) told
 Keeps h p q P (Err Failed) = Stutters h p q × LastFailed h p q
