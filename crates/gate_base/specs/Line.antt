@@ -2,7 +2,6 @@
 use Rattle.std.specs.Prelude.{◌≡◌, ◌<◌, ◌≤◌, ℕ, Bool, true, false, IsTrue, List, length, take, if◌then◌else◌, Result, Ok, Err, is_err, IfOk, OnOk, OnErr}
 use Rattle.gate_base.specs.declared.faults.Failed.{Failed}
 use Rattle.gate_base.specs.Causes.{RisesIf, Spends, SpendsIf}
-use Rattle.std.proofs.Common.{zero-le}
 use Rattle.gate_base.specs.Transcript.{Transcript, empty, Begins, Takes, with_piece, with_mark, SendsPrefix}
 
 pub record LineModel : Type 0 where
@@ -94,6 +93,3 @@ pub record IsLine (line : LineModel) : Type 0 where
 -- a line that tells nothing, and whose calls of `next` never fail, as standard streams are
 abbrev pub silent_line : Bool → ℕ → ℕ → LineModel
 silent_line is_open faults spent = record { is_open = is_open; faults = faults; next_faults = 0; spent = spent; observable = false; transcript = empty }
-
-pub silent_is_line : (is_open : Bool) (faults spent : ℕ) → IsLine (silent_line is_open faults spent)
-silent_is_line is_open faults spent = record { marked = λ observable. cc; next_within = zero-le }

@@ -1,7 +1,6 @@
 -- The calls of an object in memory are numbered from 1, and it is given the numbers of those that fail. Source: this profile.
-use Rattle.std.specs.Prelude.{◌≡◌, ℕ, zero, suc, ◌+◌, ◌-◌, ◌^◌, ◌==◌, nat_lt, Bool, ◌&&◌, List, if◌then◌else◌, refl}
+use Rattle.std.specs.Prelude.{ℕ, zero, suc, ◌+◌, ◌-◌, ◌^◌, ◌==◌, nat_lt, Bool, ◌&&◌, List, if◌then◌else◌}
 use Rattle.std.specs.List.{list_any}
-use Rattle.std.proofs.Common.{add-one}
 
 -- the call of this number is to fail
 abbrev pub is_listed : List ℕ → ℕ → Bool
@@ -15,9 +14,3 @@ is_next_listed fails made = nat_lt made (2 ^ 64 - 1) && is_listed fails (made + 
 unfoldable pub listed : List ℕ → ℕ → ℕ
 listed fails zero = 0
 listed fails (suc made) = listed fails made + (if is_listed fails (suc made) then 1 else 0)
-
--- one call more
-pub listed_next : (fails : List ℕ) (made : ℕ)
-    → listed fails (made + 1) ≡ listed fails made + (if is_listed fails (made + 1) then 1 else 0)
-unfolding listed
-listed_next fails made = rw add-one refl

@@ -1,8 +1,7 @@
 -- What a line in memory shows of itself.
 use Rattle.std.specs.Prelude.{ℕ, ◌+◌, ◌^◌, Bool, true, not, ◌&&◌, nat_le, nat_lt, List, length}
-use Rattle.std.proofs.Common.{sym}
 use Rattle.gate_base.specs.Transcript.{Transcript}
-use Rattle.gate_base.specs.Line.{LineModel, IsLine}
+use Rattle.gate_base.specs.Line.{LineModel}
 use Rattle.gate_base.specs.MemWire.{told_by}
 use Rattle.gate_base.specs.Listed.{is_next_listed, listed}
 use Rattle.gate_base.specs.declared.line_memory.MemLine.{MemLine}
@@ -66,6 +65,3 @@ model_of line = record {
   observable = true;
   transcript = transcript_of line;
 }
-
-pub is_line : (line : MemLine) → IsLine (model_of line)
-is_line line = record { marked = λ observable. sym line.transcript.marks.ok.0; next_within = line.next_within }

@@ -1,6 +1,7 @@
 -- The ghost models of a sink, a clock and a source of draws, and what a call does to each. Source: this profile.
 use Rattle.std.specs.Prelude.{◌≡◌, ◌<◌, ℕ, ◌+◌, ◌%◌, ◌^◌, Bool, false, IsTrue, List, [], ◌∷◌, ◌++◌, take, Result, is_err, OnOk, OnErr}
 use Rattle.gate_base.specs.declared.faults.Failed.{Failed}
+use Rattle.gate_base.specs.declared.outside.TheConstants.{MOMENT_LIMIT}
 use Rattle.gate_base.specs.Causes.{RisesIf}
 
 -- a `put` failed after the first n of the bytes
@@ -19,9 +20,9 @@ GivesDraw [] draw new = ⊥
 GivesDraw (x ∷ []) draw new = (draw ≡ x) × (new ≡ (x + 1) % 2 ^ 128 ∷ [])
 GivesDraw (x ∷ y ∷ ys) draw new = (draw ≡ x) × (new ≡ y ∷ ys)
 
--- each moment of a clock is below this one, as `MOMENT_LIMIT` says
+-- each moment of a clock is below this one
 abbrev pub moment_limit : ℕ
-moment_limit = 253402300800
+moment_limit = MOMENT_LIMIT
 
 -- ---- a sink
 

@@ -3,6 +3,7 @@
 #![tactic(auto)]
 
 mod copying;
+mod cuts;
 mod faults;
 mod line_memory;
 mod lists;
@@ -16,6 +17,7 @@ mod told_memory;
 mod wire_memory;
 
 pub use copying::Copying;
+pub use cuts::{cut, cut_last, first_place};
 pub use faults::{Failed, Memory};
 pub use line_memory::MemLine;
 pub use lists::{Bytes, List};

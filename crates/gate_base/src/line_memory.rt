@@ -83,12 +83,13 @@ impl MemLine {
 }
 
 impl<C: Counted> Line<C> for MemLine {
-    ghost use Rattle.gate_base.specs.MemLine.{is_open_of, model_of, is_line, piece_of, fails_of, made_of, past_of, wanted_of};
+    ghost use Rattle.std.proofs.Common.{sym};
+    ghost use Rattle.gate_base.specs.MemLine.{is_open_of, model_of, piece_of, fails_of, made_of, past_of, wanted_of};
     ghost use Rattle.gate_base.specs.MemLine.{next_faults_of, transcript_of, is_to_fail, begins_past, reads_past};
 
     ghost model = { model_of };
 
-    ghost is_line = { is_line };
+    ghost is_line = { λ line. record { marked = λ observable. sym line.transcript.marks.ok.0; next_within = line.next_within } };
 
     /// Failed exactly where the number of the call was given, or where a connection waits and no call is left.
     fn next(&mut self) -> Result<bool, Failed>

@@ -30,6 +30,15 @@ impl Bytes {
         }
     }
 
+    /// The empty text, with room for so many bytes: they are appended without a move of those before them.
+    pub fn with_room(alloc: Global, room: usize) -> Result<Bytes, Memory>
+        ensures { IfOk result (λ text. text ≡ []) }
+    {
+        Ok(Bytes {
+            items: Vec::with_capacity(alloc, room)?,
+        })
+    }
+
     /// A text of these bytes.
     pub fn from_slice(alloc: Global, bytes: &[u8]) -> Result<Bytes, Memory>
         ensures { IfOk result (λ text. text ≡ bytes.now) }

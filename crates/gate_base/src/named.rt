@@ -48,7 +48,7 @@ impl<T: Named> List<T> {
 impl<T: Named + Drop> List<T> {
     /// Puts an item in its place: in a list in order of names over the item of its name, or else before the first
     /// with a greater name. Where memory runs out, the list is as before, and the item is dropped.
-    #[tactic(auto, using(crate::specs::Named::placed_over, crate::specs::Named::placed_before))]
+    #[tactic(auto, using(crate::proofs::lemmas::Named::placed_over, crate::proofs::lemmas::Named::placed_before))]
     pub fn put(&mut self, item: T) -> Result<(), Memory>
         ensures ok { OnOk result (self.new ≡ placed T.name_of item self.old) }
         ensures err { OnErr result (self.new ≡ self.old) }

@@ -20,7 +20,7 @@ impl Numbered {
     }
 
     /// Counts one more call. True where it is to fail. The number of calls stays at the greatest value of a `u64`.
-    #[tactic(auto, using(crate::specs::Listed::listed_next))]
+    #[tactic(auto, using(crate::proofs::ListedLemmas::listed_next))]
     pub(crate) fn count(&mut self) -> bool
         ensures made { self.new.made ≡ one_more self.old.made }
         ensures fails { self.new.fails ≡ self.old.fails }

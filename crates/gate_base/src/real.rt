@@ -2,7 +2,8 @@
 //! `u64` that stays at its greatest value. Only the `main` of a program and tests make them.
 ghost use Rattle.std.specs.Prelude.{◌≡◌, false, []};
 ghost use Rattle.gate_base.specs.Causes.{Rose};
-ghost use Rattle.gate_base.specs.Line.{silent_line, silent_is_line};
+ghost use Rattle.gate_base.specs.Line.{silent_line};
+ghost use Rattle.std.proofs.Common.{sym, true≢false, zero-le};
 ghost use Rattle.gate_base.specs.Told.{silent_source};
 
 use crate::{CALL_LIMIT, Clock, Counted, Draws, Failed, Line, MOMENT_LIMIT, NoCount, Sink};
@@ -54,7 +55,7 @@ impl<R: Input + Print + Drop> StdLine<R> {
 impl<R: Input + Print + Drop, C: Counted> Line<C> for StdLine<R> {
     ghost model = { λ line. silent_line line.connected line.faults line.spent };
 
-    ghost is_line = { λ line. silent_is_line line.connected line.faults line.spent };
+    ghost is_line = { λ line. record { marked = λ observable. absurd (true≢false (sym observable)); next_within = zero-le } };
 
     /// True once, and false from then on.
     fn next(&mut self) -> Result<bool, Failed> {

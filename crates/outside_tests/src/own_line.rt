@@ -1,7 +1,8 @@
 //! A line of one connection that tells nothing.
 ghost use Rattle.std.specs.Prelude.{◌≡◌};
 ghost use Rattle.gate_base.specs.Causes.{Rose};
-ghost use Rattle.gate_base.specs.Line.{silent_line, silent_is_line};
+ghost use Rattle.gate_base.specs.Line.{silent_line};
+ghost use Rattle.std.proofs.Common.{sym, true≢false, zero-le};
 
 use gate_base::{Bytes, CALL_LIMIT, Counted, Failed, Line};
 use std::alloc::Global;
@@ -44,7 +45,7 @@ impl OwnLine {
 impl<C: Counted> Line<C> for OwnLine {
     ghost model = { λ line. silent_line line.connected line.faults line.spent };
 
-    ghost is_line = { λ line. silent_is_line line.connected line.faults line.spent };
+    ghost is_line = { λ line. record { marked = λ observable. absurd (true≢false (sym observable)); next_within = zero-le } };
 
     fn next(&mut self) -> Result<bool, Failed> {
         self.connected = self.spent == 0;

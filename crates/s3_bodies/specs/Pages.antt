@@ -25,7 +25,11 @@ abbrev pub xml_type : Pair
 xml_type = header (codes "Content-Type") (codes "application/xml")
 
 abbrev pub refused_page : Code → Label → List ℕ → Page
-refused_page code label resource = record { status = status_of code; headers = common_headers label ++ xml_type ∷ []; body = error_body code resource label.request_id }
+refused_page code label resource = record {
+  status = status_of code;
+  headers = common_headers label ++ xml_type ∷ [];
+  body = error_body code resource label.request_id;
+}
 
 abbrev pub gone_page : Label → Page
 gone_page label = record { status = 204; headers = common_headers label; body = [] }
@@ -48,7 +52,11 @@ stored_page etag label = record { status = 200; headers = common_headers label +
 -- what is said of the object itself
 abbrev pub head_headers : ObjectHead → List Pair
 head_headers head =
-    header (codes "Last-Modified") (http_date head.modified) ∷ etag_header head.etag ∷ header (codes "Accept-Ranges") (codes "bytes") ∷ header (codes "Content-Type") head.content_type ∷ []
+    header (codes "Last-Modified") (http_date head.modified)
+    ∷ etag_header head.etag
+    ∷ header (codes "Accept-Ranges") (codes "bytes")
+    ∷ header (codes "Content-Type") head.content_type
+    ∷ []
 
 -- a name of the user's own stands behind `x-amz-meta` (Amazon S3 User Guide, "Working with object metadata")
 abbrev pub meta_name : List ℕ → List ℕ
@@ -70,12 +78,14 @@ read_status true = 206
 read_status false = 200
 
 -- the length is said also where the body is empty, as in the answer to a HEAD
+abbrev pub object_headers : ObjectHead → ℕ → ℕ → Bool → Label → List Pair
+object_headers head from length partial label =
+    common_headers label ++ head_headers head ++ map meta_header head.meta ++ range_headers partial from length head.size
+    ++ header (codes "Content-Length") (decimal length) ∷ []
+
 abbrev pub object_page : ObjectHead → ℕ → ℕ → Bool → List ℕ → Label → Page
-object_page head from length partial body label = record {
-  status = read_status partial;
-  headers = common_headers label ++ head_headers head ++ map meta_header head.meta ++ range_headers partial from length head.size ++ header (codes "Content-Length") (decimal length) ∷ [];
-  body = body;
-}
+object_page head from length partial body label =
+    record { status = read_status partial; headers = object_headers head from length partial label; body = body }
 
 -- ---- the pages
 

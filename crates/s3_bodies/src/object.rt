@@ -2,11 +2,11 @@
 ghost use Rattle.std.specs.Prelude.{◌≡◌, ◌<◌, ◌≤◌, ◌+◌, ◌^◌, [], ◌∷◌, ◌++◌, map, IfOk, OnOk, IsTrue};
 ghost use Rattle.gate_base.specs.Told.{moment_limit};
 ghost use Rattle.s3_machine.specs.Shown.{IsShown};
-ghost use Rattle.s3_bodies.specs.Pages.{head_headers, meta_header, meta_name, object_page, range_headers, range_text, read_status};
+ghost use Rattle.s3_bodies.specs.Pages.{head_headers, meta_header, meta_name, object_headers, object_page, range_headers, range_text, read_status};
 
 use crate::pages::{add_header, common};
 use crate::texts;
-use gate_base::{Bytes, Copying, List, Memory, Page, Pair};
+use gate_base::{Bytes, List, Memory, Page, Pair};
 use s3_machine::{Label, ObjectHead};
 use std::alloc::Global;
 
@@ -17,12 +17,33 @@ pub(crate) fn object(
     from: u64,
     length: u64,
     partial: bool,
-    body: &Bytes,
+    body: Bytes,
     label: &Label,
 ) -> Result<Page, Memory>
     requires shown { IsShown head.now from length partial }
     requires moment { label.now.moment < moment_limit }
-    ensures { IfOk result (λ page. page ≡ object_page head.now from length partial body.now label.now) }
+    ensures { IfOk result (λ page. page ≡ object_page head.now from length partial body label.now) }
+{
+    let headers = object_headers(alloc, head, from, length, partial, label)?;
+    Ok(Page {
+        status: status(partial),
+        headers,
+        body,
+    })
+}
+
+/// The headers of an object, or of a part of it.
+fn object_headers(
+    alloc: Global,
+    head: &ObjectHead,
+    from: u64,
+    length: u64,
+    partial: bool,
+    label: &Label,
+) -> Result<List<Pair>, Memory>
+    requires shown { IsShown head.now from length partial }
+    requires moment { label.now.moment < moment_limit }
+    ensures { IfOk result (λ headers. headers ≡ object_headers head.now from length partial label.now) }
 {
     let mut headers = common(alloc, label)?;
     add_head(alloc, &mut headers, head)?;
@@ -30,11 +51,7 @@ pub(crate) fn object(
     add_range(alloc, &mut headers, partial, from, length, head.size)?;
     let number = texts::decimal(alloc, length)?;
     add_header(alloc, &mut headers, b"Content-Length", number.as_slice())?;
-    Ok(Page {
-        status: status(partial),
-        headers,
-        body: body.copy()?,
-    })
+    Ok(headers)
 }
 
 fn status(partial: bool) -> u16

@@ -16,15 +16,16 @@ use std::alloc::Global;
 /// reply, in seconds since the beginning of 1970, lie before the year 10000, and an object's range ends at most at 2^63
 /// and isn't empty where it is partial. The page of an object has `Content-Length` as its last header, also where its
 /// body is empty; other headers that belong to the message and not to the reply are not among these. The reply for want
-/// of memory has no page: its bytes are fixed. The call fails only where memory runs out.
-pub fn page(alloc: Global, reply: &Reply, label: &Label, resource: &[u8]) -> Result<Page, Memory>
-    requires reply { reply.now ≢ Reply.Memory }
-    requires showable { IsShowable reply.now }
+/// of memory has no page: its bytes are fixed. The body of an object is moved into its page. The call fails only where
+/// memory runs out.
+pub fn page(alloc: Global, reply: Reply, label: &Label, resource: &[u8]) -> Result<Page, Memory>
+    requires reply { reply ≢ Reply.Memory }
+    requires showable { IsShowable reply }
     requires moment { label.now.moment < moment_limit }
-    ensures { IfOk result (λ page. page ≡ page_of reply.now label.now resource.now) }
+    ensures { IfOk result (λ page. page ≡ page_of reply label.now resource.now) }
 {
     match reply {
-        Reply::Refused(code) => refused(alloc, *code, label, resource),
+        Reply::Refused(code) => refused(alloc, code, label, resource),
         Reply::Memory => unreachable!(),
         Reply::Gone => gone(alloc, label),
         Reply::Made { bucket } => made(alloc, bucket.as_slice(), label),
@@ -35,7 +36,7 @@ pub fn page(alloc: Global, reply: &Reply, label: &Label, resource: &[u8]) -> Res
             length,
             partial,
             body,
-        } => object(alloc, head, *from, *length, *partial, body, label),
+        } => object(alloc, &head, from, length, partial, body, label),
     }
 }
 

@@ -10,7 +10,8 @@ use Rattle.std.specs.BTreeMap.{insert_entry}
 use Rattle.std.specs.FinMap.{get, insert, remove, from_entries, find, put, get-from_entries}
 use Rattle.std.specs.FinMap.Entries.{by_order, find-put}
 use Rattle.std.proofs.lemmas.Bool.{cond-false, cond-true}
-use Rattle.gate_base.specs.Maps.{IsKeyOrder, adjust, adjust_there, at_insert, off_insert, at_remove, off_remove, key_itself, same_at_and_off}
+use Rattle.gate_base.specs.Maps.{adjust}
+use Rattle.gate_base.proofs.lemmas.Maps.{IsKeyOrder, adjust_there, at_insert, off_insert, at_remove, off_remove, key_itself, same_at_and_off}
 
 -- keys of type J represent keys of type K
 module _ {J K : Type 0} (R : K → K → Ordering) (key : J → K) where

@@ -2,3 +2,4 @@ pub mod Budget
 pub mod Entries
 pub mod Rereads
 pub mod Tables
+pub mod lemmas

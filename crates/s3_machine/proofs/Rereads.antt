@@ -3,7 +3,8 @@ use Rattle.std.specs.Prelude.{◌≡◌, ℕ, Bool, true, false, List, Option, S
 use Rattle.std.proofs.Common.{refl, ap, ◌∙◌}
 use Rattle.std.specs.Option.{option_map}
 use Rattle.std.specs.FinMap.{get}
-use Rattle.gate_base.specs.Maps.{adjust, by_name, at_adjust, at_insert, at_remove}
+use Rattle.gate_base.specs.Maps.{adjust}
+use Rattle.gate_base.proofs.lemmas.Maps.{by_name, at_adjust, at_insert, at_remove}
 use Rattle.gate_base.specs.declared.page.Caller.{Caller}
 use Rattle.gate_base.specs.declared.page.Caller.TheVariants.{Owner}
 use Rattle.gate_base.specs.declared.page.Pair.{Pair}

@@ -8,7 +8,8 @@ use Rattle.std.specs.BTreeMap.{insert_entry}
 use Rattle.std.specs.FinMap.{get, insert, remove}
 use Rattle.std.specs.Result.{OnOk, OnErr}
 use Rattle.std.proofs.lemmas.Map.Steps.{set_value_same}
-use Rattle.gate_base.specs.Maps.{Names, name_cmp, by_name, adjust, adjust_missing}
+use Rattle.gate_base.specs.Maps.{Names, name_cmp, adjust}
+use Rattle.gate_base.proofs.lemmas.Maps.{by_name, adjust_missing}
 use Rattle.s3_machine.specs.Table.{names_of}
 use Rattle.s3_machine.proofs.Entries.{get-seen, seen_insert, seen_adjust, seen_remove}
 

@@ -4,8 +4,6 @@ pub mod Laws
 pub mod Limits
 pub mod Native
 pub mod Shown
-pub mod ShownLaws
 pub mod State
 pub mod Step
-pub mod StepLaws
 pub mod Table

@@ -3,16 +3,14 @@
 use Rattle.std.specs.Prelude.{ℕ, Bool, false, ◌&&◌, ◌||◌, ◌==◌, ◌+◌, ◌-◌, nat_le, if◌then◌else◌, List, length, drop, slice_get, sum_by, codes, bytes_eq}
 use Rattle.std.specs.List.{list_all, list_any}
 use Rattle.std.specs.Option.{option_map_or}
+use Rattle.gate_base.specs.Ascii.{is_visible}
 use Rattle.gate_base.specs.declared.page.Pair.{Pair}
-use Rattle.s3_names.specs.Bucket.{is_letter_or_digit}
+use Rattle.s3_names.specs.Bucket.{is_lower_or_digit}
+use Rattle.s3_machine.specs.declared.limits.TheConstants.{MOST_BODY_BYTES, MOST_CONTENT_TYPE_BYTES, MOST_ENTRIES, MOST_META_BYTES}
 
 -- the most bytes of the body of a request
 abbrev pub most_body_bytes : ℕ
-most_body_bytes = 16777216
-
--- visible ASCII
-abbrev pub is_visible : ℕ → Bool
-is_visible byte = nat_le 33 byte && nat_le byte 126
+most_body_bytes = MOST_BODY_BYTES
 
 -- visible ASCII and the space
 abbrev pub is_printed : ℕ → Bool
@@ -24,7 +22,7 @@ has_visible_ends text = option_map_or is_visible (slice_get text 0) false && opt
 
 -- 1 to 256 bytes of visible ASCII and spaces, without a space at either end
 unfoldable pub is_content_type : List ℕ → Bool
-is_content_type text = nat_le (length text) 256 && list_all is_printed text && has_visible_ends text
+is_content_type text = nat_le (length text) MOST_CONTENT_TYPE_BYTES && list_all is_printed text && has_visible_ends text
 
 -- visible ASCII and spaces, or nothing
 unfoldable pub is_meta_value : List ℕ → Bool
@@ -32,7 +30,7 @@ is_meta_value value = list_all is_printed value
 
 -- the bytes of a token, but for the upper-case letters
 abbrev pub is_lower_token_byte : ℕ → Bool
-is_lower_token_byte byte = is_letter_or_digit byte || list_any (λ mark. mark == byte) (codes "!#$%&'*+-.^_`|~")
+is_lower_token_byte byte = is_lower_or_digit byte || list_any (λ mark. mark == byte) (codes "!#$%&'*+-.^_`|~")
 
 -- a name of the user's own begins with `-`
 abbrev pub is_own_name : List ℕ → Bool
@@ -60,4 +58,4 @@ is_proper_pair pair = is_meta_name pair.name && is_meta_value pair.value
 
 -- at most 64 entries, and at most 2048 bytes of names and values
 unfoldable pub is_proper_meta : List Pair → Bool
-is_proper_meta meta = nat_le (length meta) 64 && list_all is_proper_pair meta && nat_le (sum_by pair_bytes meta) 2048
+is_proper_meta meta = nat_le (length meta) MOST_ENTRIES && list_all is_proper_pair meta && nat_le (sum_by pair_bytes meta) MOST_META_BYTES

@@ -1,8 +1,9 @@
 //! The limits of what an object is put with.
 ghost use Rattle.std.specs.Prelude.{◌≡◌, ◌&&◌, ◌||◌, ◌==◌, ◌+◌, length, drop, nat_le, sum_by, codes};
 ghost use Rattle.std.specs.List.{list_all, list_any};
-ghost use Rattle.s3_names.specs.Bucket.{is_letter_or_digit};
-ghost use Rattle.s3_machine.specs.Limits.{bare_name, has_visible_ends, is_content_type, is_kept_header, is_lower_token_byte, is_meta_name, is_meta_value, is_own_name, is_printed, is_proper_meta, is_proper_pair, is_visible, pair_bytes};
+ghost use Rattle.gate_base.specs.Ascii.{is_visible};
+ghost use Rattle.s3_names.specs.Bucket.{is_lower_or_digit};
+ghost use Rattle.s3_machine.specs.Limits.{bare_name, has_visible_ends, is_content_type, is_kept_header, is_lower_token_byte, is_meta_name, is_meta_value, is_own_name, is_printed, is_proper_meta, is_proper_pair, pair_bytes};
 
 use gate_base::Pair;
 use s3_names::Meta;
@@ -11,13 +12,13 @@ use s3_names::Meta;
 pub const MOST_BODY_BYTES: u64 = 16_777_216;
 
 /// The most bytes of a content type.
-const MOST_CONTENT_TYPE_BYTES: usize = 256;
+pub(crate) const MOST_CONTENT_TYPE_BYTES: usize = 256;
 
 /// The most entries of user metadata.
-const MOST_ENTRIES: usize = 64;
+pub(crate) const MOST_ENTRIES: usize = 64;
 
 /// The most bytes of the names and values of user metadata, without the `-` before a name of the user's own.
-const MOST_META_BYTES: usize = 2048;
+pub(crate) const MOST_META_BYTES: usize = 2048;
 
 /// The marks of a token that are neither letters nor digits (RFC 9110, section 5.6.2).
 const TOKEN_MARKS: &[u8] = b"!#$%&'*+-.^_`|~";
@@ -28,7 +29,7 @@ const TOKEN_MARKS: &[u8] = b"!#$%&'*+-.^_`|~";
 pub fn is_content_type(text: &[u8]) -> bool
     ensures { result ≡ is_content_type text.now }
 {
-    text.len() <= MOST_CONTENT_TYPE_BYTES && all_printed(text) && visible_ends(text)
+    text.len() <= MOST_CONTENT_TYPE_BYTES && are_printed(text) && has_visible_ends(text)
 }
 
 /// Whether these bytes may be a value of user metadata: visible ASCII and spaces, or nothing. It takes no memory.
@@ -36,7 +37,7 @@ pub fn is_content_type(text: &[u8]) -> bool
 pub fn is_meta_value(value: &[u8]) -> bool
     ensures { result ≡ is_meta_value value.now }
 {
-    all_printed(value)
+    are_printed(value)
 }
 
 /// Whether these bytes may be a name of user metadata: `-` and the lower-case bytes of a token (RFC 9110, section
@@ -46,7 +47,7 @@ pub fn is_meta_value(value: &[u8]) -> bool
 pub fn is_meta_name(name: &[u8]) -> bool
     ensures { result ≡ is_meta_name name.now }
 {
-    token_of_the_user(name) || kept_header(name)
+    is_user_meta_name(name) || is_kept_header(name)
 }
 
 /// Whether an object may be put with this user metadata: at most 64 entries, each with a proper name and value, and at
@@ -56,61 +57,61 @@ pub fn is_proper_meta(meta: &Meta) -> bool
     ensures { result ≡ is_proper_meta meta.now }
 {
     let pairs = meta.pairs();
-    pairs.len() <= MOST_ENTRIES && all_proper(pairs) && fit(pairs)
+    pairs.len() <= MOST_ENTRIES && are_proper_pairs(pairs) && is_small(pairs)
 }
 
-fn visible(byte: u8) -> bool
+fn is_visible(byte: u8) -> bool
     ensures { result ≡ is_visible byte }
 {
     33 <= byte && byte <= 126
 }
 
-fn printed(byte: u8) -> bool
+fn is_printed(byte: u8) -> bool
     ensures { result ≡ is_printed byte }
 {
     32 <= byte && byte <= 126
 }
 
-fn all_printed(text: &[u8]) -> bool
+fn are_printed(text: &[u8]) -> bool
     ensures { result ≡ list_all is_printed text.now }
 {
-    text.iter().all(|byte| printed(*byte))
+    text.iter().all(|byte| is_printed(*byte))
 }
 
-fn visible_ends(text: &[u8]) -> bool
+fn has_visible_ends(text: &[u8]) -> bool
     ensures { result ≡ has_visible_ends text.now }
 {
     match (text.first(), text.last()) {
-        (Some(first), Some(last)) => visible(*first) && visible(*last),
+        (Some(first), Some(last)) => is_visible(*first) && is_visible(*last),
         _ => false,
     }
 }
 
-fn letter_or_digit(byte: u8) -> bool
-    ensures { result ≡ is_letter_or_digit byte }
+fn is_lower_or_digit(byte: u8) -> bool
+    ensures { result ≡ is_lower_or_digit byte }
 {
     byte.is_ascii_lowercase() || byte.is_ascii_digit()
 }
 
-fn token_mark(byte: u8) -> bool
+fn is_token_mark(byte: u8) -> bool
     ensures { result ≡ list_any (λ mark. mark == byte) (codes "!#$%&'*+-.^_`|~") }
 {
     TOKEN_MARKS.contains(&byte)
 }
 
-fn lower_token_byte(byte: u8) -> bool
+fn is_lower_token_byte(byte: u8) -> bool
     ensures { result ≡ is_lower_token_byte byte }
 {
-    letter_or_digit(byte) || token_mark(byte)
+    is_lower_or_digit(byte) || is_token_mark(byte)
 }
 
-fn all_lower_token_bytes(text: &[u8]) -> bool
+fn are_lower_token_bytes(text: &[u8]) -> bool
     ensures { result ≡ list_all is_lower_token_byte text.now }
 {
-    text.iter().all(|byte| lower_token_byte(*byte))
+    text.iter().all(|byte| is_lower_token_byte(*byte))
 }
 
-fn own_name(name: &[u8]) -> bool
+fn is_own_name(name: &[u8]) -> bool
     ensures { result ≡ is_own_name name.now }
 {
     match name.first() {
@@ -120,7 +121,7 @@ fn own_name(name: &[u8]) -> bool
 }
 
 /// The name without the `-` before it.
-fn bare(name: &[u8]) -> &[u8]
+fn bare_name(name: &[u8]) -> &[u8]
     ensures { result.now ≡ bare_name name.now }
 {
     match name {
@@ -129,16 +130,16 @@ fn bare(name: &[u8]) -> &[u8]
     }
 }
 
-fn token_of_the_user(name: &[u8]) -> bool
+fn is_user_meta_name(name: &[u8]) -> bool
     ensures { result ≡ (is_own_name name.now && list_all is_lower_token_byte (drop 1 name.now)) }
 {
     match name {
-        [b'-', rest @ ..] => all_lower_token_bytes(rest),
+        [b'-', rest @ ..] => are_lower_token_bytes(rest),
         _ => false,
     }
 }
 
-fn kept_header(name: &[u8]) -> bool
+fn is_kept_header(name: &[u8]) -> bool
     ensures { result ≡ is_kept_header name.now }
 {
     name == b"cache-control".as_slice()
@@ -148,25 +149,25 @@ fn kept_header(name: &[u8]) -> bool
         || name == b"expires".as_slice()
 }
 
-fn proper_pair(pair: &Pair) -> bool
+fn is_proper_pair(pair: &Pair) -> bool
     ensures { result ≡ is_proper_pair pair.now }
 {
     is_meta_name(pair.name.as_slice()) && is_meta_value(pair.value.as_slice())
 }
 
-fn all_proper(pairs: &[Pair]) -> bool
+fn are_proper_pairs(pairs: &[Pair]) -> bool
     ensures { result ≡ list_all is_proper_pair pairs.now }
 {
-    pairs.iter().all(|pair| proper_pair(pair))
+    pairs.iter().all(|pair| is_proper_pair(pair))
 }
 
 /// Whether the names and values have no more bytes than are allowed.
-fn fit(pairs: &[Pair]) -> bool
-    ensures { result ≡ nat_le (sum_by pair_bytes pairs.now) 2048 }
+fn is_small(pairs: &[Pair]) -> bool
+    ensures { result ≡ nat_le (sum_by pair_bytes pairs.now) MOST_META_BYTES }
 {
     let mut left = MOST_META_BYTES;
     for pair in pairs {
-        let name = bare(pair.name.as_slice()).len();
+        let name = bare_name(pair.name.as_slice()).len();
         if name > left {
             return false;
         }

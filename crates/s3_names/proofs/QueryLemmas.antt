@@ -9,7 +9,7 @@ use Rattle.std.proofs.lemmas.List.Splits.{slice_split_first}
 use Rattle.gate_base.specs.declared.page.Pair.{Pair}
 use Rattle.s3_names.specs.declared.fault.NameFault.TheVariants.{NotUtf8}
 use Rattle.s3_names.specs.Query.{is_ampersand, is_filled, pieces, pair_of, is_text_pair, text_pairs}
-use Rattle.s3_names.proofs.Dots.{slice_split_whole}
+use Rattle.s3_names.proofs.lemmas.Dots.{slice_split_whole}
 
 pub pieces_nil : pieces [] ≡ []
 unfolding pieces

@@ -3,22 +3,20 @@
 use Rattle.std.specs.Prelude.{ℕ, Bool, false, not, ◌&&◌, ◌||◌, ◌==◌, nat_le, ◌-◌, if◌then◌else◌, List, [], ◌∷◌, length, slice_get, Result, Ok, Err}
 use Rattle.std.specs.List.{list_all, slice_split}
 use Rattle.std.specs.Option.{option_map_or}
+use Rattle.gate_base.specs.Ascii.{is_digit}
 use Rattle.s3_names.specs.declared.fault.NameFault.{NameFault}
 use Rattle.s3_names.specs.declared.fault.NameFault.TheVariants.{BadBucket}
 
-abbrev pub is_digit : ℕ → Bool
-is_digit byte = nat_le 48 byte && nat_le byte 57
-
 -- `a` to `z`, `0` to `9`
-abbrev pub is_letter_or_digit : ℕ → Bool
-is_letter_or_digit byte = (nat_le 97 byte && nat_le byte 122) || is_digit byte
+abbrev pub is_lower_or_digit : ℕ → Bool
+is_lower_or_digit byte = (nat_le 97 byte && nat_le byte 122) || is_digit byte
 
 -- these, `.` and `-`
 abbrev pub is_bucket_byte : ℕ → Bool
-is_bucket_byte byte = is_letter_or_digit byte || byte == 46 || byte == 45
+is_bucket_byte byte = is_lower_or_digit byte || byte == 46 || byte == 45
 
 abbrev pub begins_and_ends : List ℕ → Bool
-begins_and_ends name = option_map_or is_letter_or_digit (slice_get name 0) false && option_map_or is_letter_or_digit (slice_get name (length name - 1)) false
+begins_and_ends name = option_map_or is_lower_or_digit (slice_get name 0) false && option_map_or is_lower_or_digit (slice_get name (length name - 1)) false
 
 -- `..` stands somewhere in the text
 unfoldable pub has_two_dots : List ℕ → Bool
@@ -39,7 +37,8 @@ is_address name = length (slice_split is_dot name) == 4 && list_all is_short_num
 
 -- three to 63 such bytes that begin and end with a letter or digit, without `..`, and no address
 unfoldable pub is_bucket : List ℕ → Bool
-is_bucket name = nat_le 3 (length name) && nat_le (length name) 63 && list_all is_bucket_byte name && begins_and_ends name && not (has_two_dots name) && not (is_address name)
+is_bucket name = nat_le 3 (length name) && nat_le (length name) 63 && list_all is_bucket_byte name && begins_and_ends name && not (has_two_dots name)
+    && not (is_address name)
 
 -- the bucket name that bytes are
 abbrev pub bucket_of : List ℕ → Result (List ℕ) NameFault

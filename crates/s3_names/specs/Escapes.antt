@@ -4,7 +4,7 @@ use Rattle.std.specs.Prelude.{◌≡◌, ℕ, ◌+◌, ◌*◌, ◌/◌, ◌%◌
 use Rattle.std.specs.Char.{digit_value}
 use Rattle.std.specs.List.{flat_map}
 use Rattle.percent_encoding.specs.Percent.{percent_decode}
-use Rattle.s3_names.specs.Bucket.{is_digit}
+use Rattle.gate_base.specs.Ascii.{is_digit}
 use Rattle.s3_names.specs.declared.fault.NameFault.{NameFault}
 use Rattle.s3_names.specs.declared.fault.NameFault.TheVariants.{BadEscape}
 
@@ -14,7 +14,8 @@ is_hex_digit byte = is_digit byte || (nat_le 65 byte && nat_le byte 70) || (nat_
 
 -- `A` to `Z`, `a` to `z`, `0` to `9`, `-`, `.`, `_`, `~`
 abbrev pub is_unreserved : ℕ → Bool
-is_unreserved byte = (nat_le 65 byte && nat_le byte 90) || (nat_le 97 byte && nat_le byte 122) || is_digit byte || byte == 45 || byte == 46 || byte == 95 || byte == 126
+is_unreserved byte = (nat_le 65 byte && nat_le byte 90) || (nat_le 97 byte && nat_le byte 122) || is_digit byte || byte == 45 || byte == 46 || byte == 95
+    || byte == 126
 
 -- these and `/`
 abbrev pub stays_in_path : ℕ → Bool

@@ -1,9 +1,7 @@
 pub mod Answer
 pub mod Bucket
-pub mod BucketLaws
 pub mod Escapes
 pub mod Key
-pub mod KeyLaws
 pub mod Meta
 pub mod Query
 pub mod Target

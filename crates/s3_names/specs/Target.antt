@@ -3,6 +3,7 @@
 use Rattle.std.specs.Prelude.{ℕ, Bool, false, not, ◌&&◌, ◌==◌, if◌then◌else◌, List, [], ◌∷◌, drop, Result, Ok, Err}
 use Rattle.std.specs.List.{before_first, after_first}
 use Rattle.percent_encoding.specs.Percent.{percent_decode}
+use Rattle.gate_base.specs.Ascii.{is_slash}
 use Rattle.gate_base.specs.declared.page.Pair.{Pair}
 use Rattle.s3_names.specs.declared.fault.NameFault.{NameFault}
 use Rattle.s3_names.specs.declared.fault.NameFault.TheVariants.{NotUtf8, BadEscape}
@@ -13,9 +14,6 @@ use Rattle.s3_names.specs.Text.{is_text}
 
 abbrev pub is_question : ℕ → Bool
 is_question byte = byte == 63
-
-abbrev pub is_slash : ℕ → Bool
-is_slash byte = byte == 47
 
 -- the text before the first `?`
 abbrev pub path_text : List ℕ → List ℕ

@@ -1,11 +1,11 @@
 ghost use Rattle.std.specs.Prelude.{◌≡◌, ◌&&◌, ◌==◌, length, nat_le, slice_get, count_by, Err};
 ghost use Rattle.std.specs.List.{list_all, slice_split};
-ghost use Rattle.s3_names.specs.Bucket.{is_letter_or_digit, is_bucket_byte, begins_and_ends, has_two_dots, is_short_number, is_address, is_digit, is_dot, is_bucket, bucket_of};
+ghost use Rattle.gate_base.specs.Ascii.{is_digit};
+ghost use Rattle.s3_names.specs.Bucket.{is_lower_or_digit, is_bucket_byte, begins_and_ends, has_two_dots, is_short_number, is_address, is_dot, is_bucket, bucket_of};
 ghost use Rattle.s3_names.specs.Answer.{Gives};
 
 use crate::NameFault;
-use crate::cut::first_place;
-use gate_base::{Bytes, Copying, Memory};
+use gate_base::{Bytes, Copying, Memory, first_place};
 use std::alloc::Global;
 use std::marker::Model;
 
@@ -17,7 +17,8 @@ pub struct BucketName {
 
 impl Model for BucketName {
     ghost use Rattle.std.specs.Prelude.{◌≡◌, List, ℕ, true};
-    ghost use Rattle.s3_names.specs.Bucket.{is_bucket};
+    ghost use Rattle.gate_base.specs.Ascii.{is_digit};
+ghost use Rattle.s3_names.specs.Bucket.{is_bucket};
 
     ghost Value = { List ℕ };
 
@@ -71,7 +72,7 @@ pub fn is_bucket(name: &[u8]) -> bool
 }
 
 fn letter_or_digit(byte: u8) -> bool
-    ensures { result ≡ is_letter_or_digit byte }
+    ensures { result ≡ is_lower_or_digit byte }
 {
     byte.is_ascii_lowercase() || byte.is_ascii_digit()
 }
@@ -103,7 +104,7 @@ fn begin_and_end(name: &[u8]) -> bool
     }
 }
 
-#[tactic(auto, using(crate::proofs::Dots::has_two_dots_short), unfolding(crate::specs::Bucket::has_two_dots))]
+#[tactic(auto, using(crate::proofs::lemmas::Dots::has_two_dots_short), unfolding(crate::specs::Bucket::has_two_dots))]
 fn two_dots(name: &[u8]) -> bool
     ensures { result ≡ has_two_dots name.now }
 {
@@ -148,7 +149,7 @@ fn count_dots(name: &[u8]) -> usize
 }
 
 // Whether each text between the dots is a short number.
-#[tactic(auto, using(crate::proofs::Dots::numbers_end, crate::proofs::Dots::numbers_go_on, crate::proofs::Dots::numbers_without_dot))]
+#[tactic(auto, using(crate::proofs::lemmas::Dots::numbers_end, crate::proofs::lemmas::Dots::numbers_go_on, crate::proofs::lemmas::Dots::numbers_without_dot))]
 fn all_short_numbers(name: &[u8]) -> bool
     ensures { result ≡ list_all is_short_number (slice_split is_dot name.now) }
 {
@@ -162,7 +163,7 @@ fn all_short_numbers(name: &[u8]) -> bool
     short_number(rest)
 }
 
-#[tactic(auto, using(crate::proofs::Dots::is_address_by_dots))]
+#[tactic(auto, using(crate::proofs::lemmas::Dots::is_address_by_dots))]
 fn address(name: &[u8]) -> bool
     ensures { result ≡ is_address name.now }
 {

@@ -9,7 +9,7 @@ use std::alloc::Global;
 use std::marker::Model;
 
 /// The most bytes of a key (Amazon S3 User Guide, "Naming Amazon S3 objects").
-const MOST_KEY_BYTES: usize = 1024;
+pub const MOST_KEY_BYTES: usize = 1024;
 
 /// Whether these bytes are an object key: 1 to 1024 bytes of UTF-8 without byte 0. It takes no memory.
 #[tactic(auto, unfolding(crate::specs::Key::is_key))]

@@ -4,7 +4,6 @@
 
 mod acl;
 mod bucket;
-mod cut;
 mod escapes;
 mod fault;
 mod key;

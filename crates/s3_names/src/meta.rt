@@ -41,7 +41,7 @@ impl Meta {
 
     /// Puts a pair in its place and answers true. It answers false and changes nothing exactly where the name is
     /// there. Where memory runs out, the metadata is as before.
-    #[tactic(auto, using(crate::proofs::MetaLemmas::with_pair_ascends), unfolding(crate::specs::Meta::with_pair))]
+    #[tactic(auto, using(crate::proofs::lemmas::MetaLemmas::with_pair_ascends), unfolding(crate::specs::Meta::with_pair))]
     pub fn add(&mut self, name: &[u8], value: &[u8]) -> Result<bool, Memory>
         ensures answer { IfOk result (λ added. added ≡ not (has_name name.now self.old)) }
         ensures ok { IfOk result (λ added.
@@ -103,7 +103,7 @@ fn first_not_before(name: &[u8], pairs: &[Pair]) -> Option<usize>
 }
 
 // The first place whose name isn't before this one, or the end.
-#[tactic(auto, using(crate::proofs::MetaLemmas::place_is, crate::proofs::MetaLemmas::place_within))]
+#[tactic(auto, using(crate::proofs::lemmas::MetaLemmas::place_is, crate::proofs::lemmas::MetaLemmas::place_within))]
 fn place_of(name: &[u8], pairs: &[Pair]) -> usize
     ensures place { result ≡ place_of name.now pairs.now }
     ensures within { result ≤ length pairs.now }

@@ -4,10 +4,9 @@ ghost use Rattle.s3_names.specs.Answer.{Gives};
 ghost use Rattle.s3_names.specs.Query.{pieces, pair_of, has_bad_side, is_text_pair, text_pairs, query_of};
 
 use crate::NameFault;
-use crate::cut::cut;
 use crate::escapes::{has_bad_escape, unescape};
 use crate::text::is_text;
-use gate_base::{Copying, List, Memory, Pair};
+use gate_base::{Copying, List, Memory, Pair, cut};
 use std::alloc::Global;
 use std::marker::Model;
 

@@ -4,11 +4,10 @@ ghost use Rattle.s3_names.specs.Answer.{Gives};
 ghost use Rattle.s3_names.specs.Text.{is_text};
 ghost use Rattle.s3_names.specs.Target.{path_text, is_path, target_of};
 
-use crate::cut::cut;
 use crate::escapes::{has_bad_escape, unescape};
 use crate::text::is_text;
 use crate::{NameFault, Query};
-use gate_base::{Bytes, Copying, Memory};
+use gate_base::{Bytes, Copying, Memory, cut};
 use std::alloc::Global;
 
 /// The target of a request in path style (RFC 9112, section 3.2.1; Amazon S3 User Guide, "Virtual hosting of buckets").

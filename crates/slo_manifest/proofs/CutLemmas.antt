@@ -6,7 +6,8 @@ use Rattle.std.proofs.lemmas.Bool.Decides.{nat_tests}
 use Rattle.std.proofs.lemmas.List.{take_all, drop_all}
 use Rattle.std.proofs.lemmas.List.Sums.{passes_at_first}
 use Rattle.std.proofs.lemmas.Str.{IsUtf8-nil, IsUtf8-take, IsUtf8-drop, is_utf8-from_IsUtf8, IsCharBoundary-before_ascii, IsCharBoundary-after_ascii}
-use Rattle.slo_manifest.specs.Segments.{is_slash, is_proper, is_listable, is_segment}
+use Rattle.gate_base.specs.Ascii.{is_slash}
+use Rattle.slo_manifest.specs.Segments.{is_proper, is_listable, is_segment}
 use Rattle.slo_manifest.specs.Path.{relative, container_in, name_in}
 use Rattle.slo_manifest.specs.Entry.{segment}
 

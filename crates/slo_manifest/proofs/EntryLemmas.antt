@@ -4,7 +4,8 @@ use Rattle.std.specs.List.{list_all, list_any, position_or_len}
 use Rattle.std.proofs.lemmas.Bool.{and_parts, or_parts}
 use Rattle.std.proofs.lemmas.List.{take_all, take-append-le}
 use Rattle.serde_json.specs.View.{items_of}
-use Rattle.slo_manifest.specs.Segments.{is_slash, is_proper, is_segment}
+use Rattle.gate_base.specs.Ascii.{is_slash}
+use Rattle.slo_manifest.specs.Segments.{is_proper, is_segment}
 use Rattle.slo_manifest.specs.Path.{path_of, container_in, name_in}
 use Rattle.slo_manifest.specs.Entry.{Entry, whole, segment, segment_of, entry_of}
 use Rattle.slo_manifest.specs.Text.{entry_value}

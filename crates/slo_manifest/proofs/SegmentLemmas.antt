@@ -6,7 +6,8 @@ use Rattle.std.proofs.lemmas.Bool.{and_parts, not-true}
 use Rattle.std.proofs.lemmas.Bool.Decides.{nat_tests}
 use Rattle.std.proofs.lemmas.Str.{is_utf8-from_IsUtf8, IsUtf8-from_ascii}
 use Rattle.std.proofs.lemmas.Str.Ascii.{IsAscii-nil, IsAscii-cons}
-use Rattle.slo_manifest.specs.Segments.{is_slash, is_lower_hex_digit, is_etag, is_filled, is_proper, is_listable, is_segment, is_manifest}
+use Rattle.gate_base.specs.Ascii.{is_slash}
+use Rattle.slo_manifest.specs.Segments.{is_lower_hex_digit, is_etag, is_filled, is_proper, is_listable, is_segment, is_manifest}
 use Rattle.slo_manifest.specs.declared.Segment.{Segment}
 
 digit_is_ascii : (byte : ℕ) → is_lower_hex_digit byte ≡ true → byte < 128

@@ -12,7 +12,8 @@ use Rattle.slo_manifest.specs.declared.manifest.ManifestFault.TheVariants.{Memor
 
 -- a text has an answer, and unless memory runs out no other
 abbrev pub OneAnswer : Type 0
-OneAnswer = (form : Form) (text : List ℕ) → (due : Result (List Segment) ManifestFault) × (due ≢ Err Memory) × Reads form text due × ((other : Result (List Segment) ManifestFault) → other ≢ Err Memory → Reads form text other → other ≡ due)
+OneAnswer = (form : Form) (text : List ℕ) → (due : Result (List Segment) ManifestFault) × (due ≢ Err Memory) × Reads form text due
+    × ((other : Result (List Segment) ManifestFault) → other ≢ Err Memory → Reads form text other → other ≡ due)
 
 -- segments that have a text are what it is read as
 abbrev pub TextReadsBack : Type 0
@@ -20,4 +21,5 @@ TextReadsBack = (form : Form) (segments : List Segment) → is_manifest segments
 
 -- a byte of joined bodies is the byte of the body in which it lies
 abbrev pub ByteLies : Type 0
-ByteLies = (bodies : List (List ℕ)) (at index within : ℕ) → Lies (map length bodies) at index within → slice_index (flat_map (λ body. body) bodies) at ≡ slice_index (slice_index_or bodies index []) within
+ByteLies = (bodies : List (List ℕ)) (at index within : ℕ) → Lies (map length bodies) at index within
+    → slice_index (flat_map (λ body. body) bodies) at ≡ slice_index (slice_index_or bodies index []) within

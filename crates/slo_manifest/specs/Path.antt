@@ -2,7 +2,7 @@
 -- ends at the second slash; that the first may be absent is this profile.
 use Rattle.std.specs.Prelude.{ℕ, if◌then◌else◌, List, [], ◌∷◌, ◌++◌}
 use Rattle.std.specs.List.{before_first, after_first}
-use Rattle.slo_manifest.specs.Segments.{is_slash}
+use Rattle.gate_base.specs.Ascii.{is_slash}
 
 abbrev pub path_of : List ℕ → List ℕ → List ℕ
 path_of container name = 47 ∷ (container ++ 47 ∷ name)

@@ -3,10 +3,8 @@
 use Rattle.std.specs.Prelude.{ℕ, ◌^◌, Bool, not, ◌&&◌, ◌||◌, ◌==◌, nat_le, nat_lt, List, length}
 use Rattle.std.specs.List.{list_all, list_any}
 use Rattle.std.specs.Str.{is_utf8}
+use Rattle.gate_base.specs.Ascii.{is_slash}
 use Rattle.slo_manifest.specs.declared.Segment.{Segment}
-
-abbrev pub is_slash : ℕ → Bool
-is_slash byte = byte == 47
 
 -- `0` to `9` and `a` to `f`
 abbrev pub is_lower_hex_digit : ℕ → Bool

@@ -1,8 +1,7 @@
-ghost use Rattle.std.specs.Prelude.{◌≡◌, ◌==◌, IfOk, position, string_bytes};
-ghost use Rattle.std.specs.List.{before_first, after_first};
-ghost use Rattle.slo_manifest.specs.Segments.{is_slash};
+ghost use Rattle.std.specs.Prelude.{◌≡◌, IfOk, string_bytes};
 ghost use Rattle.slo_manifest.specs.Path.{path_of, relative, container_in, name_in};
 
+use gate_base::cut;
 use std::alloc::{AllocError, Global};
 
 /// The path without the `/` that it may begin with.
@@ -15,29 +14,12 @@ fn relative(path: &[u8]) -> &[u8]
     }
 }
 
-fn first_slash(text: &[u8]) -> Option<usize>
-    ensures { result ≡ position is_slash text.now }
-{
-    text.iter().position(|byte| *byte == b'/')
-}
-
-/// The text before the first `/` and the text behind it: all of it and none where there is no `/`.
-fn cut(text: &[u8]) -> (&[u8], &[u8])
-    ensures before { result.0.now ≡ before_first is_slash text.now }
-    ensures behind { result.1.now ≡ after_first is_slash text.now }
-{
-    match first_slash(text) {
-        Some(at) => (&text[..at], &text[at + 1..]),
-        None => (text, &text[text.len()..]),
-    }
-}
-
 /// The container and the name that a path has.
 pub fn parts(path: &[u8]) -> (&[u8], &[u8])
     ensures container { result.0.now ≡ container_in path.now }
     ensures name { result.1.now ≡ name_in path.now }
 {
-    cut(relative(path))
+    cut(relative(path), b'/')
 }
 
 /// `/CONTAINER/NAME`.

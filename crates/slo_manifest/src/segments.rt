@@ -1,7 +1,8 @@
 ghost use Rattle.std.specs.Prelude.{◌≡◌, nat_lt, length};
 ghost use Rattle.std.specs.List.{list_all, list_any};
 ghost use Rattle.std.specs.Str.{is_utf8};
-ghost use Rattle.slo_manifest.specs.Segments.{is_slash, is_lower_hex_digit, is_etag, is_filled, is_proper, is_listable, is_segment, is_manifest};
+ghost use Rattle.gate_base.specs.Ascii.{is_slash};
+ghost use Rattle.slo_manifest.specs.Segments.{is_lower_hex_digit, is_etag, is_filled, is_proper, is_listable, is_segment, is_manifest};
 
 use crate::Segment;
 use crate::manifest::MOST_SEGMENTS;

@@ -10,8 +10,10 @@ use Rattle.std.specs.declared.cmp.Ordering.TheVariants.{Less, Equal, Greater}
 use Rattle.std.specs.Ordering.{is_lt, eq_by_cmp}
 use Rattle.std.proofs.Common.{refl, sym, ap, ◌∙◌, inl, inr, true≢false}
 use Rattle.std.proofs.lemmas.Option.{none-some, same_Some}
-use Rattle.gate_base.specs.Maps.{Names, name_cmp, name_total, by_name, same_key, apart_back, same_names, same_at_and_off, get_empty, at_insert, off_insert, at_remove, off_remove, remove_missing, remove_insert}
-use Rattle.gate_base.specs.Named.{is_below_next, ascends, map_of, has_name, named, index_named, changed, same_name, both, first_of_two, second_of_two, index_none, index_item, get-map_of}
+use Rattle.gate_base.specs.Maps.{Names, name_cmp}
+use Rattle.gate_base.proofs.lemmas.Maps.{name_total, by_name, same_key, apart_back, same_names, same_at_and_off, get_empty, at_insert, off_insert, at_remove, off_remove, remove_missing, remove_insert}
+use Rattle.gate_base.specs.Named.{is_below_next, ascends, map_of, has_name, named, index_named, changed}
+use Rattle.gate_base.proofs.lemmas.Named.{same_name, both, first_of_two, second_of_two, index_none, index_item, get-map_of}
 use Rattle.swift_calls.specs.Lists.{without}
 
 -- a thing written where it stands changes nothing

@@ -3,7 +3,8 @@ use Rattle.std.specs.Prelude.{◌≡◌, ℕ, zero, suc, ◌+◌, ◌<◌, ◌�
 use Rattle.std.specs.List.{list_all}
 use Rattle.std.proofs.Common.{refl, sym, ap, subst, ◌∙◌, get_or, add-one, arith}
 use Rattle.std.proofs.lemmas.Bool.{lt-ltb}
-use Rattle.gate_base.specs.Named.{ascends, changed, ascends_placed, names_changed, all_placed, all_changed, both, first_of_two, second_of_two}
+use Rattle.gate_base.specs.Named.{ascends, changed}
+use Rattle.gate_base.proofs.lemmas.Named.{ascends_placed, names_changed, all_placed, all_changed, both, first_of_two, second_of_two}
 use Rattle.std.proofs.Math.Seq.{take-suc}
 use Rattle.swift_calls.specs.Account.{IsOrdered, is_sized_object, IsSized}
 use Rattle.swift_calls.specs.Step.{Fit}

@@ -6,8 +6,10 @@ use Rattle.std.specs.FinMap.{get, insert, remove, len, len-empty}
 use Rattle.std.proofs.Common.{refl, sym, ap, ◌∙◌, true≢false}
 use Rattle.std.proofs.lemmas.Bool.{ltb-true, eq-eqb, ne_eqb, cond-true, cond-false}
 use Rattle.std.proofs.lemmas.Option.{none-some, same_Some}
-use Rattle.gate_base.specs.Maps.{name_cmp, adjust, by_name, get_empty, adjust_missing, adjust_stays, remove_missing}
-use Rattle.gate_base.specs.Named.{ascends, map_of, named, index_named, changed, first_of_two, second_of_two, get-map_of, map_placed, map_changed, index_changed}
+use Rattle.gate_base.specs.Maps.{name_cmp, adjust}
+use Rattle.gate_base.proofs.lemmas.Maps.{by_name, get_empty, adjust_missing, adjust_stays, remove_missing}
+use Rattle.gate_base.specs.Named.{ascends, map_of, named, index_named, changed}
+use Rattle.gate_base.proofs.lemmas.Named.{first_of_two, second_of_two, get-map_of, map_placed, map_changed, index_changed}
 use Rattle.swift_calls.specs.Account.{SwiftAccount, SwiftObject, SwiftContainer, file_of, folder_of, files_of, find_object, tree_of, size_of, is_sized_object, with_head, with_readers as with_list_of, put_file, remove_file, on_files}
 use Rattle.swift_calls.specs.Bodies.{etag_of, head_of, item_of}
 use Rattle.swift_calls.specs.Step.{page, swift_step, items_reply, head_container, put_container, post_container, delete_container, delete_by, is_bare, put_object, head_reply, get_reply, delete_object, is_listed}

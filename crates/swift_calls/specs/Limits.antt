@@ -1,6 +1,7 @@
 -- The limits of what a store is asked. Source: Object Storage API v1, with bounds of this profile.
 use Rattle.std.specs.Prelude.{ℕ, ◌<◌, ◌≤◌, ◌-◌, nat_le, nat_lt, nat_eq, Bool, not, ◌&&◌, List, length, slice_index, IsUtf8, Contains}
 use Rattle.std.specs.List.{list_all}
+use Rattle.swift_calls.specs.declared.fits.TheConstants.{MOST_BODY}
 
 -- a text of at most so many bytes of UTF-8, none of them 0
 pub record IsText (most : ℕ) (text : List ℕ) : Type 0 where
@@ -43,4 +44,4 @@ is_meta pieces = nat_le (length pieces) 11 && list_all (is_value 256) pieces
 
 -- the greatest body that a call puts: 16 MiB
 abbrev pub most_body : ℕ
-most_body = 16777216
+most_body = MOST_BODY

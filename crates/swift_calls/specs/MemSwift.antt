@@ -1,15 +1,10 @@
 -- What a store in memory tells of itself.
-use Rattle.std.specs.Prelude.{◌≡◌, ◌≤◌, ℕ, true, List, length, take}
-use Rattle.std.proofs.Common.{ap, subst}
-use Rattle.std.proofs.lemmas.List.{take-take}
-use Rattle.std.proofs.lemmas.List.Sums.{sum_by-take-le}
-use Rattle.std.proofs.Math.Seq.{take-length}
-use Rattle.swift_calls.specs.History.{History, IsHistory}
+use Rattle.std.specs.Prelude.{◌≡◌, ℕ, true, length, take}
+use Rattle.swift_calls.specs.History.{History}
 use Rattle.swift_calls.specs.Account.{SwiftAccount, tree_of}
 use Rattle.swift_calls.specs.Replay.{outcome_at, replayed, failures}
 use Rattle.swift_calls.specs.declared.account.Account.{Account}
 use Rattle.swift_calls.specs.declared.memory.Outcome.{Outcome}
-use Rattle.swift_calls.specs.declared.memory.Entry.{Entry}
 use Rattle.swift_calls.specs.declared.memory.MemSwift.{MemSwift}
 
 -- how many calls it has counted
@@ -42,16 +37,3 @@ pub record SamePlan (old new : MemSwift) : Type 0 where
   pub before : new.before ≡ old.before
   pub after : new.after ≡ old.after
   pub stop : new.stop ≡ old.stop
-
--- the failures of all calls are those of the record
-pub failures_of_all : (m : MemSwift) → faults_after m (calls_of m) ≡ failures m.log.items
-failures_of_all m = ap failures (take-length m.log.items)
-
--- more calls have no fewer failures
-pub failures_rise : (m : MemSwift) (j k : ℕ) → j ≤ k → faults_after m j ≤ faults_after m k
-failures_rise m j k order =
-    let P : List Entry → Type 0 = λ entries. failures entries ≤ faults_after m k in
-    subst P (take-take j k m.log.items order) (sum_by-take-le _ (take k m.log.items) j)
-
-pub mem_is_history : (m : MemSwift) → IsHistory (history_of m)
-mem_is_history m = record { last = λ observable left. failures_of_all m; rise = λ observable j k order within. failures_rise m j k order }

@@ -1,9 +1,10 @@
 -- What each call answers, and the account that it leaves. Source: Object Storage API v1.
-use Rattle.std.specs.Prelude.{◌≡◌, ℕ, ◌<◌, ◌≤◌, Bool, true, false, ◌&&◌, nat_eq, List, [], map, length, take, Contains, IsUtf8, IsTrue, Option, None, Some, IfSome}
+use Rattle.std.specs.Prelude.{ℕ, ◌<◌, ◌≤◌, Bool, true, false, ◌&&◌, nat_eq, List, [], map, length, take, Contains, IsUtf8, IsTrue, Option, None, Some, IfSome}
 use Rattle.std.specs.FinMap.{entries, get, insert, len, remove}
 use Rattle.std.specs.List.{filter, starts_with}
 use Rattle.std.specs.Ordering.{is_gt}
 use Rattle.gate_base.specs.Maps.{adjust, name_cmp}
+use Rattle.gate_base.specs.Told.{moment_limit}
 use Rattle.swift_calls.specs.Account.{SwiftAccount, SwiftObject, SwiftContainer, find_object, put_file, remove_file, with_head, with_readers, new_folder}
 use Rattle.swift_calls.specs.Bodies.{Look, etag_of, bytes_of, ranged, head_of, item_of}
 use Rattle.swift_calls.specs.Limits.{IsObjectName, IsMark, IsLimit, IsRange, is_content_type, is_meta, most_body}
@@ -24,7 +25,7 @@ pub record IsContainerName (name : List ℕ) : Type 0 where
 
 -- a moment up to the end of the year 9999, in seconds since the beginning of 1970
 abbrev pub IsMoment : ℕ → Type 0
-IsMoment moment = moment < 253402300800
+IsMoment moment = moment < moment_limit
 
 -- what a store is asked: names and values within their limits
 abbrev pub Fit : SwiftRequest → Type 0
@@ -34,7 +35,8 @@ Fit (PutContainer container readers created) = IsContainerName container × IfSo
 Fit (PostContainer container readers) = IsContainerName container
 Fit (DeleteContainer container) = IsContainerName container
 Fit (ListNames container prefix marker limit) = IsContainerName container × IsMark prefix × IsMark marker × IsLimit limit
-Fit (PutObject container name content_type meta body) = IsContainerName container × IsObjectName name × IsTrue (is_content_type content_type) × IsTrue (is_meta meta) × (length body ≤ most_body)
+Fit (PutObject container name content_type meta body) = IsContainerName container × IsObjectName name × IsTrue (is_content_type content_type)
+    × IsTrue (is_meta meta) × (length body ≤ most_body)
 Fit (HeadObject container name) = IsContainerName container × IsObjectName name
 Fit (GetObject container name range) = IsContainerName container × IsObjectName name × IfSome range IsRange
 Fit (DeleteObject container name) = IsContainerName container × IsObjectName name

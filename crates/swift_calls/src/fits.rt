@@ -8,7 +8,7 @@ use crate::SwiftRequest;
 use gate_base::Bytes;
 
 /// The greatest body that a call puts, in bytes: 16 MiB.
-const MOST_BODY: usize = 16_777_216;
+pub const MOST_BODY: usize = 16_777_216;
 
 fn is_utf8(text: &[u8]) -> bool
     ensures { IsTrue result ↔ IsUtf8 text.now }

@@ -1,11 +1,15 @@
 //! A store in memory: its calls, and its accounts again.
-ghost use Rattle.std.specs.Prelude.{◌≡◌, ℕ, ◌≤◌, ◌+◌, ◌&&◌, ◌==◌, nat_lt, nat_le, refl, IfOk, OnErr, OnOk, IsErrOf};
+ghost use Rattle.std.specs.Prelude.{◌≡◌, ℕ, ◌≤◌, take, ◌+◌, ◌&&◌, ◌==◌, nat_lt, nat_le, refl, IfOk, OnErr, OnOk, IsErrOf};
 ghost use Rattle.std.specs.List.{list_any};
+ghost use Rattle.std.proofs.Common.{ap, subst};
+ghost use Rattle.std.proofs.Math.Seq.{take-length};
+ghost use Rattle.std.proofs.lemmas.List.{take-take};
+ghost use Rattle.std.proofs.lemmas.List.Sums.{sum_by-take-le};
 ghost use Rattle.swift_calls.specs.Account.{tree_of, IsOrdered, IsSized};
 ghost use Rattle.swift_calls.specs.Step.{Fit, swift_step};
 ghost use Rattle.swift_calls.specs.History.{Calls};
-ghost use Rattle.swift_calls.specs.Replay.{outcome_at, left_by, reply_by, Goes, Logs};
-ghost use Rattle.swift_calls.specs.MemSwift.{calls_of, account_after, faults_after, history_of, planned, SamePlan, mem_is_history};
+ghost use Rattle.swift_calls.specs.Replay.{outcome_at, left_by, reply_by, failures, Goes, Logs};
+ghost use Rattle.swift_calls.specs.MemSwift.{calls_of, account_after, faults_after, history_of, planned, SamePlan};
 
 use crate::memory::Entry;
 use crate::serve::serve;
@@ -171,7 +175,11 @@ impl Swift for MemSwift {
 
     ghost counted = { λ m. refl };
 
-    ghost is_history = { mem_is_history };
+    ghost is_history = { λ m. record {
+        last = λ observable left. ap failures (take-length m.log.items);
+        rise = λ observable j k order within.
+            subst (λ entries. failures entries ≤ faults_after m k) (take-take j k m.log.items order) (sum_by-take-le _ (take k m.log.items) j);
+    } };
 
     fn call(&mut self, request: &SwiftRequest) -> Result<SwiftReply, SwiftFault>
         requires { Fit request.now }

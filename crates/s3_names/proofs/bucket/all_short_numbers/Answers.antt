@@ -2,7 +2,7 @@ use Rattle.std.proofs.Common.{◌≡◌, ◌+◌, Some, true, take, drop, positi
 use Rattle.std.specs.List.{list_all, slice_split}
 use Rattle.std.proofs.lemmas.Grind.{common_steps}
 use Rattle.s3_names.specs.Bucket.{is_dot, is_short_number}
-use Rattle.s3_names.proofs.Dots.{numbers_go_on}
+use Rattle.s3_names.proofs.lemmas.Dots.{numbers_go_on}
 use Rattle.s3_names.proofs.bucket.all_short_numbers.Goals as goal
 
 pub texts-preserved : goal.texts-preserved

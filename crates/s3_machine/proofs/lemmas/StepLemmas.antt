@@ -19,7 +19,8 @@ use Rattle.s3_machine.specs.State.{Object, Bucket, State}
 use Rattle.s3_machine.specs.Step.{Outcome, S3Step, step, IsFree, creates, gives, refuses, unless, in_bucket_by, in_object_by, in_readable, may_read, is_other_acl, puts, deletes, reads, whole, headed, new_bucket, new_object, put_object, drop_object}
 
 -- a step by what it comes to
-steps : {settings : Settings} {old : State} {op : Op} {label : Label} (reply : Reply) (new : State) (id : ℕ) → IsFree old op id → step settings old op label id ≡ gives reply new → S3Step settings old op label reply new
+steps : {settings : Settings} {old : State} {op : Op} {label : Label} (reply : Reply) (new : State) (id : ℕ) → IsFree old op id
+    → step settings old op label id ≡ gives reply new → S3Step settings old op label reply new
 steps reply new id free e = record { id = id; free = free; replies = sym (ap (λ (o : Outcome). o.reply) e); goes = sym (ap (λ (o : Outcome). o.state) e) }
 
 -- ---- CreateBucket
@@ -66,7 +67,8 @@ module _ (settings : Settings) (old : State) (bucket key : List ℕ) (label : La
     missing : (f : Bucket → Outcome) → in_bucket_by (get old bucket) old f ≡ refuses NoSuchBucket old
     missing f = ap (λ v. in_bucket_by v old f) none
 
-    pub put_without_bucket : (acl : Option Acl) (content_type : List ℕ) (meta : List Pair) (body : List ℕ) → S3Step settings old (PutObject bucket key acl content_type meta body) label (Refused NoSuchBucket) old
+    pub put_without_bucket : (acl : Option Acl) (content_type : List ℕ) (meta : List Pair) (body : List ℕ)
+        → S3Step settings old (PutObject bucket key acl content_type meta body) label (Refused NoSuchBucket) old
     put_without_bucket acl content_type meta body = steps _ _ 0 tt (missing (puts old bucket key acl (new_object label.moment content_type meta body)))
 
     pub get_without_bucket : S3Step settings old (GetObject bucket key) label (Refused NoSuchBucket) old
@@ -85,11 +87,13 @@ module _ (settings : Settings) (old : State) (bucket key : List ℕ) (label : La
 
     pub put_with_another_acl : (acl : Option Acl) (content_type : List ℕ) (meta : List Pair) (body : List ℕ) → is_other_acl acl b.acl ≡ true
         → S3Step settings old (PutObject bucket key acl content_type meta body) label (Refused NotImplemented) old
-    put_with_another_acl acl content_type meta body e = steps _ _ 0 tt (there (puts old bucket key acl (new_object label.moment content_type meta body)) ∙ unless_true _ _ _ _ e)
+    put_with_another_acl acl content_type meta body e = steps _ _ 0 tt (there (puts old bucket key acl (new_object label.moment content_type meta body))
+        ∙ unless_true _ _ _ _ e)
 
     pub step_stored : (acl : Option Acl) (content_type : List ℕ) (meta : List Pair) (body : List ℕ) → is_other_acl acl b.acl ≡ false
         → S3Step settings old (PutObject bucket key acl content_type meta body) label (Stored (body_etag body)) (adjust bucket (put_object key (new_object label.moment content_type meta body)) old)
-    step_stored acl content_type meta body e = steps _ _ 0 tt (there (puts old bucket key acl (new_object label.moment content_type meta body)) ∙ unless_false _ _ _ _ e)
+    step_stored acl content_type meta body e = steps _ _ 0 tt (there (puts old bucket key acl (new_object label.moment content_type meta body))
+        ∙ unless_false _ _ _ _ e)
 
     pub get_denied : may_read label.caller b.acl ≡ false → S3Step settings old (GetObject bucket key) label (Refused AccessDenied) old
     get_denied e = steps _ _ 0 tt (there (in_readable old label.caller key (reads old whole)) ∙ readable_denied old label key (reads old whole) b e)
@@ -97,16 +101,22 @@ module _ (settings : Settings) (old : State) (bucket key : List ℕ) (label : La
     pub head_denied : may_read label.caller b.acl ≡ false → S3Step settings old (HeadObject bucket key) label (Refused AccessDenied) old
     head_denied e = steps _ _ 0 tt (there (in_readable old label.caller key (reads old headed)) ∙ readable_denied old label key (reads old headed) b e)
 
-    pub get_without_key : may_read label.caller b.acl ≡ true → get b.objects key ≡ None → S3Step settings old (GetObject bucket key) label (Refused NoSuchKey) old
-    get_without_key e none = steps _ _ 0 tt (there (in_readable old label.caller key (reads old whole)) ∙ readable_none old label key (reads old whole) b e none)
+    pub get_without_key : may_read label.caller b.acl ≡ true → get b.objects key ≡ None
+        → S3Step settings old (GetObject bucket key) label (Refused NoSuchKey) old
+    get_without_key e none = steps _ _ 0 tt (there (in_readable old label.caller key (reads old whole))
+        ∙ readable_none old label key (reads old whole) b e none)
 
-    pub head_without_key : may_read label.caller b.acl ≡ true → get b.objects key ≡ None → S3Step settings old (HeadObject bucket key) label (Refused NoSuchKey) old
-    head_without_key e none = steps _ _ 0 tt (there (in_readable old label.caller key (reads old headed)) ∙ readable_none old label key (reads old headed) b e none)
+    pub head_without_key : may_read label.caller b.acl ≡ true → get b.objects key ≡ None
+        → S3Step settings old (HeadObject bucket key) label (Refused NoSuchKey) old
+    head_without_key e none = steps _ _ 0 tt (there (in_readable old label.caller key (reads old headed))
+        ∙ readable_none old label key (reads old headed) b e none)
 
-    pub step_read : (o : Object) → may_read label.caller b.acl ≡ true → get b.objects key ≡ Some o → S3Step settings old (GetObject bucket key) label (whole o) old
+    pub step_read : (o : Object) → may_read label.caller b.acl ≡ true → get b.objects key ≡ Some o
+        → S3Step settings old (GetObject bucket key) label (whole o) old
     step_read o e is = steps _ _ 0 tt (there (in_readable old label.caller key (reads old whole)) ∙ readable_there old label key (reads old whole) b o e is)
 
-    pub step_headed : (o : Object) → may_read label.caller b.acl ≡ true → get b.objects key ≡ Some o → S3Step settings old (HeadObject bucket key) label (headed o) old
+    pub step_headed : (o : Object) → may_read label.caller b.acl ≡ true → get b.objects key ≡ Some o
+        → S3Step settings old (HeadObject bucket key) label (headed o) old
     step_headed o e is = steps _ _ 0 tt (there (in_readable old label.caller key (reads old headed)) ∙ readable_there old label key (reads old headed) b o e is)
 
     -- also where nothing stands under the key
@@ -119,7 +129,8 @@ module _ (settings : Settings) (old : State) (bucket key : List ℕ) (label : La
 abbrev IsMachineReply : Reply → Type 0
 IsMachineReply reply = (reply ≢ Memory) × (reply ≢ Refused ServiceUnavailable) × (reply ≢ Refused InconsistentStore)
 
-creates_reply : (v : Option Bucket) (old : State) (name : List ℕ) (acl : Acl) (moment : ℕ) (reply : Reply) → reply ≡ (creates v old name acl moment).reply → IsMachineReply reply
+creates_reply : (v : Option Bucket) (old : State) (name : List ℕ) (acl : Acl) (moment : ℕ) (reply : Reply)
+    → reply ≡ (creates v old name acl moment).reply → IsMachineReply reply
 creates_reply None old name acl moment reply e = ((λ f. cc), (λ f. cc), (λ f. cc))
 creates_reply (Some b) old name acl moment reply e = ((λ f. cc), (λ f. cc), (λ f. cc))
 
@@ -129,7 +140,8 @@ module _ (old : State) (reply : Reply) where
   puts_reply true etag new e = ((λ f. cc), (λ f. cc), (λ f. cc))
   puts_reply false etag new e = ((λ f. cc), (λ f. cc), (λ f. cc))
 
-  put_reply : (v : Option Bucket) (bucket key : List ℕ) (acl : Option Acl) (o : Object) → reply ≡ (in_bucket_by v old (puts old bucket key acl o)).reply → IsMachineReply reply
+  put_reply : (v : Option Bucket) (bucket key : List ℕ) (acl : Option Acl) (o : Object) → reply ≡ (in_bucket_by v old (puts old bucket key acl o)).reply
+      → IsMachineReply reply
   put_reply None bucket key acl o e = ((λ f. cc), (λ f. cc), (λ f. cc))
   put_reply (Some b) bucket key acl o e = puts_reply (is_other_acl acl b.acl) _ _ e
 
@@ -141,15 +153,18 @@ module _ (old : State) (reply : Reply) where
   headed_reply None e = ((λ f. cc), (λ f. cc), (λ f. cc))
   headed_reply (Some o) e = ((λ f. cc), (λ f. cc), (λ f. cc))
 
-  readable_reply : (t : Bool) (rest : Outcome) → (reply ≡ rest.reply → IsMachineReply reply) → reply ≡ (unless t AccessDenied old rest).reply → IsMachineReply reply
+  readable_reply : (t : Bool) (rest : Outcome) → (reply ≡ rest.reply → IsMachineReply reply) → reply ≡ (unless t AccessDenied old rest).reply
+      → IsMachineReply reply
   readable_reply true rest own e = ((λ f. cc), (λ f. cc), (λ f. cc))
   readable_reply false rest own e = own e
 
-  get_reply : (v : Option Bucket) (label : Label) (key : List ℕ) → reply ≡ (in_bucket_by v old (in_readable old label.caller key (reads old whole))).reply → IsMachineReply reply
+  get_reply : (v : Option Bucket) (label : Label) (key : List ℕ)
+      → reply ≡ (in_bucket_by v old (in_readable old label.caller key (reads old whole))).reply → IsMachineReply reply
   get_reply None label key e = ((λ f. cc), (λ f. cc), (λ f. cc))
   get_reply (Some b) label key e = readable_reply (not (may_read label.caller b.acl)) _ (whole_reply (get b.objects key)) e
 
-  head_reply : (v : Option Bucket) (label : Label) (key : List ℕ) → reply ≡ (in_bucket_by v old (in_readable old label.caller key (reads old headed))).reply → IsMachineReply reply
+  head_reply : (v : Option Bucket) (label : Label) (key : List ℕ)
+      → reply ≡ (in_bucket_by v old (in_readable old label.caller key (reads old headed))).reply → IsMachineReply reply
   head_reply None label key e = ((λ f. cc), (λ f. cc), (λ f. cc))
   head_reply (Some b) label key e = readable_reply (not (may_read label.caller b.acl)) _ (headed_reply (get b.objects key)) e
 

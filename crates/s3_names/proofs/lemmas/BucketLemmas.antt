@@ -13,7 +13,8 @@ use Rattle.s3_names.specs.Bucket.{is_bucket, is_bucket_byte, begins_and_ends, ha
 use Rattle.s3_names.specs.Escapes.{is_unreserved, escaped_unless, escaped_all}
 
 -- the parts that stand first in the definition
-bucket_parts : (name : List ℕ) → is_bucket name ≡ true → (nat_le 3 (length name) ≡ true) × (nat_le (length name) 63 ≡ true) × (list_all is_bucket_byte name ≡ true)
+bucket_parts : (name : List ℕ) → is_bucket name ≡ true → (nat_le 3 (length name) ≡ true) × (nat_le (length name) 63 ≡ true)
+    × (list_all is_bucket_byte name ≡ true)
 unfolding is_bucket
 bucket_parts name h =
     let a = and_parts _ (not (is_address name)) h in

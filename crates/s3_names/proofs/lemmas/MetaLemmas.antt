@@ -19,7 +19,8 @@ place_within name pairs = prefix_len-le-length (λ pair. not (not (is_before nam
 pub place_is : (name : List ℕ) (pairs : List Pair) → unwrap_or (position (λ pair. not (is_before name pair)) pairs) (length pairs) ≡ place_of name pairs
 place_is name pairs = from_test (ltb (place_of name pairs) (length pairs)) refl
   where
-    from_test : (b : Bool) → ltb (place_of name pairs) (length pairs) ≡ b → unwrap_or (cond b (Some (place_of name pairs)) None) (length pairs) ≡ place_of name pairs
+    from_test : (b : Bool) → ltb (place_of name pairs) (length pairs) ≡ b
+        → unwrap_or (cond b (Some (place_of name pairs)) None) (length pairs) ≡ place_of name pairs
     from_test true e = refl
     from_test false e = let within = place_within name pairs in grind (arith, nat_tests)
 
@@ -45,7 +46,8 @@ with_pair_behind name value q qs e =
     let next : place_of name (q ∷ qs) ≡ suc (place_of name qs) = ap (λ b. cond (not (not b)) (1 + place_of name qs) 0) e ∙ omega arith in
     rw next refl
 
-with_pair_front : (name value : List ℕ) (q : Pair) (qs : List Pair) → is_before name q ≡ false → with_pair name value (q ∷ qs) ≡ record { name = name; value = value } ∷ q ∷ qs
+with_pair_front : (name value : List ℕ) (q : Pair) (qs : List Pair) → is_before name q ≡ false
+    → with_pair name value (q ∷ qs) ≡ record { name = name; value = value } ∷ q ∷ qs
 unfolding with_pair
 with_pair_front name value q qs e =
     let next : place_of name (q ∷ qs) ≡ 0 = ap (λ b. cond (not (not b)) (1 + place_of name qs) 0) e in
@@ -71,7 +73,8 @@ ascend_tail q [] h = refl
 ascend_tail q (r ∷ rs) h = (and_parts (is_before r.name q) _ h).1
 
 -- what a pair stands before, it stands before with one more
-head_stays : (name value : List ℕ) (q : Pair) (qs : List Pair) → is_before name q ≡ true → head_is_after q qs ≡ true → head_is_after q (with_pair name value qs) ≡ true
+head_stays : (name value : List ℕ) (q : Pair) (qs : List Pair) → is_before name q ≡ true → head_is_after q qs ≡ true
+    → head_is_after q (with_pair name value qs) ≡ true
 head_stays name value q [] before h = rw (with_pair-nil name value) before
 head_stays name value q (r ∷ rs) before h =
     elim (cases_Bool (is_before name r)) [
@@ -79,7 +82,8 @@ head_stays name value q (r ∷ rs) before h =
       | inr e ↦ rw (with_pair_front name value r rs e) before
     ]
 
-pub with_pair_ascends : (name value : List ℕ) (pairs : List Pair) → names_ascend pairs ≡ true → has_name name pairs ≡ false → names_ascend (with_pair name value pairs) ≡ true
+pub with_pair_ascends : (name value : List ℕ) (pairs : List Pair) → names_ascend pairs ≡ true → has_name name pairs ≡ false
+    → names_ascend (with_pair name value pairs) ≡ true
 unfolding names_ascend
 with_pair_ascends name value [] ascend fresh = rw (with_pair-nil name value) refl
 with_pair_ascends name value (q ∷ qs) ascend fresh =
@@ -107,7 +111,8 @@ ascend_last q (r ∷ rs) last h =
     before_through q.name r.name last.name (ascend_head q (r ∷ rs ++ last ∷ []) h) (ascend_last r rs last (ascend_tail q (r ∷ rs ++ last ∷ []) h))
 
 -- a pair whose name stands behind all others is put at the end
-pub with_pair_push : (pairs : List Pair) (last : Pair) → names_ascend (pairs ++ last ∷ []) ≡ true → (has_name last.name pairs ≡ false) × (with_pair last.name last.value pairs ≡ pairs ++ last ∷ [])
+pub with_pair_push : (pairs : List Pair) (last : Pair) → names_ascend (pairs ++ last ∷ []) ≡ true → (has_name last.name pairs ≡ false)
+    × (with_pair last.name last.value pairs ≡ pairs ++ last ∷ [])
 with_pair_push [] last h = (refl, with_pair-nil last.name last.value)
 with_pair_push (q ∷ qs) last h =
     let more = with_pair_push qs last (ascend_tail q (qs ++ last ∷ []) h) in

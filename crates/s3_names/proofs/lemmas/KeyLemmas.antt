@@ -52,7 +52,9 @@ pub key_from : (name key : List ℕ) → key_of name ≡ Ok key → (is_key name
 unfolding key_of is_key
 key_from name key h = from_tests (length name == 0) (nat_lt 1024 (length name)) (is_text name) refl refl refl h
   where
-    from_tests : (a b c : Bool) → (length name == 0) ≡ a → nat_lt 1024 (length name) ≡ b → is_text name ≡ c → cond a (Err EmptyKey) (cond b (Err LongKey) (cond c (Ok name) (Err NotUtf8))) ≡ Ok key → ((nat_le 1 (length name) && nat_le (length name) 1024 && is_text name) ≡ true) × (key ≡ name)
+    from_tests : (a b c : Bool) → (length name == 0) ≡ a → nat_lt 1024 (length name) ≡ b → is_text name ≡ c
+        → cond a (Err EmptyKey) (cond b (Err LongKey) (cond c (Ok name) (Err NotUtf8))) ≡ Ok key
+        → ((nat_le 1 (length name) && nat_le (length name) 1024 && is_text name) ≡ true) × (key ≡ name)
     from_tests true b c e f g k = cc
     from_tests false true c e f g k = cc
     from_tests false false false e f g k = cc

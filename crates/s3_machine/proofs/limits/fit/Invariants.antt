@@ -1,6 +1,0 @@
-use Rattle.std.proofs.Common.{◌≡◌, nat_le, drop, sum_by}
-use Rattle.s3_machine.specs.Limits.{pair_bytes}
-use Rattle.s3_machine.proofs.limits.fit.Given as goal
-
-abbrev pub invariant-loop-pair : goal.invariant-loop-pair
-invariant-loop-pair l = nat_le (sum_by pair_bytes l.pairs) 2048 ≡ nat_le (sum_by pair_bytes (drop l.pair-index l.pairs)) l.left

@@ -1,0 +1,4 @@
+pub mod BucketLemmas
+pub mod Dots
+pub mod KeyLemmas
+pub mod MetaLemmas
