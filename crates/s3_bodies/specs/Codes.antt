@@ -2,7 +2,14 @@
 -- messages are this profile's, and so is InconsistentStore.
 use Rattle.std.specs.Prelude.{ℕ, List, codes}
 use Rattle.s3_machine.specs.declared.code.Code.{Code}
-use Rattle.s3_machine.specs.declared.code.Code.TheVariants.{AccessDenied, AuthorizationHeaderMalformed, BadDigest, BucketAlreadyOwnedByYou, BucketNotEmpty, EntityTooLarge, EntityTooSmall, IncompleteBody, InconsistentStore, InvalidAccessKeyId, InvalidArgument, InvalidBucketName, InvalidDigest, InvalidPart, InvalidPartOrder, InvalidRange, InvalidRequest, InvalidStorageClass, InvalidURI, KeyTooLongError, MalformedXML, MetadataTooLarge, MethodNotAllowed, MissingContentLength, NoSuchBucket, NoSuchKey, NoSuchUpload, NotImplemented, PreconditionFailed, RequestTimeTooSkewed, ServiceUnavailable, SignatureDoesNotMatch, XAmzContentSHA256Mismatch}
+use Rattle.s3_machine.specs.declared.code.Code.TheVariants.{
+    AccessDenied, AuthorizationHeaderMalformed, BadDigest, BucketAlreadyOwnedByYou, BucketNotEmpty, EntityTooLarge,
+    EntityTooSmall, IncompleteBody, InconsistentStore, InvalidAccessKeyId, InvalidArgument, InvalidBucketName,
+    InvalidDigest, InvalidPart, InvalidPartOrder, InvalidRange, InvalidRequest, InvalidStorageClass, InvalidURI,
+    KeyTooLongError, MalformedXML, MetadataTooLarge, MethodNotAllowed, MissingContentLength, NoSuchBucket, NoSuchKey,
+    NoSuchUpload, NotImplemented, PreconditionFailed, RequestTimeTooSkewed, ServiceUnavailable,
+    SignatureDoesNotMatch, XAmzContentSHA256Mismatch
+}
 
 abbrev pub name_of : Code → List ℕ
 name_of AccessDenied = codes "AccessDenied"

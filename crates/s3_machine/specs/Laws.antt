@@ -14,7 +14,8 @@ use Rattle.s3_machine.specs.Step.{S3Step, new_object, whole}
 
 -- what was put is what an owner gets next: the bytes, with their type, metadata and moment
 pub record GetAfterPut : Type 0 where
-  pub gets : (settings : Settings) (old new after : State) (bucket key content_type body etag : List ℕ) (acl : Option Acl) (meta : List Pair) (first second : Label) (reply : Reply)
+  pub gets : (settings : Settings) (old new after : State) (bucket key content_type body etag : List ℕ) (acl : Option Acl) (meta : List Pair)
+      (first second : Label) (reply : Reply)
       → S3Step settings old (PutObject bucket key acl content_type meta body) first (Stored etag) new
       → second.caller ≡ Owner → S3Step settings new (GetObject bucket key) second reply after
       → reply ≡ whole (new_object first.moment content_type meta body)

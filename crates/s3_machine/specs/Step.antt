@@ -129,7 +129,8 @@ deletes old bucket key b = gives reply.Gone (adjust bucket (drop_object key) old
 -- the step of each operation, with the id that a new upload gets
 abbrev pub step : Settings → State → Op → Label → ℕ → Outcome
 step settings old (CreateBucket bucket acl) label id = creates (get old bucket) old bucket acl label.moment
-step settings old (PutObject bucket key acl content_type meta body) label id = in_bucket old bucket (puts old bucket key acl (new_object label.moment content_type meta body))
+step settings old (PutObject bucket key acl content_type meta body) label id =
+    in_bucket old bucket (puts old bucket key acl (new_object label.moment content_type meta body))
 step settings old (GetObject bucket key) label id = in_bucket old bucket (in_readable old label.caller key (reads old whole))
 step settings old (HeadObject bucket key) label id = in_bucket old bucket (in_readable old label.caller key (reads old headed))
 step settings old (DeleteObject bucket key) label id = in_bucket old bucket (deletes old bucket key)

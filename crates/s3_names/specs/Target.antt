@@ -41,7 +41,13 @@ key_text path = after_first is_slash (drop 1 path)
 
 -- the target of a path that is one, once its query is read
 abbrev pub target_with : List ℕ → Result (List Pair) NameFault → Result Target NameFault
-target_with path (Ok query) = Ok (record { raw_path = path; path = percent_decode path; bucket = percent_decode (bucket_text path); key = percent_decode (key_text path); query = query })
+target_with path (Ok query) = Ok (record {
+  raw_path = path;
+  path = percent_decode path;
+  bucket = percent_decode (bucket_text path);
+  key = percent_decode (key_text path);
+  query = query;
+})
 target_with path (Err fault) = Err fault
 
 -- first the path, then the key, then the query; a bucket that is no text is no refusal

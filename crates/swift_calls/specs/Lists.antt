@@ -11,7 +11,10 @@ use Rattle.swift_calls.specs.declared.account.Stored.{Stored}
 use Rattle.swift_calls.specs.declared.account.Container.{Container}
 use Rattle.swift_calls.specs.declared.account.Account.{Account}
 use Rattle.swift_calls.specs.declared.calls.SwiftRequest.{SwiftRequest}
-use Rattle.swift_calls.specs.declared.calls.SwiftRequest.TheVariants.{ListContainers, HeadContainer, PutContainer, PostContainer, DeleteContainer, ListNames, PutObject, HeadObject, GetObject, DeleteObject}
+use Rattle.swift_calls.specs.declared.calls.SwiftRequest.TheVariants.{
+    ListContainers, HeadContainer, PutContainer, PostContainer, DeleteContainer, ListNames, PutObject, HeadObject,
+    GetObject, DeleteObject
+}
 
 abbrev pub name_of : Container → List ℕ
 name_of c = c.name
@@ -89,11 +92,14 @@ without_container (Some c) name cs = cond (is_nil c.objects) (without name_of na
 abbrev pub served : SwiftRequest → Account → Account
 served (ListContainers marker limit) account = account
 served (HeadContainer container) account = account
-served (PutContainer container readers created) account = record { containers = with_container (named name_of container account.containers) container readers created account.containers }
+served (PutContainer container readers created) account =
+    record { containers = with_container (named name_of container account.containers) container readers created account.containers }
 served (PostContainer container readers) account = record { containers = changed name_of container (with_list readers) account.containers }
 served (DeleteContainer container) account = record { containers = without_container (named name_of container account.containers) container account.containers }
 served (ListNames container prefix marker limit) account = account
-served (PutObject container name content_type meta body) account = record { containers = changed name_of container (with_object (record { name = name; content_type = content_type; meta = meta; content = Plain body })) account.containers }
+served (PutObject container name content_type meta body) account =
+    let object : Stored = record { name = name; content_type = content_type; meta = meta; content = Plain body } in
+    record { containers = changed name_of container (with_object object) account.containers }
 served (HeadObject container name) account = account
 served (GetObject container name range) account = account
 served (DeleteObject container name) account = record { containers = changed name_of container (without_object name) account.containers }

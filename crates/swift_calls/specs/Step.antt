@@ -12,9 +12,14 @@ use Rattle.swift_calls.specs.declared.account.ReadList.{ReadList}
 use Rattle.swift_calls.specs.declared.calls.SwiftRequest.{SwiftRequest}
 use Rattle.swift_calls.specs.declared.account.Content.TheVariants.{Plain}
 use Rattle.swift_calls.specs.declared.heads.StoredHead.{StoredHead}
-use Rattle.swift_calls.specs.declared.calls.SwiftRequest.TheVariants.{ListContainers, HeadContainer, PutContainer, PostContainer, DeleteContainer, ListNames, PutObject, HeadObject, GetObject, DeleteObject}
+use Rattle.swift_calls.specs.declared.calls.SwiftRequest.TheVariants.{
+    ListContainers, HeadContainer, PutContainer, PostContainer, DeleteContainer, ListNames, PutObject, HeadObject,
+    GetObject, DeleteObject
+}
 use Rattle.swift_calls.specs.declared.calls.SwiftReply.{SwiftReply}
-use Rattle.swift_calls.specs.declared.calls.SwiftReply.TheVariants.{Made, There, Gone, Stored, NotFound, NotEmpty, Unsatisfiable, Containers, Readers, Names, Head, Bytes}
+use Rattle.swift_calls.specs.declared.calls.SwiftReply.TheVariants.{
+    Made, There, Gone, Stored, NotFound, NotEmpty, Unsatisfiable, Containers, Readers, Names, Head, Bytes
+}
 
 -- a container's name: 1 to 256 bytes of UTF-8, none of them 0
 pub record IsContainerName (name : List ℕ) : Type 0 where
@@ -134,7 +139,8 @@ swift_step (PutContainer container readers created) tree = put_container (get tr
 swift_step (PostContainer container readers) tree = post_container (get tree container) container readers tree
 swift_step (DeleteContainer container) tree = delete_container (get tree container) container tree
 swift_step (ListNames container prefix marker limit) tree = record { reply = items_reply limit prefix marker (get tree container); tree = tree }
-swift_step (PutObject container name content_type meta body) tree = put_object (get tree container) container name (record { content_type = content_type; meta = meta; content = Plain body }) tree
+swift_step (PutObject container name content_type meta body) tree =
+    put_object (get tree container) container name (record { content_type = content_type; meta = meta; content = Plain body }) tree
 swift_step (HeadObject container name) tree = record { reply = head_reply (find_object tree container name); tree = tree }
 swift_step (GetObject container name range) tree = record { reply = get_reply (find_object tree) range (find_object tree container name); tree = tree }
 swift_step (DeleteObject container name) tree = delete_object (find_object tree container name) container name tree
