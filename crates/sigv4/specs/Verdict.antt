@@ -1,6 +1,7 @@
 -- Who sent a request, or why it is refused. Source: Amazon S3 API Reference, "Authenticating requests: using the
 -- Authorization header"; the order of the refusals is this profile's.
-use Rattle.std.specs.Prelude.{◌≡◌, ⊤, ℕ, Bool, not, ◌&&◌, ◌||◌, ◌==◌, nat_eq, if◌then◌else◌, List, [], ◌∷◌, codes, bytes_eq, count_by, find, Option, Some, None, unwrap_or, Result, Ok, Err}
+use Rattle.std.specs.Prelude.{◌≡◌, ⊤, ℕ, Bool, not, ◌&&◌, ◌||◌, ◌==◌, nat_eq, if◌then◌else◌, List, [], ◌∷◌, codes, bytes_eq}
+use Rattle.std.specs.Prelude.{count_by, find, Option, Some, None, Result, Ok, Err}
 use Rattle.std.specs.List.{list_any, starts_with}
 use Rattle.std.specs.Option.{option_map_or}
 use Rattle.hex.specs.Hex.{encode_lower}
@@ -13,13 +14,14 @@ use Rattle.http_wire.specs.FirstMessage.{has_name, value_of}
 use Rattle.http_wire.specs.declared.message.Message.{Message}
 use Rattle.sigv4.specs.Authorization.{is_hex, authorization_of}
 use Rattle.sigv4.specs.Canonical.{canonical_text}
-use Rattle.sigv4.specs.Keys.{has_id, secret_of}
+use Rattle.sigv4.specs.Keys.{secret_of}
 use Rattle.sigv4.specs.Moment.{is_time, is_skewed}
 use Rattle.sigv4.specs.Sign.{date_of, signed_of}
 use Rattle.sigv4.specs.declared.authorization.Authorization.{Authorization}
 use Rattle.sigv4.specs.declared.keys.AccessKey.{AccessKey}
 use Rattle.sigv4.specs.declared.refusal.Refusal.{Refusal}
-use Rattle.sigv4.specs.declared.refusal.Refusal.TheVariants.{HeaderMalformed, UnknownKey, WrongScope, UnsignedHeader, NoDate, Skewed, Streaming, NoPayloadHash, SignatureDiffers, PayloadDiffers, Memory}
+use Rattle.sigv4.specs.declared.refusal.Refusal.TheVariants.{HeaderMalformed, UnknownKey, WrongScope, UnsignedHeader, NoDate, Skewed}
+use Rattle.sigv4.specs.declared.refusal.Refusal.TheVariants.{Streaming, NoPayloadHash, SignatureDiffers, PayloadDiffers, Memory}
 use Rattle.sigv4.specs.declared.signature.Signed.{Signed}
 
 -- exactly one header has the name
@@ -34,10 +36,6 @@ first_value name headers = option_map_or value_of (find (has_name name) headers)
 abbrev pub claim_of : List Pair → Option Authorization
 claim_of headers =
     if has_one (codes "authorization") headers then authorization_of (first_value (codes "authorization") headers) else None
-
--- no key has the id
-abbrev pub is_unknown : List AccessKey → Authorization → Bool
-is_unknown keys claim = not (list_any (has_id claim.id) keys)
 
 -- another region or another service
 abbrev pub has_wrong_scope : List ℕ → Authorization → Bool
@@ -86,11 +84,10 @@ abbrev pub lacks_payload_hash : List Pair → Bool
 lacks_payload_hash headers =
     not (has_one (codes "x-amz-content-sha256") headers && (is_hex (hash_of headers) || is_unsigned_payload (hash_of headers)))
 
--- what the request signs to by the secret of its key
-unfoldable pub expected : List AccessKey → List ℕ → Message → Target → Authorization → Signed
-expected keys region message target claim =
-    signed_of (unwrap_or (secret_of claim.id keys) []) (time_of message.headers) region
-    (canonical_text message target claim.names (hash_of message.headers))
+-- what the request signs to by a secret
+unfoldable pub expected : List ℕ → List ℕ → Message → Target → Authorization → Signed
+expected secret region message target claim =
+    signed_of secret (time_of message.headers) region (canonical_text message target claim.names (hash_of message.headers))
 
 abbrev pub signature_differs : Authorization → Signed → Bool
 signature_differs claim due = not (bytes_eq claim.signature (encode_lower due.signature))
@@ -111,27 +108,31 @@ abbrev pub first_refusal : List Reason → Result Caller Refusal
 first_refusal [] = Ok Owner
 first_refusal (reason ∷ reasons) = if reason.holds then Err reason.refusal else first_refusal reasons
 
--- the reasons against what a header says, in the order in which they are tried
-abbrev pub reasons : List AccessKey → List ℕ → Message → Target → ℕ → Authorization → List Reason
-reasons keys region message target moment claim =
-    record { holds = is_unknown keys claim; refusal = UnknownKey }
-    ∷ record { holds = has_wrong_scope region claim; refusal = WrongScope }
+-- the reasons against what a header says whose key has this secret, in the order in which they are tried
+abbrev pub reasons : List ℕ → List ℕ → Message → Target → ℕ → Authorization → List Reason
+reasons secret region message target moment claim =
+    record { holds = has_wrong_scope region claim; refusal = WrongScope }
     ∷ record { holds = leaves_unsigned claim message.headers; refusal = UnsignedHeader }
     ∷ record { holds = lacks_date claim message.headers; refusal = NoDate }
     ∷ record { holds = is_skewed (time_of message.headers) moment; refusal = Skewed }
     ∷ record { holds = is_streaming message.headers; refusal = Streaming }
     ∷ record { holds = lacks_payload_hash message.headers; refusal = NoPayloadHash }
     ∷ record {
-      holds = signature_differs claim (expected keys region message target claim);
-      refusal = SignatureDiffers (expected keys region message target claim).canonical_hash;
+      holds = signature_differs claim (expected secret region message target claim);
+      refusal = SignatureDiffers (expected secret region message target claim).canonical_hash;
     }
     ∷ record { holds = payload_differs message; refusal = PayloadDiffers }
     ∷ []
 
--- a header that doesn't say who signed goes before all other reasons
+-- what a header says, by the secret of its id: a request whose id no key has is refused before all other reasons
+abbrev pub judged_with : Option (List ℕ) → List ℕ → Message → Target → ℕ → Authorization → Result Caller Refusal
+judged_with None region message target moment claim = Err UnknownKey
+judged_with (Some secret) region message target moment claim = first_refusal (reasons secret region message target moment claim)
+
+-- a header that doesn't say who signed goes before that
 abbrev pub judged : List AccessKey → List ℕ → Message → Target → ℕ → Option Authorization → Result Caller Refusal
 judged keys region message target moment None = Err HeaderMalformed
-judged keys region message target moment (Some claim) = first_refusal (reasons keys region message target moment claim)
+judged keys region message target moment (Some claim) = judged_with (secret_of claim.id keys) region message target moment claim
 
 -- the owner, an anonymous caller, or the first refusal that is expected
 unfoldable pub caller_or_refusal : List AccessKey → List ℕ → Message → Target → ℕ → Result Caller Refusal

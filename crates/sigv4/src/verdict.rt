@@ -1,9 +1,9 @@
-ghost use Rattle.std.specs.Prelude.{◌≡◌, false, [], count_by, find, unwrap_or, IfOk};
+ghost use Rattle.std.specs.Prelude.{◌≡◌, false, count_by, find, IfOk};
 ghost use Rattle.std.specs.List.{list_any};
 ghost use Rattle.std.specs.Option.{option_copied};
 ghost use Rattle.http_wire.specs.FirstMessage.{has_name};
 ghost use Rattle.sigv4.specs.Keys.{secret_of};
-ghost use Rattle.sigv4.specs.Verdict.{has_one, first_value, claim_of, is_unknown, has_wrong_scope, is_among, must_be_signed, is_left_out, leaves_unsigned, time_of, lacks_date, hash_of, announces_pieces, is_streaming, is_unsigned_payload, lacks_payload_hash, expected, signature_differs, payload_differs, first_refusal, reasons, caller_or_refusal, Gives};
+ghost use Rattle.sigv4.specs.Verdict.{has_one, first_value, claim_of, has_wrong_scope, is_among, must_be_signed, is_left_out, leaves_unsigned, time_of, lacks_date, hash_of, announces_pieces, is_streaming, is_unsigned_payload, lacks_payload_hash, expected, signature_differs, payload_differs, first_refusal, reasons, judged_with, caller_or_refusal, Gives};
 
 use crate::authorization::{Authorization, is_hex};
 use crate::moment::{is_of_day, is_skewed, is_time};
@@ -56,12 +56,27 @@ fn judge(
     moment: u64,
     claim: &Authorization,
 ) -> Result<Caller, Refusal>
-    ensures { Gives result (first_refusal (reasons keys.now region.now message.now target.now moment claim.now)) }
+    ensures { Gives result (judged_with (secret_of claim.now.id keys.now) region.now message.now target.now moment claim.now) }
+{
+    match keys.secret(claim.id.as_slice()) {
+        Some(secret) => judge_with(alloc, secret, region, message, target, moment, claim),
+        None => Err(Refusal::UnknownKey),
+    }
+}
+
+/// The answer to what a header says whose key has this secret.
+fn judge_with(
+    alloc: Global,
+    secret: &[u8],
+    region: &[u8],
+    message: &Message,
+    target: &Target,
+    moment: u64,
+    claim: &Authorization,
+) -> Result<Caller, Refusal>
+    ensures { Gives result (first_refusal (reasons secret.now region.now message.now target.now moment claim.now)) }
 {
     let headers = message.headers.as_slice();
-    if is_unknown(keys, claim) {
-        return Err(Refusal::UnknownKey);
-    }
     if has_wrong_scope(region, claim) {
         return Err(Refusal::WrongScope);
     }
@@ -80,7 +95,7 @@ fn judge(
     if lacks_payload_hash(headers) {
         return Err(Refusal::NoPayloadHash);
     }
-    let due = expected(alloc, keys, region, message, target, claim)?;
+    let due = expected(alloc, secret, region, message, target, claim)?;
     if signature_differs(alloc, claim, &due)? {
         return Err(Refusal::SignatureDiffers(due.canonical_hash));
     }
@@ -142,12 +157,6 @@ fn claim_of(alloc: Global, headers: &[Pair]) -> Result<Option<Authorization>, Me
     } else {
         Ok(None)
     }
-}
-
-fn is_unknown(keys: &Keys, claim: &Authorization) -> bool
-    ensures { result ≡ is_unknown keys.now claim.now }
-{
-    keys.secret(claim.id.as_slice()).is_none()
 }
 
 fn has_wrong_scope(region: &[u8], claim: &Authorization) -> bool
@@ -231,18 +240,18 @@ fn is_unsigned_payload(hash: &[u8]) -> bool
     hash == b"UNSIGNED-PAYLOAD".as_slice()
 }
 
-/// What the request signs to by the secret of its key.
+/// What the request signs to by a secret.
 #[tactic(auto, unfolding(crate::specs::Verdict::expected))]
 fn expected(
     alloc: Global,
-    keys: &Keys,
+    secret: &[u8],
     region: &[u8],
     message: &Message,
     target: &Target,
     claim: &Authorization,
 ) -> Result<Signed, Memory>
     requires { lacks_date claim.now message.now.headers ≡ false }
-    ensures { IfOk result (λ due. due ≡ expected keys.now region.now message.now target.now claim.now) }
+    ensures { IfOk result (λ due. due ≡ expected secret.now region.now message.now target.now claim.now) }
 {
     let headers = message.headers.as_slice();
     let text = canonical(
@@ -252,23 +261,7 @@ fn expected(
         claim.names.as_slice(),
         hash_of(headers),
     )?;
-    sign(
-        alloc,
-        secret_of(keys, claim),
-        time_of(headers),
-        region,
-        text.as_slice(),
-    )
-}
-
-/// The secret of the key, no byte where there is none.
-fn secret_of<'a>(keys: &'a Keys, claim: &Authorization) -> &'a [u8]
-    ensures { result.now ≡ unwrap_or (secret_of claim.now.id keys.now) [] }
-{
-    match keys.secret(claim.id.as_slice()) {
-        Some(secret) => secret,
-        None => b"",
-    }
+    sign(alloc, secret, time_of(headers), region, text.as_slice())
 }
 
 fn signature_differs(alloc: Global, claim: &Authorization, due: &Signed) -> Result<bool, Memory>

@@ -1,6 +1,6 @@
 use Rattle.std.proofs.Common.{sym, ◌∙◌}
 use Rattle.sigv4.proofs.VerdictLemmas.{dated}
-use Rattle.sigv4.proofs.verdict.judge.Goals as goal
+use Rattle.sigv4.proofs.verdict.judge_with.Goals as goal
 
 pub is_skewed-requires : goal.is_skewed-requires
 is_skewed-requires c =
