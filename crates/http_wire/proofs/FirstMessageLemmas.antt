@@ -1,7 +1,7 @@
 -- From what was found in the bytes that came to what stands first in all bytes that are left.
 use Rattle.std.proofs.Common.{◌≡◌, ℕ, ◌+◌, ◌-◌, ◌<◌, ◌≤◌, min, Bool, true, false, cond, List, [], ◌∷◌, ◌++◌, length, take, drop, refl, sym, ap, ap₂, subst, ◌∙◌, append_assoc, append-nil, length-append, length-take, take-append-drop, take_all, Ok, Err, codes, arith, inl, inr}
 use Rattle.std.specs.Prelude.{Result, nat_lt}
-use Rattle.std.specs.List.{list_any}
+use Rattle.std.specs.Str.Parse.{digits_value}
 use Rattle.std.proofs.lemmas.List.{take-append-le, take_min}
 use Rattle.std.proofs.Math.Seq.{take-append-add, take-append_seam, drop-append_seam}
 use Rattle.httparse.specs.declared.spans.HeaderSpan.{HeaderSpan}
@@ -13,7 +13,8 @@ use Rattle.http_wire.specs.declared.message.Message.{Message}
 use Rattle.http_wire.specs.declared.message.Kind.{Kind}
 use Rattle.http_wire.specs.declared.message.Kind.TheVariants.{BadHead, LongHead, ManyHeaders, NoLength, BadLength, LongBody, Transfer, ShortBody}
 use Rattle.http_wire.specs.declared.take.Taken.TheVariants.{Whole, Not}
-use Rattle.http_wire.specs.FirstMessage.{HasDeadPrefix, HasHead, HasNoHead, CannotBecomeHead, BeginsWith, IsJudged, IsRefused, asks, cut_short, has_name, is_length, is_put, judge, length_judged, message_of, nothing, number_of, refused, value_judged, values_of}
+use Rattle.http_wire.specs.FirstMessage.{HasDeadPrefix, HasHead, HasNoHead, CannotBecomeHead, BeginsWith, IsJudged, IsRefused, asks, cut_short, is_length, is_put, judge, length_judged, message_of, nothing, refused, value_judged}
+use Rattle.http_wire.specs.Headers.{has_header, values_of}
 use Rattle.http_wire.specs.Seen.{window}
 use Rattle.http_wire.specs.Taken.{TakenFrom}
 
@@ -121,7 +122,7 @@ chosen true x y first other = first
 chosen false x y first other = other
 
 value_judges : (value : List ℕ) → Judges (value_judged value)
-value_judges value = chosen (is_length value) _ _ (chosen (nat_lt 16777216 (number_of value)) _ _ tt tt) tt
+value_judges value = chosen (is_length value) _ _ (chosen (nat_lt 16777216 (digits_value 10 value)) _ _ tt tt) tt
 
 length_judges : (put : Bool) (values : List (List ℕ)) → Judges (length_judged put values)
 length_judges put [] = chosen put _ _ tt tt
@@ -131,7 +132,7 @@ length_judges put (value ∷ other ∷ values) = tt
 judges : (message : Message) → Judges (judge message)
 judges message =
     chosen (nat_lt 100 (length message.headers)) _ _ tt
-    (chosen (list_any (has_name (codes "transfer-encoding")) message.headers) _ _ tt
+    (chosen (has_header (codes "transfer-encoding") message.headers) _ _ tt
     (length_judges (is_put message.method) (values_of (codes "content-length") message.headers)))
 
 refused_judged : (bytes : List ℕ) (kind : Kind) (head : Bool) → Judges (Err kind) → IsJudged bytes kind head → IsRefused bytes kind head

@@ -1,5 +1,7 @@
 pub mod FillLemmas
 pub mod FirstMessageLemmas
+pub mod HeadersLemmas
+pub mod JoinLemmas
 pub mod LookLemmas
 pub mod MessageLemmas
 pub mod ScanLemmas

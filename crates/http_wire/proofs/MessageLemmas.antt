@@ -1,21 +1,24 @@
--- The headers of a message, by the spans of a head; and the headers of a name.
-use Rattle.std.proofs.Common.{◌≡◌, ℕ, zero, suc, ◌+◌, ◌-◌, ◌*◌, ◌^◌, ◌<◌, ◌≤◌, Bool, true, false, cond, not, List, [], ◌∷◌, length, take, drop, map, refl, sym, ap, ◌∙◌, ◌↔◌, IsTrue, Ok, Err, get_or, drop-cons, rules, arith}
-use Rattle.std.specs.Prelude.{filter, position, slice_index_or, Option, Some, None, Result, nat_lt, nat_le, if◌then◌else◌}
+-- The headers of a message, by the spans of a head; and the length that they give.
+use Rattle.std.proofs.Common.{◌≡◌, ℕ, ◌+◌, ◌-◌, ◌*◌, ◌^◌, ◌<◌, ◌≤◌, Bool, true, false, List, [], ◌∷◌, ◌++◌, length, take, drop, map, refl, sym, ap, ◌∙◌, IsTrue, Ok, Err, get_or, rules, arith, length-take, take-append-drop}
+use Rattle.std.specs.Prelude.{Result, count_by, nat_lt, nat_le, if◌then◌else◌}
+use Rattle.std.specs.Char.{to_ascii_lowercase, digit_value}
 use Rattle.std.specs.List.{list_all}
-use Rattle.std.proofs.lemmas.Str.Parse.{IsNumeralModel, numerals_by_fold, digits_value_short}
-use Rattle.std.specs.Char.{to_ascii_lowercase}
-use Rattle.std.specs.List.{position_or_len}
-use Rattle.std.proofs.lemmas.Bool.{cond-false, cond-true, false≢true, ltb-false, and_parts, leb-true}
-use Rattle.std.proofs.lemmas.List.{drop_all}
-use Rattle.std.proofs.lemmas.List.Quantifiers.{position-Some}
+use Rattle.std.specs.Str.Parse.{digits_value}
+use Rattle.std.proofs.lemmas.Bool.{cond-false, cond-true, and_parts, leb-true}
+use Rattle.std.proofs.lemmas.Bool.Decides.{nat_tests}
+use Rattle.std.proofs.lemmas.List.{take_all}
+use Rattle.std.proofs.lemmas.List.Folds.{list_all-append}
+use Rattle.std.proofs.lemmas.Str.Parse.{IsNumeralModel, IsDigitsTest, numerals_by_value, digits_value_short, digit_at}
+use Rattle.std.proofs.lemmas.Int.Digits.{digits_value_more}
 use Rattle.gate_base.specs.declared.page.Pair.{Pair}
 use Rattle.httparse.specs.declared.spans.HeaderSpan.{HeaderSpan}
 use Rattle.httparse.specs.Grammar.{Field}
 use Rattle.httparse.specs.Spans.{AreFieldsAt, header_bytes, name_and_value}
 use Rattle.http_wire.specs.declared.message.Kind.{Kind}
 use Rattle.http_wire.specs.declared.message.Kind.TheVariants.{BadLength, NoLength}
-use Rattle.http_wire.specs.FirstMessage.{header_of, has_name, value_of, values_of, is_digit, is_length, number_after, number_of, value_judged, length_judged}
-use Rattle.http_wire.specs.Headers.{header_at}
+use Rattle.http_wire.specs.FirstMessage.{header_of, is_digit, is_length, value_judged, length_judged}
+use Rattle.http_wire.specs.Headers.{has_name, first_value, values_of, header_at}
+use Rattle.http_wire.proofs.HeadersLemmas.{count_values, one_value, none_given}
 
 -- the header of a name and a value
 abbrev pair_of : List ℕ × List ℕ → Pair
@@ -32,55 +35,23 @@ headers_of bytes headers count fields are =
     sym (map_twice (header_bytes bytes) pair_of (take count headers)) ∙ ap (map pair_of) are
     ∙ map_twice name_and_value pair_of fields
 
--- ---- the headers of a name
+-- ---- the length that is judged
 
-first_passes : {A : Type 0} (p : A → Bool) (xs : List A) (i : ℕ) (d : A) → i < length xs → p (slice_index_or xs i d) ≡ true
-    → ((k : ℕ) → k < i → p (slice_index_or xs k d) ≡ false) → filter p xs ≡ slice_index_or xs i d ∷ filter p (drop (suc i) xs)
-first_passes p [] i d within here before = absurd (omega (arith, within))
-first_passes p (x ∷ xs) zero d within here before = cond-true (p x) _ _ here
-first_passes p (x ∷ xs) (suc i) d within here before =
-    cond-false (p x) _ _ (before 0 (omega arith))
-    ∙ first_passes p xs i d (omega (arith, within)) here (λ k low. before (suc k) (omega (arith, low)))
+judged_by : (put : Bool) (values : List (List ℕ)) → 1 < length values → length_judged put values ≡ Err BadLength
+judged_by put [] many = absurd (omega (arith, many))
+judged_by put (value ∷ []) many = absurd (omega (arith, many))
+judged_by put (value ∷ other ∷ values) many = refl
 
-none_by : {A : Type 0} (b : Bool) (x : A) (xs : List A) (n m : ℕ) → suc n ≤ cond (not b) (1 + m) 0 → (n ≤ m → xs ≡ [])
-    → cond b (x ∷ xs) xs ≡ []
-none_by true x xs n m long more = absurd (omega (arith, long))
-none_by false x xs n m long more = more (omega (arith, long))
+-- more than one length
+pub judged_many : (put : Bool) (name : List ℕ) (headers : List Pair) → 1 < count_by (has_name name) headers
+    → Err BadLength ≡ length_judged put (values_of name headers)
+judged_many put name headers many =
+    sym (judged_by put (values_of name headers) (omega (arith, many, count_values name headers)))
 
-none_passes : {A : Type 0} (p : A → Bool) (xs : List A) → length xs ≤ position_or_len p xs → filter p xs ≡ []
-none_passes p [] long = refl
-none_passes p (x ∷ xs) long = none_by (p x) x (filter p xs) (length xs) (position_or_len p xs) long (none_passes p xs)
-
--- the values of a name, where its first header stands at a place
-pub first_of : (name : List ℕ) (headers : List Pair) (at : ℕ) (d : Pair) → position (has_name name) headers ≡ Some at
-    → values_of name headers ≡ value_of (slice_index_or headers at d) ∷ values_of name (drop (suc at) headers)
-first_of name headers at d is =
-    let found = position-Some (has_name name) headers at d is in
-    ap (map value_of) (first_passes (has_name name) headers at d found.0 found.1 found.2)
-
-abbrev no_place : Option ℕ
-no_place = None
-
-position_by : (b : Bool) (n : ℕ) → cond b (Some n) no_place ≡ no_place → b ≡ false
-position_by true n h = cc
-position_by false n h = refl
-
--- there is none, where there is no place
-pub none_of : (name : List ℕ) (headers : List Pair) → position (has_name name) headers ≡ None → values_of name headers ≡ []
-none_of name headers is =
-    ap (map value_of) (none_passes (has_name name) headers (ltb-false _ _ (position_by _ (position_or_len (has_name name) headers) is)))
-
-not_none : {A : Type 0} (xs ys : List A) (x : A) → xs ≡ x ∷ ys → xs ≡ [] → ⊥
-not_none xs ys x e h = cc
-
-pub absent_none : (name : List ℕ) (headers : List Pair) → position (has_name name) headers ≡ None
-    → IsTrue true ↔ (values_of name headers ≡ [])
-absent_none name headers is = (λ h. none_of name headers is, λ h. refl)
-
-pub present_some : (name : List ℕ) (headers : List Pair) (at : ℕ) → position (has_name name) headers ≡ Some at
-    → IsTrue false ↔ (values_of name headers ≡ [])
-present_some name headers at is =
-    (λ h. absurd (false≢true h), λ h. absurd (not_none _ _ _ (first_of name headers at (record { name = []; value = [] }) is) h))
+-- one
+pub judged_one : (put : Bool) (name : List ℕ) (headers : List Pair) → count_by (has_name name) headers ≡ 1
+    → value_judged (first_value name headers) ≡ length_judged put (values_of name headers)
+judged_one put name headers one = sym (ap (length_judged put) (one_value name headers one))
 
 abbrev pub refused_length : Result ℕ Kind
 refused_length = Err NoLength
@@ -88,60 +59,60 @@ refused_length = Err NoLength
 abbrev pub no_length : Result ℕ Kind
 no_length = Ok 0
 
--- the length that is judged, where a first value is given and another or none comes after it
-pub judged_one : (put : Bool) (values rest : List (List ℕ)) (value : List ℕ) → values ≡ value ∷ rest → rest ≡ []
-    → value_judged value ≡ length_judged put values
-judged_one put values rest value first none = sym (ap (length_judged put) (first ∙ ap (λ v. value ∷ v) none))
+judged_none : (put : Bool) (name : List ℕ) (headers : List Pair) → count_by (has_name name) headers ≡ 0
+    → length_judged put (values_of name headers) ≡ (if put then refused_length else no_length)
+judged_none put name headers none = ap (length_judged put) (none_given name headers none)
 
-judged_more : (put : Bool) (value : List ℕ) (rest : List (List ℕ)) → ¬ (rest ≡ []) → length_judged put (value ∷ rest) ≡ Err BadLength
-judged_more put value [] some = absurd (some refl)
-judged_more put value (other ∷ rest) some = refl
+-- none, where one is due
+pub judged_wanting : (put : Bool) (name : List ℕ) (headers : List Pair) → count_by (has_name name) headers ≡ 0 → put ≡ true
+    → Err NoLength ≡ length_judged put (values_of name headers)
+judged_wanting put name headers none is = sym (judged_none put name headers none ∙ cond-true put refused_length no_length is)
 
-pub judged_many : (put : Bool) (values rest : List (List ℕ)) (value : List ℕ) → values ≡ value ∷ rest → ¬ (rest ≡ [])
-    → Err BadLength ≡ length_judged put values
-judged_many put values rest value first some = sym (ap (length_judged put) first ∙ judged_more put value rest some)
-
-pub judged_none_by : (put : Bool) → put ≡ true → (if put then refused_length else no_length) ≡ refused_length
-judged_none_by put is = cond-true put _ _ is
-
-pub judged_some_by : (put : Bool) → put ≡ false → (if put then refused_length else no_length) ≡ no_length
-judged_some_by put is = cond-false put _ _ is
-
-pub judged_none : (put : Bool) (values : List (List ℕ)) → values ≡ [] → length_judged put values ≡ (if put then refused_length else no_length)
-judged_none put values none = ap (length_judged put) none
+-- none, where there may be none
+pub judged_empty : (put : Bool) (name : List ℕ) (headers : List Pair) → count_by (has_name name) headers ≡ 0 → put ≡ false
+    → Ok 0 ≡ length_judged put (values_of name headers)
+judged_empty put name headers none is = sym (judged_none put name headers none ∙ cond-false put refused_length no_length is)
 
 -- ---- the number that digits write
 
-digits_model : IsNumeralModel (λ ds. list_all is_digit ds ≡ true) (number_after 0)
-unfolding number_after
-digits_model = numerals_by_fold _ (search rules) number_after (search rules)
+tells : IsDigitsTest (λ ds. list_all is_digit ds ≡ true)
+tells = search rules
 
--- so many digits fit 64 bits
-pub number_short : (digits : List ℕ) → IsTrue (is_length digits) → number_after 0 digits < 10 ^ 19
-number_short digits fine =
-    let parts = and_parts (nat_lt 0 (length digits)) _ fine in
-    let last = and_parts (nat_le (length digits) 19) _ parts.1 in
-    digits_value_short digits_model digits 19 last.1 (leb-true _ _ last.0)
+own : IsNumeralModel (λ ds. list_all is_digit ds ≡ true) (digits_value 10)
+own = numerals_by_value _ tells
 
--- what was read of a number is no more than the number
-pub number_rises : (n : ℕ) (digits : List ℕ) → n ≤ number_after n digits
-unfolding number_after
-number_rises n [] = omega arith
-number_rises n (d ∷ digits) = omega (arith, number_rises (n * 10 + (d - 48)) digits)
+-- a length has at most 19 digits, and digits alone
+length_parts : (digits : List ℕ) → IsTrue (is_length digits) → (length digits ≤ 19) × (list_all is_digit digits ≡ true)
+length_parts digits fine =
+    let last = and_parts (nat_le (length digits) 19) _ (and_parts (nat_lt 0 (length digits)) _ fine).1 in
+    (leb-true _ _ last.0, last.1)
 
--- one digit more
-pub number_step : (digits : List ℕ) (n i : ℕ) → IsTrue (is_length digits) → i < length digits → number_after n (drop i digits) ≡ number_of digits
-    → (n * 10 + (get_or digits i 0 - 48) < 10 ^ 19) × (number_after (n * 10 + (get_or digits i 0 - 48)) (drop (i + 1) digits) ≡ number_of digits)
-unfolding number_after
-number_step digits n i fine within same =
-    let next : n * 10 + (get_or digits i 0 - 48) ≤ number_after (n * 10 + (get_or digits i 0 - 48)) (drop (suc i) digits) =
-    number_rises (n * 10 + (get_or digits i 0 - 48)) (drop (suc i) digits) in
-    let all : number_after (n * 10 + (get_or digits i 0 - 48)) (drop (suc i) digits) ≡ number_of digits =
-    sym (ap (number_after n) (drop-cons digits i 0 within)) ∙ same in
-    let one : suc i ≡ i + 1 = omega arith in
-    (omega (arith, next, all, number_short digits fine), ap (λ k. number_after (n * 10 + (get_or digits i 0 - 48)) (drop k digits)) (sym one) ∙ all)
+front_passes : (test : ℕ → Bool) (digits : List ℕ) (i : ℕ) → list_all test digits ≡ true → list_all test (take i digits) ≡ true
+front_passes test digits i all =
+    let parts : list_all test (take i digits ++ drop i digits) ≡ true = ap (list_all test) (take-append-drop i digits) ∙ all in
+    (and_parts _ (list_all test (drop i digits)) (sym (list_all-append test (take i digits) (drop i digits)) ∙ parts)).0
 
--- no digit more
-pub number_end : (digits : List ℕ) (n i : ℕ) → length digits ≤ i → number_after n (drop i digits) ≡ number_of digits → n ≡ number_of digits
-unfolding number_after
-number_end digits n i past same = sym (ap (number_after n) (drop_all i digits past)) ∙ same
+pub digit_is : (digits : List ℕ) (i : ℕ) → IsTrue (is_length digits) → i < length digits → (48 ≤ get_or digits i 0) × (get_or digits i 0 ≤ 57)
+digit_is digits i fine within =
+    let found = digit_at digits i (own.to digits (length_parts digits fine).1) within in
+    (found.0, found.1)
+
+-- one digit more fits 64 bits
+pub next_fits : (digits : List ℕ) (i n : ℕ) → n ≡ digits_value 10 (take i digits) → IsTrue (is_length digits) → i < length digits → n * 10 + 9 < 2 ^ 64
+next_fits digits i n same fine within =
+    let parts = length_parts digits fine in
+    let few : length (take i digits) ≤ 18 = grind (arith, nat_tests, length-take i digits, parts.0, within) in
+    omega (arith, same, digits_value_short own (take i digits) 18 (front_passes is_digit digits i parts.1) few)
+
+value_of_digit : (c : ℕ) → 48 ≤ c → c ≤ 57 → digit_value c ≡ c - 48
+value_of_digit c low high = grind (arith, nat_tests)
+
+pub next_value : (digits : List ℕ) (i n : ℕ) → n ≡ digits_value 10 (take i digits) → IsTrue (is_length digits) → i < length digits → n * 10 + (get_or digits i 0 - 48) ≡ digits_value 10 (take (i + 1) digits)
+next_value digits i n same fine within =
+    let found = digit_is digits i fine within in
+    let more = digits_value_more 10 digits i within in
+    let last = value_of_digit (get_or digits i 0) found.0 found.1 in
+    omega (arith, more, last, same)
+
+pub all_of_it : (digits : List ℕ) (i n : ℕ) → n ≡ digits_value 10 (take i digits) → length digits ≤ i → n ≡ digits_value 10 digits
+all_of_it digits i n same past = same ∙ ap (digits_value 10) (take_all i digits past)

@@ -1,14 +1,17 @@
 -- What stands first in the bytes that are left of a connection: a request, nothing, a head that was cut short, or what is
 -- refused (RFC 9112, sections 2, 3, 5 and 6, and this profile's limits). Each is said of the whole list of these bytes.
-use Rattle.std.specs.Prelude.{◌≡◌, ℕ, ◌+◌, ◌-◌, ◌*◌, ◌<◌, ◌≤◌, nat_lt, nat_le, Bool, false, not, ◌&&◌, ◌==◌, if◌then◌else◌, List, [], ◌∷◌, ◌++◌, length, take, drop, map, filter, codes, bytes_eq, Result, Ok, Err}
-use Rattle.std.specs.List.{list_all, list_any}
+use Rattle.std.specs.Prelude.{◌≡◌, ℕ, ◌+◌, ◌<◌, ◌≤◌, nat_lt, nat_le, Bool, false, not, ◌&&◌, ◌==◌, if◌then◌else◌}
+use Rattle.std.specs.Prelude.{List, [], ◌∷◌, ◌++◌, length, take, drop, map, codes, bytes_eq, Result, Ok, Err}
+use Rattle.std.specs.List.{list_all}
 use Rattle.std.specs.Char.{to_ascii_lowercase}
+use Rattle.std.specs.Str.Parse.{digits_value}
 use Rattle.gate_base.specs.declared.page.Pair.{Pair}
 use Rattle.http_wire.specs.declared.message.Message.{Message}
 use Rattle.http_wire.specs.declared.message.Kind.{Kind}
 use Rattle.http_wire.specs.declared.message.Kind.TheVariants.{BadHead, LongHead, ManyHeaders, NoLength, BadLength, LongBody, Transfer, ShortBody}
 use Rattle.httparse.specs.Ascii.{line_feed, carriage_return, space}
 use Rattle.httparse.specs.Grammar.{IsToken, AllPass, LineEnd, print_blank, Field, field_value, RequestHead, print_request, ReadsRequest, NeverHasRequest}
+use Rattle.http_wire.specs.Headers.{has_header, values_of}
 
 -- the first of what stands in the bytes
 pub data FirstMessage : Type 0 where
@@ -55,16 +58,6 @@ header_of f = record { name = map to_ascii_lowercase f.name; value = field_value
 abbrev pub message_of : RequestHead → Message
 message_of h = record { method = h.method; target = h.target; old = h.minor == 0; headers = map header_of h.fields; body = [] }
 
-abbrev pub value_of : Pair → List ℕ
-value_of header = header.value
-
-abbrev pub has_name : List ℕ → Pair → Bool
-has_name name header = bytes_eq header.name name
-
--- the values of the headers of a name, in order
-abbrev pub values_of : List ℕ → List Pair → List (List ℕ)
-values_of name headers = map value_of (filter (has_name name) headers)
-
 -- a decimal digit (RFC 5234, appendix B.1)
 abbrev pub is_digit : ℕ → Bool
 is_digit b = nat_le 48 b && nat_le b 57
@@ -73,19 +66,10 @@ is_digit b = nat_le 48 b && nat_le b 57
 abbrev pub is_length : List ℕ → Bool
 is_length value = nat_lt 0 (length value) && (nat_le (length value) 19 && list_all is_digit value)
 
--- the number that the digits write after those of n
-unfoldable pub number_after : ℕ → List ℕ → ℕ
-number_after n [] = n
-number_after n (digit ∷ digits) = number_after (n * 10 + (digit - 48)) digits
-
--- the number that the digits write
-abbrev pub number_of : List ℕ → ℕ
-number_of digits = number_after 0 digits
-
 -- how many bytes of body a length asks for, at most 16,777,216, or why it is refused (this profile)
 abbrev pub value_judged : List ℕ → Result ℕ Kind
 value_judged value =
-    if is_length value then (if nat_lt 16777216 (number_of value) then Err LongBody else Ok (number_of value)) else Err BadLength
+    if is_length value then (if nat_lt 16777216 (digits_value 10 value) then Err LongBody else Ok (digits_value 10 value)) else Err BadLength
 
 -- the same by all lengths that are given: one at most, and none only where the method isn't PUT (RFC 9112, section 6.3, and this profile)
 abbrev pub length_judged : Bool → List (List ℕ) → Result ℕ Kind
@@ -97,11 +81,12 @@ length_judged put (value ∷ other ∷ values) = Err BadLength
 abbrev pub is_put : List ℕ → Bool
 is_put method = bytes_eq method (codes "PUT")
 
--- how many bytes of body follow a whole head, or the first reason why it is refused: more than 100 headers, a Transfer-Encoding, a bad length, no length, a long body
+-- how many bytes of body follow a whole head, or the first reason why it is refused: more than 100 headers, a
+-- Transfer-Encoding, a bad length, no length, a long body
 abbrev pub judge : Message → Result ℕ Kind
 judge message =
     if nat_lt 100 (length message.headers) then Err ManyHeaders
-    else (if list_any (has_name (codes "transfer-encoding")) message.headers then Err Transfer
+    else (if has_header (codes "transfer-encoding") message.headers then Err Transfer
     else length_judged (is_put message.method) (values_of (codes "content-length") message.headers))
 
 -- the method is HEAD (RFC 9110, section 9.3.2)

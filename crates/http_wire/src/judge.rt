@@ -1,10 +1,15 @@
 //! Whether a whole head is accepted, and how long its body is.
-ghost use Rattle.std.specs.Prelude.{◌≡◌, ◌↔◌, ◌≤◌, [], length, IsTrue, IfOk, position, codes, nat_lt};
-ghost use Rattle.std.specs.List.{list_all, list_any};
-ghost use Rattle.http_wire.specs.FirstMessage.{has_name, values_of, is_digit, is_length, is_put, number_of, value_judged, length_judged, judge};
+ghost use Rattle.std.specs.Prelude.{◌≡◌, ◌≤◌, length, IsTrue, IfOk, codes, nat_lt};
+ghost use Rattle.std.specs.List.{list_all};
+ghost use Rattle.std.specs.Str.Parse.{digits_value};
+ghost use Rattle.http_wire.specs.Headers.{values_of};
+ghost use Rattle.http_wire.specs.FirstMessage.{is_digit, is_length, is_put, value_judged, length_judged, judge};
 
+use crate::headers::{count, first_value, has_header};
 use crate::{Kind, Message};
 use gate_base::Pair;
+
+const LENGTH: &[u8] = b"content-length";
 
 /// The headers of a request, at most.
 const HEADERS: usize = 100;
@@ -24,7 +29,7 @@ pub(crate) fn judge(message: &Message) -> Result<usize, Kind>
     if is_long(headers) {
         return Err(Kind::ManyHeaders);
     }
-    if is_chunked(headers) {
+    if has_header(headers, b"transfer-encoding") {
         return Err(Kind::Transfer);
     }
     judge_length(is_put(message.method.as_slice()), headers)
@@ -34,18 +39,6 @@ fn is_long(headers: &[Pair]) -> bool
     ensures { result ≡ nat_lt 100 (length headers.now) }
 {
     headers.len() > HEADERS
-}
-
-fn is_chunked(headers: &[Pair]) -> bool
-    ensures { result ≡ list_any (has_name (codes "transfer-encoding")) headers.now }
-{
-    headers.iter().any(is_coding)
-}
-
-fn is_coding(header: &Pair) -> bool
-    ensures { result ≡ has_name (codes "transfer-encoding") header.now }
-{
-    header.name.as_slice() == b"transfer-encoding".as_slice()
 }
 
 fn is_put(method: &[u8]) -> bool
@@ -59,16 +52,14 @@ fn judge_length(put: bool, headers: &[Pair]) -> Result<usize, Kind>
     ensures value { result ≡ length_judged put (values_of (codes "content-length") headers.now) }
     ensures within { IfOk result (λ size. size ≤ 16777216) }
 {
-    match place_of(headers, b"content-length") {
-        Some(at) => {
-            if is_absent(&headers[at + 1..], b"content-length") {
-                judge_value(headers[at].value.as_slice())
-            } else {
-                Err(Kind::BadLength)
-            }
-        }
-        None => { if put { Err(Kind::NoLength) } else { Ok(0) } }
+    let given = count(headers, LENGTH);
+    if given > 1 {
+        return Err(Kind::BadLength);
     }
+    if given == 1 {
+        return judge_value(first_value(headers, LENGTH));
+    }
+    if put { Err(Kind::NoLength) } else { Ok(0) }
 }
 
 /// The same by the one length.
@@ -108,30 +99,11 @@ fn is_digit(byte: u8) -> bool
 /// The number that digits write.
 fn number_of(digits: &[u8]) -> usize
     requires { IsTrue (is_length digits.now) }
-    ensures { result ≡ number_of digits.now }
+    ensures { result ≡ digits_value 10 digits.now }
 {
     let mut number = 0usize;
     for digit in digits {
         number = number * 10 + usize::from(*digit - b'0');
     }
     number
-}
-
-/// Whether no header has the name.
-fn is_absent(headers: &[Pair], name: &[u8]) -> bool
-    ensures { IsTrue result ↔ (values_of name.now headers.now ≡ []) }
-{
-    match place_of(headers, name) {
-        Some(_) => false,
-        None => true,
-    }
-}
-
-/// The place of the first header that has the name.
-fn place_of(headers: &[Pair], name: &[u8]) -> Option<usize>
-    ensures { result ≡ position (has_name name.now) headers.now }
-{
-    headers
-        .iter()
-        .position(|header| header.name.as_slice() == name)
 }

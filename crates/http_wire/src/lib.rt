@@ -3,6 +3,8 @@
 
 mod advance;
 mod fill;
+mod headers;
+mod join;
 mod judge;
 mod laws;
 mod look;
@@ -12,6 +14,8 @@ mod reader;
 mod scan;
 mod take;
 
+pub use headers::{first_value, has_header, has_name, has_one, text_of, values_of};
+pub use join::joined;
 pub use laws::{one_front, one_spelling, request_size};
 pub use message::{Got, Kind, Message, ReadFault};
 pub use print::{print_memory, print_page};

@@ -8,7 +8,7 @@ use Rattle.std.proofs.lemmas.Slice.Eq.{bytes_eq-Decides}
 use Rattle.gate_base.specs.declared.page.Pair.{Pair}
 use Rattle.gate_base.specs.Maps.{name_cmp, name_antisymmetric}
 use Rattle.gate_base.specs.Named.{ascends, count_below, one_has_name, by_order, placed, same_name, placed_over, placed_before, ascends_placed}
-use Rattle.http_wire.specs.FirstMessage.{has_name}
+use Rattle.http_wire.specs.Headers.{has_name}
 use Rattle.sigv4.specs.Authorization.{are_ascending}
 use Rattle.sigv4.specs.Verdict.{is_among}
 use Rattle.sign_cmd.specs.Names.{is_signed, has_signed, AreSigned, itself, AddsName}

@@ -6,9 +6,10 @@ use Rattle.http_wire.specs.declared.message.Got.TheVariants.{Request, CutShort, 
 use Rattle.http_wire.specs.declared.message.Kind.{Kind}
 use Rattle.http_wire.specs.declared.message.Message.{Message}
 use Rattle.http_wire.specs.FirstMessage.{FirstMessage, asks, cut_short, refused, BeginsWith}
+use Rattle.http_wire.specs.Headers.{has_one}
 use Rattle.http_wire.specs.Gives.{Pending, Gives}
 use Rattle.sigv4.specs.Sign.{is_date_time}
-use Rattle.sigv4.specs.Verdict.{has_one, time_of}
+use Rattle.sigv4.specs.Verdict.{time_of}
 use Rattle.sign_cmd.specs.Signing.{has_marks, Answers, AnswersFrom}
 use Rattle.sign_cmd.specs.declared.first.Signing.{Signing}
 use Rattle.sign_cmd.specs.declared.first.Signing.TheVariants.{Signed, NoRequest, LineFailed, Memory}

@@ -1,9 +1,8 @@
 -- The names of the headers that are signed. Source: Amazon S3 API Reference, "Authenticating requests: using the
 -- Authorization header", task 1; that all headers but `authorization` are signed is this profile.
 use Rattle.std.specs.Prelude.{◌≡◌, ℕ, Bool, true, not, ◌&&◌, ◌||◌, List, codes, bytes_eq}
-use Rattle.std.specs.List.{list_any}
 use Rattle.gate_base.specs.declared.page.Pair.{Pair}
-use Rattle.http_wire.specs.FirstMessage.{has_name}
+use Rattle.http_wire.specs.Headers.{has_header}
 use Rattle.sigv4.specs.Authorization.{are_ascending}
 use Rattle.sigv4.specs.Verdict.{is_among}
 
@@ -13,7 +12,7 @@ is_signed name = not (bytes_eq name (codes "authorization"))
 
 -- some header has the name, and it isn't `authorization`
 abbrev pub has_signed : List Pair → List ℕ → Bool
-has_signed headers name = list_any (has_name name) headers && is_signed name
+has_signed headers name = has_header name headers && is_signed name
 
 -- the names that are signed: strictly ascending in byte order, so that each stands once, and a name is among them exactly
 -- where some header has it and it isn't `authorization`. No other list is that, by a law of this crate

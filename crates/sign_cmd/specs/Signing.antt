@@ -10,10 +10,11 @@ use Rattle.s3_names.specs.declared.target.Target.{Target}
 use Rattle.s3_names.specs.Target.{target_of}
 use Rattle.http_wire.specs.declared.message.Message.{Message}
 use Rattle.http_wire.specs.FirstMessage.{FirstMessage, asks, nothing, cut_short, refused, BeginsWith}
+use Rattle.http_wire.specs.Headers.{has_one}
 use Rattle.sigv4.specs.declared.signature.Signed.{Signed as Signature}
 use Rattle.sigv4.specs.Canonical.{canonical_text}
 use Rattle.sigv4.specs.Sign.{is_date_time, signed_of}
-use Rattle.sigv4.specs.Verdict.{has_one, time_of, hash_of}
+use Rattle.sigv4.specs.Verdict.{time_of, hash_of}
 use Rattle.sign_cmd.specs.Names.{AreSigned}
 use Rattle.sign_cmd.specs.declared.first.Signing.{Signing}
 use Rattle.sign_cmd.specs.declared.first.Signing.TheVariants.{Signed, NoRequest, LineFailed, Memory}

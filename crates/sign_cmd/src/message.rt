@@ -2,12 +2,12 @@ ghost use Rattle.std.specs.Prelude.{◌≡◌, true, false, MatchOption, IfOk};
 ghost use Rattle.s3_names.specs.Target.{target_of};
 ghost use Rattle.sign_cmd.specs.Signing.{has_marks, can_sign, target_read, SignsFor, Signs};
 
-use crate::headers::{has_marks, hash_of, time_of};
+use crate::headers::has_marks;
 use crate::names::names_of;
 use gate_base::Memory;
 use http_wire::Message;
 use s3_names::{NameFault, Target};
-use sigv4::{Signed, canonical, sign};
+use sigv4::{Signed, canonical, hash_of, sign, time_of};
 use std::alloc::Global;
 
 /// What a request signs to. None exactly where it can't be signed.

@@ -1,7 +1,6 @@
 pub mod AuthorizationLemmas
 pub mod CutLemmas
 pub mod FormLemmas
-pub mod JoinLemmas
 pub mod KeysLemmas
 pub mod OrderLemmas
 pub mod SortLemmas

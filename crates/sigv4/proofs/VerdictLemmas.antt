@@ -2,9 +2,10 @@
 use Rattle.std.proofs.Common.{◌≡◌, ℕ, Bool, true, false, ◌&&◌, List, nat_lt, codes, bytes_eq}
 use Rattle.std.proofs.lemmas.Bool.{and_parts, not-false}
 use Rattle.gate_base.specs.declared.page.Pair.{Pair}
+use Rattle.http_wire.specs.Headers.{has_one}
 use Rattle.sigv4.specs.Moment.{two_digits, year_of, is_day, is_time}
 use Rattle.sigv4.specs.Sign.{is_date_time, date_of}
-use Rattle.sigv4.specs.Verdict.{has_one, time_of, lacks_date}
+use Rattle.sigv4.specs.Verdict.{time_of, lacks_date}
 use Rattle.sigv4.specs.declared.authorization.Authorization.{Authorization}
 
 first_of_five : (a b c d e : Bool) → (a && b && c && d && e) ≡ true → (a ≡ true) × (b ≡ true)

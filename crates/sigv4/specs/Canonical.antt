@@ -8,7 +8,7 @@ use Rattle.std.specs.declared.cmp.Ordering.{Ordering}
 use Rattle.gate_base.specs.declared.page.Pair.{Pair}
 use Rattle.s3_names.specs.Escapes.{escaped_all, escaped_path}
 use Rattle.s3_names.specs.declared.target.Target.{Target}
-use Rattle.http_wire.specs.FirstMessage.{values_of}
+use Rattle.http_wire.specs.Headers.{values_of}
 use Rattle.http_wire.specs.declared.message.Message.{Message}
 
 -- a space or a tab

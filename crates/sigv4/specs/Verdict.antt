@@ -1,16 +1,15 @@
 -- Who sent a request, or why it is refused. Source: Amazon S3 API Reference, "Authenticating requests: using the
 -- Authorization header"; the order of the refusals is this profile's.
-use Rattle.std.specs.Prelude.{◌≡◌, ⊤, ℕ, Bool, not, ◌&&◌, ◌||◌, ◌==◌, nat_eq, if◌then◌else◌, List, [], ◌∷◌, codes, bytes_eq}
-use Rattle.std.specs.Prelude.{count_by, find, Option, Some, None, Result, Ok, Err}
+use Rattle.std.specs.Prelude.{◌≡◌, ⊤, ℕ, Bool, not, ◌&&◌, ◌||◌, nat_eq, if◌then◌else◌, List, [], ◌∷◌, codes, bytes_eq}
+use Rattle.std.specs.Prelude.{Option, Some, None, Result, Ok, Err}
 use Rattle.std.specs.List.{list_any, starts_with}
-use Rattle.std.specs.Option.{option_map_or}
 use Rattle.hex.specs.Hex.{encode_lower}
 use Rattle.sha2.specs.Sha256.{sha256}
 use Rattle.gate_base.specs.declared.page.Caller.{Caller}
 use Rattle.gate_base.specs.declared.page.Caller.TheVariants.{Owner, Anonymous}
 use Rattle.gate_base.specs.declared.page.Pair.{Pair}
 use Rattle.s3_names.specs.declared.target.Target.{Target}
-use Rattle.http_wire.specs.FirstMessage.{has_name, value_of}
+use Rattle.http_wire.specs.Headers.{has_name, has_header, has_one, first_value}
 use Rattle.http_wire.specs.declared.message.Message.{Message}
 use Rattle.sigv4.specs.Authorization.{is_hex, authorization_of}
 use Rattle.sigv4.specs.Canonical.{canonical_text}
@@ -23,14 +22,6 @@ use Rattle.sigv4.specs.declared.refusal.Refusal.{Refusal}
 use Rattle.sigv4.specs.declared.refusal.Refusal.TheVariants.{HeaderMalformed, UnknownKey, WrongScope, UnsignedHeader, NoDate, Skewed}
 use Rattle.sigv4.specs.declared.refusal.Refusal.TheVariants.{Streaming, NoPayloadHash, SignatureDiffers, PayloadDiffers, Memory}
 use Rattle.sigv4.specs.declared.signature.Signed.{Signed}
-
--- exactly one header has the name
-abbrev pub has_one : List ℕ → List Pair → Bool
-has_one name headers = count_by (has_name name) headers == 1
-
--- the value of the first header of the name, no byte where there is none
-abbrev pub first_value : List ℕ → List Pair → List ℕ
-first_value name headers = option_map_or value_of (find (has_name name) headers) []
 
 -- what the header says, where it is the only one of its name and has the form
 abbrev pub claim_of : List Pair → Option Authorization
@@ -55,7 +46,7 @@ is_left_out claim header = must_be_signed header.name && not (is_among header.na
 -- `host` is absent, or such a header is there
 abbrev pub leaves_unsigned : Authorization → List Pair → Bool
 leaves_unsigned claim headers =
-    not (list_any (has_name (codes "host")) headers) || list_any (is_left_out claim) headers
+    not (has_header (codes "host") headers) || list_any (is_left_out claim) headers
 
 abbrev pub time_of : List Pair → List ℕ
 time_of headers = first_value (codes "x-amz-date") headers
@@ -137,7 +128,7 @@ judged keys region message target moment (Some claim) = judged_with (secret_of c
 -- the owner, an anonymous caller, or the first refusal that is expected
 unfoldable pub caller_or_refusal : List AccessKey → List ℕ → Message → Target → ℕ → Result Caller Refusal
 caller_or_refusal keys region message target moment =
-    if list_any (has_name (codes "authorization")) message.headers
+    if has_header (codes "authorization") message.headers
     then judged keys region message target moment (claim_of message.headers)
     else Ok Anonymous
 

@@ -5,7 +5,6 @@
 mod authorization;
 mod cut;
 mod hash;
-mod join;
 mod keys;
 mod laws;
 mod moment;
@@ -20,4 +19,4 @@ pub use laws::{law_authorization_read, law_query_ordered};
 pub use refusal::Refusal;
 pub use request::canonical;
 pub use signature::{Signed, is_date_time, sign};
-pub use verdict::verify;
+pub use verdict::{hash_of, time_of, verify};

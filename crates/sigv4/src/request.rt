@@ -1,10 +1,9 @@
 ghost use Rattle.std.specs.Prelude.{◌≡◌, ◌==◌, ◌++◌, map, flat_map, IfOk, OnOk};
-ghost use Rattle.http_wire.specs.FirstMessage.{has_name, values_of};
+ghost use Rattle.http_wire.specs.Headers.{values_of};
 ghost use Rattle.sigv4.specs.Canonical.{is_blank, skip_blanks, cut_blanks, begins_with_space, single_spaced, clean, canonical_value, canonical_header, canonical_headers, escaped_pair, pair_cmp, ordered, pair_text, canonical_query, canonical_text};
 
-use crate::join::joined;
 use gate_base::{Bytes, Copying, List, Memory, Pair};
-use http_wire::Message;
+use http_wire::{Message, has_name, joined};
 use s3_names::{Target, encode_all, encode_path};
 use std::alloc::Global;
 use std::cmp::Ordering;
@@ -51,7 +50,7 @@ fn append_header(
 ) -> Result<(), Memory>
     ensures { OnOk result (text.new ≡ text.old ++ canonical_header headers.now name.now) }
 {
-    let values = values_of(alloc, headers, name)?;
+    let values = clean_values(alloc, headers, name)?;
     let value = joined(alloc, b',', values.as_slice())?;
     text.append(name)?;
     text.push(b':')?;
@@ -60,22 +59,16 @@ fn append_header(
 }
 
 /// The values of the headers of a name, without the blanks around them and in single spacing.
-fn values_of(alloc: Global, headers: &[Pair], name: &[u8]) -> Result<List<Bytes>, Memory>
+fn clean_values(alloc: Global, headers: &[Pair], name: &[u8]) -> Result<List<Bytes>, Memory>
     ensures { IfOk result (λ values. values ≡ map clean (values_of name.now headers.now)) }
 {
     let mut values = List::new(alloc);
     for header in headers {
-        if has_name(name, header) {
+        if has_name(header, name) {
             values.push(clean(alloc, header.value.as_slice())?)?;
         }
     }
     Ok(values)
-}
-
-fn has_name(name: &[u8], header: &Pair) -> bool
-    ensures { result ≡ has_name name.now header.now }
-{
-    header.name.as_slice() == name
 }
 
 fn clean(alloc: Global, value: &[u8]) -> Result<Bytes, Memory>

@@ -1,9 +1,7 @@
-ghost use Rattle.std.specs.Prelude.{◌≡◌, false, count_by, find, IfOk};
+ghost use Rattle.std.specs.Prelude.{◌≡◌, false, IfOk};
 ghost use Rattle.std.specs.List.{list_any};
-ghost use Rattle.std.specs.Option.{option_copied};
-ghost use Rattle.http_wire.specs.FirstMessage.{has_name};
 ghost use Rattle.sigv4.specs.Keys.{secret_of};
-ghost use Rattle.sigv4.specs.Verdict.{has_one, first_value, claim_of, has_wrong_scope, is_among, must_be_signed, is_left_out, leaves_unsigned, time_of, lacks_date, hash_of, announces_pieces, is_streaming, is_unsigned_payload, lacks_payload_hash, expected, signature_differs, payload_differs, first_refusal, reasons, judged_with, caller_or_refusal, Gives};
+ghost use Rattle.sigv4.specs.Verdict.{claim_of, has_wrong_scope, is_among, must_be_signed, is_left_out, leaves_unsigned, time_of, lacks_date, hash_of, announces_pieces, is_streaming, is_unsigned_payload, lacks_payload_hash, expected, signature_differs, payload_differs, first_refusal, reasons, judged_with, caller_or_refusal, Gives};
 
 use crate::authorization::{Authorization, is_hex};
 use crate::moment::{is_of_day, is_skewed, is_time};
@@ -11,7 +9,7 @@ use crate::request::canonical;
 use crate::signature::{Signed, sign};
 use crate::{Keys, Refusal};
 use gate_base::{Bytes, Caller, Memory, Pair};
-use http_wire::Message;
+use http_wire::{Message, first_value, has_header, has_name, has_one};
 use s3_names::Target;
 use sha2::{Digest, Sha256};
 use std::alloc::Global;
@@ -37,7 +35,7 @@ pub fn verify(
 ) -> Result<Caller, Refusal>
     ensures { Gives result (caller_or_refusal keys.now region.now message.now target.now moment) }
 {
-    if !has_some(AUTHORIZATION, message.headers.as_slice()) {
+    if !has_header(message.headers.as_slice(), AUTHORIZATION) {
         return Ok(Caller::Anonymous);
     }
     match claim_of(alloc, message.headers.as_slice())? {
@@ -105,55 +103,12 @@ fn judge_with(
     Ok(Caller::Owner)
 }
 
-fn has_name(name: &[u8], header: &Pair) -> bool
-    ensures { result ≡ has_name name.now header.now }
-{
-    header.name.as_slice() == name
-}
-
-fn has_some(name: &[u8], headers: &[Pair]) -> bool
-    ensures { result ≡ list_any (has_name name.now) headers.now }
-{
-    headers.iter().any(|header| has_name(name, header))
-}
-
-fn has_one(name: &[u8], headers: &[Pair]) -> bool
-    ensures { result ≡ has_one name.now headers.now }
-{
-    count(name, headers) == 1
-}
-
-fn count(name: &[u8], headers: &[Pair]) -> usize
-    ensures { result ≡ count_by (has_name name.now) headers.now }
-{
-    headers
-        .iter()
-        .filter(|header| has_name(name, header))
-        .count()
-}
-
-/// The value of the first header of a name, no byte where there is none.
-fn first_value<'a>(name: &[u8], headers: &'a [Pair]) -> &'a [u8]
-    ensures { result.now ≡ first_value name.now headers.now }
-{
-    match first(name, headers) {
-        Some(header) => header.value.as_slice(),
-        None => b"",
-    }
-}
-
-fn first<'a>(name: &[u8], headers: &'a [Pair]) -> Option<&'a Pair>
-    ensures { option_copied result ≡ find (has_name name.now) headers.now }
-{
-    headers.iter().find(|header| has_name(name, header))
-}
-
 /// What the Authorization header says, where it is the only one and has the form.
 fn claim_of(alloc: Global, headers: &[Pair]) -> Result<Option<Authorization>, Memory>
     ensures { IfOk result (λ claim. claim ≡ claim_of headers.now) }
 {
-    if has_one(AUTHORIZATION, headers) {
-        Authorization::read(alloc, first_value(AUTHORIZATION, headers))
+    if has_one(headers, AUTHORIZATION) {
+        Authorization::read(alloc, first_value(headers, AUTHORIZATION))
     } else {
         Ok(None)
     }
@@ -168,7 +123,7 @@ fn has_wrong_scope(region: &[u8], claim: &Authorization) -> bool
 fn leaves_unsigned(claim: &Authorization, headers: &[Pair]) -> bool
     ensures { result ≡ leaves_unsigned claim.now headers.now }
 {
-    !has_some(b"host", headers) || leaves_some_out(claim, headers)
+    !has_header(headers, b"host") || leaves_some_out(claim, headers)
 }
 
 fn leaves_some_out(claim: &Authorization, headers: &[Pair]) -> bool
@@ -196,23 +151,25 @@ fn is_among(name: &[u8], names: &[Bytes]) -> bool
     names.iter().any(|other| other.as_slice() == name)
 }
 
-fn time_of(headers: &[Pair]) -> &[u8]
+/// The value of the first `x-amz-date`, no byte where there is none.
+pub fn time_of(headers: &[Pair]) -> &[u8]
     ensures { result.now ≡ time_of headers.now }
 {
-    first_value(DATE, headers)
+    first_value(headers, DATE)
 }
 
 fn lacks_date(claim: &Authorization, headers: &[Pair]) -> bool
     ensures { result ≡ lacks_date claim.now headers.now }
 {
     let time = time_of(headers);
-    !(has_one(DATE, headers) && is_time(time) && is_of_day(time, claim.date.as_slice()))
+    !(has_one(headers, DATE) && is_time(time) && is_of_day(time, claim.date.as_slice()))
 }
 
-fn hash_of(headers: &[Pair]) -> &[u8]
+/// The value of the first `x-amz-content-sha256`, no byte where there is none.
+pub fn hash_of(headers: &[Pair]) -> &[u8]
     ensures { result.now ≡ hash_of headers.now }
 {
-    first_value(PAYLOAD, headers)
+    first_value(headers, PAYLOAD)
 }
 
 fn is_streaming(headers: &[Pair]) -> bool
@@ -224,14 +181,14 @@ fn is_streaming(headers: &[Pair]) -> bool
 fn announces_pieces(header: &Pair) -> bool
     ensures { result ≡ announces_pieces header.now }
 {
-    has_name(PAYLOAD, header) && header.value.as_slice().starts_with(b"STREAMING-")
+    has_name(header, PAYLOAD) && header.value.as_slice().starts_with(b"STREAMING-")
 }
 
 fn lacks_payload_hash(headers: &[Pair]) -> bool
     ensures { result ≡ lacks_payload_hash headers.now }
 {
     let hash = hash_of(headers);
-    !(has_one(PAYLOAD, headers) && (is_hex(hash) || is_unsigned_payload(hash)))
+    !(has_one(headers, PAYLOAD) && (is_hex(hash) || is_unsigned_payload(hash)))
 }
 
 fn is_unsigned_payload(hash: &[u8]) -> bool

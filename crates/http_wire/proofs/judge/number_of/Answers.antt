@@ -1,18 +1,20 @@
-use Rattle.std.proofs.Common.{arith}
-use Rattle.http_wire.proofs.MessageLemmas.{number_step, number_end}
+use Rattle.std.proofs.Common.{arith, ◌∙◌, ap, ◌+◌, ◌*◌}
+use Rattle.http_wire.proofs.MessageLemmas.{digit_is, next_fits, next_value, all_of_it}
 use Rattle.http_wire.proofs.judge.number_of.Goals as goal
 
 pub overflow_mul-number : goal.overflow_mul-number
-overflow_mul-number c =
-    omega (arith, (number_step c.args.digits.now c.loop-digit.number c.loop-digit.digit-index c.requires c.loop-digit-test.true c.loop-digit.invariant).0)
+overflow_mul-number c = omega (arith, next_fits _ _ _ c.loop-digit.invariant c.requires c.loop-digit-test.true)
+
+pub overflow_sub-digit : goal.overflow_sub-digit
+overflow_sub-digit c = (digit_is _ _ c.requires c.loop-digit-test.true).0
 
 pub overflow_add-number : goal.overflow_add-number
 overflow_add-number c =
-    omega (arith, c.from.ensures, (number_step c.args.digits.now c.loop-digit.number c.loop-digit.digit-index c.requires c.loop-digit-test.true c.loop-digit.invariant).0)
+    let found = digit_is _ _ c.requires c.loop-digit-test.true in
+    omega (arith, next_fits _ _ _ c.loop-digit.invariant c.requires c.loop-digit-test.true, c.from.ensures, found.0, found.1)
 
 pub loop-digit-preserved : goal.loop-digit-preserved
-loop-digit-preserved c =
-    rw c.from.ensures (number_step c.args.digits.now c.loop-digit.number c.loop-digit.digit-index c.requires c.loop-digit-test.true c.loop-digit.invariant).1
+loop-digit-preserved c = ap (λ n. c.loop-digit.number * 10 + n) c.from.ensures ∙ next_value _ _ _ c.loop-digit.invariant c.requires c.loop-digit-test.true
 
 pub returns : goal.returns
-returns c = number_end c.args.digits.now c.loop-digit.number c.loop-digit.digit-index c.loop-digit-test.false c.loop-digit.invariant
+returns c = all_of_it _ _ _ c.loop-digit.invariant c.loop-digit-test.false

@@ -1,7 +1,7 @@
 use Rattle.std.proofs.Common.{sym, ◌∙◌, codes, nat_eq}
 use Rattle.std.specs.List.{starts_with}
 use Rattle.std.proofs.lemmas.Bool.{and_left}
-use Rattle.http_wire.specs.FirstMessage.{has_name}
+use Rattle.http_wire.specs.Headers.{has_name}
 use Rattle.sigv4.proofs.verdict.announces_pieces.Goals as goal
 
 pub returns-else-has_name : goal.returns-else-has_name

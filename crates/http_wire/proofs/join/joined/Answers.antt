@@ -1,5 +1,5 @@
-use Rattle.sigv4.proofs.JoinLemmas.{joined_all}
-use Rattle.sigv4.proofs.join.joined.Goals as goal
+use Rattle.http_wire.proofs.JoinLemmas.{joined_all}
+use Rattle.http_wire.proofs.join.joined.Goals as goal
 
 pub returns-in_ok-append_others-in-len1-up : goal.returns-in_ok-append_others-in-len1-up
 returns-in_ok-append_others-in-len1-up c =
