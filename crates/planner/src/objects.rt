@@ -24,22 +24,22 @@ use swift_calls::Swift;
 pub(crate) fn put_object<W: Swift>(
     alloc: Global,
     state: &mut Settled<'_, W>,
-    bucket: &Bytes,
-    key: &Bytes,
+    bucket: Bytes,
+    key: Bytes,
     acl: Option<Acl>,
-    content_type: &Bytes,
+    content_type: Bytes,
     meta: &Meta,
-    body: &Bytes,
+    body: Bytes,
     label: &Label,
 ) -> Result<Reply, PlanFault>
-    requires place { IsPlace bucket.now key.now }
-    requires content { IsProperContent content_type.now meta.now body.now }
+    requires place { IsPlace bucket key }
+    requires content { IsProperContent content_type meta.now body }
     requires moment { label.now.moment < moment_limit }
     ensures stays { Stays state.old state.new }
     ensures plans { Plans (always 2) (W.history state.old.store.now) (W.history state.new.store.now) state.old.settings.now
-        (Given Any) (PutObject bucket.now key.now acl content_type.now meta.now body.now) label.now known.Settled result }
+        (Given Any) (PutObject bucket key acl content_type meta.now body) label.now known.Settled result }
 {
-    match head_bucket(state, bucket) {
+    match head_bucket(state, &bucket) {
         Ok(None) => Ok(Reply::Refused(Code::NoSuchBucket)),
         Ok(Some(list)) => {
             put_into(
@@ -63,27 +63,28 @@ pub(crate) fn put_object<W: Swift>(
 fn put_into<W: Swift>(
     alloc: Global,
     state: &mut Settled<'_, W>,
-    bucket: &Bytes,
-    key: &Bytes,
+    bucket: Bytes,
+    key: Bytes,
     acl: Option<Acl>,
     list: Acl,
-    content_type: &Bytes,
+    content_type: Bytes,
     meta: &Meta,
-    body: &Bytes,
+    body: Bytes,
     label: &Label,
 ) -> Result<Reply, PlanFault>
-    requires place { IsPlace bucket.now key.now }
-    requires content { IsProperContent content_type.now meta.now body.now }
+    requires place { IsPlace bucket key }
+    requires content { IsProperContent content_type meta.now body }
     requires moment { label.now.moment < moment_limit }
     ensures stays { Stays state.old state.new }
     ensures plans { Plans (always 1) (W.history state.old.store.now) (W.history state.new.store.now) state.old.settings.now
-        (Given (λ s. TellsBucket bucket.now s (Some list))) (PutObject bucket.now key.now acl content_type.now meta.now body.now) label.now known.Settled result }
+        (Given (λ s. TellsBucket bucket s (Some list))) (PutObject bucket key acl content_type meta.now body) label.now known.Settled result }
 {
     if is_other_acl(acl, list) {
         return Ok(Reply::Refused(Code::NotImplemented));
     }
+    let etag = body_etag(body.as_slice());
     let reply = Reply::Stored {
-        etag: Bytes::from_slice(alloc, &body_etag(body.as_slice()))?,
+        etag: Bytes::from_slice(alloc, &etag)?,
     };
     reply_after(
         recovery::put_object(
@@ -94,6 +95,7 @@ fn put_into<W: Swift>(
             content_type,
             meta,
             body,
+            &etag,
             label.moment,
         ),
         reply,

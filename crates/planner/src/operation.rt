@@ -19,13 +19,13 @@ use swift_calls::Swift;
 /// it is ServiceUnavailable, only where the store's count of faults rose in this call: the last call failed, no earlier
 /// one did, and the state is the old one or the step's. Or it is `Memory`, where memory ran out, with the
 /// same two states. Or it is InconsistentStore, never over an observable consistent account. No call is repeated.
-pub fn answer<W: Swift>(alloc: Global, state: &mut Settled<'_, W>, op: &Op, label: &Label) -> Reply
-    requires { IsProper op.now label.now }
+pub fn answer<W: Swift>(alloc: Global, state: &mut Settled<'_, W>, op: Op, label: &Label) -> Reply
+    requires { IsProper op label.now }
     ensures stays { Stays state.old state.new }
 
     // The calls amount to the operation, with one turn of the account from the old state to the new one.
-    ensures answered { Answered (most_calls op.now (present (W.history state.old.store.now))) (W.history state.old.store.now) (W.history state.new.store.now)
-        state.old.settings.now op.now label.now known.Settled result }
+    ensures answered { Answered (most_calls op (present (W.history state.old.store.now))) (W.history state.old.store.now) (W.history state.new.store.now)
+        state.old.settings.now op label.now known.Settled result }
 {
     reply_to(plan(alloc, state, op, label))
 }
@@ -34,16 +34,16 @@ pub fn answer<W: Swift>(alloc: Global, state: &mut Settled<'_, W>, op: &Op, labe
 fn plan<W: Swift>(
     alloc: Global,
     state: &mut Settled<'_, W>,
-    op: &Op,
+    op: Op,
     label: &Label,
 ) -> Result<Reply, PlanFault>
-    requires { IsProper op.now label.now }
+    requires { IsProper op label.now }
     ensures stays { Stays state.old state.new }
-    ensures plans { Plans (most_calls op.now (present (W.history state.old.store.now))) (W.history state.old.store.now) (W.history state.new.store.now) state.old.settings.now
-        (Given Any) op.now label.now known.Settled result }
+    ensures plans { Plans (most_calls op (present (W.history state.old.store.now))) (W.history state.old.store.now) (W.history state.new.store.now) state.old.settings.now
+        (Given Any) op label.now known.Settled result }
 {
     match op {
-        Op::CreateBucket { bucket, acl } => create_bucket(state, bucket, *acl, label),
+        Op::CreateBucket { bucket, acl } => create_bucket(state, &bucket, acl, label),
         Op::PutObject {
             bucket,
             key,
@@ -56,15 +56,15 @@ fn plan<W: Swift>(
             state,
             bucket,
             key,
-            *acl,
+            acl,
             content_type,
-            meta,
+            &meta,
             body,
             label,
         ),
-        Op::GetObject { bucket, key } => get_object(alloc, state, bucket, key, label),
-        Op::HeadObject { bucket, key } => head_object(alloc, state, bucket, key, label),
-        Op::DeleteObject { bucket, key } => delete_object(state, bucket, key, label),
+        Op::GetObject { bucket, key } => get_object(alloc, state, &bucket, &key, label),
+        Op::HeadObject { bucket, key } => head_object(alloc, state, &bucket, &key, label),
+        Op::DeleteObject { bucket, key } => delete_object(state, &bucket, &key, label),
     }
 }
 

@@ -18,7 +18,7 @@ use Rattle.s3_machine.specs.ETag.{body_etag}
 use Rattle.s3_machine.specs.Limits as limits
 use Rattle.s3_machine.specs.Step.{IsProperContent}
 use Rattle.swift_calls.specs.Limits as store
-use Rattle.swift_calls.specs.Step.{IsContainerName, Fit}
+use Rattle.swift_calls.specs.Step.{Fit}
 use Rattle.swift_calls.specs.declared.calls.SwiftRequest.TheVariants.{PutObject}
 use Rattle.swift_marks.specs.Limits.{is_kept_metadata, is_printable_entry, counted_name, counted_size}
 use Rattle.swift_marks.specs.Tag.{is_printable, is_field, is_content_type, is_etag, has_text, tag_text}
@@ -181,16 +181,15 @@ all_taken most [] e = refl
 all_taken most (piece ∷ pieces) e = let parts = and_parts (is_field most piece) _ e in and_from _ _ (taken most piece parts.0) (all_taken most pieces parts.1)
 
 -- the PUT of an object's file is one that a store takes
-pub put_fits : (bucket key content_type body : List ℕ) (meta : List Pair) (moment : ℕ) (container name text copied : List ℕ) (pieces : List (List ℕ))
+pub put_fits : (bucket key content_type body : List ℕ) (meta : List Pair) (moment : ℕ) (text : List ℕ) (pieces : List (List ℕ))
     → is_bucket bucket ≡ true → is_key key ≡ true → IsProperContent content_type meta body → moment < moment_limit
-    → container ≡ bucket → name ≡ key → text ≡ tag_text (plain_tag content_type (body_etag body) moment) → pieces ≡ pack_of meta → copied ≡ body
-    → Fit (PutObject container name text pieces copied)
-put_fits bucket key content_type body meta moment container name text copied pieces is keyed content below named under written packed same =
-    let small = pack_is_small meta (described meta content.described) in
-    let sized = content.sized in (
-      subst IsContainerName (sym named) (container_name bucket is),
-      subst store.IsObjectName (sym under) (object_name key keyed),
+    → text ≡ tag_text (plain_tag content_type (body_etag body) moment) → pieces ≡ pack_of meta
+    → Fit (PutObject bucket key text pieces body)
+put_fits bucket key content_type body meta moment text pieces is keyed content below written packed =
+    let small = pack_is_small meta (described meta content.described) in (
+      container_name bucket is,
+      object_name key keyed,
       subst (λ t. IsTrue (store.is_content_type t)) (sym written) (taken 512 (tag_text (plain_tag content_type (body_etag body) moment)) (tag_is_field (plain_tag content_type (body_etag body) moment) (tag_has_text content_type (body_etag body) body moment content.typed refl below))),
       subst (λ p. IsTrue (store.is_meta p)) (sym packed) (and_from _ _ (le-leb (length (pack_of meta)) 11 small.0) (all_taken 256 (pack_of meta) small.1)),
-      subst (λ b. length b ≤ store.most_body) (sym same) sized,
+      content.sized,
     )

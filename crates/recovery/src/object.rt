@@ -16,7 +16,7 @@ ghost use Rattle.recovery.specs.Lent.{Stays};
 use crate::interpret::{bytes_in, gone_in, head_in, stored_in};
 use crate::{PlanFault, Settled};
 use gate_base::{Bytes, Copying, Memory};
-use s3_machine::{ObjectHead, body_etag};
+use s3_machine::ObjectHead;
 use s3_names::Meta;
 use std::alloc::Global;
 use swift_calls::{Swift, SwiftRequest};
@@ -78,65 +78,66 @@ pub fn get_object<W: Swift>(
 pub fn put_object<W: Swift>(
     alloc: Global,
     state: &mut Settled<'_, W>,
-    bucket: &Bytes,
-    key: &Bytes,
-    content_type: &Bytes,
+    bucket: Bytes,
+    key: Bytes,
+    content_type: Bytes,
     meta: &Meta,
-    body: &Bytes,
+    body: Bytes,
+    etag: &[u8],
     moment: u64,
 ) -> Result<(), PlanFault>
-    requires name { is_bucket bucket.now ≡ true }
-    requires key { is_key key.now ≡ true }
-    requires content { IsProperContent content_type.now meta.now body.now }
+    requires name { is_bucket bucket ≡ true }
+    requires key { is_key key ≡ true }
+    requires content { IsProperContent content_type meta.now body }
+    requires etag { etag.now ≡ body_etag body }
     requires moment { moment < moment_limit }
     ensures stays { Stays state.old state.new }
-    ensures changes { Changes (always 1) (W.history state.old.store.now) (W.history state.new.store.now) (Given (HasBucket bucket.now)) (Becomes (puts_object bucket.now key.now content_type.now meta.now body.now moment)) result }
+    ensures changes { Changes (always 1) (W.history state.old.store.now) (W.history state.new.store.now) (Given (HasBucket bucket)) (Becomes (puts_object bucket key content_type meta.now body moment)) result }
 {
-    let etag = body_etag(body.as_slice());
-    let request = put_request(alloc, bucket, key, content_type, meta, body, &etag, moment)?;
+    let request = put_request(alloc, bucket, key, content_type, meta, body, etag, moment)?;
     let reply = state.store.call(&request)?;
-    stored_in(&reply, &etag)
+    stored_in(&reply, etag)
 }
 
 /// The PUT of an object's file, whose body has this ETag.
 #[tactic(auto, using(crate::proofs::Fits::put_fits, crate::proofs::Fits::tag_has_text))]
 fn put_request(
     alloc: Global,
-    bucket: &Bytes,
-    key: &Bytes,
-    content_type: &Bytes,
+    bucket: Bytes,
+    key: Bytes,
+    content_type: Bytes,
     meta: &Meta,
-    body: &Bytes,
+    body: Bytes,
     etag: &[u8],
     moment: u64,
 ) -> Result<SwiftRequest, Memory>
-    requires name { is_bucket bucket.now ≡ true }
-    requires key { is_key key.now ≡ true }
-    requires content { IsProperContent content_type.now meta.now body.now }
-    requires etag { etag.now ≡ body_etag body.now }
+    requires name { is_bucket bucket ≡ true }
+    requires key { is_key key ≡ true }
+    requires content { IsProperContent content_type meta.now body }
+    requires etag { etag.now ≡ body_etag body }
     requires moment { moment < moment_limit }
-    ensures request { IfOk result (λ request. request ≡ put_of bucket.now key.now content_type.now meta.now body.now moment) }
+    ensures request { IfOk result (λ request. request ≡ put_of bucket key content_type meta.now body moment) }
     ensures fits { IfOk result Fit }
     ensures ordered { OnOk result (names_ascend meta.now ≡ true) }
 {
     let text = tag_text(alloc, content_type, etag, moment)?;
     let pieces = pack(alloc, meta)?;
     Ok(SwiftRequest::PutObject {
-        container: bucket.copy()?,
-        name: key.copy()?,
+        container: bucket,
+        name: key,
         content_type: text,
         meta: pieces,
-        body: body.copy()?,
+        body,
     })
 }
 
 /// The tag of an object that is put in one piece, with the ETag of its bytes, as its file has it.
-fn tag_text(alloc: Global, content_type: &Bytes, etag: &[u8], moment: u64) -> Result<Bytes, Memory>
-    requires { has_text (plain_tag content_type.now etag.now moment) ≡ true }
-    ensures { IfOk result (λ text. text ≡ tag_text (plain_tag content_type.now etag.now moment)) }
+fn tag_text(alloc: Global, content_type: Bytes, etag: &[u8], moment: u64) -> Result<Bytes, Memory>
+    requires { has_text (plain_tag content_type etag.now moment) ≡ true }
+    ensures { IfOk result (λ text. text ≡ tag_text (plain_tag content_type etag.now moment)) }
 {
     let tag = Tag {
-        content_type: content_type.copy()?,
+        content_type,
         etag: Bytes::from_slice(alloc, etag)?,
         moment,
         id: None,

@@ -15,5 +15,5 @@ pub returns-clause-plans : goal.returns-clause-plans
 returns-clause-plans g c =
     subst (Plans _ _ _ _ _ _ _ _) (sym c.reply_after.ensures)
     (commits _ (lit≤ tt) c.put_object.ensures.changes (λ done. search rules) (λ state there. (c.args.list, there))
-    (λ state done new there is. becomes (put_stored c.args.state.now.settings.now state c.args.bucket.now c.args.key.now c.args.label.now _ there c.args.acl c.args.content_type.now c.args.meta.now c.args.body.now _
-    (sym c.is_other_acl.ensures ∙ c.if-is_other_acl.false) (c.in_ok-from_slice.ensures ∙ c.body_etag.ensures ∙ ap body_etag c.as_slice.ensures)) is))
+    (λ state done new there is. becomes (put_stored c.args.state.now.settings.now state c.args.bucket c.args.key c.args.label.now _ there c.args.acl c.args.content_type c.args.meta.now c.args.body _
+    (sym c.is_other_acl.ensures ∙ c.if-is_other_acl.false) (c.in_ok-from_slice.ensures ∙ c.body_etag-etag.ensures ∙ ap body_etag c.as_slice.ensures)) is))

@@ -1,5 +1,4 @@
 use Rattle.std.proofs.Common.{ap, ◌∙◌}
-use Rattle.s3_machine.specs.ETag.{body_etag}
 use Rattle.recovery.specs.Interpret.{stored_due}
 use Rattle.recovery.proofs.Files.{puts}
 use Rattle.recovery.proofs.One.{not_sent, sent_in_vain, sent}
@@ -29,4 +28,4 @@ returns-clause-changes g c =
       ascend = c.in_ok-request.ensures.ordered;
       below = c.requires.moment;
     })) c.in_ok-reply.ensures _
-    (c.stored_in.ensures.due ∙ ap (λ etag. stored_due etag c.in_ok-reply.reply) (c.body_etag-etag.ensures ∙ ap body_etag c.as_slice.ensures)) c.stored_in.ensures.own
+    (c.stored_in.ensures.due ∙ ap (λ etag. stored_due etag c.in_ok-reply.reply) c.requires.etag) c.stored_in.ensures.own

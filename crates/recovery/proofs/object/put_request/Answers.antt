@@ -6,4 +6,5 @@ use Rattle.recovery.proofs.object.put_request.Goals as goal
 
 pub returns-clause-fits : goal.returns-clause-fits
 returns-clause-fits c =
-    put_fits _ _ _ _ _ _ _ _ _ _ _ c.requires.name c.requires.key c.requires.content c.requires.moment c.in_ok-copy.ensures c.in_ok-copy-2.ensures (c.text.view_is ∙ c.in_ok-text.ensures ∙ ap (λ etag. tag_text (plain_tag c.args.content_type.now etag c.args.moment)) c.requires.etag) (c.pieces.view_is ∙ c.in_ok-pieces.ensures.pieces) c.in_ok-copy-3.ensures
+    put_fits _ _ _ _ _ _ _ _ c.requires.name c.requires.key c.requires.content c.requires.moment
+    (c.in_ok-text.ensures ∙ ap (λ etag. tag_text (plain_tag c.args.content_type etag c.args.moment)) c.requires.etag) c.in_ok-pieces.ensures.pieces
