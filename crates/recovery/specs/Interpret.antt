@@ -10,7 +10,7 @@ use Rattle.s3_machine.specs.Limits.{most_body_bytes}
 use Rattle.swift_calls.specs.declared.calls.SwiftRequest.{SwiftRequest}
 use Rattle.swift_calls.specs.declared.calls.SwiftRequest.TheVariants.{PutObject}
 use Rattle.swift_calls.specs.declared.calls.SwiftReply.{SwiftReply}
-use Rattle.swift_calls.specs.declared.calls.SwiftReply.TheVariants.{Made, There, Gone, Stored, NotFound, NotEmpty, Unsatisfiable, Containers, Readers, Names, Head, Bytes}
+use Rattle.swift_calls.specs.declared.calls.SwiftReply.TheVariants.{Made, Gone, Stored, NotFound, NotEmpty, Readers, Head, Bytes}
 use Rattle.swift_calls.specs.declared.heads.StoredHead.{StoredHead}
 use Rattle.swift_marks.specs.declared.tag.Tag.{Tag}
 use Rattle.swift_marks.specs.Tag.{read_tag, tag_text}
@@ -28,18 +28,8 @@ Gives result due = (result ≡ Err fault.Memory) ⊎ (result ≡ due)
 -- HEAD of a bucket's container: who may read the bucket, which has the moment at which it was made
 abbrev pub bucket_due : SwiftReply → Result (Option Acl) PlanFault
 bucket_due (Readers readers (Some created)) = Ok (Some (acl_of readers))
-bucket_due (Readers readers None) = Err fault.Inconsistent
 bucket_due NotFound = Ok None
-bucket_due Made = Err fault.Inconsistent
-bucket_due There = Err fault.Inconsistent
-bucket_due Gone = Err fault.Inconsistent
-bucket_due (Stored etag) = Err fault.Inconsistent
-bucket_due NotEmpty = Err fault.Inconsistent
-bucket_due Unsatisfiable = Err fault.Inconsistent
-bucket_due (Containers names) = Err fault.Inconsistent
-bucket_due (Names items) = Err fault.Inconsistent
-bucket_due (Head head) = Err fault.Inconsistent
-bucket_due (Bytes head body) = Err fault.Inconsistent
+bucket_due _ = Err fault.Inconsistent
 
 -- whether a file is what its tag says that was put in one piece: of no upload, with bytes of its own, as many as a body
 -- may have, and with their ETag
@@ -70,106 +60,42 @@ known (Some x) = Ok (Some x)
 abbrev pub head_due : SwiftReply → Result (Option ObjectHead) PlanFault
 head_due (Head head) = known (head_from head)
 head_due NotFound = Ok None
-head_due Made = Err fault.Inconsistent
-head_due There = Err fault.Inconsistent
-head_due Gone = Err fault.Inconsistent
-head_due (Stored etag) = Err fault.Inconsistent
-head_due NotEmpty = Err fault.Inconsistent
-head_due Unsatisfiable = Err fault.Inconsistent
-head_due (Containers names) = Err fault.Inconsistent
-head_due (Readers readers created) = Err fault.Inconsistent
-head_due (Names items) = Err fault.Inconsistent
-head_due (Bytes head body) = Err fault.Inconsistent
+head_due _ = Err fault.Inconsistent
 
 -- GET of an object's file
 abbrev pub bytes_due : SwiftReply → Result (Option (List ℕ)) PlanFault
 bytes_due (Bytes head body) = Ok (Some body)
 bytes_due NotFound = Ok None
-bytes_due Made = Err fault.Inconsistent
-bytes_due There = Err fault.Inconsistent
-bytes_due Gone = Err fault.Inconsistent
-bytes_due (Stored etag) = Err fault.Inconsistent
-bytes_due NotEmpty = Err fault.Inconsistent
-bytes_due Unsatisfiable = Err fault.Inconsistent
-bytes_due (Containers names) = Err fault.Inconsistent
-bytes_due (Readers readers created) = Err fault.Inconsistent
-bytes_due (Names items) = Err fault.Inconsistent
-bytes_due (Head head) = Err fault.Inconsistent
+bytes_due _ = Err fault.Inconsistent
 
 -- PUT of an object's file whose bytes have this ETag: the store has them with the same
 abbrev pub stored_due : List ℕ → SwiftReply → Result (Unit {0}) PlanFault
 stored_due etag (Stored stored) = cond (bytes_eq stored etag) (Ok tt) (Err fault.Inconsistent)
-stored_due etag Made = Err fault.Inconsistent
-stored_due etag There = Err fault.Inconsistent
-stored_due etag Gone = Err fault.Inconsistent
-stored_due etag NotFound = Err fault.Inconsistent
-stored_due etag NotEmpty = Err fault.Inconsistent
-stored_due etag Unsatisfiable = Err fault.Inconsistent
-stored_due etag (Containers names) = Err fault.Inconsistent
-stored_due etag (Readers readers created) = Err fault.Inconsistent
-stored_due etag (Names items) = Err fault.Inconsistent
-stored_due etag (Head head) = Err fault.Inconsistent
-stored_due etag (Bytes head body) = Err fault.Inconsistent
+stored_due etag _ = Err fault.Inconsistent
 
 -- DELETE of an object's file: also one that isn't there is gone
 abbrev pub gone_due : SwiftReply → Result (Unit {0}) PlanFault
 gone_due Gone = Ok tt
 gone_due NotFound = Ok tt
-gone_due Made = Err fault.Inconsistent
-gone_due There = Err fault.Inconsistent
-gone_due (Stored etag) = Err fault.Inconsistent
-gone_due NotEmpty = Err fault.Inconsistent
-gone_due Unsatisfiable = Err fault.Inconsistent
-gone_due (Containers names) = Err fault.Inconsistent
-gone_due (Readers readers created) = Err fault.Inconsistent
-gone_due (Names items) = Err fault.Inconsistent
-gone_due (Head head) = Err fault.Inconsistent
-gone_due (Bytes head body) = Err fault.Inconsistent
+gone_due _ = Err fault.Inconsistent
 
 -- PUT of a container that is missing
 abbrev pub made_due : SwiftReply → Result (Unit {0}) PlanFault
 made_due Made = Ok tt
-made_due There = Err fault.Inconsistent
-made_due Gone = Err fault.Inconsistent
-made_due (Stored etag) = Err fault.Inconsistent
-made_due NotFound = Err fault.Inconsistent
-made_due NotEmpty = Err fault.Inconsistent
-made_due Unsatisfiable = Err fault.Inconsistent
-made_due (Containers names) = Err fault.Inconsistent
-made_due (Readers readers created) = Err fault.Inconsistent
-made_due (Names items) = Err fault.Inconsistent
-made_due (Head head) = Err fault.Inconsistent
-made_due (Bytes head body) = Err fault.Inconsistent
+made_due _ = Err fault.Inconsistent
 
 -- DELETE of a bucket's container
 abbrev pub dropped_due : SwiftReply → Result Dropped PlanFault
 dropped_due Gone = Ok dropped.Gone
 dropped_due NotEmpty = Ok dropped.Full
 dropped_due NotFound = Ok dropped.Missing
-dropped_due Made = Err fault.Inconsistent
-dropped_due There = Err fault.Inconsistent
-dropped_due (Stored etag) = Err fault.Inconsistent
-dropped_due Unsatisfiable = Err fault.Inconsistent
-dropped_due (Containers names) = Err fault.Inconsistent
-dropped_due (Readers readers created) = Err fault.Inconsistent
-dropped_due (Names items) = Err fault.Inconsistent
-dropped_due (Head head) = Err fault.Inconsistent
-dropped_due (Bytes head body) = Err fault.Inconsistent
+dropped_due _ = Err fault.Inconsistent
 
 -- POST of a bucket's container: whether it is there
 abbrev pub set_due : SwiftReply → Result Bool PlanFault
 set_due Gone = Ok true
 set_due NotFound = Ok false
-set_due Made = Err fault.Inconsistent
-set_due There = Err fault.Inconsistent
-set_due NotEmpty = Err fault.Inconsistent
-set_due (Stored etag) = Err fault.Inconsistent
-set_due Unsatisfiable = Err fault.Inconsistent
-set_due (Containers names) = Err fault.Inconsistent
-set_due (Readers readers created) = Err fault.Inconsistent
-set_due (Names items) = Err fault.Inconsistent
-set_due (Head head) = Err fault.Inconsistent
-set_due (Bytes head body) = Err fault.Inconsistent
+set_due _ = Err fault.Inconsistent
 
 -- ---- what is put
 

@@ -23,17 +23,7 @@ pub(crate) fn bucket_in(reply: &SwiftReply) -> Result<Option<Acl>, PlanFault>
             created: Some(_),
         } => Ok(Some(acl(*readers))),
         SwiftReply::NotFound => Ok(None),
-        SwiftReply::Readers { created: None, .. }
-        | SwiftReply::Made
-        | SwiftReply::There
-        | SwiftReply::Gone
-        | SwiftReply::Stored { .. }
-        | SwiftReply::NotEmpty
-        | SwiftReply::Unsatisfiable
-        | SwiftReply::Containers(_)
-        | SwiftReply::Names(_)
-        | SwiftReply::Head(_)
-        | SwiftReply::Bytes { .. } => Err(PlanFault::Inconsistent),
+        _ => Err(PlanFault::Inconsistent),
     }
 }
 
@@ -46,16 +36,7 @@ pub(crate) fn head_in(alloc: Global, reply: &SwiftReply) -> Result<Option<Object
     match reply {
         SwiftReply::Head(head) => read_head(alloc, head),
         SwiftReply::NotFound => Ok(None),
-        SwiftReply::Made
-        | SwiftReply::There
-        | SwiftReply::Gone
-        | SwiftReply::Stored { .. }
-        | SwiftReply::NotEmpty
-        | SwiftReply::Unsatisfiable
-        | SwiftReply::Containers(_)
-        | SwiftReply::Readers { .. }
-        | SwiftReply::Names(_)
-        | SwiftReply::Bytes { .. } => Err(PlanFault::Inconsistent),
+        _ => Err(PlanFault::Inconsistent),
     }
 }
 
@@ -100,16 +81,7 @@ pub(crate) fn bytes_in(reply: SwiftReply) -> Result<Option<Bytes>, PlanFault>
     match reply {
         SwiftReply::Bytes { body, .. } => Ok(Some(body)),
         SwiftReply::NotFound => Ok(None),
-        SwiftReply::Made
-        | SwiftReply::There
-        | SwiftReply::Gone
-        | SwiftReply::Stored { .. }
-        | SwiftReply::NotEmpty
-        | SwiftReply::Unsatisfiable
-        | SwiftReply::Containers(_)
-        | SwiftReply::Readers { .. }
-        | SwiftReply::Names(_)
-        | SwiftReply::Head(_) => Err(PlanFault::Inconsistent),
+        _ => Err(PlanFault::Inconsistent),
     }
 }
 
@@ -120,18 +92,7 @@ pub(crate) fn stored_in(reply: &SwiftReply, etag: &[u8]) -> Result<(), PlanFault
 {
     match reply {
         SwiftReply::Stored { etag: stored } if stored.as_slice() == etag => Ok(()),
-        SwiftReply::Stored { .. }
-        | SwiftReply::Made
-        | SwiftReply::There
-        | SwiftReply::Gone
-        | SwiftReply::NotFound
-        | SwiftReply::NotEmpty
-        | SwiftReply::Unsatisfiable
-        | SwiftReply::Containers(_)
-        | SwiftReply::Readers { .. }
-        | SwiftReply::Names(_)
-        | SwiftReply::Head(_)
-        | SwiftReply::Bytes { .. } => Err(PlanFault::Inconsistent),
+        _ => Err(PlanFault::Inconsistent),
     }
 }
 
@@ -143,16 +104,7 @@ pub(crate) fn gone_in(reply: &SwiftReply) -> Result<(), PlanFault>
     match reply {
         SwiftReply::Gone => Ok(()),
         SwiftReply::NotFound => Ok(()),
-        SwiftReply::Made
-        | SwiftReply::There
-        | SwiftReply::Stored { .. }
-        | SwiftReply::NotEmpty
-        | SwiftReply::Unsatisfiable
-        | SwiftReply::Containers(_)
-        | SwiftReply::Readers { .. }
-        | SwiftReply::Names(_)
-        | SwiftReply::Head(_)
-        | SwiftReply::Bytes { .. } => Err(PlanFault::Inconsistent),
+        _ => Err(PlanFault::Inconsistent),
     }
 }
 
@@ -163,17 +115,7 @@ pub(crate) fn made_in(reply: &SwiftReply) -> Result<(), PlanFault>
 {
     match reply {
         SwiftReply::Made => Ok(()),
-        SwiftReply::There
-        | SwiftReply::Gone
-        | SwiftReply::Stored { .. }
-        | SwiftReply::NotFound
-        | SwiftReply::NotEmpty
-        | SwiftReply::Unsatisfiable
-        | SwiftReply::Containers(_)
-        | SwiftReply::Readers { .. }
-        | SwiftReply::Names(_)
-        | SwiftReply::Head(_)
-        | SwiftReply::Bytes { .. } => Err(PlanFault::Inconsistent),
+        _ => Err(PlanFault::Inconsistent),
     }
 }
 
@@ -186,15 +128,7 @@ pub(crate) fn dropped_in(reply: &SwiftReply) -> Result<Dropped, PlanFault>
         SwiftReply::Gone => Ok(Dropped::Gone),
         SwiftReply::NotEmpty => Ok(Dropped::Full),
         SwiftReply::NotFound => Ok(Dropped::Missing),
-        SwiftReply::Made
-        | SwiftReply::There
-        | SwiftReply::Stored { .. }
-        | SwiftReply::Unsatisfiable
-        | SwiftReply::Containers(_)
-        | SwiftReply::Readers { .. }
-        | SwiftReply::Names(_)
-        | SwiftReply::Head(_)
-        | SwiftReply::Bytes { .. } => Err(PlanFault::Inconsistent),
+        _ => Err(PlanFault::Inconsistent),
     }
 }
 
@@ -206,15 +140,6 @@ pub(crate) fn set_in(reply: &SwiftReply) -> Result<bool, PlanFault>
     match reply {
         SwiftReply::Gone => Ok(true),
         SwiftReply::NotFound => Ok(false),
-        SwiftReply::Made
-        | SwiftReply::There
-        | SwiftReply::NotEmpty
-        | SwiftReply::Stored { .. }
-        | SwiftReply::Unsatisfiable
-        | SwiftReply::Containers(_)
-        | SwiftReply::Readers { .. }
-        | SwiftReply::Names(_)
-        | SwiftReply::Head(_)
-        | SwiftReply::Bytes { .. } => Err(PlanFault::Inconsistent),
+        _ => Err(PlanFault::Inconsistent),
     }
 }
