@@ -52,7 +52,8 @@ CausesEnd true before now end = CausesFault before now end
 CausesEnd false before now end = end ≡ Err fault.Failed → Rose before now
 
 -- a plan, or the rest of one, where this is given of the account that it begins on
-pub record Plans (most : Bound) (old new : History) (settings : Settings) (given : SwiftAccount → Type 0) (op : Op) (label : Label) (after : Known) (end : Result Reply PlanFault) : Type 0 where
+pub record Plans (most : Bound) (old new : History) (settings : Settings) (given : SwiftAccount → Type 0)
+    (op : Op) (label : Label) (after : Known) (end : Result Reply PlanFault) : Type 0 where
   pub grows : Grows most given old new
   pub cause : CausesEnd (ends_by_commit op) old.faults new.faults end
   pub own : IfOk end IsOwnReply

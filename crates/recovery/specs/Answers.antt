@@ -81,12 +81,14 @@ pub record Answers (settings : Settings) (h : History) (p t q : ℕ) (op : Op) (
 
 -- where no call failed, it is the service's own answer, or the word that memory ran out
 abbrev pub AnsweredFaultFree : Type 0
-AnsweredFaultFree = (settings : Settings) (h : History) (p q : ℕ) (op : Op) (label : Label) (takes : ℕ) (reply : Reply) → p ≤ q → FaultFree h p q → AnswersBy settings h p q op label takes reply
+AnsweredFaultFree = (settings : Settings) (h : History) (p q : ℕ) (op : Op) (label : Label) (takes : ℕ) (reply : Reply)
+    → p ≤ q → FaultFree h p q → AnswersBy settings h p q op label takes reply
     → Stepped settings (h.tree_at p) op label reply (s3_state (h.tree_at q)) ⊎ (reply ≡ Memory)
 
 -- over a history in which no call failed, with calls left, no operation is answered ServiceUnavailable
 abbrev pub NeverUnavailable : Type 0
-NeverUnavailable = (settings : Settings) (h : History) (p q : ℕ) (op : Op) (label : Label) (takes : ℕ) (reply : Reply) → p ≤ q → q < budget → AnswersBy settings (calm h) p q op label takes reply
+NeverUnavailable = (settings : Settings) (h : History) (p q : ℕ) (op : Op) (label : Label) (takes : ℕ) (reply : Reply)
+    → p ≤ q → q < budget → AnswersBy settings (calm h) p q op label takes reply
     → Stepped settings (h.tree_at p) op label reply (s3_state (h.tree_at q)) ⊎ (reply ≡ Memory)
 
 -- ---- how many calls it makes

@@ -97,14 +97,16 @@ Writes h p q S (Err Inconsistent) = ⊥
 -- ---- a function that makes calls, over every store
 
 -- calls that leave the state, where this is given of the account that they begin on
-pub record Asks {T : Type 0} (most : Bound) (old new : History) (given : SwiftAccount → Type 0) (P : SwiftAccount → SwiftAccount → T → Type 0) (result : Result T PlanFault) : Type 0 where
+pub record Asks {T : Type 0} (most : Bound) (old new : History) (given : SwiftAccount → Type 0)
+    (P : SwiftAccount → SwiftAccount → T → Type 0) (result : Result T PlanFault) : Type 0 where
   pub grows : Grows most given old new
   pub cause : CausesFault old.faults new.faults result
   pub effect : Met given old → Keeps new old.called new.called P result
   pub settled : IsTrue old.observable → IsSettled (present old) → IsSettled (present new)
 
 -- calls of which the last may change the state, where this is given of the account that they begin on
-pub record Changes {T : Type 0} (most : Bound) (old new : History) (given : SwiftAccount → Type 0) (S : T → State → State → Type 0) (result : Result T PlanFault) : Type 0 where
+pub record Changes {T : Type 0} (most : Bound) (old new : History) (given : SwiftAccount → Type 0)
+    (S : T → State → State → Type 0) (result : Result T PlanFault) : Type 0 where
   pub grows : Grows most given old new
   pub cause : CausesFault old.faults new.faults result
   pub effect : Met given old → Writes new old.called new.called S result

@@ -41,7 +41,8 @@ IsFolderName name = (is_bucket name ≡ true) ⊎ (((bucket : List ℕ) × IsBes
 pub record ConsistentContainers (at : List ℕ → Option Head) : Type 0 where
   pub names : (name : List ℕ) (head : Head) → at name ≡ Some head → IsFolderName name
   pub hidden : (name : List ℕ) (head : Head) → at name ≡ Some head → is_bucket name ≡ false → head.readers ≡ Nobody
-  pub timed : (name : List ℕ) (head : Head) → at name ≡ Some head → is_bucket name ≡ true → (moment : ℕ) × (head.created ≡ Some moment) × (moment < moment_limit)
+  pub timed : (name : List ℕ) (head : Head) → at name ≡ Some head → is_bucket name ≡ true
+      → (moment : ℕ) × (head.created ≡ Some moment) × (moment < moment_limit)
 
 -- a file that is an object as it was put: its bytes are its own, its type is the tag of the object, with the MD5 of the
 -- bytes and no upload, and its metadata is the pack of the object's
@@ -70,7 +71,8 @@ abbrev pub sealed_id : SwiftAccount → List ℕ → Option ℕ
 sealed_id tree bucket = None
 
 abbrev pub bucket_sound : SwiftAccount → List ℕ → Type 0
-bucket_sound tree bucket = ConsistentBucket (segments_name bucket) (files tree bucket) (files tree (uploads_name bucket)) (files tree (segments_name bucket)) (sealed_id tree bucket)
+bucket_sound tree bucket =
+    ConsistentBucket (segments_name bucket) (files tree bucket) (files tree (uploads_name bucket)) (files tree (segments_name bucket)) (sealed_id tree bucket)
 
 -- the name of an object, as a store takes it
 pub record IsFileName (name : List ℕ) : Type 0 where

@@ -38,7 +38,8 @@ pub record ChangesBy (tree : SwiftAccount) (request : SwiftRequest) (f : State �
 
 -- the PUT of a bucket's container that is missing makes the bucket
 abbrev pub BucketMade : Type 0
-BucketMade = (tree : SwiftAccount) (name : List ℕ) (acl : Acl) (moment : ℕ) → is_bucket name ≡ true → moment < moment_limit → IsConsistent tree → IsSettled tree → get tree name ≡ None
+BucketMade = (tree : SwiftAccount) (name : List ℕ) (acl : Acl) (moment : ℕ) → is_bucket name ≡ true → moment < moment_limit → IsConsistent tree
+    → IsSettled tree → get tree name ≡ None
     → ChangesBy tree (PutContainer name (readers_of acl) (Some moment)) (λ state. insert state name (new_bucket moment acl))
 
 -- a bucket is there exactly where its container is
@@ -47,15 +48,18 @@ BucketThere = (tree : SwiftAccount) (name : List ℕ) → is_bucket name ≡ tru
 
 -- a bucket has no object exactly where its container has none
 abbrev pub BucketBare : Type 0
-BucketBare = (tree : SwiftAccount) (name : List ℕ) → is_bucket name ≡ true → IsConsistent tree → IsSettled tree → option_map machine.is_bare (get (s3_state tree) name) ≡ option_map store.is_bare (get tree name)
+BucketBare = (tree : SwiftAccount) (name : List ℕ) → is_bucket name ≡ true → IsConsistent tree → IsSettled tree
+    → option_map machine.is_bare (get (s3_state tree) name) ≡ option_map store.is_bare (get tree name)
 
 -- the DELETE of a bucket's container that has no object takes the bucket away
 abbrev pub BucketGone : Type 0
-BucketGone = (tree : SwiftAccount) (name : List ℕ) → is_bucket name ≡ true → IsConsistent tree → IsSettled tree → option_map store.is_bare (get tree name) ≡ Some true → ChangesBy tree (DeleteContainer name) (λ state. remove state name)
+BucketGone = (tree : SwiftAccount) (name : List ℕ) → is_bucket name ≡ true → IsConsistent tree → IsSettled tree
+    → option_map store.is_bare (get tree name) ≡ Some true → ChangesBy tree (DeleteContainer name) (λ state. remove state name)
 
 -- the POST of a bucket's container replaces who may read it
 abbrev pub AclReplaced : Type 0
-AclReplaced = (tree : SwiftAccount) (name : List ℕ) (acl : Acl) → is_bucket name ≡ true → IsConsistent tree → IsSettled tree → ChangesBy tree (PostContainer name (readers_of acl)) (adjust name (with_acl acl))
+AclReplaced = (tree : SwiftAccount) (name : List ℕ) (acl : Acl) → is_bucket name ≡ true → IsConsistent tree → IsSettled tree
+    → ChangesBy tree (PostContainer name (readers_of acl)) (adjust name (with_acl acl))
 
 -- the empty account is consistent, no completion is sealed on it, and it represents the state without a bucket
 abbrev pub EmptyConsistent : Type 0
@@ -71,13 +75,15 @@ file_put content_type meta body = record { content_type = content_type; meta = m
 
 -- the PUT of an object's file into a bucket puts the object
 abbrev pub ObjectPut : Type 0
-ObjectPut = (tree : SwiftAccount) (bucket key content_type : List ℕ) (meta : List (List ℕ)) (body : List ℕ) (plain : IsPlainObject (file_put content_type meta body))
+ObjectPut = (tree : SwiftAccount) (bucket key content_type : List ℕ) (meta : List (List ℕ)) (body : List ℕ)
+    (plain : IsPlainObject (file_put content_type meta body))
     → is_bucket bucket ≡ true → is_key key ≡ true → IsStored key (file_put content_type meta body) → IsConsistent tree → IsSettled tree
     → ChangesBy tree (PutObject bucket key content_type meta body) (adjust bucket (put_object key (object_in plain)))
 
 -- the DELETE of a file of a bucket takes the object away
 abbrev pub ObjectGone : Type 0
-ObjectGone = (tree : SwiftAccount) (bucket key : List ℕ) → is_bucket bucket ≡ true → IsConsistent tree → IsSettled tree → ChangesBy tree (DeleteObject bucket key) (adjust bucket (drop_object key))
+ObjectGone = (tree : SwiftAccount) (bucket key : List ℕ) → is_bucket bucket ≡ true → IsConsistent tree → IsSettled tree
+    → ChangesBy tree (DeleteObject bucket key) (adjust bucket (drop_object key))
 
 -- an object of the state is what the file of its key represents, which has the form of one
 abbrev pub FindsObject : SwiftAccount → List ℕ → List ℕ → Option SwiftObject → Type 0
@@ -87,4 +93,5 @@ FindsObject tree bucket key (Some file) = IsObject (files tree (segments_name bu
 
 -- over a consistent account an object of the state is what the file of its key represents
 abbrev pub ObjectFound : Type 0
-ObjectFound = (tree : SwiftAccount) (bucket key : List ℕ) → is_bucket bucket ≡ true → IsConsistent tree → IsSettled tree → FindsObject tree bucket key (find_object tree bucket key)
+ObjectFound = (tree : SwiftAccount) (bucket key : List ℕ) → is_bucket bucket ≡ true → IsConsistent tree → IsSettled tree
+    → FindsObject tree bucket key (find_object tree bucket key)

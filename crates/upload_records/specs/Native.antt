@@ -24,7 +24,8 @@ abbrev pub object_by : Option Tag → Option (List Pair) → Option (List ℕ) �
 object_by None meta bytes = None
 object_by (Some tag) None bytes = None
 object_by (Some tag) (Some meta) None = None
-object_by (Some tag) (Some meta) (Some bytes) = Some (record { bytes = bytes; etag = tag.etag; content_type = tag.content_type; meta = meta; modified = tag.moment })
+object_by (Some tag) (Some meta) (Some bytes) =
+    Some (record { bytes = bytes; etag = tag.etag; content_type = tag.content_type; meta = meta; modified = tag.moment })
 
 -- the object that a file of a bucket represents, its parts looked up in the container beside it
 abbrev pub object_of : Names SwiftObject → List ℕ → SwiftObject → Option Object
