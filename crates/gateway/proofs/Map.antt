@@ -19,7 +19,7 @@ use Rattle.recovery.specs.Answers.{most_calls, most_settling}
 use Rattle.recovery.specs.Calls.{amount}
 use Rattle.recovery.specs.Stutters.{LastFailed}
 use Rattle.recovery.specs.Settling.{IsKnown}
-use Rattle.recovery.proofs.Agree.{quiet_agree, last_failed_agree, answers_agree}
+use Rattle.recovery.proofs.lemmas.Agree.{quiet_agree, last_failed_agree, answers_agree}
 use Rattle.gateway.specs.declared.ended.Ended.{Ended}
 use Rattle.gateway.specs.declared.service.Service.{Service}
 use Rattle.gateway.specs.Proper.{IsProperCode}

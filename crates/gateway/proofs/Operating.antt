@@ -21,7 +21,7 @@ use Rattle.recovery.specs.Calls.{Bound, always, by_account, amount, IsWithin, Go
 use Rattle.recovery.specs.Fault.{CausesFault}
 use Rattle.recovery.specs.Stutters.{Stutters, LastFailed}
 use Rattle.recovery.specs.Settling.{IsKnown, settle_fault, as_plan, Anything, SettlesIt, Settles}
-use Rattle.recovery.proofs.One.{none_made, goes_none}
+use Rattle.recovery.proofs.lemmas.Idle.{none_made, goes_none}
 use Rattle.planner.specs.Plan.{reply_of, Answered}
 use Rattle.gateway.specs.Exchange.{SettledBy, IsFault, unsettled, answered, Operated}
 use Rattle.gateway.proofs.Map.{settled_by_agree}

@@ -13,7 +13,7 @@ use Rattle.upload_records.specs.Consistent.{IsConsistent}
 use Rattle.recovery.specs.Answers.{Passes, most_calls, most_settling}
 use Rattle.recovery.specs.Calls.{amount}
 use Rattle.recovery.specs.Stutters.{Stutters}
-use Rattle.recovery.proofs.Agree.{quiet_agree, passes_agree, passes_still}
+use Rattle.recovery.proofs.lemmas.Agree.{quiet_agree, passes_agree, passes_still}
 use Rattle.gateway.specs.declared.ended.Ended.{Ended}
 use Rattle.gateway.specs.declared.service.Service.{Service}
 use Rattle.gateway.specs.Request.{Request}

@@ -15,8 +15,8 @@ use Rattle.recovery.specs.declared.state.Known.TheVariants as known
 use Rattle.recovery.specs.Answers.{memory}
 use Rattle.recovery.specs.Calls.{Met}
 use Rattle.recovery.specs.Settling.{IsKnown}
-use Rattle.recovery.proofs.Agree.{passes_still}
-use Rattle.recovery.proofs.One.{none_made}
+use Rattle.recovery.proofs.lemmas.Agree.{passes_still}
+use Rattle.recovery.proofs.lemmas.Idle.{none_made}
 use Rattle.gateway.specs.declared.meant.Meant.{Meant}
 use Rattle.gateway.specs.declared.meant.Meant.TheVariants as meant
 use Rattle.gateway.specs.ResolvedRequest.{IsProperMeant, Understands}

@@ -9,7 +9,7 @@ use Rattle.swift_calls.specs.History.{History, Extends}
 use Rattle.recovery.specs.declared.state.Known.{Known}
 use Rattle.recovery.specs.Calls.{Met}
 use Rattle.recovery.specs.Settling.{IsKnown}
-use Rattle.recovery.proofs.One.{goes_none}
+use Rattle.recovery.proofs.lemmas.Idle.{goes_none}
 use Rattle.gateway.specs.Request.{Request}
 use Rattle.gateway.specs.Exchange.{Mark, Span, RepliesBy, Where}
 use Rattle.gateway.specs.World.{World, world, IsObservable, Continues, ServesOver}

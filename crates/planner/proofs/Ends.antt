@@ -20,9 +20,9 @@ use Rattle.recovery.specs.Fault.{CausesFault}
 use Rattle.recovery.specs.Stutters.{Stutters, OldBefore, LastFailed, was_lost}
 use Rattle.recovery.specs.Calls.{Bound, always, by_account, IsWithin, Met, GoesOn, Grows, Given, Keeps, Tells, Asks, Commits, CommitsUntold, Writes, Changes, Any}
 use Rattle.recovery.specs.Answers.{Stepped, machine, unavailable, memory, ends_by_commit}
-use Rattle.recovery.proofs.Agree.{quiet_agree, passes_still, passes_at_once, passes_once, same_ids, answers_after}
-use Rattle.recovery.proofs.Causes.{due_cause}
-use Rattle.recovery.proofs.One.{none_made, grows_none}
+use Rattle.recovery.proofs.lemmas.Agree.{quiet_agree, passes_still, passes_at_once, passes_once, same_ids, answers_after}
+use Rattle.recovery.proofs.lemmas.Causes.{due_cause}
+use Rattle.recovery.proofs.lemmas.Idle.{none_made, grows_none}
 use Rattle.planner.specs.Plan.{reply_of, IsOwnReply, Ends, ended, CausesEnd, Plans, Answered}
 use Rattle.planner.proofs.Replies.{rose_of, steady_of, consistent_of, showable_of}
 

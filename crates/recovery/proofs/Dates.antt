@@ -5,7 +5,7 @@ use Rattle.gate_base.specs.Told.{moment_limit}
 use Rattle.swift_marks.specs.declared.tag.Tag.{Tag}
 use Rattle.swift_marks.specs.Number.{fits_id}
 use Rattle.swift_marks.specs.Tag.{is_content_type, is_etag, has_text, read_tag}
-use Rattle.swift_marks.proofs.TagLaws.{tag_has_one_text}
+use Rattle.swift_marks.proofs.lemmas.TagLaws.{tag_has_one_text}
 
 dated : (tag : Tag) → has_text tag ≡ true → tag.moment < moment_limit
 unfolding has_text

@@ -14,8 +14,8 @@ use Rattle.swift_calls.specs.declared.calls.SwiftRequest.TheVariants.{DeleteCont
 use Rattle.upload_records.specs.Marks.{readers_of}
 use Rattle.upload_records.specs.Native.{IsSettled, s3_state}
 use Rattle.upload_records.specs.Consistent.{IsConsistent}
-use Rattle.upload_records.proofs.Buckets.{s3_state_there, s3_state_bare, bucket_gone, acl_replaced}
-use Rattle.upload_records.proofs.Off.{settled_drop, settled_post}
+use Rattle.upload_records.proofs.lemmas.Buckets.{s3_state_there, s3_state_bare, bucket_gone, acl_replaced}
+use Rattle.upload_records.proofs.lemmas.Off.{settled_drop, settled_post}
 use Rattle.recovery.specs.declared.bucket.Dropped.TheVariants.{Gone, Full, Missing}
 use Rattle.recovery.specs.Calls.{Any, DropsBucket, SetsAcl}
 use Rattle.recovery.specs.Interpret.{dropped_due, set_due}

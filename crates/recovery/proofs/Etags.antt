@@ -16,7 +16,7 @@ use Rattle.s3_machine.specs.ETag.{body_etag}
 use Rattle.swift_calls.specs.Bodies.{etag_text}
 use Rattle.swift_marks.specs.Number.{is_lower_hex}
 use Rattle.swift_marks.specs.Tag.{is_etag}
-use Rattle.swift_marks.proofs.FieldLaws.{etag_of_one}
+use Rattle.swift_marks.proofs.lemmas.FieldLaws.{etag_of_one}
 
 abbrev is_byte : ℕ → Bool
 is_byte b = nat_lt b 256

@@ -25,15 +25,15 @@ use Rattle.swift_calls.specs.declared.calls.SwiftRequest.TheVariants.{HeadObject
 use Rattle.swift_calls.specs.declared.calls.SwiftReply.{SwiftReply}
 use Rattle.swift_marks.specs.Tag.{tag_text}
 use Rattle.swift_marks.specs.Pack.{pack_of}
-use Rattle.swift_marks.proofs.TagLaws.{tag_text_reads}
-use Rattle.swift_marks.proofs.PackLaws.{pack_unpacks}
+use Rattle.swift_marks.proofs.lemmas.TagLaws.{tag_text_reads}
+use Rattle.swift_marks.proofs.lemmas.PackLaws.{pack_unpacks}
 use Rattle.upload_records.specs.Marks.{segments_name}
 use Rattle.upload_records.specs.Native.{IsSettled, s3_state}
 use Rattle.upload_records.specs.Consistent.{IsConsistent, IsPlainObject, in_one_piece, IsStored}
 use Rattle.upload_records.specs.Laws.{ChangesBy, FindsObject, file_put, object_in}
-use Rattle.upload_records.proofs.Buckets.{s3_state_there}
-use Rattle.upload_records.proofs.Objects.{plain_object, found, object_put, object_gone}
-use Rattle.upload_records.proofs.Off.{settled_put_file, settled_delete_file}
+use Rattle.upload_records.proofs.lemmas.Buckets.{s3_state_there}
+use Rattle.upload_records.proofs.lemmas.Objects.{plain_object, found, object_put, object_gone}
+use Rattle.upload_records.proofs.lemmas.Off.{settled_put_file, settled_delete_file}
 use Rattle.recovery.specs.Calls.{TellsBucket, TellsObject, TellsBytes, acl_of_bucket, bytes_in, Any, Becomes, HasBucket, puts_object, drops_object}
 use Rattle.recovery.specs.declared.fault.PlanFault.TheVariants.{Inconsistent}
 use Rattle.recovery.specs.Interpret.{known, head_by, head_due, bytes_due, stored_due, gone_due, plain_tag, put_of}

@@ -23,8 +23,8 @@ use Rattle.swift_calls.specs.declared.calls.SwiftRequest.TheVariants.{PutObject}
 use Rattle.swift_marks.specs.Limits.{is_kept_metadata, is_printable_entry, counted_name, counted_size}
 use Rattle.swift_marks.specs.Tag.{is_printable, is_field, is_content_type, is_etag, has_text, tag_text}
 use Rattle.swift_marks.specs.Pack.{is_short, has_pack, pack_of}
-use Rattle.swift_marks.proofs.TagLaws.{weaken}
-use Rattle.swift_marks.proofs.FieldLaws.{tag_is_field, pack_is_small}
+use Rattle.swift_marks.proofs.lemmas.TagLaws.{weaken}
+use Rattle.swift_marks.proofs.lemmas.FieldLaws.{tag_is_field, pack_is_small}
 use Rattle.recovery.specs.Interpret.{plain_tag}
 use Rattle.recovery.proofs.Etags.{etag_is_etag}
 use Rattle.recovery.proofs.Names.{container_name, object_name}

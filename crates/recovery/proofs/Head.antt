@@ -12,8 +12,8 @@ use Rattle.swift_calls.specs.declared.calls.SwiftReply.{SwiftReply}
 use Rattle.swift_calls.specs.declared.calls.SwiftReply.TheVariants.{Readers}
 use Rattle.upload_records.specs.Native.{IsSettled, s3_state}
 use Rattle.upload_records.specs.Consistent.{IsConsistent, head_of}
-use Rattle.upload_records.proofs.Buckets.{s3_state_acl}
-use Rattle.upload_records.proofs.Plain.{acl_of_folder}
+use Rattle.upload_records.proofs.lemmas.Buckets.{s3_state_acl}
+use Rattle.upload_records.proofs.lemmas.Readers.{acl_of_folder}
 use Rattle.recovery.specs.Calls.{TellsBucket}
 use Rattle.recovery.specs.Interpret.{bucket_due}
 use Rattle.recovery.proofs.One.{IsReading}

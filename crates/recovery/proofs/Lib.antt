@@ -1,6 +1,4 @@
-pub mod Agree
 pub mod Calm
-pub mod Causes
 pub mod Dates
 pub mod Drop
 pub mod Etags
@@ -13,3 +11,4 @@ pub mod Names
 pub mod One
 pub mod Put
 pub mod Settling
+pub mod lemmas

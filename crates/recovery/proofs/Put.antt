@@ -12,8 +12,8 @@ use Rattle.swift_calls.specs.declared.calls.SwiftRequest.TheVariants.{PutContain
 use Rattle.upload_records.specs.Marks.{readers_of}
 use Rattle.upload_records.specs.Native.{IsSettled, s3_state}
 use Rattle.upload_records.specs.Consistent.{IsConsistent}
-use Rattle.upload_records.proofs.Buckets.{s3_state_there, bucket_made}
-use Rattle.upload_records.proofs.Off.{settled_put}
+use Rattle.upload_records.proofs.lemmas.Buckets.{s3_state_there, bucket_made}
+use Rattle.upload_records.proofs.lemmas.Off.{settled_put}
 use Rattle.recovery.specs.Calls.{Becomes, LacksBucket, makes_bucket}
 use Rattle.recovery.specs.Interpret.{made_due}
 use Rattle.recovery.proofs.One.{Effect, IsWriting}

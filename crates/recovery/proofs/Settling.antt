@@ -2,10 +2,10 @@
 use Rattle.std.specs.Prelude.{Ok}
 use Rattle.std.proofs.Common.{refl}
 use Rattle.swift_calls.specs.History.{History, present}
-use Rattle.upload_records.proofs.Settled.{settled_always}
+use Rattle.upload_records.proofs.lemmas.Settled.{settled_always}
 use Rattle.recovery.specs.Answers.{most_settling}
 use Rattle.recovery.specs.Settling.{Anything, Settles}
-use Rattle.recovery.proofs.One.{none_made, grows_none}
+use Rattle.recovery.proofs.lemmas.Idle.{none_made, grows_none}
 
 pub settles_idle : (h : History) → Settles h h (Ok tt)
 settles_idle h = record {

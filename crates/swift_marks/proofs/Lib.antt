@@ -1,7 +1,5 @@
 pub mod Cuts
-pub mod FieldLaws
 pub mod IdLemmas
 pub mod NumberLemmas
-pub mod PackLaws
 pub mod PackLemmas
-pub mod TagLaws
+pub mod lemmas

@@ -14,7 +14,7 @@ use Rattle.swift_calls.specs.Account.{SwiftObject, SwiftContainer, SwiftAccount,
 use Rattle.upload_records.specs.Marks.{uploads_name, segments_name, readers_of}
 use Rattle.upload_records.specs.Consistent.{Head, heads, head_of, IsFolderName, ConsistentBucket, bucket_sound, IsObject, IsStored, IsThere, IsConsistent}
 use Rattle.upload_records.proofs.Apart.{uploads_apart, segments_apart}
-use Rattle.upload_records.proofs.Settled.{OffSame}
+use Rattle.upload_records.proofs.lemmas.Settled.{OffSame}
 
 none_found : {X : Type 0} (x : X) → None ≡ Some x → ⊥
 none_found x e = cc

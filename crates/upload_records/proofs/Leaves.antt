@@ -9,7 +9,7 @@ use Rattle.swift_calls.specs.Step.{swift_step}
 use Rattle.upload_records.specs.Native.{plain, IsSettled, s3_state}
 use Rattle.upload_records.specs.Consistent.{IsConsistent}
 use Rattle.upload_records.specs.Laws.{ChangesBy}
-use Rattle.upload_records.proofs.Settled.{OffSame, settled_off, s3_state_by_plain}
+use Rattle.upload_records.proofs.lemmas.Settled.{OffSame, settled_off, s3_state_by_plain}
 
 -- a call that leaves another account, which differs in a bucket's container alone
 pub changes_by : (tree new : SwiftAccount) (b : List ℕ) (request : SwiftRequest) (f : State → State) → is_bucket b ≡ true → IsSettled tree → OffSame tree new b

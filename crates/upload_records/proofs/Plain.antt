@@ -14,8 +14,9 @@ use Rattle.swift_calls.specs.declared.account.ReadList.{ReadList}
 use Rattle.swift_calls.specs.Account.{SwiftObject, SwiftContainer, SwiftAccount, files, files_of, find_object, new_folder, on_files, with_readers, put_file, remove_file}
 use Rattle.upload_records.specs.Marks.{uploads_name, segments_name, readers_of, acl_of}
 use Rattle.upload_records.specs.Native.{object_of, object_at, upload_of, kept_of, bucket_from, bucket_of, plain}
+use Rattle.upload_records.proofs.lemmas.Readers.{acl_of_folder}
 use Rattle.upload_records.proofs.Apart.{uploads_apart, segments_apart}
-use Rattle.upload_records.proofs.Settled.{OffSame}
+use Rattle.upload_records.proofs.lemmas.Settled.{OffSame}
 
 -- ---- a change of one container
 
@@ -121,10 +122,6 @@ taken tree b (Some folder) is = ap (λ t. is_some (cond t (Some (bucket_from (fi
 -- a bucket is where its container is
 pub plain_there : (tree : SwiftAccount) (b : List ℕ) → is_bucket b ≡ true → is_some (get (plain tree) b) ≡ is_some (get tree b)
 plain_there tree b is = ap is_some (get_plain tree b) ∙ taken tree b (get tree b) is
-
--- who may read a bucket, by its container
-abbrev pub acl_of_folder : SwiftContainer → Acl
-acl_of_folder folder = acl_of folder.readers
 
 acl_taken : (tree : SwiftAccount) (b : List ℕ) (o : Option SwiftContainer) → is_bucket b ≡ true → option_map (λ (n : Bucket). n.acl) (option_and_then (bucket_of tree b) o) ≡ option_map acl_of_folder o
 acl_taken tree b None is = refl

@@ -1,6 +1,8 @@
 //! Laws of the definitions, each the contract of a function that does nothing.
 ghost use Rattle.upload_records.specs.Laws.{AclReplaced, BucketBare, BucketGone, BucketMade, BucketThere, EmptyConsistent, ObjectFound, ObjectGone, ObjectPut, ReadsStutter};
 
+use swift_calls::law_reads_leave;
+
 /// The PUT of the container of a bucket that isn't there makes the bucket, and leaves the account consistent and settled.
 pub fn law_bucket_made()
     ensures { BucketMade }
@@ -50,4 +52,6 @@ pub fn law_object_found()
 /// A call that only reads is quiet: it leaves the account consistent, and representing the same state.
 pub fn law_reads_stutter()
     ensures { ReadsStutter }
-{}
+{
+    law_reads_leave();
+}

@@ -1,4 +1,4 @@
-use Rattle.swift_marks.proofs.PackLaws.{metadata_has_one_pack}
+use Rattle.swift_marks.proofs.lemmas.PackLaws.{metadata_has_one_pack}
 use Rattle.swift_marks.proofs.laws.law_metadata_has_one_pack.Goals as goal
 
 pub returns : goal.returns

@@ -1,4 +1,4 @@
-use Rattle.swift_marks.proofs.TagLaws.{tag_has_one_text}
+use Rattle.swift_marks.proofs.lemmas.TagLaws.{tag_has_one_text}
 use Rattle.swift_marks.proofs.laws.law_tag_has_one_text.Goals as goal
 
 pub returns : goal.returns

@@ -1,4 +1,4 @@
-use Rattle.swift_marks.proofs.FieldLaws.{tag_is_field}
+use Rattle.swift_marks.proofs.lemmas.FieldLaws.{tag_is_field}
 use Rattle.swift_marks.proofs.laws.law_tag_is_field.Goals as goal
 
 pub returns : goal.returns

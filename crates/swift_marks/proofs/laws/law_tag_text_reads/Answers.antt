@@ -1,4 +1,4 @@
-use Rattle.swift_marks.proofs.TagLaws.{tag_text_reads}
+use Rattle.swift_marks.proofs.lemmas.TagLaws.{tag_text_reads}
 use Rattle.swift_marks.proofs.laws.law_tag_text_reads.Goals as goal
 
 pub returns : goal.returns

@@ -1,4 +1,4 @@
-use Rattle.upload_records.proofs.Buckets.{bucket_gone}
+use Rattle.upload_records.proofs.lemmas.Buckets.{bucket_gone}
 use Rattle.upload_records.proofs.laws.law_bucket_gone.Goals as goal
 
 pub returns : goal.returns

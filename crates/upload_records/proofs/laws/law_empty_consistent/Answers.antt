@@ -2,7 +2,7 @@ use Rattle.std.specs.FinMap.{empty}
 use Rattle.std.proofs.Common.{◌∙◌}
 use Rattle.upload_records.proofs.Carried.{sound_empty}
 use Rattle.upload_records.proofs.Plain.{plain_empty}
-use Rattle.upload_records.proofs.Settled.{settled_always, s3_state_settled}
+use Rattle.upload_records.proofs.lemmas.Settled.{settled_always, s3_state_settled}
 use Rattle.upload_records.proofs.laws.law_empty_consistent.Goals as goal
 
 pub returns : goal.returns

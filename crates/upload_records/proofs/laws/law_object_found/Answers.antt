@@ -1,4 +1,4 @@
-use Rattle.upload_records.proofs.Objects.{found}
+use Rattle.upload_records.proofs.lemmas.Objects.{found}
 use Rattle.upload_records.proofs.laws.law_object_found.Goals as goal
 
 pub returns : goal.returns

@@ -1,4 +1,4 @@
-use Rattle.upload_records.proofs.Objects.{object_put}
+use Rattle.upload_records.proofs.lemmas.Objects.{object_put}
 use Rattle.upload_records.proofs.laws.law_object_put.Goals as goal
 
 pub returns : goal.returns

@@ -15,7 +15,7 @@ use Rattle.swift_marks.specs.Pack.{entry_text, cut_in, bracketed, pieces_of, pac
 use Rattle.swift_marks.proofs.Cuts.{before_first_at, after_first_at}
 use Rattle.swift_marks.proofs.NumberLemmas.{number_of_decimal, number_is_below, decimal_has_digits}
 use Rattle.swift_marks.proofs.PackLemmas.{entries_from}
-use Rattle.swift_marks.proofs.TagLaws.{kept, weaken}
+use Rattle.swift_marks.proofs.lemmas.TagLaws.{kept, weaken}
 
 inside_is : (piece : List ℕ) → inside (bracketed piece) ≡ piece
 inside_is piece =

@@ -10,7 +10,7 @@ use Rattle.swift_calls.specs.Account.{SwiftObject, SwiftContainer, SwiftAccount,
 use Rattle.swift_calls.specs.Step.{swift_step, is_bare, put_container, post_container, delete_by, delete_container, put_object, delete_object}
 use Rattle.upload_records.specs.Native.{IsSettled}
 use Rattle.upload_records.specs.Laws.{file_put}
-use Rattle.upload_records.proofs.Settled.{OffSame, settled_off}
+use Rattle.upload_records.proofs.lemmas.Settled.{OffSame, settled_off}
 
 put_off : (o : Option SwiftContainer) (b : List ℕ) (readers : ReadList) (created : Option ℕ) (tree : SwiftAccount) → OffSame tree (put_container o b readers created tree).tree b
 put_off None b readers created tree = off_insert by_name tree b _

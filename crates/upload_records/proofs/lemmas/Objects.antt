@@ -16,7 +16,7 @@ use Rattle.upload_records.specs.Marks.{segments_name}
 use Rattle.upload_records.specs.Native.{within, object_by, object_of, object_at, IsSettled, s3_state}
 use Rattle.upload_records.specs.Consistent.{IsConsistent, IsPlainObject, IsObject, in_one_piece, IsStored}
 use Rattle.upload_records.specs.Laws.{ChangesBy, FindsObject, file_put, object_in}
-use Rattle.upload_records.proofs.Settled.{s3_state_settled}
+use Rattle.upload_records.proofs.lemmas.Settled.{s3_state_settled}
 use Rattle.upload_records.proofs.Plain.{plain_at, plain_put, plain_removed}
 use Rattle.upload_records.proofs.Carried.{sound_object, sound_put, sound_removed}
 use Rattle.upload_records.proofs.Leaves.{changes_by}

@@ -19,11 +19,12 @@ use Rattle.upload_records.specs.Marks.{segments_name, uploads_name, readers_of}
 use Rattle.upload_records.specs.Native.{object_of, bucket_from, bucket_of, IsSettled, s3_state}
 use Rattle.upload_records.specs.Consistent.{IsConsistent}
 use Rattle.upload_records.specs.Laws.{ChangesBy}
-use Rattle.upload_records.proofs.Settled.{s3_state_settled}
-use Rattle.upload_records.proofs.Plain.{acl_of_folder, get_plain, plain_there, plain_acl, plain_made, plain_dropped, plain_posted, bare_alike}
+use Rattle.upload_records.proofs.lemmas.Settled.{s3_state_settled}
+use Rattle.upload_records.proofs.lemmas.Readers.{acl_of_folder}
+use Rattle.upload_records.proofs.Plain.{get_plain, plain_there, plain_acl, plain_made, plain_dropped, plain_posted, bare_alike}
 use Rattle.upload_records.proofs.Carried.{sound_made, sound_dropped, sound_posted}
 use Rattle.upload_records.proofs.Leaves.{changes_by}
-use Rattle.upload_records.proofs.Objects.{object_reads}
+use Rattle.upload_records.proofs.lemmas.Objects.{object_reads}
 
 -- ---- what is found
 

@@ -20,7 +20,7 @@ use Rattle.swift_marks.specs.Tag.{is_printable, is_field, is_content_type, is_pa
 use Rattle.swift_marks.specs.declared.tag.Tag.{Tag}
 use Rattle.swift_marks.proofs.NumberLemmas.{number_of_decimal, decimal_has_digits, front_passes}
 use Rattle.swift_marks.proofs.IdLemmas.{length_of_id}
-use Rattle.swift_marks.proofs.TagLaws.{is_word, weaken, etag_has_words, number_has_words, id_has_words}
+use Rattle.swift_marks.proofs.lemmas.TagLaws.{is_word, weaken, etag_has_words, number_has_words, id_has_words}
 
 both : (p : ℕ → Bool) (a b : List ℕ) → list_all p a ≡ true → list_all p b ≡ true → list_all p (a ++ b) ≡ true
 both p a b h k = list_all-append p a b ∙ and_from _ _ h k

@@ -1,0 +1,37 @@
+-- No call was made, or one that left the account.
+use Rattle.std.specs.Prelude.{◌≡◌, ◌⊎◌, ◌≤◌, ℕ, ◌+◌}
+use Rattle.std.proofs.Common.{sym, ap, subst, ◌∙◌, inl, inr, arith}
+use Rattle.std.proofs.lemmas.Bool.{cases_lt}
+use Rattle.swift_calls.specs.Account.{SwiftAccount}
+use Rattle.swift_calls.specs.History.{History, extends_refl}
+use Rattle.upload_records.specs.Native.{s3_state}
+use Rattle.upload_records.specs.Consistent.{IsConsistent}
+use Rattle.recovery.specs.Stutters.{Stutters}
+use Rattle.recovery.specs.Calls.{Bound, always, by_account, GoesOn, Grows}
+
+-- a number from p to p + 1 is one of both
+near_one : {p q : ℕ} (k : ℕ) → q ≤ p + 1 → p ≤ k → k ≤ q → (k ≡ p) ⊎ (k ≡ q)
+near_one {p = p} {q = q} k near from to = elim (cases_lt k q) [ inl below ↦ inl (omega arith) | inr above ↦ inr (omega arith) ]
+
+-- no call, or one that left the account
+pub stays : {h : History} {p q : ℕ} → p ≤ q → q ≤ p + 1 → h.tree_at q ≡ h.tree_at p → IsConsistent (h.tree_at p) → Stutters h p q
+stays {h = h} {p = p} {q = q} ordered near same sound = record {
+  ordered = ordered;
+  same = λ k from to. ap s3_state (here k from to);
+  sound = λ k from to. subst IsConsistent (sym (here k from to)) sound;
+}
+  where
+    here : (k : ℕ) → p ≤ k → k ≤ q → h.tree_at k ≡ h.tree_at p
+    here k from to = elim (near_one k near from to) [ inl e ↦ ap h.tree_at e | inr e ↦ ap h.tree_at e ∙ same ]
+
+-- no call was made
+pub none_made : {h : History} {p q : ℕ} → q ≡ p → IsConsistent (h.tree_at p) → Stutters h p q
+none_made {h = h} same sound = stays (omega arith) (omega arith) (ap h.tree_at same) sound
+
+-- no call was made
+pub goes_none : (h : History) → GoesOn h h
+goes_none h = record { ordered = omega arith; faults = omega arith; observable = λ observable. observable; kept = λ observable. extends_refl h.called h }
+
+pub grows_none : (most : Bound) (given : SwiftAccount → Type 0) (h : History) → Grows most given h h
+grows_none (always n) given h = record { on = goes_none h; calls = omega arith }
+grows_none (by_account n) given h = record { on = goes_none h; calls = λ met. omega arith }

@@ -1,0 +1,5 @@
+pub mod Buckets
+pub mod Objects
+pub mod Off
+pub mod Readers
+pub mod Settled
