@@ -13,4 +13,5 @@ pub mod Resolving
 pub mod Serving
 pub mod Standing
 pub mod Statuses
+pub mod Texts
 pub mod Worlds

@@ -1,6 +1,6 @@
 -- What an object is put with. Sources: RFC 1864 (Content-MD5), RFC 4648, section 4 (base64), and Amazon S3 User Guide,
 -- "Working with object metadata"; the limits are this profile's.
-use Rattle.std.specs.Prelude.{ℕ, Bool, true, false, not, ◌&&◌, ◌||◌, ◌==◌, nat_eq, nat_lt, if◌then◌else◌, List, [], length, drop, fold, codes, bytes_eq, Result, Ok, Err}
+use Rattle.std.specs.Prelude.{ℕ, Bool, false, not, ◌&&◌, ◌||◌, ◌==◌, nat_eq, nat_lt, if◌then◌else◌, List, [], length, drop, fold, codes, bytes_eq, Result, Ok, Err}
 use Rattle.std.specs.List.{list_any, starts_with}
 use Rattle.base64.specs.Engines.{standard}
 use Rattle.base64.specs.GeneralPurpose.{decode_of, encode_of}
@@ -10,8 +10,8 @@ use Rattle.gate_base.specs.declared.page.Pair.{Pair}
 use Rattle.s3_names.specs.Meta.{has_name, with_pair}
 use Rattle.s3_machine.specs.Limits.{is_kept_header, is_proper_pair, most_body_bytes}
 use Rattle.gateway.specs.declared.rows.Row.{Row}
-use Rattle.gateway.specs.declared.rows.Row.TheVariants.{CreateBucket, PutObject, CreateMultipartUpload}
 use Rattle.gateway.specs.Headers.{has_header, text_of}
+use Rattle.gateway.specs.Rows.{shape_of}
 
 abbrev pub has_sixteen_bytes : Result (List ℕ) DecodeError → Bool
 has_sixteen_bytes (Ok bytes) = length bytes == 16
@@ -30,19 +30,13 @@ abbrev pub is_other_body : List Pair → List ℕ → Bool
 is_other_body headers body =
     has_header headers (codes "content-md5") && not (bytes_eq (text_of headers (codes "content-md5")) (encode_of standard (md5 body)))
 
--- the operations that take a content type and metadata
-abbrev pub takes_content : Row → Bool
-takes_content PutObject = true
-takes_content CreateMultipartUpload = true
-takes_content _ = false
-
 -- an absent or empty Content-Type is `binary/octet-stream`
 abbrev pub given_type : List Pair → List ℕ
 given_type headers =
     if length (text_of headers (codes "content-type")) == 0 then codes "binary/octet-stream" else text_of headers (codes "content-type")
 
 abbrev pub taken_type : Row → List Pair → List ℕ
-taken_type row headers = if takes_content row then given_type headers else codes "binary/octet-stream"
+taken_type row headers = if (shape_of row).has_content then given_type headers else codes "binary/octet-stream"
 
 -- a header of the user's own
 abbrev pub is_own_header : List ℕ → Bool
@@ -68,7 +62,7 @@ unfoldable pub given_meta : List Pair → List Pair
 given_meta headers = fold (entered headers) [] headers
 
 abbrev pub taken_meta : Row → List Pair → List Pair
-taken_meta row headers = if takes_content row then given_meta headers else []
+taken_meta row headers = if (shape_of row).has_content then given_meta headers else []
 
 abbrev pub is_bad_entry : Pair → Bool
 is_bad_entry entry = not (is_proper_pair entry)
@@ -83,5 +77,4 @@ is_long_body body = nat_lt most_body_bytes (length body)
 
 -- a body that isn't read yet
 abbrev pub has_unread_body : Row → List ℕ → Bool
-has_unread_body CreateBucket body = not (length body == 0)
-has_unread_body _ body = false
+has_unread_body row body = not (shape_of row).has_body && not (length body == 0)

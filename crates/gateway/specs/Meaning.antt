@@ -1,6 +1,6 @@
 -- What a request means: an operation, or the first reason to refuse it. Source: Amazon S3 API Reference, restated by
 -- this profile; the order of the refusals is this profile's, and what isn't built is NotImplemented.
-use Rattle.std.specs.Prelude.{Bool, true, false, not, ◌&&◌, nat_lt, if◌then◌else◌, List, [], ◌∷◌, length, Option, Some, None}
+use Rattle.std.specs.Prelude.{Bool, false, not, ◌&&◌, nat_lt, if◌then◌else◌, List, [], ◌∷◌, length, Option, Some, None}
 use Rattle.gate_base.specs.declared.page.Caller.{Caller}
 use Rattle.gate_base.specs.declared.page.Caller.TheVariants.{Owner, Anonymous}
 use Rattle.s3_names.specs.declared.acl.Acl.TheVariants.{Private}
@@ -17,7 +17,7 @@ use Rattle.gateway.specs.declared.meant.Meant.{Meant}
 use Rattle.gateway.specs.declared.meant.Meant.TheVariants.{Op, Refused}
 use Rattle.gateway.specs.declared.rows.Level.TheVariants.{Service, Key}
 use Rattle.gateway.specs.declared.rows.Row.{Row}
-use Rattle.gateway.specs.declared.rows.Row.TheVariants.{CreateBucket, HeadBucket, ListObjects, ListObjectsV2, PutObject, GetObject, HeadObject, DeleteObject}
+use Rattle.gateway.specs.declared.rows.Row.TheVariants.{CreateBucket, PutObject, GetObject, HeadObject, DeleteObject}
 use Rattle.gateway.specs.Rows.{shape_of, is_method, level_of, is_same_level, row_for}
 use Rattle.gateway.specs.Query.{has_unknown_name, has_foreign_name, has_name_twice}
 use Rattle.gateway.specs.Headers.{has_unsupported, is_chunked, is_conditional_write, is_conditional_read, names_acl, has_other_class}
@@ -48,19 +48,10 @@ has_long_key target = nat_lt 1024 (length target.key)
 abbrev pub has_bad_key : Target → Bool
 has_bad_key target = is_same_level (level_of target.bucket target.key) Key && not (is_key target.key)
 
--- the operations that anybody may ask for
-abbrev pub is_open : Row → Bool
-is_open HeadBucket = true
-is_open ListObjects = true
-is_open ListObjectsV2 = true
-is_open GetObject = true
-is_open HeadObject = true
-is_open _ = false
-
--- another operation, of an anonymous caller
+-- an operation that not everybody may ask for, of an anonymous caller
 abbrev pub is_denied : Row → Caller → Bool
 is_denied row Owner = false
-is_denied row Anonymous = not (is_open row)
+is_denied row Anonymous = not (shape_of row).is_open
 
 -- ---- the reasons, in the order in which they are tried
 
@@ -99,7 +90,7 @@ header_reasons row message target caller =
 
 abbrev pub reasons : Row → Message → Target → Caller → List Reason
 reasons row message target caller =
-    reason (not (shape_of row).built) NotImplemented
+    reason (not (shape_of row).is_built) NotImplemented
     ∷ reason (has_foreign_name row target.query) NotImplemented
     ∷ reason (has_name_twice target.query) InvalidArgument
     ∷ header_reasons row message target caller

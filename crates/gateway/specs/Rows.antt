@@ -1,6 +1,7 @@
 -- The table of requests: which method, at which level of a target, with which names in the query asks for which
 -- operation. Source: Amazon S3 API Reference, "Actions"; that other names are refused is this profile.
-use Rattle.std.specs.Prelude.{ℕ, Bool, true, false, not, ◌&&◌, ◌||◌, ◌==◌, if◌then◌else◌, List, [], ◌∷◌, length, filter, find, codes, bytes_eq, Option}
+use Rattle.std.specs.Prelude.{ℕ, Bool, true, false, not, ◌&&◌, ◌||◌, ◌==◌, if◌then◌else◌, List, [], ◌∷◌, length, map, filter, find, codes, bytes_eq, Option}
+use Rattle.std.specs.Borrow.{Bor}
 use Rattle.std.specs.List.{list_all, list_any}
 use Rattle.gate_base.specs.declared.page.Pair.{Pair}
 use Rattle.gateway.specs.declared.rows.Level.{Level}
@@ -8,45 +9,89 @@ use Rattle.gateway.specs.declared.rows.Level.TheVariants.{Service, Bucket, Key}
 use Rattle.gateway.specs.declared.rows.Row.{Row}
 use Rattle.gateway.specs.declared.rows.Row.TheVariants.{ListBuckets, CreateBucket, PutBucketAcl, DeleteBucket, HeadBucket, GetBucketLocation, GetBucketAcl, ListObjects, ListObjectsV2, ListMultipartUploads, PutObject, GetObject, HeadObject, DeleteObject, GetObjectAcl, CreateMultipartUpload, UploadPart, ListParts, CompleteMultipartUpload, AbortMultipartUpload}
 
--- a row: the method, the level, the selectors that the query has, the further names that it may have, and whether
--- the operation is built
+-- what is asked of a row: its method, its level, the selectors that the query has, and the further names that it may have;
+-- whether the operation is built, whether anybody may ask for it, whether it takes a content type and metadata, and whether a
+-- body may come with it
 pub record Shape : Type 0 where
   pub method : List ℕ
   pub level : Level
   pub selectors : List (List ℕ)
   pub further : List (List ℕ)
-  pub built : Bool
+  pub is_built : Bool
+  pub is_open : Bool
+  pub has_content : Bool
+  pub has_body : Bool
 
-abbrev pub shape : List ℕ → Level → List (List ℕ) → List (List ℕ) → Bool → Shape
-shape method level selectors further built =
-    record { method = method; level = level; selectors = selectors; further = further; built = built }
+-- a row that isn't built, for the owner alone
+abbrev pub plain : List ℕ → Level → List (List ℕ) → List (List ℕ) → Shape
+plain method level selectors further = record {
+  method = method;
+  level = level;
+  selectors = selectors;
+  further = further;
+  is_built = false;
+  is_open = false;
+  has_content = false;
+  has_body = true;
+}
+
+-- one that is built
+abbrev pub built : Shape → Shape
+built shape = record shape { is_built = true }
+
+-- one that anybody may ask for
+abbrev pub for_all : Shape → Shape
+for_all shape = record shape { is_open = true }
+
+-- one that takes a content type and metadata
+abbrev pub with_content : Shape → Shape
+with_content shape = record shape { has_content = true }
+
+-- one whose body isn't read yet, so that none may come
+abbrev pub without_body : Shape → Shape
+without_body shape = record shape { has_body = false }
 
 -- the names by which a query chooses a row
 abbrev pub selectors : List (List ℕ)
 selectors = codes "acl" ∷ codes "location" ∷ codes "uploads" ∷ codes "uploadId" ∷ codes "partNumber" ∷ codes "list-type" ∷ []
 
+-- the names that rows have beside their selectors
+abbrev pub objects_names : List (List ℕ)
+objects_names = codes "prefix" ∷ codes "delimiter" ∷ codes "marker" ∷ codes "max-keys" ∷ codes "encoding-type" ∷ []
+
+abbrev pub objects_v2_names : List (List ℕ)
+objects_v2_names =
+    codes "prefix" ∷ codes "delimiter" ∷ codes "start-after" ∷ codes "continuation-token" ∷ codes "max-keys" ∷ codes "encoding-type"
+    ∷ codes "fetch-owner" ∷ []
+
+abbrev pub uploads_names : List (List ℕ)
+uploads_names = codes "prefix" ∷ codes "key-marker" ∷ codes "upload-id-marker" ∷ codes "max-uploads" ∷ []
+
+abbrev pub parts_names : List (List ℕ)
+parts_names = codes "max-parts" ∷ codes "part-number-marker" ∷ []
+
 -- the table
 abbrev pub shape_of : Row → Shape
-shape_of ListBuckets = shape (codes "GET") Service [] [] false
-shape_of CreateBucket = shape (codes "PUT") Bucket [] [] true
-shape_of PutBucketAcl = shape (codes "PUT") Bucket (codes "acl" ∷ []) [] false
-shape_of DeleteBucket = shape (codes "DELETE") Bucket [] [] false
-shape_of HeadBucket = shape (codes "HEAD") Bucket [] [] false
-shape_of GetBucketLocation = shape (codes "GET") Bucket (codes "location" ∷ []) [] false
-shape_of GetBucketAcl = shape (codes "GET") Bucket (codes "acl" ∷ []) [] false
-shape_of ListObjects = shape (codes "GET") Bucket [] (codes "prefix" ∷ codes "delimiter" ∷ codes "marker" ∷ codes "max-keys" ∷ codes "encoding-type" ∷ []) false
-shape_of ListObjectsV2 = shape (codes "GET") Bucket (codes "list-type" ∷ []) (codes "prefix" ∷ codes "delimiter" ∷ codes "start-after" ∷ codes "continuation-token" ∷ codes "max-keys" ∷ codes "encoding-type" ∷ codes "fetch-owner" ∷ []) false
-shape_of ListMultipartUploads = shape (codes "GET") Bucket (codes "uploads" ∷ []) (codes "prefix" ∷ codes "key-marker" ∷ codes "upload-id-marker" ∷ codes "max-uploads" ∷ []) false
-shape_of PutObject = shape (codes "PUT") Key [] [] true
-shape_of GetObject = shape (codes "GET") Key [] [] true
-shape_of HeadObject = shape (codes "HEAD") Key [] [] true
-shape_of DeleteObject = shape (codes "DELETE") Key [] [] true
-shape_of GetObjectAcl = shape (codes "GET") Key (codes "acl" ∷ []) [] false
-shape_of CreateMultipartUpload = shape (codes "POST") Key (codes "uploads" ∷ []) [] false
-shape_of UploadPart = shape (codes "PUT") Key (codes "partNumber" ∷ codes "uploadId" ∷ []) [] false
-shape_of ListParts = shape (codes "GET") Key (codes "uploadId" ∷ []) (codes "max-parts" ∷ codes "part-number-marker" ∷ []) false
-shape_of CompleteMultipartUpload = shape (codes "POST") Key (codes "uploadId" ∷ []) [] false
-shape_of AbortMultipartUpload = shape (codes "DELETE") Key (codes "uploadId" ∷ []) [] false
+shape_of ListBuckets = plain (codes "GET") Service [] []
+shape_of CreateBucket = without_body (built (plain (codes "PUT") Bucket [] []))
+shape_of PutBucketAcl = plain (codes "PUT") Bucket (codes "acl" ∷ []) []
+shape_of DeleteBucket = plain (codes "DELETE") Bucket [] []
+shape_of HeadBucket = for_all (plain (codes "HEAD") Bucket [] [])
+shape_of GetBucketLocation = plain (codes "GET") Bucket (codes "location" ∷ []) []
+shape_of GetBucketAcl = plain (codes "GET") Bucket (codes "acl" ∷ []) []
+shape_of ListObjects = for_all (plain (codes "GET") Bucket [] objects_names)
+shape_of ListObjectsV2 = for_all (plain (codes "GET") Bucket (codes "list-type" ∷ []) objects_v2_names)
+shape_of ListMultipartUploads = plain (codes "GET") Bucket (codes "uploads" ∷ []) uploads_names
+shape_of PutObject = with_content (built (plain (codes "PUT") Key [] []))
+shape_of GetObject = for_all (built (plain (codes "GET") Key [] []))
+shape_of HeadObject = for_all (built (plain (codes "HEAD") Key [] []))
+shape_of DeleteObject = built (plain (codes "DELETE") Key [] [])
+shape_of GetObjectAcl = plain (codes "GET") Key (codes "acl" ∷ []) []
+shape_of CreateMultipartUpload = with_content (plain (codes "POST") Key (codes "uploads" ∷ []) [])
+shape_of UploadPart = plain (codes "PUT") Key (codes "partNumber" ∷ codes "uploadId" ∷ []) []
+shape_of ListParts = plain (codes "GET") Key (codes "uploadId" ∷ []) parts_names
+shape_of CompleteMultipartUpload = plain (codes "POST") Key (codes "uploadId" ∷ []) []
+shape_of AbortMultipartUpload = plain (codes "DELETE") Key (codes "uploadId" ∷ []) []
 
 unfoldable pub rows : List Row
 rows =
@@ -65,14 +110,9 @@ level_of bucket key = if length key == 0 then (if length bucket == 0 then Servic
 
 abbrev pub is_same_level : Level → Level → Bool
 is_same_level Service Service = true
-is_same_level Service Bucket = false
-is_same_level Service Key = false
-is_same_level Bucket Service = false
 is_same_level Bucket Bucket = true
-is_same_level Bucket Key = false
-is_same_level Key Service = false
-is_same_level Key Bucket = false
 is_same_level Key Key = true
+is_same_level _ _ = false
 
 -- all names of a query count but `x-id`, by which clients name the operation a second time
 abbrev pub counts : Pair → Bool
@@ -86,6 +126,10 @@ is_asked query name = list_any (λ pair. bytes_eq pair.name name) (asked query)
 
 abbrev pub is_among : List ℕ → List (List ℕ) → Bool
 is_among name names = list_any (λ other. bytes_eq name other) names
+
+-- the texts behind references
+abbrev pub texts : List (Bor (List ℕ)) → List (List ℕ)
+texts names = map (λ name. name.now) names
 
 -- the row has the name
 abbrev pub is_name_of : List ℕ → Row → Bool

@@ -7,10 +7,11 @@ ghost use Rattle.md5.specs.Md5.{md5};
 ghost use Rattle.s3_names.specs.Meta.{with_pair};
 ghost use Rattle.s3_machine.specs.Limits.{is_content_type, is_proper_pair, is_proper_meta, is_kept_header};
 ghost use Rattle.gateway.specs.Headers.{has_header, text_of};
-ghost use Rattle.gateway.specs.Content.{is_digest, has_bad_digest, is_other_body, takes_content, given_type, taken_type, is_own_header, is_entry, entry_name, entered, given_meta, taken_meta, is_bad_entry, has_bad_entry, is_long_body, has_unread_body};
+ghost use Rattle.gateway.specs.Rows.{shape_of};
+ghost use Rattle.gateway.specs.Content.{is_digest, has_bad_digest, is_other_body, given_type, taken_type, is_own_header, is_entry, entry_name, entered, given_meta, taken_meta, is_bad_entry, has_bad_entry, is_long_body, has_unread_body};
 
 use crate::headers::{has_header, text_of};
-use crate::rows::Row;
+use crate::rows::{Row, shape_of};
 use base64::DecodeAllocError;
 use base64::engine::general_purpose::STANDARD;
 use gate_base::{Bytes, Memory, Pair};
@@ -34,9 +35,11 @@ fn is_digest(alloc: Global, text: &[u8]) -> Result<bool, Memory>
 pub fn has_bad_digest(alloc: Global, headers: &[Pair]) -> Result<bool, Memory>
     ensures { IfOk result (λ bad. bad ≡ has_bad_digest headers.now) }
 {
+    if !has_header(headers, b"content-md5") {
+        return Ok(false);
+    }
     let text = text_of(alloc, headers, b"content-md5")?;
-    let digest = is_digest(alloc, text.as_slice())?;
-    Ok(has_header(headers, b"content-md5") && !digest)
+    Ok(!is_digest(alloc, text.as_slice())?)
 }
 
 fn digest_text(alloc: Global, body: &[u8]) -> Result<Bytes, Memory>
@@ -58,33 +61,6 @@ pub fn is_other_body(alloc: Global, headers: &[Pair], body: &[u8]) -> Result<boo
     Ok(text.as_slice() != digest.as_slice())
 }
 
-/// Whether the operation takes a content type and metadata.
-fn takes_content(row: Row) -> bool
-    ensures { result ≡ takes_content row }
-{
-    match row {
-        Row::PutObject | Row::CreateMultipartUpload => true,
-        Row::ListBuckets
-        | Row::CreateBucket
-        | Row::PutBucketAcl
-        | Row::DeleteBucket
-        | Row::HeadBucket
-        | Row::GetBucketLocation
-        | Row::GetBucketAcl
-        | Row::ListObjects
-        | Row::ListObjectsV2
-        | Row::ListMultipartUploads
-        | Row::GetObject
-        | Row::HeadObject
-        | Row::DeleteObject
-        | Row::GetObjectAcl
-        | Row::UploadPart
-        | Row::ListParts
-        | Row::CompleteMultipartUpload
-        | Row::AbortMultipartUpload => false,
-    }
-}
-
 fn given_type(alloc: Global, headers: &[Pair]) -> Result<Bytes, Memory>
     ensures { IfOk result (λ text. text ≡ given_type headers.now) }
 {
@@ -100,7 +76,7 @@ fn given_type(alloc: Global, headers: &[Pair]) -> Result<Bytes, Memory>
 pub fn taken_type(alloc: Global, row: Row, headers: &[Pair]) -> Result<Bytes, Memory>
     ensures { IfOk result (λ text. text ≡ taken_type row headers.now) }
 {
-    if takes_content(row) {
+    if shape_of(row).has_content() {
         given_type(alloc, headers)
     } else {
         Bytes::from_slice(alloc, b"binary/octet-stream")
@@ -168,7 +144,7 @@ fn given_meta(alloc: Global, headers: &[Pair]) -> Result<Meta, Memory>
 pub fn taken_meta(alloc: Global, row: Row, headers: &[Pair]) -> Result<Meta, Memory>
     ensures { IfOk result (λ meta. meta ≡ taken_meta row headers.now) }
 {
-    if takes_content(row) {
+    if shape_of(row).has_content() {
         given_meta(alloc, headers)
     } else {
         Ok(Meta::new(alloc))
@@ -205,26 +181,5 @@ pub fn is_long_body(body: &[u8]) -> bool
 pub fn has_unread_body(row: Row, body: &[u8]) -> bool
     ensures { result ≡ has_unread_body row body.now }
 {
-    match row {
-        Row::CreateBucket => body.len() != 0,
-        Row::ListBuckets
-        | Row::PutBucketAcl
-        | Row::DeleteBucket
-        | Row::HeadBucket
-        | Row::GetBucketLocation
-        | Row::GetBucketAcl
-        | Row::ListObjects
-        | Row::ListObjectsV2
-        | Row::ListMultipartUploads
-        | Row::PutObject
-        | Row::GetObject
-        | Row::HeadObject
-        | Row::DeleteObject
-        | Row::GetObjectAcl
-        | Row::CreateMultipartUpload
-        | Row::UploadPart
-        | Row::ListParts
-        | Row::CompleteMultipartUpload
-        | Row::AbortMultipartUpload => false,
-    }
+    !shape_of(row).has_body() && body.len() != 0
 }

@@ -141,6 +141,9 @@ pub fn names_acl(headers: &[Pair]) -> bool
 pub fn has_other_class(alloc: Global, headers: &[Pair]) -> Result<bool, Memory>
     ensures { IfOk result (λ other. other ≡ has_other_class headers.now) }
 {
+    if !has_header(headers, b"x-amz-storage-class") {
+        return Ok(false);
+    }
     let class = text_of(alloc, headers, b"x-amz-storage-class")?;
-    Ok(has_header(headers, b"x-amz-storage-class") && class.as_slice() != b"STANDARD".as_slice())
+    Ok(class.as_slice() != b"STANDARD".as_slice())
 }

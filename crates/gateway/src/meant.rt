@@ -1,9 +1,9 @@
 //! What a request means.
 ghost use Rattle.std.specs.Prelude.{◌≡◌, ◌≢◌, ◌&&◌, ◌||◌, not, nat_lt, length, IfOk};
 ghost use Rattle.gateway.specs.ResolvedRequest.{IsProperMeant};
-ghost use Rattle.gateway.specs.Meaning.{first_refusal, target_reasons, judged, reasons, header_reasons, content_reasons, caller_reasons, meaning_of, op_of, is_denied, is_open, has_bad_bucket, row_of};
+ghost use Rattle.gateway.specs.Meaning.{first_refusal, target_reasons, judged, reasons, header_reasons, content_reasons, caller_reasons, meaning_of, op_of, is_denied, has_bad_bucket, row_of};
 ghost use Rattle.gateway.specs.declared.meant.Meant.TheVariants as variant;
-ghost use Rattle.gateway.specs.Rows.{level_of};
+ghost use Rattle.gateway.specs.Rows.{shape_of, level_of};
 ghost use Rattle.gateway.specs.Meaning.{has_long_key, has_bad_key};
 ghost use Rattle.gateway.specs.Content.{taken_type, taken_meta};
 
@@ -16,7 +16,7 @@ use crate::headers::{
     names_acl,
 };
 use crate::query::{has_foreign_name, has_name_twice, has_unknown_name};
-use crate::rows::{Level, Row, is_built, is_method, is_same_level, level_of, row_for};
+use crate::rows::{Level, Row, is_method, is_same_level, level_of, row_for, shape_of};
 use gate_base::{Bytes, Caller, Copying, Memory};
 use http_wire::Message;
 use s3_machine::{Code, Op, Settings, is_content_type, is_proper_meta};
@@ -97,7 +97,7 @@ fn by_row(
 ) -> Result<Meant, Memory>
     ensures { IfOk result (λ meant. meant ≡ first_refusal (reasons row message.now target.now caller.now) (op_of row message.now target.now)) }
 {
-    if !is_built(row) {
+    if !shape_of(row).is_built() {
         return Ok(Meant::Refused(Code::NotImplemented));
     }
     if has_foreign_name(row, target.query.pairs()) {
@@ -315,39 +315,11 @@ fn has_bad_key(target: &Target) -> bool
     is_same_level(level_of_target(target), Level::Key) && !is_key(target.key.as_slice())
 }
 
-/// Whether anybody may ask for the operation.
-fn is_open(row: Row) -> bool
-    ensures { result ≡ is_open row }
-{
-    match row {
-        Row::HeadBucket
-        | Row::ListObjects
-        | Row::ListObjectsV2
-        | Row::GetObject
-        | Row::HeadObject => true,
-        Row::ListBuckets
-        | Row::CreateBucket
-        | Row::PutBucketAcl
-        | Row::DeleteBucket
-        | Row::GetBucketLocation
-        | Row::GetBucketAcl
-        | Row::ListMultipartUploads
-        | Row::PutObject
-        | Row::DeleteObject
-        | Row::GetObjectAcl
-        | Row::CreateMultipartUpload
-        | Row::UploadPart
-        | Row::ListParts
-        | Row::CompleteMultipartUpload
-        | Row::AbortMultipartUpload => false,
-    }
-}
-
 fn is_denied(row: Row, caller: Caller) -> bool
     ensures { result ≡ is_denied row caller }
 {
     match caller {
         Caller::Owner => false,
-        Caller::Anonymous => !is_open(row),
+        Caller::Anonymous => !shape_of(row).is_open(),
     }
 }

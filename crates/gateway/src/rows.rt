@@ -2,10 +2,11 @@
 ghost use Rattle.std.specs.Prelude.{◌≡◌, Bool, true, false, not, ◌&&◌, find, codes, bytes_eq};
 ghost use Rattle.std.specs.List.{list_any};
 ghost use Rattle.std.specs.Option.{option_copied};
-ghost use Rattle.gateway.specs.Rows.{rows, shape_of, level_of, is_same_level, is_same, is_asked, is_among, is_name_of, agrees, is_same_set, fits, is_method};
+ghost use Rattle.gateway.specs.Rows.{rows, plain, built, for_all, with_content, without_body, shape_of, level_of, is_same_level, is_same, is_asked, is_among, is_name_of, texts, agrees, is_same_set, fits, is_method};
 
 use crate::query::is_asked;
 use gate_base::Pair;
+use std::marker::Model;
 
 /// How far a target goes.
 #[derive(Clone, Copy, Debug, PartialEq, Eq)]
@@ -63,8 +64,20 @@ const ROWS: [Row; 20] = [
     Row::AbortMultipartUpload,
 ];
 
+const ACL: [&[u8]; 1] = [b"acl"];
+
+const LOCATION: [&[u8]; 1] = [b"location"];
+
+const LIST_TYPE: [&[u8]; 1] = [b"list-type"];
+
+const UPLOADS: [&[u8]; 1] = [b"uploads"];
+
+const UPLOAD_ID: [&[u8]; 1] = [b"uploadId"];
+
+const PART: [&[u8]; 2] = [b"partNumber", b"uploadId"];
+
 /// The names that ListObjects has beside its selectors.
-const OBJECTS_FURTHER: [&[u8]; 5] = [
+const OBJECTS_NAMES: [&[u8]; 5] = [
     b"prefix",
     b"delimiter",
     b"marker",
@@ -73,7 +86,7 @@ const OBJECTS_FURTHER: [&[u8]; 5] = [
 ];
 
 /// The names that ListObjectsV2 has beside its selectors.
-const OBJECTS_V2_FURTHER: [&[u8]; 7] = [
+const OBJECTS_V2_NAMES: [&[u8]; 7] = [
     b"prefix",
     b"delimiter",
     b"start-after",
@@ -84,7 +97,7 @@ const OBJECTS_V2_FURTHER: [&[u8]; 7] = [
 ];
 
 /// The names that ListMultipartUploads has beside its selectors.
-const UPLOADS_FURTHER: [&[u8]; 4] = [
+const UPLOADS_NAMES: [&[u8]; 4] = [
     b"prefix",
     b"key-marker",
     b"upload-id-marker",
@@ -92,7 +105,189 @@ const UPLOADS_FURTHER: [&[u8]; 4] = [
 ];
 
 /// The names that ListParts has beside its selectors.
-const PARTS_FURTHER: [&[u8]; 2] = [b"max-parts", b"part-number-marker"];
+const PARTS_NAMES: [&[u8]; 2] = [b"max-parts", b"part-number-marker"];
+
+/// What is asked of a row.
+#[derive(Drop)]
+pub struct Shape {
+    method: &'static [u8],
+    level: Level,
+    /// The selectors that the query has.
+    selectors: &'static [&'static [u8]],
+    /// The names that it may have beside them.
+    further: &'static [&'static [u8]],
+    is_built: bool,
+    /// Whether anybody may ask for the operation.
+    is_open: bool,
+    /// Whether it takes a content type and metadata.
+    has_content: bool,
+    /// Whether a body may come with it.
+    has_body: bool,
+}
+
+impl Model for Shape {
+    ghost use Rattle.gateway.specs.Rows.{Shape as Seen, texts};
+
+    ghost Value = { Seen };
+
+    ghost view = { λ s. record { method = s.method.now; level = s.level; selectors = texts s.selectors.now; further = texts s.further.now; is_built = s.is_built; is_open = s.is_open; has_content = s.has_content; has_body = s.has_body } };
+}
+
+/// What is asked of the row: the table.
+pub fn shape_of(row: Row) -> Shape
+    ensures { result ≡ shape_of row }
+{
+    match row {
+        Row::ListBuckets => plain(b"GET", Level::Service, &[], &[]),
+        Row::CreateBucket => plain(b"PUT", Level::Bucket, &[], &[])
+            .built()
+            .without_body(),
+        Row::PutBucketAcl => plain(b"PUT", Level::Bucket, &ACL, &[]),
+        Row::DeleteBucket => plain(b"DELETE", Level::Bucket, &[], &[]),
+        Row::HeadBucket => plain(b"HEAD", Level::Bucket, &[], &[]).for_all(),
+        Row::GetBucketLocation => plain(b"GET", Level::Bucket, &LOCATION, &[]),
+        Row::GetBucketAcl => plain(b"GET", Level::Bucket, &ACL, &[]),
+        Row::ListObjects => plain(b"GET", Level::Bucket, &[], &OBJECTS_NAMES).for_all(),
+        Row::ListObjectsV2 => {
+            plain(b"GET", Level::Bucket, &LIST_TYPE, &OBJECTS_V2_NAMES).for_all()
+        }
+        Row::ListMultipartUploads => plain(b"GET", Level::Bucket, &UPLOADS, &UPLOADS_NAMES),
+        Row::PutObject => plain(b"PUT", Level::Key, &[], &[]).built().with_content(),
+        Row::GetObject => plain(b"GET", Level::Key, &[], &[]).built().for_all(),
+        Row::HeadObject => plain(b"HEAD", Level::Key, &[], &[]).built().for_all(),
+        Row::DeleteObject => plain(b"DELETE", Level::Key, &[], &[]).built(),
+        Row::GetObjectAcl => plain(b"GET", Level::Key, &ACL, &[]),
+        Row::CreateMultipartUpload => plain(b"POST", Level::Key, &UPLOADS, &[]).with_content(),
+        Row::UploadPart => plain(b"PUT", Level::Key, &PART, &[]),
+        Row::ListParts => plain(b"GET", Level::Key, &UPLOAD_ID, &PARTS_NAMES),
+        Row::CompleteMultipartUpload => plain(b"POST", Level::Key, &UPLOAD_ID, &[]),
+        Row::AbortMultipartUpload => plain(b"DELETE", Level::Key, &UPLOAD_ID, &[]),
+    }
+}
+
+/// A row that isn't built, for the owner alone.
+fn plain(
+    method: &'static [u8],
+    level: Level,
+    selectors: &'static [&'static [u8]],
+    further: &'static [&'static [u8]],
+) -> Shape
+    ensures { result ≡ plain method.now level (texts selectors.now) (texts further.now) }
+{
+    Shape {
+        method,
+        level,
+        selectors,
+        further,
+        is_built: false,
+        is_open: false,
+        has_content: false,
+        has_body: true,
+    }
+}
+
+impl Shape {
+    fn built(self) -> Shape
+        ensures { result ≡ built self }
+    {
+        Shape {
+            is_built: true,
+            ..self
+        }
+    }
+
+    fn for_all(self) -> Shape
+        ensures { result ≡ for_all self }
+    {
+        Shape {
+            is_open: true,
+            ..self
+        }
+    }
+
+    fn with_content(self) -> Shape
+        ensures { result ≡ with_content self }
+    {
+        Shape {
+            has_content: true,
+            ..self
+        }
+    }
+
+    /// The body isn't read yet, so none may come.
+    fn without_body(self) -> Shape
+        ensures { result ≡ without_body self }
+    {
+        Shape {
+            has_body: false,
+            ..self
+        }
+    }
+
+    pub fn is_built(&self) -> bool
+        ensures { result ≡ self.now.is_built }
+    {
+        self.is_built
+    }
+
+    pub fn is_open(&self) -> bool
+        ensures { result ≡ self.now.is_open }
+    {
+        self.is_open
+    }
+
+    pub fn has_content(&self) -> bool
+        ensures { result ≡ self.now.has_content }
+    {
+        self.has_content
+    }
+
+    pub fn has_body(&self) -> bool
+        ensures { result ≡ self.now.has_body }
+    {
+        self.has_body
+    }
+
+    /// Whether a request with the method, at the level, may be one of the row.
+    fn is_at(&self, method: &[u8], level: Level) -> bool
+        ensures { result ≡ bytes_eq method.now self.now.method && is_same_level level self.now.level }
+    {
+        method == self.method && is_same_level(level, self.level)
+    }
+
+    /// Whether the name is one of the selectors.
+    fn selects(&self, name: &[u8]) -> bool
+        ensures { result ≡ is_among name.now self.now.selectors }
+    {
+        is_one_of(name, self.selectors)
+    }
+
+    /// Whether the name is one that the query may have beside the selectors.
+    fn goes_on(&self, name: &[u8]) -> bool
+        ensures { result ≡ is_among name.now self.now.further }
+    {
+        is_one_of(name, self.further)
+    }
+
+    /// Whether the query has the selector exactly where the row has it.
+    fn agrees(&self, query: &[Pair], name: &[u8]) -> bool
+        ensures { result ≡ agrees query.now self.now.selectors name.now }
+    {
+        is_asked(query, name) == self.selects(name)
+    }
+
+    /// Whether the query has the selectors of the row, and no other.
+    fn is_chosen(&self, query: &[Pair]) -> bool
+        ensures { result ≡ is_same_set query.now self.now.selectors }
+    {
+        self.agrees(query, b"acl")
+            && self.agrees(query, b"location")
+            && self.agrees(query, b"uploads")
+            && self.agrees(query, b"uploadId")
+            && self.agrees(query, b"partNumber")
+            && self.agrees(query, b"list-type")
+    }
+}
 
 #[tactic(auto, unfolding(crate::specs::Rows::rows))]
 fn table() -> &'static [Row]
@@ -152,156 +347,16 @@ pub fn level_of(bucket: &[u8], key: &[u8]) -> Level
 pub fn is_same_level(level: Level, other: Level) -> bool
     ensures { result ≡ is_same_level level other }
 {
-    match level {
-        Level::Service => match other {
-            Level::Service => true,
-            Level::Bucket => false,
-            Level::Key => false,
-        },
-        Level::Bucket => match other {
-            Level::Service => false,
-            Level::Bucket => true,
-            Level::Key => false,
-        },
-        Level::Key => match other {
-            Level::Service => false,
-            Level::Bucket => false,
-            Level::Key => true,
-        },
-    }
-}
-
-fn is_same(a: bool, b: bool) -> bool
-    ensures { result ≡ is_same a b }
-{
-    if a { b } else { !b }
-}
-
-fn method_of(row: Row) -> &'static [u8]
-    ensures { result.now ≡ (shape_of row).method }
-{
-    match row {
-        Row::ListBuckets
-        | Row::GetBucketLocation
-        | Row::GetBucketAcl
-        | Row::ListObjects
-        | Row::ListObjectsV2
-        | Row::ListMultipartUploads
-        | Row::GetObject
-        | Row::GetObjectAcl
-        | Row::ListParts => b"GET",
-        Row::HeadBucket | Row::HeadObject => b"HEAD",
-        Row::CreateBucket | Row::PutBucketAcl | Row::PutObject | Row::UploadPart => b"PUT",
-        Row::CreateMultipartUpload | Row::CompleteMultipartUpload => b"POST",
-        Row::DeleteBucket | Row::DeleteObject | Row::AbortMultipartUpload => b"DELETE",
-    }
-}
-
-fn level_of_row(row: Row) -> Level
-    ensures { result ≡ (shape_of row).level }
-{
-    match row {
-        Row::ListBuckets => Level::Service,
-        Row::CreateBucket
-        | Row::PutBucketAcl
-        | Row::DeleteBucket
-        | Row::HeadBucket
-        | Row::GetBucketLocation
-        | Row::GetBucketAcl
-        | Row::ListObjects
-        | Row::ListObjectsV2
-        | Row::ListMultipartUploads => Level::Bucket,
-        Row::PutObject
-        | Row::GetObject
-        | Row::HeadObject
-        | Row::DeleteObject
-        | Row::GetObjectAcl
-        | Row::CreateMultipartUpload
-        | Row::UploadPart
-        | Row::ListParts
-        | Row::CompleteMultipartUpload
-        | Row::AbortMultipartUpload => Level::Key,
-    }
-}
-
-/// Whether the row is one that is built.
-pub fn is_built(row: Row) -> bool
-    ensures { result ≡ (shape_of row).built }
-{
-    match row {
-        Row::CreateBucket | Row::PutObject | Row::GetObject | Row::HeadObject | Row::DeleteObject =>
-            true,
-        Row::ListBuckets
-        | Row::PutBucketAcl
-        | Row::DeleteBucket
-        | Row::HeadBucket
-        | Row::GetBucketLocation
-        | Row::GetBucketAcl
-        | Row::ListObjects
-        | Row::ListObjectsV2
-        | Row::ListMultipartUploads
-        | Row::GetObjectAcl
-        | Row::CreateMultipartUpload
-        | Row::UploadPart
-        | Row::ListParts
-        | Row::CompleteMultipartUpload
-        | Row::AbortMultipartUpload => false,
-    }
-}
-
-/// Whether the name is one of the selectors of the row.
-fn selects(name: &[u8], row: Row) -> bool
-    ensures { result ≡ is_among name.now (shape_of row).selectors }
-{
-    match row {
-        Row::ListBuckets
-        | Row::CreateBucket
-        | Row::DeleteBucket
-        | Row::HeadBucket
-        | Row::ListObjects
-        | Row::PutObject
-        | Row::GetObject
-        | Row::HeadObject
-        | Row::DeleteObject => false,
-        Row::PutBucketAcl | Row::GetBucketAcl | Row::GetObjectAcl => name == b"acl".as_slice(),
-        Row::GetBucketLocation => name == b"location".as_slice(),
-        Row::ListObjectsV2 => name == b"list-type".as_slice(),
-        Row::ListMultipartUploads | Row::CreateMultipartUpload => name == b"uploads".as_slice(),
-        Row::ListParts | Row::CompleteMultipartUpload | Row::AbortMultipartUpload => name
-            == b"uploadId".as_slice(),
-        Row::UploadPart => name == b"partNumber".as_slice() || name == b"uploadId".as_slice(),
-    }
-}
-
-/// Whether the name is one of those that the row has beside its selectors.
-fn goes_on(name: &[u8], row: Row) -> bool
-    ensures { result ≡ is_among name.now (shape_of row).further }
-{
-    match row {
-        Row::ListBuckets
-        | Row::CreateBucket
-        | Row::PutBucketAcl
-        | Row::DeleteBucket
-        | Row::HeadBucket
-        | Row::GetBucketLocation
-        | Row::GetBucketAcl
-        | Row::PutObject
-        | Row::GetObject
-        | Row::HeadObject
-        | Row::DeleteObject
-        | Row::GetObjectAcl
-        | Row::CreateMultipartUpload
-        | Row::UploadPart
-        | Row::CompleteMultipartUpload
-        | Row::AbortMultipartUpload => false,
-        Row::ListObjects => is_one_of(name, &OBJECTS_FURTHER),
-        Row::ListObjectsV2 => is_one_of(name, &OBJECTS_V2_FURTHER),
-        Row::ListMultipartUploads => is_one_of(name, &UPLOADS_FURTHER),
-        Row::ListParts => is_one_of(name, &PARTS_FURTHER),
-    }
+    level == other
 }
 
 fn is_one_of(name: &[u8], names: &[&[u8]]) -> bool
+    ensures { result ≡ is_among name.now (texts names.now) }
+{
+    has_text(names, name)
+}
+
+fn has_text(names: &[&[u8]], name: &[u8]) -> bool
     ensures { result ≡ list_any (λ other. bytes_eq name.now other.now) names.now }
 {
     names.iter().any(|other| name == *other)
@@ -311,29 +366,13 @@ fn is_one_of(name: &[u8], names: &[&[u8]]) -> bool
 pub fn is_name_of(name: &[u8], row: Row) -> bool
     ensures { result ≡ is_name_of name.now row }
 {
-    selects(name, row) || goes_on(name, row)
-}
-
-/// Whether the query has the selector exactly where the row has it.
-fn agrees(query: &[Pair], row: Row, name: &[u8]) -> bool
-    ensures { result ≡ agrees query.now (shape_of row).selectors name.now }
-{
-    is_same(is_asked(query, name), selects(name, row))
-}
-
-fn is_same_set(query: &[Pair], row: Row) -> bool
-    ensures { result ≡ is_same_set query.now (shape_of row).selectors }
-{
-    agrees(query, row, b"acl")
-        && agrees(query, row, b"location")
-        && agrees(query, row, b"uploads")
-        && agrees(query, row, b"uploadId")
-        && agrees(query, row, b"partNumber")
-        && agrees(query, row, b"list-type")
+    let shape = shape_of(row);
+    shape.selects(name) || shape.goes_on(name)
 }
 
 fn fits(method: &[u8], level: Level, query: &[Pair], row: Row) -> bool
     ensures { result ≡ fits method.now level query.now row }
 {
-    method == method_of(row) && is_same_level(level, level_of_row(row)) && is_same_set(query, row)
+    let shape = shape_of(row);
+    shape.is_at(method, level) && shape.is_chosen(query)
 }
