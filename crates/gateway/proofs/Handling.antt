@@ -55,7 +55,7 @@ part_of t q bytes transcript transcript' near (inr (n, e)) = record {
   each = only transcript.begun t q (take n bytes) near;
 }
 
-module _ {R : Mark → Span → Mark → Request → Label → Reply → Type 0} (old new : Mark) (moments draws moments' draws' : List ℕ) (transcript transcript' : Transcript) (asks : ℕ → Request) (label : Label) (given : Reply)
+module _ {R : ReplyRelation} (old new : Mark) (moments draws moments' draws' : List ℕ) (transcript transcript' : Transcript) (asks : ℕ → Request) (label : Label) (given : Reply)
     (labels : LabelGiven moments draws moments' draws' (asks label.moment).caller label) (replied : RepliesExpected R old new (asks label.moment) label given) where
   near : replied.span.committed ≤ new.number
   near = let last = replied.is_span.last in let to = replied.is_span.to in omega arith
@@ -134,7 +134,7 @@ module _ {R : Mark → Span → Mark → Request → Label → Reply → Type 0}
       }
 
 -- the same, of a request as the code holds it: the code's label has the caller of the request, unless memory ran out
-module _ {R : Mark → Span → Mark → Request → Label → Reply → Type 0} (old new : Mark) (moments draws moments' draws' : List ℕ) (transcript transcript' : Transcript) (asks : ℕ → Request) (next label : Label) (given : Reply)
+module _ {R : ReplyRelation} (old new : Mark) (moments draws moments' draws' : List ℕ) (transcript transcript' : Transcript) (asks : ℕ → Request) (next label : Label) (given : Reply)
     (resolved : ResolvedRequest) (is : Is resolved (asks next.moment)) (own : label ≡ sent_by resolved.caller next) (labels : (from : Caller) → LabelGiven moments draws moments' draws' from (sent_by from next))
     (known : resolved.means ≡ meant.Memory → given ≡ answer.Memory)
     (told : (request : Request) → Understands resolved.means request → (resolved.means ≢ meant.Memory → label.caller ≡ request.caller) → RepliesExpected R old new request (sent_by request.caller label) given) where

@@ -57,16 +57,16 @@ stands_trans {settings = settings} {old = old} {middle = middle} {new = new} on 
 
 -- ---- the requests answered since the connection began
 
-abbrev pub Answered : Service → (Mark → Span → Mark → Request → Label → Reply → Type 0) → ℕ → ConnectionCursor → ConnectionCursor → Type 0
+abbrev pub Answered : Service → ReplyRelation → ℕ → ConnectionCursor → ConnectionCursor → Type 0
 Answered service R connection begin present = (spans : List Span) × Exchanges service R connection begin spans present
 
 -- one request more
-pub answered_more : {service : Service} {R : Mark → Span → Mark → Request → Label → Reply → Type 0} (connection : ℕ) (begin present next : ConnectionCursor)
+pub answered_more : {service : Service} {R : ReplyRelation} (connection : ℕ) (begin present next : ConnectionCursor)
     → Answered service R connection begin present → NextOne service R connection present None next → Answered service R connection begin next
 answered_more connection begin present next answered served = (answered.0 ++ served.0 ∷ [], more begin present next answered.0 served.0 answered.1 served.1)
 
 -- and the end
-pub answered_ends : {service : Service} {R : Mark → Span → Mark → Request → Label → Reply → Type 0} (connection : ℕ) (begin present next : ConnectionCursor) (ended : Ended)
+pub answered_ends : {service : Service} {R : ReplyRelation} (connection : ℕ) (begin present next : ConnectionCursor) (ended : Ended)
     → Answered service R connection begin present → NextOne service R connection present (Some ended) next → (spans : List Span) × ConnectionTrace service R connection ended begin spans next.progress
 answered_ends connection begin present next ended answered ends =
     (answered.0 ++ ends.0, record { last = present; before = answered.0; after = ends.0; exchanges = answered.1; ends = ends.1; all = refl })
@@ -82,14 +82,14 @@ answered_agree settings old new false connection begin present kept answered = a
 fresh : Pending
 fresh = record { bytes = []; place = 0; ended = false }
 
-pub answered_none : (service : Service) (R : Mark → Span → Mark → Request → Label → Reply → Type 0) (connection : ℕ) (rest : List ℕ) (so_far : Progress) (reader : Pending) → reader ≡ record { bytes = []; place = 0; ended = false }
+pub answered_none : (service : Service) (R : ReplyRelation) (connection : ℕ) (rest : List ℕ) (so_far : Progress) (reader : Pending) → reader ≡ record { bytes = []; place = 0; ended = false }
     → Answered service R connection (cursor rest 0 so_far) (cursor (reader.bytes ++ rest) reader.place so_far)
 answered_none service R connection rest so_far reader e =
     let P : Pending → Type 0 = λ r. Exchanges service R connection (cursor rest 0 so_far) [] (cursor (r.bytes ++ rest) r.place so_far) in
     ([], subst P (sym e) (none (cursor rest 0 so_far)))
 
 -- memory ran out before any request was read
-pub unread_at_once : (service : Service) (R : Mark → Span → Mark → Request → Label → Reply → Type 0) (here : Mark) (moments draws : List ℕ) (transcript transcript' : Transcript) (ended : Ended) → EndsUnread here.number transcript ended transcript'
+pub unread_at_once : (service : Service) (R : ReplyRelation) (here : Mark) (moments draws : List ℕ) (transcript transcript' : Transcript) (ended : Ended) → EndsUnread here.number transcript ended transcript'
     → (spans : List Span) × ConnectionTrace service R transcript.begun ended (cursor transcript.rest 0 (progress here moments draws transcript.sent)) spans (progress here moments draws transcript'.sent)
 unfolding fresh
 unread_at_once service R here moments draws transcript transcript' ended ends =

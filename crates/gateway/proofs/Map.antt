@@ -42,11 +42,11 @@ pub between_ends : (first last : Mark) → Between first last first last
 between_ends first last = record { since = omega arith; until = omega arith; since_faults = omega arith; until_faults = omega arith }
 
 -- between two marks the second relation follows from the first
-abbrev pub FollowsBetween : (R R' : Mark → Span → Mark → Request → Label → Reply → Type 0) → Mark → Mark → Type 0
+abbrev pub FollowsBetween : (R R' : ReplyRelation) → Mark → Mark → Type 0
 FollowsBetween R R' first last = (old new : Mark) (span : Span) (request : Request) (label : Label) (reply : Reply) → IsSpan old span new (asked_by request.means label) → Between first last old new
     → R old span new request label reply → R' old span new request label reply
 
-module _ {R R' : Mark → Span → Mark → Request → Label → Reply → Type 0} {first last : Mark} (f : FollowsBetween R R' first last) where
+module _ {R R' : ReplyRelation} {first last : Mark} (f : FollowsBetween R R' first last) where
   pub exchange_map : {connection : ℕ} {old new : Mark} {span : Span} {request : Request} {label : Label} {end : Option Ended} {sent sent' : List Piece} → Between first last old new
       → Exchange R connection old span new request label end sent sent' → Exchange R' connection old span new request label end sent sent'
   exchange_map {old = old} {new = new} {span = span} {request = request} {label = label} between exchange = record {

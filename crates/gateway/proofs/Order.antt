@@ -35,7 +35,7 @@ follows_order p q (span ∷ spans) (begins, settled, committed, ends, then) = le
 
 -- ---- one connection
 
-module _ {service : Service} {R : Mark → Span → Mark → Request → Label → Reply → Type 0} {connection : ℕ} where
+module _ {service : Service} {R : ReplyRelation} {connection : ℕ} where
   -- ---- the numbers
 
   pub serves_order : {end : Option Ended} {old new : ConnectionCursor} {span : Span} → Serves service R connection end old span new → old.progress.mark.number ≤ new.progress.mark.number

@@ -20,15 +20,15 @@ use Rattle.gateway.specs.Connection.{Progress, ConnectionCursor, progress, curso
 use Rattle.gateway.specs.Handled.{HandledOnce, HandledEnds}
 use Rattle.gateway.specs.Serving.{NextOne, EndsUnread}
 
-pub handled_ends : {R : Mark → Span → Mark → Request → Label → Reply → Type 0} (connection : ℕ) (old new : Progress) (asks : ℕ → Request) (ended : Option Ended) → HandledOnce R connection old new asks (Served ended) → HandledEnds R connection old new asks ended
+pub handled_ends : {R : ReplyRelation} (connection : ℕ) (old new : Progress) (asks : ℕ → Request) (ended : Option Ended) → HandledOnce R connection old new asks (Served ended) → HandledEnds R connection old new asks ended
 handled_ends connection old new asks None span = span
 handled_ends connection old new asks (Some ended) span = inl span
 
-pub handled_breaks : {R : Mark → Span → Mark → Request → Label → Reply → Type 0} (connection : ℕ) (old new : Progress) (asks : ℕ → Request) → HandledOnce R connection old new asks Broken → HandledEnds R connection old new asks (Some LineFailed)
+pub handled_breaks : {R : ReplyRelation} (connection : ℕ) (old new : Progress) (asks : ℕ → Request) → HandledOnce R connection old new asks Broken → HandledEnds R connection old new asks (Some LineFailed)
 handled_breaks connection old new asks span = inr (refl, span)
 
 -- a request that was resolved was answered
-module _ (service : Service) (R : Mark → Span → Mark → Request → Label → Reply → Type 0) (connection : ℕ) where
+module _ (service : Service) (R : ReplyRelation) (connection : ℕ) where
   pub next_of : (old new : ConnectionCursor) (asks : ℕ → Request) (ended : Option Ended) → ((moment : ℕ) → Resolves service moment old (asks moment) new.rest new.place)
       → HandledEnds R connection old.progress new.progress asks ended → NextOne service R connection old ended new
   next_of old new asks None resolves span = (span.span, record { request = asks span.label.moment; label = span.label; resolves = resolves span.label.moment; labels = span.labels; exchange = span.exchange })
@@ -38,7 +38,7 @@ module _ (service : Service) (R : Mark → Span → Mark → Request → Label �
       let failed = span.1 in
       (failed.span ∷ [], broken failed.span span.0 (record { request = asks failed.label.moment; label = failed.label; rest = new.rest; place = new.place; resolves = resolves failed.label.moment; labels = failed.labels; exchange = failed.exchange }))
 
-module _ (service : Service) (R : Mark → Span → Mark → Request → Label → Reply → Type 0) (here : Mark) (moments draws : List ℕ) (begun : ℕ) (sent : List Piece) (pending pending' : Pending) (all rest : List ℕ) where
+module _ (service : Service) (R : ReplyRelation) (here : Mark) (moments draws : List ℕ) (begun : ℕ) (sent : List Piece) (pending pending' : Pending) (all rest : List ℕ) where
   -- what was read is a message
   pub next_request : (transcript : Transcript) (message : Message) (left : List ℕ) (new : Progress) (ended : Option Ended) → Gives pending all (got.Request message) pending' left
       → transcript.begun ≡ begun → transcript.sent ≡ sent → rest ≡ left

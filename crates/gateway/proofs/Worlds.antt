@@ -11,7 +11,7 @@ use Rattle.recovery.specs.Calls.{Met}
 use Rattle.recovery.specs.Settling.{IsKnown}
 use Rattle.recovery.proofs.lemmas.Idle.{goes_none}
 use Rattle.gateway.specs.Request.{Request}
-use Rattle.gateway.specs.Exchange.{Mark, Span, RepliesBy, Where}
+use Rattle.gateway.specs.Exchange.{ReplyRelation, Mark, Span, RepliesBy, Where}
 use Rattle.gateway.specs.World.{World, world, IsObservable, Continues, ServesOver}
 use Rattle.gateway.proofs.Operating.{goes_on_trans}
 use Rattle.gateway.proofs.Replying.{stands_still}
@@ -21,10 +21,10 @@ use Rattle.gateway.proofs.Looping.{where_map, met_now, stands_trans}
 pub observable_on : {old new : World} → Continues old new → IsObservable old → IsObservable new
 observable_on on told = record { line = on.line told.line; clock = on.clock told.clock; draws = on.draws told.draws }
 
-module _ {settings : Settings} {T : (Mark → Span → Mark → Request → Label → Reply → Type 0) → World → World → Type 0} {store : History} {known : Known} {clock draws : SourceModel} where
+module _ {settings : Settings} {T : ReplyRelation → World → World → Type 0} {store : History} {known : Known} {clock draws : SourceModel} where
   -- no request was: the line alone was used
   pub serves_none : {line line' : LineModel} → (IsTrue line.observable → IsTrue line'.observable)
-      → (IsObservable (world line store known clock draws) → (R : Mark → Span → Mark → Request → Label → Reply → Type 0) → T R (world line store known clock draws) (world line' store known clock draws))
+      → (IsObservable (world line store known clock draws) → (R : ReplyRelation) → T R (world line store known clock draws) (world line' store known clock draws))
       → ServesOver settings T (world line store known clock draws) (world line' store known clock draws)
   serves_none observable told = record {
     on = record { line = observable; store = goes_none store; clock = λ observable. observable; draws = λ observable. observable };
@@ -33,8 +33,8 @@ module _ {settings : Settings} {T : (Mark → Span → Mark → Request → Labe
   }
 
   -- requests were, after the line alone was used
-  pub serves_after : {U : (Mark → Span → Mark → Request → Label → Reply → Type 0) → World → World → Type 0} {line line' : LineModel} {new : World} → (IsTrue line.observable → IsTrue line'.observable) → ServesOver settings U (world line' store known clock draws) new
-      → (IsObservable (world line store known clock draws) → (R : Mark → Span → Mark → Request → Label → Reply → Type 0) → U R (world line' store known clock draws) new → T R (world line store known clock draws) new)
+  pub serves_after : {U : ReplyRelation → World → World → Type 0} {line line' : LineModel} {new : World} → (IsTrue line.observable → IsTrue line'.observable) → ServesOver settings U (world line' store known clock draws) new
+      → (IsObservable (world line store known clock draws) → (R : ReplyRelation) → U R (world line' store known clock draws) new → T R (world line store known clock draws) new)
       → ServesOver settings T (world line store known clock draws) new
   serves_after observable serves told = record {
     on = record { line = λ t. serves.on.line (observable t); store = serves.on.store; clock = serves.on.clock; draws = serves.on.draws };
@@ -43,7 +43,7 @@ module _ {settings : Settings} {T : (Mark → Span → Mark → Request → Labe
   }
 
 -- requests, and then others
-pub serves_trans : {settings : Settings} {T U V : (Mark → Span → Mark → Request → Label → Reply → Type 0) → World → World → Type 0} {old middle new : World} → ServesOver settings T old middle → ServesOver settings U middle new
+pub serves_trans : {settings : Settings} {T U V : ReplyRelation → World → World → Type 0} {old middle new : World} → ServesOver settings T old middle → ServesOver settings U middle new
     → (IsObservable old → (all : Bool) → Where all (Extends middle.store.called middle.store new.store) → T (RepliesBy all settings middle.store) old middle → U (RepliesBy all settings new.store) middle new → V (RepliesBy all settings new.store) old new)
     → ServesOver settings V old new
 serves_trans {middle = middle} first then joined = record {

@@ -15,7 +15,7 @@ use Rattle.http_wire.specs.Print.{memory_reply}
 use Rattle.gateway.specs.declared.ended.Ended.{Ended}
 use Rattle.gateway.specs.declared.ended.Ended.TheVariants.{End, Closed, CutShort, Refused, LineFailed, Memory}
 use Rattle.gateway.specs.Request.{Request, request_of, refused_request}
-use Rattle.gateway.specs.Exchange.{Mark, Span, Exchange, CutExchange, Sends, SendsPart}
+use Rattle.gateway.specs.Exchange.{ReplyRelation, Mark, Span, Exchange, CutExchange, Sends, SendsPart}
 
 -- what goes on from one connection to the next
 pub record Progress : Type 0 where
@@ -42,8 +42,10 @@ cursor rest place so_far = record { rest = rest; place = place; progress = so_fa
 
 -- the request that stands first, as it is resolved at a moment, and what is left behind it
 pub data Resolves (service : Service) (moment : ℕ) (old : ConnectionCursor) (request : Request) (rest : List ℕ) (place : ℕ) : Type 0 where
-  read : (message : Message) (size : ℕ) → BeginsWith old.rest (asks message size) → request ≡ request_of service moment message → rest ≡ drop size old.rest → place ≡ place_after old.place size → Resolves service moment old request rest place
-  rejected : (kind : Kind) (head : Bool) → BeginsWith old.rest (refused kind head) → request ≡ refused_request kind old.place head → rest ≡ old.rest → place ≡ old.place → Resolves service moment old request rest place
+  read : (message : Message) (size : ℕ) → BeginsWith old.rest (asks message size) → request ≡ request_of service moment message
+      → rest ≡ drop size old.rest → place ≡ place_after old.place size → Resolves service moment old request rest place
+  rejected : (kind : Kind) (head : Bool) → BeginsWith old.rest (refused kind head) → request ≡ refused_request kind old.place head
+      → rest ≡ old.rest → place ≡ old.place → Resolves service moment old request rest place
 
 -- the label of a request: its caller, the next moment, and the next two draws as its id and its word of chance
 pub record LabelGiven (moments draws moments' draws' : List ℕ) (from : Caller) (label : Label) : Type 0 where
@@ -62,13 +64,15 @@ pub record NextLabel (clock draws clock' draws' : SourceModel) (next : Label) : 
   pub moment : next.moment < moment_limit
   pub clock_observable : IsTrue clock.observable → IsTrue clock'.observable
   pub draws_observable : IsTrue draws.observable → IsTrue draws'.observable
-  pub effect : IsTrue clock.observable → IsTrue draws.observable → (from : Caller) → LabelGiven clock.values draws.values clock'.values draws'.values from (sent_by from next)
+  pub effect : IsTrue clock.observable → IsTrue draws.observable → (from : Caller)
+      → LabelGiven clock.values draws.values clock'.values draws'.values from (sent_by from next)
 
 abbrev pub Labels : Progress → Progress → Caller → Label → Type 0
 Labels old new from label = LabelGiven old.moments old.draws new.moments new.draws from label
 
 -- the next request was resolved and answered in whole
-pub record Serves (service : Service) (R : Mark → Span → Mark → Request → Label → Reply → Type 0) (connection : ℕ) (end : Option Ended) (old : ConnectionCursor) (span : Span) (new : ConnectionCursor) : Type 0 where
+pub record Serves (service : Service) (R : ReplyRelation) (connection : ℕ) (end : Option Ended)
+    (old : ConnectionCursor) (span : Span) (new : ConnectionCursor) : Type 0 where
   pub request : Request
   pub label : Label
   pub resolves : Resolves service label.moment old request new.rest new.place
@@ -76,13 +80,14 @@ pub record Serves (service : Service) (R : Mark → Span → Mark → Request �
   pub exchange : Exchange R connection old.progress.mark span new.progress.mark request label end old.progress.sent new.progress.sent
 
 -- any number of requests, none of which ended the connection, with their spans
-pub data Exchanges (service : Service) (R : Mark → Span → Mark → Request → Label → Reply → Type 0) (connection : ℕ) : ConnectionCursor → List Span → ConnectionCursor → Type 0 where
+pub data Exchanges (service : Service) (R : ReplyRelation) (connection : ℕ) : ConnectionCursor → List Span → ConnectionCursor → Type 0 where
   none : (cursor : ConnectionCursor) → Exchanges service R connection cursor [] cursor
-  more : (old middle new : ConnectionCursor) (spans : List Span) (span : Span) → Exchanges service R connection old spans middle → Serves service R connection None middle span new
+  more : (old middle new : ConnectionCursor) (spans : List Span) (span : Span) → Exchanges service R connection old spans middle
+      → Serves service R connection None middle span new
       → Exchanges service R connection old (spans ++ span ∷ []) new
 
 -- the next request was resolved and answered, and the line failed under its reply
-pub record Breaks (service : Service) (R : Mark → Span → Mark → Request → Label → Reply → Type 0) (connection : ℕ) (old : ConnectionCursor) (span : Span) (new : Progress) : Type 0 where
+pub record Breaks (service : Service) (R : ReplyRelation) (connection : ℕ) (old : ConnectionCursor) (span : Span) (new : Progress) : Type 0 where
   pub request : Request
   pub label : Label
   pub rest : List ℕ
@@ -98,24 +103,30 @@ pub record OnlySent (old new : Progress) : Type 0 where
   pub draws : new.draws ≡ old.draws
 
 -- how a connection ends, from the last point before its end, with the span of a request that ends it
-pub data Ends (service : Service) (R : Mark → Span → Mark → Request → Label → Reply → Type 0) (connection : ℕ) (ended : Ended) (last : ConnectionCursor) (new : Progress) : List Span → Type 0 where
+pub data Ends (service : Service) (R : ReplyRelation) (connection : ℕ) (ended : Ended) (last : ConnectionCursor) (new : Progress) : List Span → Type 0 where
   -- no byte is left
   over : ended ≡ End → BeginsWith last.rest nothing → new ≡ last.progress → Ends service R connection ended last new []
   -- the bytes end inside a head
   cut : ended ≡ CutShort last.place → BeginsWith last.rest cut_short → new ≡ last.progress → Ends service R connection ended last new []
   -- a reply ended it
-  served : (cursor : ConnectionCursor) (span : Span) → Serves service R connection (Some ended) last span cursor → new ≡ cursor.progress → Ends service R connection ended last new (span ∷ [])
+  served : (cursor : ConnectionCursor) (span : Span) → Serves service R connection (Some ended) last span cursor
+      → new ≡ cursor.progress → Ends service R connection ended last new (span ∷ [])
   -- memory ran out while a request was read
-  unread : ended ≡ Memory → OnlySent last.progress new → Sends connection last.progress.mark.number last.progress.mark.number (memory_reply false) last.progress.sent new.sent → Ends service R connection ended last new []
+  unread : ended ≡ Memory → OnlySent last.progress new
+      → Sends connection last.progress.mark.number last.progress.mark.number (memory_reply false) last.progress.sent new.sent
+      → Ends service R connection ended last new []
   -- the line failed while a request was read
   unheard : ended ≡ LineFailed → new ≡ last.progress → Ends service R connection ended last new []
   -- memory ran out while a request was read, and the line failed under the reply for that
-  untold : ended ≡ LineFailed → OnlySent last.progress new → SendsPart connection last.progress.mark.number last.progress.mark.number (memory_reply false) last.progress.sent new.sent → Ends service R connection ended last new []
+  untold : ended ≡ LineFailed → OnlySent last.progress new
+      → SendsPart connection last.progress.mark.number last.progress.mark.number (memory_reply false) last.progress.sent new.sent
+      → Ends service R connection ended last new []
   -- the line failed under the reply to a request
   broken : (span : Span) → ended ≡ LineFailed → Breaks service R connection last span new → Ends service R connection ended last new (span ∷ [])
 
 -- one connection: its requests in order, none skipped, with their spans, and its end
-pub record ConnectionTrace (service : Service) (R : Mark → Span → Mark → Request → Label → Reply → Type 0) (connection : ℕ) (ended : Ended) (old : ConnectionCursor) (spans : List Span) (new : Progress) : Type 0 where
+pub record ConnectionTrace (service : Service) (R : ReplyRelation) (connection : ℕ) (ended : Ended)
+    (old : ConnectionCursor) (spans : List Span) (new : Progress) : Type 0 where
   pub last : ConnectionCursor
   pub before : List Span
   pub after : List Span

@@ -46,6 +46,10 @@ IsKnownOf h m = IsKnown m.known (h.tree_at m.number)
 
 -- ---- one request
 
+-- what is said of a reply: of the mark before the request, its span, the mark after it, the request, its label and the reply
+abbrev pub ReplyRelation : Type 1
+ReplyRelation = Mark → Span → Mark → Request → Label → Reply → Type 0
+
 -- an operation with its label
 pub record Asked : Type 0 where
   pub op : Op
@@ -118,21 +122,24 @@ pub data Performs (settings : Settings) (h : History) (old : Mark) (span : Span)
 -- what is said of the reply to a request, over an observable store: the code of one that is no operation, without any call;
 -- or what its operation is answered
 pub data Replies (settings : Settings) (h : History) (old : Mark) (span : Span) (new : Mark) (request : Request) (label : Label) (reply : Reply) : Type 0 where
-  refused : (code : Code) → request.means ≡ meant.Refused code → reply ≡ Refused code → IsProperCode code → IsConsistent (h.tree_at old.number) → new ≡ old → span.takes ≡ 0 → Replies settings h old span new request label reply
-  performed : (op : Op) → request.means ≡ meant.Op op → Performs settings h old span new op label reply → IsCaused old new op reply → IsKnownOf h new → Replies settings h old span new request label reply
+  refused : (code : Code) → request.means ≡ meant.Refused code → reply ≡ Refused code → IsProperCode code → IsConsistent (h.tree_at old.number)
+      → new ≡ old → span.takes ≡ 0 → Replies settings h old span new request label reply
+  performed : (op : Op) → request.means ≡ meant.Op op → Performs settings h old span new op label reply
+      → IsCaused old new op reply → IsKnownOf h new → Replies settings h old span new request label reply
 
 -- and over every store: the same code, without any call; or some reply to the operation
 pub data RepliesAny (old : Mark) (span : Span) (new : Mark) (request : Request) (label : Label) (reply : Reply) : Type 0 where
-  refused_any : (code : Code) → request.means ≡ meant.Refused code → reply ≡ Refused code → IsProperCode code → new ≡ old → RepliesAny old span new request label reply
+  refused_any : (code : Code) → request.means ≡ meant.Refused code → reply ≡ Refused code → IsProperCode code → new ≡ old
+      → RepliesAny old span new request label reply
   performed_any : (op : Op) → request.means ≡ meant.Op op → IsCaused old new op reply → RepliesAny old span new request label reply
 
 -- what is said of replies: of an observable store, or of every store
-abbrev pub RepliesBy : Bool → Settings → History → Mark → Span → Mark → Request → Label → Reply → Type 0
+abbrev pub RepliesBy : Bool → Settings → History → ReplyRelation
 RepliesBy true settings h = Replies settings h
 RepliesBy false settings h = RepliesAny
 
 -- a reply other than ServiceUnavailable
-pub record FaultFreeReplies (R : Mark → Span → Mark → Request → Label → Reply → Type 0) (old : Mark) (span : Span) (new : Mark) (request : Request) (label : Label) (reply : Reply) : Type 0 where
+pub record FaultFreeReplies (R : ReplyRelation) (old : Mark) (span : Span) (new : Mark) (request : Request) (label : Label) (reply : Reply) : Type 0 where
   pub replies : R old span new request label reply
   pub available : reply ≢ Refused ServiceUnavailable
 
@@ -174,7 +181,8 @@ pub record SendsPart (connection t q : ℕ) (bytes : List ℕ) (old new : List P
   pub each : All (IsPiece connection t q) pieces
 
 -- a request was answered in whole; R says of its reply what is said of it
-pub record Exchange (R : Mark → Span → Mark → Request → Label → Reply → Type 0) (connection : ℕ) (old : Mark) (span : Span) (new : Mark) (request : Request) (label : Label) (end : Option Ended) (sent sent' : List Piece) : Type 0 where
+pub record Exchange (R : ReplyRelation) (connection : ℕ) (old : Mark) (span : Span) (new : Mark) (request : Request) (label : Label)
+    (end : Option Ended) (sent sent' : List Piece) : Type 0 where
   pub reply : Reply
   pub bytes : List ℕ
   pub is_span : IsSpan old span new (asked_by request.means label)
@@ -183,7 +191,8 @@ pub record Exchange (R : Mark → Span → Mark → Request → Label → Reply 
   pub sends : Sends connection span.committed new.number bytes sent sent'
 
 -- a request was answered, and the line failed while the reply was written
-pub record CutExchange (R : Mark → Span → Mark → Request → Label → Reply → Type 0) (connection : ℕ) (old : Mark) (span : Span) (new : Mark) (request : Request) (label : Label) (sent sent' : List Piece) : Type 0 where
+pub record CutExchange (R : ReplyRelation) (connection : ℕ) (old : Mark) (span : Span) (new : Mark) (request : Request) (label : Label)
+    (sent sent' : List Piece) : Type 0 where
   pub reply : Reply
   pub end : Option Ended
   pub bytes : List ℕ
@@ -195,7 +204,7 @@ pub record CutExchange (R : Mark → Span → Mark → Request → Label → Rep
 -- ---- the functions that find a reply
 
 -- some reply is expected, of which R says this, and unless memory ran out it is the reply given
-pub record RepliesExpected (R : Mark → Span → Mark → Request → Label → Reply → Type 0) (old new : Mark) (request : Request) (label : Label) (given : Reply) : Type 0 where
+pub record RepliesExpected (R : ReplyRelation) (old new : Mark) (request : Request) (label : Label) (given : Reply) : Type 0 where
   pub span : Span
   pub due : Reply
   pub is_span : IsSpan old span new (asked_by request.means label)
@@ -208,5 +217,6 @@ pub record Operated (settings : Settings) (op : Op) (label : Label) (old new : H
   pub showable : IsShowable reply
   pub caused : IsCaused (mark old was) (mark new now) op reply
   pub effect : Met (IsKnown was) old
-      → (span : Span) × IsSpan (mark old was) span (mark new now) (Some (record { op = op; label = label })) × Performs settings new (mark old was) span (mark new now) op label reply
+      → (span : Span) × IsSpan (mark old was) span (mark new now) (Some (record { op = op; label = label }))
+      × Performs settings new (mark old was) span (mark new now) op label reply
   pub known : IsTrue old.observable → IsKnown was (present old) → IsKnown now (present new)

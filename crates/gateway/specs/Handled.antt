@@ -7,7 +7,7 @@ use Rattle.gateway.specs.declared.ended.Ended.TheVariants.{LineFailed, Memory}
 use Rattle.gateway.specs.declared.handle.Handled.{Handled}
 use Rattle.gateway.specs.declared.handle.Handled.TheVariants.{Served, Broken}
 use Rattle.gateway.specs.Request.{Request}
-use Rattle.gateway.specs.Exchange.{Mark, Span, Exchange, CutExchange}
+use Rattle.gateway.specs.Exchange.{ReplyRelation, Mark, Span, Exchange, CutExchange}
 use Rattle.gateway.specs.Connection.{Progress, Labels}
 use Rattle.gateway.specs.Serving.{has_ended_failed}
 
@@ -27,24 +27,25 @@ IsServed (Served ended) = has_ended_failed ended ≡ false
 IsServed Broken = Unit {0}
 
 -- the request was answered in whole, with this end of the connection; what it asks is known at its moment
-pub record AnswersWhole (R : Mark → Span → Mark → Request → Label → Reply → Type 0) (connection : ℕ) (old new : Progress) (asks : ℕ → Request) (end : Option Ended) : Type 0 where
+pub record AnswersWhole (R : ReplyRelation) (connection : ℕ) (old new : Progress) (asks : ℕ → Request) (end : Option Ended) : Type 0 where
   pub span : Span
   pub label : Label
   pub labels : Labels old new (asks label.moment).caller label
   pub exchange : Exchange R connection old.mark span new.mark (asks label.moment) label end old.sent new.sent
 
 -- the request was answered, and the line failed under the reply
-pub record AnswersCut (R : Mark → Span → Mark → Request → Label → Reply → Type 0) (connection : ℕ) (old new : Progress) (asks : ℕ → Request) : Type 0 where
+pub record AnswersCut (R : ReplyRelation) (connection : ℕ) (old new : Progress) (asks : ℕ → Request) : Type 0 where
   pub span : Span
   pub label : Label
   pub labels : Labels old new (asks label.moment).caller label
   pub exchange : CutExchange R connection old.mark span new.mark (asks label.moment) label old.sent new.sent
 
-abbrev pub HandledOnce : (Mark → Span → Mark → Request → Label → Reply → Type 0) → ℕ → Progress → Progress → (ℕ → Request) → Handled → Type 0
+abbrev pub HandledOnce : ReplyRelation → ℕ → Progress → Progress → (ℕ → Request) → Handled → Type 0
 HandledOnce R connection old new asks (Served end) = AnswersWhole R connection old new asks end
 HandledOnce R connection old new asks Broken = AnswersCut R connection old new asks
 
 -- the same, by how the connection ends after it, if it does
-abbrev pub HandledEnds : (Mark → Span → Mark → Request → Label → Reply → Type 0) → ℕ → Progress → Progress → (ℕ → Request) → Option Ended → Type 0
+abbrev pub HandledEnds : ReplyRelation → ℕ → Progress → Progress → (ℕ → Request) → Option Ended → Type 0
 HandledEnds R connection old new asks None = AnswersWhole R connection old new asks None
-HandledEnds R connection old new asks (Some ended) = AnswersWhole R connection old new asks (Some ended) ⊎ ((ended ≡ LineFailed) × AnswersCut R connection old new asks)
+HandledEnds R connection old new asks (Some ended) =
+    AnswersWhole R connection old new asks (Some ended) ⊎ ((ended ≡ LineFailed) × AnswersCut R connection old new asks)

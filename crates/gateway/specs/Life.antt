@@ -24,7 +24,8 @@ use Rattle.gateway.specs.Stands.{Follows, AllPass, StandsThroughout}
 -- a request with an operation is counted at the number k where all its steps were taken and its commit point was by then: the
 -- state goes by the machine's step, and else it stays
 pub data CountedAt (settings : Settings) (k : ℕ) (span : Span) (asked : Asked) (old new : State) : Type 0 where
-  counted : span.takes ≡ steps_of asked.op → span.committed ≤ k → (reply : Reply) → S3Step settings old asked.op asked.label reply new → CountedAt settings k span asked old new
+  counted : span.takes ≡ steps_of asked.op → span.committed ≤ k → (reply : Reply) → S3Step settings old asked.op asked.label reply new
+      → CountedAt settings k span asked old new
   uncounted : (span.takes ≡ 0) ⊎ (k < span.committed) → new ≡ old → CountedAt settings k span asked old new
 
 abbrev pub Counted : Settings → ℕ → Span → Option Asked → State → State → Type 0
@@ -72,11 +73,13 @@ OneRun = (settings : Settings) (h : History) (spans : List Span) (entry exit k :
 
 -- over one run after another: so they do from the first account to the last, which is consistent
 abbrev pub ManyRuns : Type 0
-ManyRuns = (old new : SwiftAccount) (lives : List Life) → IsConsistent old → Lives old lives new → IsConsistent new × AfterLives (s3_state old) lives (s3_state new)
+ManyRuns = (old new : SwiftAccount) (lives : List Life) → IsConsistent old → Lives old lives new
+    → IsConsistent new × AfterLives (s3_state old) lives (s3_state new)
 
 -- at each number of calls of a run the account is consistent, and one that the request which has the number goes through
 abbrev pub StandsAll : Type 0
-StandsAll = (settings : Settings) (h : History) (spans : List Span) (entry exit : ℕ) → IsConsistent (h.tree_at entry) → Follows entry spans exit → AllPass settings h spans → StandsThroughout settings h spans entry exit
+StandsAll = (settings : Settings) (h : History) (spans : List Span) (entry exit : ℕ) → IsConsistent (h.tree_at entry)
+    → Follows entry spans exit → AllPass settings h spans → StandsThroughout settings h spans entry exit
 
 -- ---- what was sent
 
@@ -87,6 +90,8 @@ pieces_of sends = sends.first ++ sends.last ∷ []
 -- a request that was answered by the service itself took its step, and at the number of each piece of its reply its span was
 -- by then: it is counted from its first piece on
 abbrev pub SentIsCounted : Type 0
-SentIsCounted = (settings : Settings) (h : History) (connection : ℕ) (old : Mark) (span : Span) (new : Mark) (request : Request) (label : Label) (end : Option Ended) (sent sent' : List Piece)
-    (exchange : Exchange (Replies settings h) connection old span new request label end sent sent') (op : Op) → request.means ≡ meant.Op op → exchange.reply ≢ Memory → exchange.reply ≢ Refused ServiceUnavailable
+SentIsCounted = (settings : Settings) (h : History) (connection : ℕ) (old : Mark) (span : Span) (new : Mark) (request : Request) (label : Label)
+    (end : Option Ended) (sent sent' : List Piece)
+    (exchange : Exchange (Replies settings h) connection old span new request label end sent sent') (op : Op)
+    → request.means ≡ meant.Op op → exchange.reply ≢ Memory → exchange.reply ≢ Refused ServiceUnavailable
     → (span.takes ≡ steps_of op) × All (λ piece. span.committed ≤ piece.at) (pieces_of exchange.sends)

@@ -8,7 +8,9 @@ use Rattle.s3_names.specs.declared.target.Target.{Target}
 use Rattle.s3_names.specs.Bucket.{is_bucket}
 use Rattle.s3_names.specs.Key.{is_key}
 use Rattle.s3_machine.specs.declared.code.Code.{Code}
-use Rattle.s3_machine.specs.declared.code.Code.TheVariants.{AccessDenied, BadDigest, EntityTooLarge, InvalidArgument, InvalidBucketName, InvalidDigest, InvalidStorageClass, InvalidURI, KeyTooLongError, MetadataTooLarge, MethodNotAllowed, NotImplemented}
+use Rattle.s3_machine.specs.declared.code.Code.TheVariants.{AccessDenied, BadDigest, EntityTooLarge, InvalidArgument, InvalidBucketName}
+use Rattle.s3_machine.specs.declared.code.Code.TheVariants.{InvalidDigest, InvalidStorageClass, InvalidURI, KeyTooLongError, MetadataTooLarge}
+use Rattle.s3_machine.specs.declared.code.Code.TheVariants.{MethodNotAllowed, NotImplemented}
 use Rattle.s3_machine.specs.declared.operation.Op.TheVariants as op
 use Rattle.s3_machine.specs.declared.operation.Settings.{Settings}
 use Rattle.s3_machine.specs.Limits.{is_content_type, is_proper_meta}
@@ -104,7 +106,8 @@ row_of message target = row_for message.method (level_of target.bucket target.ke
 -- the operation that a row asks for
 abbrev pub op_of : Row → Message → Target → Meant
 op_of CreateBucket message target = Op (op.CreateBucket target.bucket Private)
-op_of PutObject message target = Op (op.PutObject target.bucket target.key None (taken_type PutObject message.headers) (taken_meta PutObject message.headers) message.body)
+op_of PutObject message target =
+    Op (op.PutObject target.bucket target.key None (taken_type PutObject message.headers) (taken_meta PutObject message.headers) message.body)
 op_of GetObject message target = Op (op.GetObject target.bucket target.key)
 op_of HeadObject message target = Op (op.HeadObject target.bucket target.key)
 op_of DeleteObject message target = Op (op.DeleteObject target.bucket target.key)

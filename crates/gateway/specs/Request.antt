@@ -4,7 +4,9 @@ use Rattle.std.specs.List.{before_first}
 use Rattle.gate_base.specs.declared.page.Caller.{Caller}
 use Rattle.gate_base.specs.declared.page.Caller.TheVariants.{Anonymous}
 use Rattle.s3_machine.specs.declared.code.Code.{Code}
-use Rattle.s3_machine.specs.declared.code.Code.TheVariants.{AccessDenied, AuthorizationHeaderMalformed, EntityTooLarge, IncompleteBody, InvalidAccessKeyId, InvalidRequest, InvalidURI, MissingContentLength, NotImplemented, RequestTimeTooSkewed, SignatureDoesNotMatch, XAmzContentSHA256Mismatch}
+use Rattle.s3_machine.specs.declared.code.Code.TheVariants.{AccessDenied, AuthorizationHeaderMalformed, EntityTooLarge, IncompleteBody}
+use Rattle.s3_machine.specs.declared.code.Code.TheVariants.{InvalidAccessKeyId, InvalidRequest, InvalidURI, MissingContentLength, NotImplemented}
+use Rattle.s3_machine.specs.declared.code.Code.TheVariants.{RequestTimeTooSkewed, SignatureDoesNotMatch, XAmzContentSHA256Mismatch}
 use Rattle.s3_machine.specs.declared.operation.Label.{Label}
 use Rattle.s3_machine.specs.declared.operation.Reply.{Reply}
 use Rattle.s3_machine.specs.declared.operation.Settings.{Settings}
@@ -17,7 +19,8 @@ use Rattle.http_wire.specs.declared.message.Kind.TheVariants.{BadHead, LongHead,
 use Rattle.http_wire.specs.Print.{page_text}
 use Rattle.s3_bodies.specs.Pages.{page_of}
 use Rattle.sigv4.specs.declared.refusal.Refusal.{Refusal}
-use Rattle.sigv4.specs.declared.refusal.Refusal.TheVariants.{HeaderMalformed, UnknownKey, WrongScope, UnsignedHeader, NoDate, Skewed, Streaming, NoPayloadHash, SignatureDiffers, PayloadDiffers, Memory}
+use Rattle.sigv4.specs.declared.refusal.Refusal.TheVariants.{HeaderMalformed, UnknownKey, WrongScope, UnsignedHeader, NoDate, Skewed, Streaming}
+use Rattle.sigv4.specs.declared.refusal.Refusal.TheVariants.{NoPayloadHash, SignatureDiffers, PayloadDiffers, Memory}
 use Rattle.sigv4.specs.Verdict.{caller_or_refusal}
 use Rattle.gateway.specs.declared.ended.Ended.{Ended}
 use Rattle.gateway.specs.declared.ended.Ended.TheVariants.{Closed, Refused}
@@ -111,7 +114,14 @@ code_of ShortBody = IncompleteBody
 
 -- such a request, at its place in the connection, which ends after the reply
 abbrev pub refused_request : Kind → ℕ → Bool → Request
-refused_request kind place head = record { caller = Anonymous; method = cond head (codes "HEAD") []; resource = codes "/"; means = meant.Refused (code_of kind); end = Some (Refused kind place) }
+refused_request kind place head =
+    record {
+      caller = Anonymous;
+      method = cond head (codes "HEAD") [];
+      resource = codes "/";
+      means = meant.Refused (code_of kind);
+      end = Some (Refused kind place);
+    }
 
 -- what was received, as a request at a moment
 abbrev pub asks_of : Service → Received → ℕ → Request

@@ -7,7 +7,10 @@ use Rattle.gate_base.specs.declared.page.Pair.{Pair}
 use Rattle.gateway.specs.declared.rows.Level.{Level}
 use Rattle.gateway.specs.declared.rows.Level.TheVariants.{Service, Bucket, Key}
 use Rattle.gateway.specs.declared.rows.Row.{Row}
-use Rattle.gateway.specs.declared.rows.Row.TheVariants.{ListBuckets, CreateBucket, PutBucketAcl, DeleteBucket, HeadBucket, GetBucketLocation, GetBucketAcl, ListObjects, ListObjectsV2, ListMultipartUploads, PutObject, GetObject, HeadObject, DeleteObject, GetObjectAcl, CreateMultipartUpload, UploadPart, ListParts, CompleteMultipartUpload, AbortMultipartUpload}
+use Rattle.gateway.specs.declared.rows.Row.TheVariants.{ListBuckets, CreateBucket, PutBucketAcl, DeleteBucket, HeadBucket, GetBucketLocation}
+use Rattle.gateway.specs.declared.rows.Row.TheVariants.{GetBucketAcl, ListObjects, ListObjectsV2, ListMultipartUploads, PutObject, GetObject}
+use Rattle.gateway.specs.declared.rows.Row.TheVariants.{HeadObject, DeleteObject, GetObjectAcl, CreateMultipartUpload, UploadPart, ListParts}
+use Rattle.gateway.specs.declared.rows.Row.TheVariants.{CompleteMultipartUpload, AbortMultipartUpload}
 
 -- what is asked of a row: its method, its level, the selectors that the query has, and the further names that it may have;
 -- whether the operation is built, whether anybody may ask for it, whether it takes a content type and metadata, and whether a
@@ -95,8 +98,10 @@ shape_of AbortMultipartUpload = plain (codes "DELETE") Key (codes "uploadId" ∷
 
 unfoldable pub rows : List Row
 rows =
-    ListBuckets ∷ CreateBucket ∷ PutBucketAcl ∷ DeleteBucket ∷ HeadBucket ∷ GetBucketLocation ∷ GetBucketAcl ∷ ListObjects ∷ ListObjectsV2 ∷ ListMultipartUploads
-    ∷ PutObject ∷ GetObject ∷ HeadObject ∷ DeleteObject ∷ GetObjectAcl ∷ CreateMultipartUpload ∷ UploadPart ∷ ListParts ∷ CompleteMultipartUpload ∷ AbortMultipartUpload ∷ []
+    ListBuckets ∷ CreateBucket ∷ PutBucketAcl ∷ DeleteBucket ∷ HeadBucket ∷ GetBucketLocation ∷ GetBucketAcl
+    ∷ ListObjects ∷ ListObjectsV2 ∷ ListMultipartUploads
+    ∷ PutObject ∷ GetObject ∷ HeadObject ∷ DeleteObject ∷ GetObjectAcl ∷ CreateMultipartUpload ∷ UploadPart
+    ∷ ListParts ∷ CompleteMultipartUpload ∷ AbortMultipartUpload ∷ []
 
 -- the methods of the table
 abbrev pub is_method : List ℕ → Bool

@@ -8,7 +8,7 @@ use Rattle.http_wire.specs.Print.{memory_reply}
 use Rattle.gateway.specs.declared.ended.Ended.{Ended}
 use Rattle.gateway.specs.declared.ended.Ended.TheVariants.{End, Closed, CutShort, Refused, LineFailed, Memory}
 use Rattle.gateway.specs.Request.{Request}
-use Rattle.gateway.specs.Exchange.{Mark, Span, Sends, SendsPart}
+use Rattle.gateway.specs.Exchange.{ReplyRelation, Mark, Span, Sends, SendsPart}
 use Rattle.gateway.specs.Connection.{ConnectionCursor, Serves, Ends, has_failed}
 
 -- whether the connection ended because the line failed
@@ -17,7 +17,7 @@ has_ended_failed None = false
 has_ended_failed (Some ended) = has_failed ended
 
 -- a request was answered and the connection goes on, or it ended so
-abbrev pub NextOne : Service → (Mark → Span → Mark → Request → Label → Reply → Type 0) → ℕ → ConnectionCursor → Option Ended → ConnectionCursor → Type 0
+abbrev pub NextOne : Service → ReplyRelation → ℕ → ConnectionCursor → Option Ended → ConnectionCursor → Type 0
 NextOne service R connection old None new = (span : Span) × Serves service R connection None old span new
 NextOne service R connection old (Some ended) new = (spans : List Span) × Ends service R connection ended old new.progress spans
 

@@ -11,7 +11,7 @@ use Rattle.recovery.specs.declared.state.Known.{Known}
 use Rattle.recovery.specs.Calls.{GoesOn, Met}
 use Rattle.recovery.specs.Settling.{IsKnown}
 use Rattle.gateway.specs.Request.{Request}
-use Rattle.gateway.specs.Exchange.{Mark, Span, mark, RepliesBy, Where}
+use Rattle.gateway.specs.Exchange.{ReplyRelation, Mark, Span, mark, RepliesBy, Where}
 use Rattle.gateway.specs.Connection.{Progress, ConnectionCursor, progress, cursor}
 use Rattle.gateway.specs.Stands.{Stands}
 
@@ -55,7 +55,7 @@ pub record Continues (old new : World) : Type 0 where
 -- went through their steps, whatever the line tells of them. Where line, clock and draws told, T says what became of them, by
 -- what is said of replies: over every store, and also, where this one told and its account was consistent and as known, over
 -- such a store
-pub record ServesOver (settings : Settings) (T : (Mark → Span → Mark → Request → Label → Reply → Type 0) → World → World → Type 0) (old new : World) : Type 0 where
+pub record ServesOver (settings : Settings) (T : ReplyRelation → World → World → Type 0) (old new : World) : Type 0 where
   pub on : Continues old new
   pub stands : Stands settings old.known new.known old.store new.store
   pub effect : IsObservable old → (all : Bool) → Where all (Met (IsKnown old.known) old.store) → T (RepliesBy all settings new.store) old new

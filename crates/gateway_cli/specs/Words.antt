@@ -1,5 +1,6 @@
 -- What the words that follow the program's name ask for (this profile).
-use Rattle.std.specs.Prelude.{◌≡◌, ◌≢◌, ℕ, Bool, ◌&&◌, ◌||◌, ◌==◌, nat_le, if◌then◌else◌, List, length, map, codes, bytes_eq, Option, Some, None, option_and_then, unwrap_or, Result, Ok, Err, String, string_bytes}
+use Rattle.std.specs.Prelude.{◌≡◌, ◌≢◌, ℕ, Bool, ◌&&◌, ◌||◌, ◌==◌, nat_le, if◌then◌else◌, List, length, map, codes, bytes_eq, Option, Some, None}
+use Rattle.std.specs.Prelude.{option_and_then, unwrap_or, Result, Ok, Err, String, string_bytes}
 use Rattle.std.specs.List.{list_all}
 use Rattle.std.specs.declared.alloc.Global.{Global}
 use Rattle.clap.specs.Walk.{Row, Text, first_of, is_empty}

@@ -26,7 +26,7 @@ marks_more : (failed : Bool) (marks : List Bool) (i : ℕ) → length (if failed
 marks_more true marks i = length-set (marks ++ false ∷ []) i true ∙ length-append marks (false ∷ [])
 marks_more false marks i = length-append marks (false ∷ [])
 
-module _ {service : Service} {R : Mark → Span → Mark → Request → Label → Reply → Type 0} where
+module _ {service : Service} {R : ReplyRelation} where
   -- the numbers rise
   pub run_trace_order : {old new : RunCursor} {spans : List Span} → RunTrace service R old spans new → old.progress.mark.number ≤ new.progress.mark.number
   run_trace_order (none cursor) = omega arith
@@ -61,7 +61,7 @@ module _ {service : Service} {R : Mark → Span → Mark → Request → Label �
 
 -- ---- what is said of replies, said otherwise
 
-module _ {R R' : Mark → Span → Mark → Request → Label → Reply → Type 0} {first last : Mark} (f : FollowsBetween R R' first last) where
+module _ {R R' : ReplyRelation} {first last : Mark} (f : FollowsBetween R R' first last) where
   serves_next_map : {service : Service} {old new : RunCursor} {spans : List Span} → Between first last old.progress.mark new.progress.mark → ServesNext service R old spans new → ServesNext service R' old spans new
   serves_next_map between serves = record {
     bytes = serves.bytes;

@@ -20,7 +20,7 @@ use Rattle.gateway.specs.declared.ended.Ended.{Ended as Close}
 use Rattle.gateway.specs.declared.service.Service.{Service}
 use Rattle.gateway.specs.Request.{Request as Asking}
 use Rattle.gateway.specs.Connection.{ConnectionTrace, has_failed, cursor, progress}
-use Rattle.gateway.specs.Exchange.{Mark, Span, mark, RepliesBy, Where}
+use Rattle.gateway.specs.Exchange.{ReplyRelation, Mark, Span, mark, RepliesBy, Where}
 use Rattle.gateway.specs.Stands.{Stands}
 use Rattle.gateway.specs.World.{World, world, progress_of, start_of, IsObservable, ServesOver}
 use Rattle.gateway.proofs.Standing.{stands_throughout}
@@ -66,7 +66,7 @@ marked true marks marks' marks'' begun begun'' began same is = is ∙ (λ i. sli
 marked false marks marks' marks'' begun begun'' began same is = is ∙ began
 
 -- a connection that began was served
-pub next_served : (service : Service) (R : Mark → Span → Mark → Asking → Label → Reply → Type 0) (line line' : LineModel) (store : History) (known : Known) (clock draws : SourceModel) (new : World) (ended : Close)
+pub next_served : (service : Service) (R : ReplyRelation) (line line' : LineModel) (store : History) (known : Known) (clock draws : SourceModel) (new : World) (ended : Close)
     → Begins true line.transcript line'.transcript → TranscriptServes (has_failed ended) line'.transcript new.line.transcript
     → ((spans : List Span) × ConnectionTrace service R line'.transcript.begun ended (start_of (world line' store known clock draws)) spans (progress_of new))
     → NextCursor service R None (world line store known clock draws) new

@@ -60,7 +60,8 @@ line_of Request = codes "s3gate: request" ++ line_feed
 
 -- the two lines of a signature
 unfoldable pub signed_lines : Signature → List ℕ
-signed_lines signed = (((codes "canonical " ++ encode_lower signed.canonical_hash) ++ (line_feed ++ codes "signature ")) ++ encode_lower signed.signature) ++ line_feed
+signed_lines signed =
+    (((codes "canonical " ++ encode_lower signed.canonical_hash) ++ (line_feed ++ codes "signature ")) ++ encode_lower signed.signature) ++ line_feed
 
 -- the statuses that there are
 abbrev pub IsStatus : ℕ → Type 0

@@ -8,7 +8,7 @@ use Rattle.gateway.specs.declared.service.Service.{Service}
 use Rattle.swift_calls.specs.History.{History}
 use Rattle.gateway.specs.declared.ended.Ended.{Ended}
 use Rattle.gateway.specs.Request.{Request}
-use Rattle.gateway.specs.Exchange.{Mark, Span, Replies, RepliesAny}
+use Rattle.gateway.specs.Exchange.{ReplyRelation, Mark, Span, Replies, RepliesAny}
 use Rattle.gateway.specs.Connection.{Progress, ConnectionTrace, has_failed}
 use Rattle.gateway.specs.World.{World, progress_of}
 use Rattle.gateway.specs.Stands.{Follows, AllPass, StandsThroughout}
@@ -30,7 +30,7 @@ abbrev pub marks_after : List Bool → ℕ → Ended → List Bool
 marks_after marks begun ended = if has_failed ended then slice_set (marks ++ false ∷ []) (begun - 1) true else marks ++ false ∷ []
 
 -- the next connection was served
-pub record ServesNext (service : Service) (R : Mark → Span → Mark → Request → Label → Reply → Type 0) (old : RunCursor) (spans : List Span) (new : RunCursor) : Type 0 where
+pub record ServesNext (service : Service) (R : ReplyRelation) (old : RunCursor) (spans : List Span) (new : RunCursor) : Type 0 where
   pub bytes : List ℕ
   pub ended : Ended
   pub waiting : old.waiting ≡ bytes ∷ new.waiting
@@ -39,12 +39,13 @@ pub record ServesNext (service : Service) (R : Mark → Span → Mark → Reques
   pub trace : ConnectionTrace service R new.begun ended (record { rest = bytes; place = 0; progress = old.progress }) spans new.progress
 
 -- any number of connections, each begun where the one before it ended, with the spans of all their requests
-pub data RunTrace (service : Service) (R : Mark → Span → Mark → Request → Label → Reply → Type 0) : RunCursor → List Span → RunCursor → Type 0 where
+pub data RunTrace (service : Service) (R : ReplyRelation) : RunCursor → List Span → RunCursor → Type 0 where
   none : (cursor : RunCursor) → RunTrace service R cursor [] cursor
-  more : (old middle new : RunCursor) (spans next : List Span) → RunTrace service R old spans middle → ServesNext service R middle next new → RunTrace service R old (spans ++ next) new
+  more : (old middle new : RunCursor) (spans next : List Span)
+      → RunTrace service R old spans middle → ServesNext service R middle next new → RunTrace service R old (spans ++ next) new
 
 -- they were, with some spans
-abbrev pub RunTraces : Service → (Mark → Span → Mark → Request → Label → Reply → Type 0) → World → World → Type 0
+abbrev pub RunTraces : Service → ReplyRelation → World → World → Type 0
 RunTraces service R old new = (spans : List Span) × RunTrace service R (run_cursor_of old) spans (run_cursor_of new)
 
 -- ---- what a run promises

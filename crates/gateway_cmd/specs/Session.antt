@@ -1,5 +1,6 @@
 -- One step of a session: a connection that was served, or its end. Source: this profile.
-use Rattle.std.specs.Prelude.{◌≡◌, ◌≢◌, ◌<◌, ◌≤◌, ◌⊎◌, ℕ, ◌+◌, ◌-◌, ◌^◌, Bool, true, false, IsTrue, List, [], ◌++◌, replicate, Option, None, Some, Result, Ok, Err}
+use Rattle.std.specs.Prelude.{◌≡◌, ◌≢◌, ◌<◌, ◌≤◌, ◌⊎◌, ℕ, ◌+◌, ◌-◌, ◌^◌, Bool, true, false, IsTrue, List, [], ◌++◌, replicate, Option, None, Some}
+use Rattle.std.specs.Prelude.{Result, Ok, Err}
 use Rattle.gate_base.specs.Causes.{Rose, RisesIf}
 use Rattle.gate_base.specs.Line.{LineModel}
 use Rattle.gate_base.specs.Transcript.{Transcript}
@@ -15,7 +16,7 @@ use Rattle.sign_cmd.specs.Signing.{AnswersFirst, SignsOn}
 use Rattle.sign_cmd.specs.declared.first.Signing.{Signing}
 use Rattle.gateway.specs.declared.service.Service.{Service}
 use Rattle.gateway.specs.Request.{Request}
-use Rattle.gateway.specs.Exchange.{Mark, Span}
+use Rattle.gateway.specs.Exchange.{ReplyRelation, Mark, Span}
 use Rattle.gateway.specs.World.{World, ServesOver}
 use Rattle.gateway_cli.specs.declared.command.Command.{Command}
 use Rattle.gateway_cli.specs.declared.command.Command.TheVariants.{Session, Sign}
@@ -57,7 +58,7 @@ Offers keys (Err (fault.Twice n)) = are_keys (keys_of keys) ≡ false
 Offers keys (Err fault.Memory) = Unit {0}
 
 -- the next connection was served, or nothing came between
-abbrev pub NextCursor : Service → (Mark → Span → Mark → Request → Label → Reply → Type 0) → Option Status → World → World → Type 0
+abbrev pub NextCursor : Service → ReplyRelation → Option Status → World → World → Type 0
 NextCursor service R None old new = (spans : List Span) × ServesNext service R (run_cursor_of old) spans (run_cursor_of new)
 NextCursor service R (Some status) old new = run_cursor_of new ≡ run_cursor_of old
 
