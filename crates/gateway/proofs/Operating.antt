@@ -10,7 +10,8 @@ use Rattle.s3_machine.specs.declared.operation.Reply.{Reply}
 use Rattle.s3_machine.specs.declared.operation.Reply.TheVariants as answer
 use Rattle.s3_machine.specs.Shown.{IsShowable}
 use Rattle.swift_calls.specs.Account.{SwiftAccount}
-use Rattle.swift_calls.specs.History.{History, present, extends_trans}
+use Rattle.swift_calls.specs.History.{History, present}
+use Rattle.swift_calls.proofs.lemmas.Histories.{extends_trans}
 use Rattle.upload_records.specs.Native.{IsSettled}
 use Rattle.recovery.specs.declared.state.Known.{Known}
 use Rattle.recovery.specs.declared.state.Known.TheVariants as known

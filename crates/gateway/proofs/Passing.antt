@@ -7,7 +7,8 @@ use Rattle.s3_machine.specs.declared.operation.Label.{Label}
 use Rattle.s3_machine.specs.declared.operation.Op.{Op}
 use Rattle.s3_machine.specs.declared.operation.Reply.{Reply}
 use Rattle.s3_machine.specs.declared.operation.Settings.{Settings}
-use Rattle.swift_calls.specs.History.{History, Extends, extends_before}
+use Rattle.swift_calls.specs.History.{History, Extends}
+use Rattle.swift_calls.proofs.lemmas.Histories.{extends_before}
 use Rattle.upload_records.specs.Native.{s3_state}
 use Rattle.upload_records.specs.Consistent.{IsConsistent}
 use Rattle.recovery.specs.Answers.{Passes, most_calls, most_settling}

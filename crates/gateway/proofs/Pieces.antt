@@ -1,7 +1,7 @@
 -- The pieces of a header's value between its commas.
 use Rattle.std.proofs.Common.{◌≡◌, ℕ, ◌+◌, Bool, true, false, ◌||◌, List, take, drop, Some, None, position, refl, sym, ap, ◌∙◌}
 use Rattle.std.proofs.lemmas.List.{drop-drop}
-use Rattle.s3_names.proofs.Dots.{slice_split_from, slice_split_none_at}
+use Rattle.s3_names.proofs.lemmas.Dots.{slice_split_from, slice_split_none_at}
 use Rattle.gateway.specs.Closing.{is_close, is_comma, has_close}
 
 close_from : (text : List ℕ) (at : ℕ) → position is_comma text ≡ Some at → has_close text ≡ (is_close (take at text) || has_close (drop (at + 1) text))

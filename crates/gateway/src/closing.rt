@@ -2,7 +2,8 @@ ghost use Rattle.std.specs.Prelude.{◌≡◌, ◌&&◌, ◌||◌, map, filter, 
 ghost use Rattle.std.specs.Char.{to_ascii_lowercase};
 ghost use Rattle.std.specs.List.{list_any, list_all, slice_split};
 ghost use Rattle.http_wire.specs.FirstMessage.{has_name, value_of, values_of};
-ghost use Rattle.gateway.specs.Closing.{is_blank, skip_blanks, is_close, is_comma, has_close, is_closing};
+ghost use Rattle.gate_base.specs.Ascii.{is_blank};
+ghost use Rattle.gateway.specs.Closing.{skip_blanks, is_close, is_comma, has_close, is_closing};
 
 use gate_base::Pair;
 use http_wire::Message;

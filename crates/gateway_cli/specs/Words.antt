@@ -9,6 +9,7 @@ use Rattle.clap.specs.Faults.{fault_of}
 use Rattle.clap.specs.declared.error.kind.ErrorKind.{ErrorKind}
 use Rattle.clap.specs.declared.error.kind.ErrorKind.TheVariants.{OutOfMemory}
 use Rattle.clap.specs.declared.parser.matches.ArgMatches.{ArgMatches}
+use Rattle.gate_base.specs.Ascii.{is_letter_or_digit}
 use Rattle.gateway_cli.specs.Description.{gate_app}
 use Rattle.gateway_cli.specs.declared.command.Command.{Command}
 use Rattle.gateway_cli.specs.declared.command.Command.TheVariants.{Session, Sign}
@@ -22,10 +23,6 @@ is_region_byte byte = (nat_le 97 byte && nat_le byte 122) || (nat_le 48 byte && 
 -- 1 to 32 of these bytes
 abbrev pub is_region : List ℕ → Bool
 is_region text = nat_le 1 (length text) && nat_le (length text) 32 && list_all is_region_byte text
-
--- `0` to `9`, `A` to `Z`, `a` to `z`
-abbrev pub is_letter_or_digit : ℕ → Bool
-is_letter_or_digit byte = (nat_le 48 byte && nat_le byte 57) || (nat_le 65 byte && nat_le byte 90) || (nat_le 97 byte && nat_le byte 122)
 
 -- 1 to 128 of these bytes
 abbrev pub is_key_id : List ℕ → Bool

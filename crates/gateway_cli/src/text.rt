@@ -1,6 +1,7 @@
 ghost use Rattle.std.specs.Prelude.{◌≡◌};
 ghost use Rattle.std.specs.List.{list_all};
-ghost use Rattle.gateway_cli.specs.Words.{is_region, is_region_byte, is_key_id, is_letter_or_digit};
+ghost use Rattle.gate_base.specs.Ascii.{is_letter_or_digit};
+ghost use Rattle.gateway_cli.specs.Words.{is_region, is_region_byte, is_key_id};
 
 /// The longest name of a region, in bytes.
 const LONGEST_REGION: usize = 32;

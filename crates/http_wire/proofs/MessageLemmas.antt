@@ -16,7 +16,8 @@ use Rattle.httparse.specs.Grammar.{Field}
 use Rattle.httparse.specs.Spans.{AreFieldsAt, header_bytes, name_and_value}
 use Rattle.http_wire.specs.declared.message.Kind.{Kind}
 use Rattle.http_wire.specs.declared.message.Kind.TheVariants.{BadLength, NoLength}
-use Rattle.http_wire.specs.FirstMessage.{header_of, is_digit, is_length, value_judged, length_judged}
+use Rattle.gate_base.specs.Ascii.{is_digit}
+use Rattle.http_wire.specs.FirstMessage.{header_of, is_length, value_judged, length_judged}
 use Rattle.http_wire.specs.Headers.{has_name, first_value, values_of, header_at}
 use Rattle.http_wire.proofs.HeadersLemmas.{count_values, one_value, none_given}
 

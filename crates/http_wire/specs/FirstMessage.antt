@@ -5,6 +5,7 @@ use Rattle.std.specs.Prelude.{List, [], ◌∷◌, ◌++◌, length, take, drop,
 use Rattle.std.specs.List.{list_all}
 use Rattle.std.specs.Char.{to_ascii_lowercase}
 use Rattle.std.specs.Str.Parse.{digits_value}
+use Rattle.gate_base.specs.Ascii.{is_digit}
 use Rattle.gate_base.specs.declared.page.Pair.{Pair}
 use Rattle.http_wire.specs.declared.message.Message.{Message}
 use Rattle.http_wire.specs.declared.message.Kind.{Kind}
@@ -57,10 +58,6 @@ header_of f = record { name = map to_ascii_lowercase f.name; value = field_value
 -- the message of a head, with no body; it is old where the version is HTTP/1.0
 abbrev pub message_of : RequestHead → Message
 message_of h = record { method = h.method; target = h.target; old = h.minor == 0; headers = map header_of h.fields; body = [] }
-
--- a decimal digit (RFC 5234, appendix B.1)
-abbrev pub is_digit : ℕ → Bool
-is_digit b = nat_le 48 b && nat_le b 57
 
 -- a length as it is taken: 1 to 19 digits (RFC 9110, section 8.6, and this profile)
 abbrev pub is_length : List ℕ → Bool

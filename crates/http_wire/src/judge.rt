@@ -3,7 +3,8 @@ ghost use Rattle.std.specs.Prelude.{◌≡◌, ◌≤◌, length, IsTrue, IfOk, 
 ghost use Rattle.std.specs.List.{list_all};
 ghost use Rattle.std.specs.Str.Parse.{digits_value};
 ghost use Rattle.http_wire.specs.Headers.{values_of};
-ghost use Rattle.http_wire.specs.FirstMessage.{is_digit, is_length, is_put, value_judged, length_judged, judge};
+ghost use Rattle.gate_base.specs.Ascii.{is_digit};
+ghost use Rattle.http_wire.specs.FirstMessage.{is_length, is_put, value_judged, length_judged, judge};
 
 use crate::headers::{count, first_value, has_header};
 use crate::{Kind, Message};

@@ -11,7 +11,8 @@ use Rattle.s3_machine.specs.declared.operation.Reply.{Reply}
 use Rattle.s3_machine.specs.State.{State}
 use Rattle.s3_machine.specs.Step.{S3Step}
 use Rattle.swift_calls.specs.Account.{SwiftAccount}
-use Rattle.swift_calls.specs.History.{History, present, extends_trans}
+use Rattle.swift_calls.specs.History.{History, present}
+use Rattle.swift_calls.proofs.lemmas.Histories.{extends_trans}
 use Rattle.upload_records.specs.Native.{IsSettled, s3_state}
 use Rattle.recovery.specs.declared.fault.PlanFault.{PlanFault}
 use Rattle.recovery.specs.declared.fault.PlanFault.TheVariants.{Failed, Memory, Inconsistent}

@@ -16,7 +16,7 @@ use Rattle.s3_machine.specs.declared.operation.Reply.{Reply}
 use Rattle.s3_machine.specs.declared.operation.Reply.TheVariants as reply
 use Rattle.s3_machine.specs.State.{Object, Bucket, State}
 use Rattle.s3_machine.specs.Step.{S3Step, may_read, is_other_acl, head_of}
-use Rattle.s3_machine.specs.StepLaws.{put_without_bucket, get_without_bucket, head_without_bucket, delete_without_bucket, put_with_another_acl, step_stored, get_denied, head_denied, get_without_key, head_without_key, step_read, step_headed, step_gone}
+use Rattle.s3_machine.proofs.lemmas.StepLemmas.{put_without_bucket, get_without_bucket, head_without_bucket, delete_without_bucket, put_with_another_acl, step_stored, get_denied, head_denied, get_without_key, head_without_key, step_read, step_headed, step_gone}
 use Rattle.upload_records.specs.Native.{object_at}
 use Rattle.recovery.specs.Calls.{TellsBucket, TellsObject, TellsBytes, acl_of_bucket, bytes_in, puts_object, drops_object}
 use Rattle.recovery.specs.declared.fault.PlanFault.TheVariants.{Inconsistent}

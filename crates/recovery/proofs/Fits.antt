@@ -12,10 +12,10 @@ use Rattle.gate_base.specs.Told.{moment_limit}
 use Rattle.gate_base.specs.declared.page.Pair.{Pair}
 use Rattle.s3_names.specs.Meta.{names_ascend}
 use Rattle.std.specs.Cmp.Lexicographic.{same_text}
-use Rattle.s3_names.specs.Bucket.{is_bucket, is_letter_or_digit}
+use Rattle.s3_names.specs.Bucket.{is_bucket, is_lower_or_digit}
 use Rattle.s3_names.specs.Key.{is_key}
 use Rattle.s3_machine.specs.ETag.{body_etag}
-use Rattle.s3_machine.specs.Limits as limits
+use Rattle.gate_base.specs.Ascii as ascii
 use Rattle.s3_machine.specs.Step.{IsProperContent}
 use Rattle.swift_calls.specs.Limits as store
 use Rattle.swift_calls.specs.Step.{Fit}
@@ -31,18 +31,18 @@ use Rattle.recovery.proofs.Names.{container_name, object_name}
 
 -- ---- the content type
 
-visible_is : (o : Option ℕ) → option_map_or limits.is_visible o false ≡ true → (byte : ℕ) × (o ≡ Some byte) × (limits.is_visible byte ≡ true)
+visible_is : (o : Option ℕ) → option_map_or ascii.is_visible o false ≡ true → (byte : ℕ) × (o ≡ Some byte) × (ascii.is_visible byte ≡ true)
 visible_is None e = cc
 visible_is (Some byte) e = (byte, refl, e)
 
-not_space : (text : List ℕ) (i : ℕ) → option_map_or limits.is_visible (slice_get text i) false ≡ true → not (slice_index text i == 32) ≡ true
+not_space : (text : List ℕ) (i : ℕ) → option_map_or ascii.is_visible (slice_get text i) false ≡ true → not (slice_index text i == 32) ≡ true
 not_space text i e =
     let found = visible_is (slice_get text i) e in
     let at : slice_index text i ≡ found.0 = get_or_from_slice_get text i found.0 0 found.1 in
     let visible = found.2 in
     subst (λ b. not (b == 32) ≡ true) (sym at) (grind (arith, nat_tests))
 
-filled : (text : List ℕ) → option_map_or limits.is_visible (slice_get text 0) false ≡ true → nat_le 1 (length text) ≡ true
+filled : (text : List ℕ) → option_map_or ascii.is_visible (slice_get text 0) false ≡ true → nat_le 1 (length text) ≡ true
 filled [] e = cc
 filled (byte ∷ text) e = le-leb 1 (length (byte ∷ text)) (omega arith)
 
@@ -51,7 +51,7 @@ unfolding limits.is_content_type
 typed text e =
     let outer = and_parts (nat_le (length text) 256 && list_all limits.is_printed text) (limits.has_visible_ends text) e in
     let parts = and_parts (nat_le (length text) 256) (list_all limits.is_printed text) outer.0 in
-    let ends = and_parts (option_map_or limits.is_visible (slice_get text 0) false) (option_map_or limits.is_visible (slice_get text (length text - 1)) false) outer.1 in
+    let ends = and_parts (option_map_or ascii.is_visible (slice_get text 0) false) (option_map_or ascii.is_visible (slice_get text (length text - 1)) false) outer.1 in
     and_from _ _ (and_from _ _ (and_from _ _ (and_from _ _ (filled text ends.0) parts.0) parts.1) (not_space text 0 ends.0)) (not_space text (length text - 1) ends.1)
 
 -- ---- the metadata
@@ -74,12 +74,12 @@ any_printed (mark ∷ marks) byte all any =
     ]
 
 token_printed : (byte : ℕ) → limits.is_lower_token_byte byte ≡ true → is_printable byte ≡ true
-token_printed byte e = elim (or_cases (is_letter_or_digit byte) (list_any (λ mark. mark == byte) (codes "!#$%&'*+-.^_`|~")) e) [
+token_printed byte e = elim (or_cases (is_lower_or_digit byte) (list_any (λ mark. mark == byte) (codes "!#$%&'*+-.^_`|~")) e) [
   | inl word ↦ word_printed byte word
   | inr mark ↦ any_printed (codes "!#$%&'*+-.^_`|~") byte refl mark
 ]
   where
-    word_printed : (byte : ℕ) → is_letter_or_digit byte ≡ true → is_printable byte ≡ true
+    word_printed : (byte : ℕ) → is_lower_or_digit byte ≡ true → is_printable byte ≡ true
     word_printed byte e = grind (arith, nat_tests)
 
 same_bytes : (xs ys : List ℕ) → bytes_eq xs ys ≡ true → xs ≡ ys

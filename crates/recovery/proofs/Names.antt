@@ -6,10 +6,10 @@ use Rattle.std.proofs.lemmas.Bool.{and_from, or_parts}
 use Rattle.std.proofs.lemmas.List.Elements.{All-contains}
 use Rattle.std.proofs.lemmas.List.Sums.{AllPass-from_list_all}
 use Rattle.s3_names.specs.Bucket.{is_bucket, is_bucket_byte}
-use Rattle.s3_names.specs.BucketLaws.{bucket_length, bucket_bytes, bucket_is_utf8}
+use Rattle.s3_names.proofs.lemmas.BucketLemmas.{bucket_length, bucket_bytes, bucket_is_utf8}
 use Rattle.s3_names.specs.Text.{has_zero}
 use Rattle.s3_names.specs.Key.{is_key}
-use Rattle.s3_names.specs.KeyLaws.{key_length, key_is_utf8, key_has_no_zero}
+use Rattle.s3_names.proofs.lemmas.KeyLemmas.{key_length, key_is_utf8, key_has_no_zero}
 use Rattle.swift_calls.specs.Step.{IsContainerName}
 use Rattle.swift_calls.specs.Limits.{IsObjectName}
 

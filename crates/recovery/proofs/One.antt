@@ -5,7 +5,8 @@ use Rattle.std.proofs.Common.{refl, sym, ap, subst, ◌∙◌, inl, inr, arith}
 use Rattle.s3_machine.specs.State.{State}
 use Rattle.swift_calls.specs.Account.{SwiftAccount}
 use Rattle.swift_calls.specs.Step.{swift_step}
-use Rattle.swift_calls.specs.History.{History, budget, present, CountsFaults, Either, Called, Replied, Lost, Calls, counts_near}
+use Rattle.swift_calls.specs.History.{History, budget, present, CountsFaults, Either, Called, Replied, Lost, Calls}
+use Rattle.swift_calls.proofs.lemmas.Histories.{counts_near}
 use Rattle.swift_calls.specs.declared.calls.SwiftRequest.{SwiftRequest}
 use Rattle.swift_calls.specs.declared.calls.SwiftReply.{SwiftReply}
 use Rattle.swift_calls.specs.declared.calls.SwiftFault.{SwiftFault}

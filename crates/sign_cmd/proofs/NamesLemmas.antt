@@ -6,8 +6,10 @@ use Rattle.std.specs.declared.cmp.Ordering.TheVariants.{Less, Equal, Greater}
 use Rattle.std.proofs.lemmas.List.Folds.{list_any_more}
 use Rattle.std.proofs.lemmas.Slice.Eq.{bytes_eq-Decides}
 use Rattle.gate_base.specs.declared.page.Pair.{Pair}
-use Rattle.gate_base.specs.Maps.{name_cmp, name_antisymmetric}
-use Rattle.gate_base.specs.Named.{ascends, count_below, one_has_name, by_order, placed, same_name, placed_over, placed_before, ascends_placed}
+use Rattle.gate_base.specs.Maps.{name_cmp}
+use Rattle.gate_base.proofs.lemmas.Maps.{name_antisymmetric}
+use Rattle.gate_base.specs.Named.{ascends, count_below, one_has_name, by_order, placed}
+use Rattle.gate_base.proofs.lemmas.Named.{same_name, placed_over, placed_before, ascends_placed}
 use Rattle.http_wire.specs.Headers.{has_name}
 use Rattle.sigv4.specs.Authorization.{are_ascending}
 use Rattle.sigv4.specs.Verdict.{is_among}

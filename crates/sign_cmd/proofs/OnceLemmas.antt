@@ -7,7 +7,8 @@ use Rattle.std.specs.declared.cmp.Ordering.{Ordering}
 use Rattle.std.specs.declared.cmp.Ordering.TheVariants.{Less, Equal, Greater}
 use Rattle.std.proofs.lemmas.Bool.{cases_Bool, and_parts, or_from, or_left}
 use Rattle.std.proofs.lemmas.Slice.Eq.{bytes_eq-Decides}
-use Rattle.gate_base.specs.Maps.{name_cmp, name_antisymmetric}
+use Rattle.gate_base.specs.Maps.{name_cmp}
+use Rattle.gate_base.proofs.lemmas.Maps.{name_antisymmetric}
 use Rattle.sigv4.specs.Authorization.{stands_before, are_ascending}
 use Rattle.sigv4.specs.Verdict.{is_among}
 use Rattle.sign_cmd.specs.Laws.{NamesOnce}

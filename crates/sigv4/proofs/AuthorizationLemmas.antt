@@ -1,7 +1,7 @@
 -- How the names of an Authorization header are read, one after the other.
 use Rattle.std.proofs.Common.{◌≡◌, ℕ, ◌+◌, ◌<◌, List, [], ◌∷◌, ◌++◌, length, take, drop, Some, None, position, append_assoc, sym, ap, ◌∙◌, arith, length-drop}
 use Rattle.std.specs.List.{slice_split}
-use Rattle.s3_names.proofs.Dots.{slice_split_from, slice_split_none_at}
+use Rattle.s3_names.proofs.lemmas.Dots.{slice_split_from, slice_split_none_at}
 use Rattle.sigv4.specs.Authorization.{is_semicolon}
 
 -- one more name

@@ -7,8 +7,9 @@ use Rattle.std.specs.Char.{is_ascii_uppercase}
 use Rattle.std.proofs.lemmas.Bool.{cases_eq, and_from, and_parts, false≢true, ne_eqb, ltb-true, cond-true}
 use Rattle.std.proofs.lemmas.List.Splits.{join_with_byte-slice_split}
 use Rattle.httparse.specs.Grammar.{is_token_byte}
-use Rattle.sigv4.specs.Keys.{is_visible}
-use Rattle.sigv4.specs.Authorization.{is_comma, is_slash, is_semicolon, is_part_byte, is_part, is_name_byte, is_name, are_ascending, are_names, is_hex, is_formed, credential_text, authorization_text, IsAuthorization, skip_spaces, algorithm_section, credential_section, names_section, signature_section, behind_id, behind_date, behind_region, behind_service, credential_of, is_labelled, parts_of, authorization_of}
+use Rattle.gate_base.specs.Ascii.{is_visible}
+use Rattle.gate_base.specs.Ascii.{is_slash}
+use Rattle.sigv4.specs.Authorization.{is_comma, is_semicolon, is_part_byte, is_part, is_name_byte, is_name, are_ascending, are_names, is_hex, is_formed, credential_text, authorization_text, IsAuthorization, skip_spaces, algorithm_section, credential_section, names_section, signature_section, behind_id, behind_date, behind_region, behind_service, credential_of, is_labelled, parts_of, authorization_of}
 use Rattle.sigv4.specs.declared.authorization.Authorization.{Authorization}
 use Rattle.sigv4.proofs.CutLemmas.{is_free, before_of, after_of, cut_by, begins, spaces_back, spaces_skipped, all_replicated, all_joined, all_weaker, all_in_join, split_joined}
 

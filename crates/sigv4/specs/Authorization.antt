@@ -6,15 +6,14 @@ use Rattle.std.specs.Cmp.Lexicographic.{slice_cmp}
 use Rattle.std.specs.Ordering.{nat_cmp, is_lt}
 use Rattle.std.specs.Char.{is_ascii_uppercase}
 use Rattle.httparse.specs.Grammar.{is_token_byte}
-use Rattle.s3_names.specs.Bucket.{is_digit}
-use Rattle.sigv4.specs.Keys.{is_space, is_visible}
+use Rattle.gate_base.specs.Ascii.{is_slash}
+use Rattle.gate_base.specs.Ascii.{is_digit}
+use Rattle.gate_base.specs.Ascii.{is_visible}
+use Rattle.sigv4.specs.Keys.{is_space}
 use Rattle.sigv4.specs.declared.authorization.Authorization.{Authorization}
 
 abbrev pub is_comma : ℕ → Bool
 is_comma byte = byte == 44
-
-abbrev pub is_slash : ℕ → Bool
-is_slash byte = byte == 47
 
 abbrev pub is_semicolon : ℕ → Bool
 is_semicolon byte = byte == 59

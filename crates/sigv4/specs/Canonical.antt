@@ -5,15 +5,12 @@ use Rattle.std.specs.List.{join_with_byte, position_or_len}
 use Rattle.std.specs.Cmp.Lexicographic.{slice_cmp}
 use Rattle.std.specs.Ordering.{nat_cmp, is_lt, ordering_then}
 use Rattle.std.specs.declared.cmp.Ordering.{Ordering}
+use Rattle.gate_base.specs.Ascii.{is_blank}
 use Rattle.gate_base.specs.declared.page.Pair.{Pair}
 use Rattle.s3_names.specs.Escapes.{escaped_all, escaped_path}
 use Rattle.s3_names.specs.declared.target.Target.{Target}
 use Rattle.http_wire.specs.Headers.{values_of}
 use Rattle.http_wire.specs.declared.message.Message.{Message}
-
--- a space or a tab
-abbrev pub is_blank : ℕ → Bool
-is_blank byte = byte == 32 || byte == 9
 
 -- the text from its first byte that isn't blank
 unfoldable pub skip_blanks : List ℕ → List ℕ

@@ -2,6 +2,7 @@
 use Rattle.std.specs.Prelude.{◌≡◌, ℕ, Bool, true, false, not, ◌&&◌, ◌||◌, ◌==◌, nat_le, if◌then◌else◌, List, [], ◌∷◌, length, map, take, slice_get, find, Option, MatchOption, option_map, Result, Ok, Err}
 use Rattle.std.specs.List.{list_all, list_any, before_first, after_first}
 use Rattle.std.specs.Str.{bytes_eq}
+use Rattle.gate_base.specs.Ascii.{is_letter_or_digit, is_visible}
 use Rattle.sigv4.specs.declared.keys.AccessKey.{AccessKey}
 use Rattle.sigv4.specs.declared.keys.KeysFault.{KeysFault}
 use Rattle.sigv4.specs.declared.keys.KeysFault.TheVariants.{BadLine, Twice, Memory}
@@ -11,14 +12,6 @@ is_newline byte = byte == 10
 
 abbrev pub is_space : ℕ → Bool
 is_space byte = byte == 32
-
--- `0` to `9`, `A` to `Z`, `a` to `z`
-abbrev pub is_letter_or_digit : ℕ → Bool
-is_letter_or_digit byte = (nat_le 48 byte && nat_le byte 57) || (nat_le 65 byte && nat_le byte 90) || (nat_le 97 byte && nat_le byte 122)
-
--- visible ASCII
-abbrev pub is_visible : ℕ → Bool
-is_visible byte = nat_le 33 byte && nat_le byte 126
 
 -- 1 to 128 bytes
 abbrev pub has_word_length : List ℕ → Bool

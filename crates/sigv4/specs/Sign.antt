@@ -3,7 +3,7 @@
 use Rattle.std.specs.Prelude.{ℕ, Bool, ◌&&◌, ◌==◌, List, [], ◌∷◌, ◌++◌, length, take, codes, slice_index, slice_range}
 use Rattle.std.specs.List.{list_all, join_with_byte}
 use Rattle.hex.specs.Hex.{encode_lower}
-use Rattle.s3_names.specs.Bucket.{is_digit}
+use Rattle.gate_base.specs.Ascii.{is_digit}
 use Rattle.sha2.specs.Sha256.{sha256}
 use Rattle.sigv4.specs.Hmac.{hmac}
 use Rattle.sigv4.specs.declared.signature.Signed.{Signed}

@@ -3,7 +3,6 @@
 #![tactic(auto)]
 
 mod authorization;
-mod cut;
 mod hash;
 mod keys;
 mod laws;

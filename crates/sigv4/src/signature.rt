@@ -1,6 +1,6 @@
 ghost use Rattle.std.specs.Prelude.{◌≡◌, [], ◌∷◌, ◌++◌, true, IfOk, OnOk};
 ghost use Rattle.std.specs.List.{list_all};
-ghost use Rattle.s3_names.specs.Bucket.{is_digit};
+ghost use Rattle.gate_base.specs.Ascii.{is_digit};
 ghost use Rattle.sigv4.specs.Sign.{is_date_time, date_of, scope_of, string_to_sign, signing_key, signature_of, signed_of};
 
 use crate::hash::hmac;

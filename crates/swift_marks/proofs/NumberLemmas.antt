@@ -11,7 +11,8 @@ use Rattle.std.proofs.lemmas.List.Folds.{list_all-append}
 use Rattle.std.proofs.lemmas.Str.Parse.{IsNumeralModel, IsDigitsTest, numerals_by_value, digits_value_short, digit_at}
 use Rattle.std.proofs.lemmas.Int.Digits.{digits_value_more}
 use Rattle.std.proofs.lemmas.Fmt.{length-decimal-le, digits_decimal, digits_value-decimal}
-use Rattle.swift_marks.specs.Number.{is_digit, number_of}
+use Rattle.gate_base.specs.Ascii.{is_digit}
+use Rattle.swift_marks.specs.Number.{number_of}
 
 tells : IsDigitsTest (λ ds. list_all is_digit ds ≡ true)
 tells = search rules

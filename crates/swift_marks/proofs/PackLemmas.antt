@@ -5,7 +5,7 @@ use Rattle.std.specs.List.{position_or_len, after_first}
 use Rattle.std.proofs.lemmas.Bool.{and_from}
 use Rattle.gate_base.specs.declared.page.Pair.{Pair}
 use Rattle.s3_names.specs.Meta.{is_before, names_ascend, has_name, with_pair}
-use Rattle.s3_names.proofs.MetaLemmas.{with_pair_push}
+use Rattle.s3_names.proofs.lemmas.MetaLemmas.{with_pair_push}
 use Rattle.swift_marks.specs.Tag.{is_dot}
 use Rattle.swift_marks.specs.Pack.{cut_in, bracketed, pieces_of, first_entry, other_entries, entries_in, entries_of, name_size, value_size, entry_body, is_past, is_behind}
 

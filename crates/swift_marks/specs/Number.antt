@@ -5,10 +5,7 @@ use Rattle.std.specs.List.{list_all}
 use Rattle.std.specs.Str.Parse.{digits_value}
 use Rattle.hex.specs.Hex.{encode_lower, decode_sized}
 use Rattle.hex.specs.declared.error.FromHexError.{FromHexError}
-
--- `0` to `9`
-abbrev pub is_digit : ℕ → Bool
-is_digit byte = nat_le 48 byte && nat_le byte 57
+use Rattle.gate_base.specs.Ascii.{is_digit}
 
 -- the number that at most 19 digits write; 0 for every other text
 unfoldable pub number_of : List ℕ → ℕ

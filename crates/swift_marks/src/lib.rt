@@ -1,7 +1,6 @@
 //! The marks that the gateway writes into the store, each with exactly one text: tags and packs (this profile).
 #![tactic(auto)]
 
-mod cut;
 mod fault;
 mod forms;
 mod laws;

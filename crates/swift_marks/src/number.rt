@@ -2,7 +2,8 @@
 ghost use Rattle.std.specs.Prelude.{◌≡◌, ◌≤◌, ◌&&◌, ◌++◌, true, nat_le, length, OnOk, decimal};
 ghost use Rattle.std.specs.List.{list_all};
 ghost use Rattle.std.specs.Str.Parse.{digits_value};
-ghost use Rattle.swift_marks.specs.Number.{is_digit, number_of, is_lower_hex, id_digits, id_text, fits_id, id_of};
+ghost use Rattle.gate_base.specs.Ascii.{is_digit};
+ghost use Rattle.swift_marks.specs.Number.{number_of, is_lower_hex, id_digits, id_text, fits_id, id_of};
 
 use gate_base::{Bytes, Memory};
 use itoa::Buffer;

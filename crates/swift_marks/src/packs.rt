@@ -6,9 +6,8 @@ ghost use Rattle.s3_names.specs.Meta.{names_ascend};
 ghost use Rattle.swift_marks.specs.Pack.{entry_text, bracketed, pieces_of, pack_of, inside, first_entry, other_entries, entries_of, is_behind, ReadsEntries, unpacked, Unpacks};
 
 use crate::MarkFault;
-use crate::cut::cut_first;
 use crate::number::{append_decimal, number_of};
-use gate_base::{Bytes, List, Memory, Pair};
+use gate_base::{Bytes, List, Memory, Pair, cut};
 use s3_names::Meta;
 use std::alloc::Global;
 use std::cmp::Ordering;
@@ -131,8 +130,8 @@ fn cut_entry(text: &[u8]) -> (&[u8], &[u8], &[u8])
     ensures value { result.1.now ≡ (first_entry text.now).value }
     ensures behind { result.2.now ≡ other_entries text.now }
 {
-    let (name_size, sized) = cut_first(text, b'.');
-    let (value_size, body) = cut_first(sized, b'.');
+    let (name_size, sized) = cut(text, b'.');
+    let (value_size, body) = cut(sized, b'.');
     let (name, more) = cut_at(body, number_of(name_size));
     let (value, behind) = cut_at(more, number_of(value_size));
     (name, value, behind)

@@ -1,10 +1,9 @@
 ghost use Rattle.std.specs.Prelude.{◌≡◌, true, IfOk};
 
 use crate::MarkFault;
-use crate::cut::{cut_first, cut_last};
 use crate::forms::{is_content_type, is_etag};
 use crate::number::{append_decimal, append_id, fits_id, id_of, number_of};
-use gate_base::{Bytes, Copying, MOMENT_LIMIT, Memory};
+use gate_base::{Bytes, Copying, MOMENT_LIMIT, Memory, cut, cut_last};
 use std::alloc::Global;
 
 /// What the content type of a stored object tells of the object: its own content type, its ETag in hexadecimal, the
@@ -54,8 +53,8 @@ impl Tag {
     {
         let (front, mark) = cut_last(text, b'=');
         let (content_type, _) = cut_last(front, b';');
-        let (etag, numbers) = cut_first(mark, b'.');
-        let (moment, id) = cut_first(numbers, b'.');
+        let (etag, numbers) = cut(mark, b'.');
+        let (moment, id) = cut(numbers, b'.');
         Ok(Tag {
             content_type: Bytes::from_slice(alloc, content_type)?,
             etag: Bytes::from_slice(alloc, etag)?,

@@ -4,9 +4,10 @@ use Rattle.std.specs.List.{list_any}
 use Rattle.std.specs.Ordering.{eq_by_cmp}
 use Rattle.std.proofs.Common.{refl, sym, ap, ◌∙◌, true≢false}
 use Rattle.std.proofs.lemmas.List.Folds.{list_any-append}
-use Rattle.gate_base.specs.Maps.{name_cmp, by_name, apart}
+use Rattle.gate_base.specs.Maps.{name_cmp}
+use Rattle.gate_base.proofs.lemmas.Maps.{by_name, apart}
 use Rattle.s3_names.specs.Bucket.{is_bucket}
-use Rattle.s3_names.specs.BucketLaws.{bucket_has_no_plus}
+use Rattle.s3_names.proofs.lemmas.BucketLemmas.{bucket_has_no_plus}
 use Rattle.upload_records.specs.Marks.{uploads_name, segments_name}
 
 or_true : (a : Bool) → (a || true) ≡ true

@@ -4,7 +4,8 @@ use Rattle.std.specs.Option.{option_map}
 use Rattle.std.specs.Ordering.{eq_by_cmp}
 use Rattle.std.specs.FinMap.{get, insert, remove, empty}
 use Rattle.std.proofs.Common.{refl, sym, ap, subst, ◌∙◌, inl, inr, true≢false}
-use Rattle.gate_base.specs.Maps.{Names, name_cmp, by_name, adjust, get_empty, same_key, at_insert, off_insert, at_adjust, off_adjust, at_remove, off_remove, insert_is, remove_is}
+use Rattle.gate_base.specs.Maps.{Names, name_cmp, adjust}
+use Rattle.gate_base.proofs.lemmas.Maps.{by_name, get_empty, same_key, at_insert, off_insert, at_adjust, off_adjust, at_remove, off_remove, insert_is, remove_is}
 use Rattle.gate_base.specs.Told.{moment_limit}
 use Rattle.s3_names.specs.declared.acl.Acl.{Acl}
 use Rattle.s3_names.specs.Bucket.{is_bucket}

@@ -4,7 +4,8 @@ use Rattle.std.specs.Option.{option_map, option_and_then, unwrap_or}
 use Rattle.std.specs.FinMap.{get, insert, remove, empty, len, len-empty, empty_of_len}
 use Rattle.std.proofs.Common.{refl, sym, ap, ◌∙◌, true≢false}
 use Rattle.std.proofs.lemmas.Bool.{eqb-true}
-use Rattle.gate_base.specs.Maps.{Names, name_cmp, by_name, adjust, picked, get-picked, get_empty, picked_empty, picked_insert, picked_remove, picked_adjust, picked_same, same_names, off_insert, off_adjust, off_remove}
+use Rattle.gate_base.specs.Maps.{Names, name_cmp, adjust, picked}
+use Rattle.gate_base.proofs.lemmas.Maps.{by_name, get-picked, get_empty, picked_empty, picked_insert, picked_remove, picked_adjust, picked_same, same_names, off_insert, off_adjust, off_remove}
 use Rattle.s3_names.specs.declared.acl.Acl.{Acl}
 use Rattle.s3_names.specs.declared.acl.Acl.TheVariants.{Private, PublicRead}
 use Rattle.s3_names.specs.Bucket.{is_bucket}

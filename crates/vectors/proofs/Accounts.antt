@@ -3,7 +3,8 @@ use Rattle.std.specs.Prelude.{◌≡◌, ℕ, ◌<◌, ◌^◌, List, [], ◌∷
 use Rattle.std.specs.List.{list_all}
 use Rattle.std.proofs.Common.{refl, sym, ap, subst, ◌∙◌, arith}
 use Rattle.std.proofs.lemmas.Bool.{lt-ltb}
-use Rattle.gate_base.specs.Named.{ascends, placed, ascends_placed, all_placed, both, first_of_two, second_of_two}
+use Rattle.gate_base.specs.Named.{ascends, placed}
+use Rattle.gate_base.proofs.lemmas.Named.{ascends_placed, all_placed, both, first_of_two, second_of_two}
 use Rattle.swift_calls.specs.Account.{size_of, is_sized_object, IsOrdered, IsSized}
 use Rattle.slo_manifest.specs.declared.Segment.{Segment}
 use Rattle.swift_calls.specs.declared.account.Content.TheVariants.{Segments}

@@ -9,7 +9,8 @@ use Rattle.std.proofs.lemmas.Bool.Decides.{nat_tests}
 use Rattle.std.proofs.lemmas.Slice.Eq.{bytes_eq-Decides, slice_eq-Decides}
 use Rattle.gate_base.specs.declared.page.Pair.{Pair}
 use Rattle.s3_names.specs.Meta.{names_ascend}
-use Rattle.swift_marks.specs.Number.{is_digit, number_of}
+use Rattle.gate_base.specs.Ascii.{is_digit}
+use Rattle.swift_marks.specs.Number.{number_of}
 use Rattle.swift_marks.specs.Tag.{is_dot}
 use Rattle.swift_marks.specs.Pack.{entry_text, cut_in, bracketed, pieces_of, pack_of, inside, first_entry, other_entries, entries_in, entries_of, name_size, value_size, entry_body, is_short, has_pack, packed_entries, unpacked}
 use Rattle.swift_marks.proofs.Cuts.{before_first_at, after_first_at}

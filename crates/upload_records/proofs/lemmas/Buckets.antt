@@ -3,7 +3,8 @@ use Rattle.std.specs.Prelude.{◌≡◌, ◌<◌, ℕ, List, true, cond, is_some
 use Rattle.std.specs.Option.{option_map, option_and_then}
 use Rattle.std.specs.FinMap.{get, insert, remove}
 use Rattle.std.proofs.Common.{refl, sym, ap, ◌∙◌}
-use Rattle.gate_base.specs.Maps.{by_name, adjust, adjust_missing, off_insert, off_remove, off_adjust}
+use Rattle.gate_base.specs.Maps.{adjust}
+use Rattle.gate_base.proofs.lemmas.Maps.{by_name, adjust_missing, off_insert, off_remove, off_adjust}
 use Rattle.gate_base.specs.Told.{moment_limit}
 use Rattle.s3_names.specs.declared.acl.Acl.{Acl}
 use Rattle.s3_names.specs.Bucket.{is_bucket}

@@ -3,7 +3,8 @@ use Rattle.std.specs.Prelude.{◌≡◌, ℕ, List, true, is_some, Option, None,
 use Rattle.std.specs.Option.{option_and_then}
 use Rattle.std.specs.FinMap.{get, insert, remove}
 use Rattle.std.proofs.Common.{refl, sym, ap, ◌∙◌}
-use Rattle.gate_base.specs.Maps.{Names, by_name, adjust, off_adjust, adjust_stays, adjust_missing, remove_missing}
+use Rattle.gate_base.specs.Maps.{Names, adjust}
+use Rattle.gate_base.proofs.lemmas.Maps.{by_name, off_adjust, adjust_stays, adjust_missing, remove_missing}
 use Rattle.s3_names.specs.Bucket.{is_bucket}
 use Rattle.s3_names.specs.Key.{is_key}
 use Rattle.s3_machine.specs.State.{Object}

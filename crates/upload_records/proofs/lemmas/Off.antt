@@ -2,7 +2,7 @@
 use Rattle.std.specs.Prelude.{◌≡◌, ℕ, Bool, List, true, false, Option, None, Some}
 use Rattle.std.specs.FinMap.{get, insert, remove}
 use Rattle.std.proofs.Common.{refl}
-use Rattle.gate_base.specs.Maps.{by_name, off_insert, off_adjust, off_remove}
+use Rattle.gate_base.proofs.lemmas.Maps.{by_name, off_insert, off_adjust, off_remove}
 use Rattle.s3_names.specs.Bucket.{is_bucket}
 use Rattle.swift_calls.specs.declared.account.ReadList.{ReadList}
 use Rattle.swift_calls.specs.declared.calls.SwiftRequest.TheVariants.{PutContainer, PostContainer, DeleteContainer, PutObject, DeleteObject}

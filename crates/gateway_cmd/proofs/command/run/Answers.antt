@@ -1,6 +1,6 @@
 use Rattle.std.proofs.Common.{◌∙◌, refl, subst, arith}
 use Rattle.gate_base.specs.Causes.{Rose}
-use Rattle.swift_calls.specs.History.{is_fault_free}
+use Rattle.swift_calls.proofs.lemmas.Histories.{is_fault_free}
 use Rattle.recovery.specs.declared.state.Known.TheVariants.{Unsure}
 use Rattle.sign_cmd.specs.Signing.{SignsOn}
 use Rattle.gateway.specs.World.{world}
