@@ -16,6 +16,7 @@ use Rattle.s3_names.specs.Bucket.{is_bucket, is_lower_or_digit}
 use Rattle.s3_names.specs.Key.{is_key}
 use Rattle.s3_machine.specs.ETag.{body_etag}
 use Rattle.gate_base.specs.Ascii as ascii
+use Rattle.s3_machine.specs.Limits as limits
 use Rattle.s3_machine.specs.Step.{IsProperContent}
 use Rattle.swift_calls.specs.Limits as store
 use Rattle.swift_calls.specs.Step.{Fit}
