@@ -36,8 +36,8 @@ def canonical_query(query):
     return "&".join("=".join(pair) for pair in sorted((quote(unquote(name), safe=""), quote(unquote(value), safe="")) for name, _, value in pairs))
 
 
-def signed(head, key_id, secret, now):
-    """The head with the headers that sign it."""
+def signed(head, key_id, secret, now, payload="UNSIGNED-PAYLOAD"):
+    """The head with the headers that sign it, for any body or for the one with this hash."""
     lines = head.split("\r\n")
     method, target, _ = lines[0].split(" ")
     path, _, query = target.partition("?")
@@ -46,13 +46,13 @@ def signed(head, key_id, secret, now):
     if any(name.lower() == "authorization" for name, _, _ in fields):
         return head
     headers = {name.lower(): value.strip() for name, _, value in fields if name.lower() == "host" or name.lower().startswith("x-amz-")}
-    added = {"x-amz-content-sha256": "UNSIGNED-PAYLOAD", "x-amz-date": time}
+    added = {"x-amz-content-sha256": payload, "x-amz-date": time}
     if "host" not in headers:
         added["host"] = "localhost"
     headers.update(added)
     names = sorted(headers)
     canonical = [method, quote(unquote(path), safe="/"), canonical_query(query)]
-    canonical += [f"{name}:{headers[name]}" for name in names] + ["", ";".join(names), "UNSIGNED-PAYLOAD"]
+    canonical += [f"{name}:{headers[name]}" for name in names] + ["", ";".join(names), payload]
     scope = f"{time[:8]}/{REGION}/s3/aws4_request"
     text = "\n".join(["AWS4-HMAC-SHA256", time, scope, hashlib.sha256("\n".join(canonical).encode()).hexdigest()])
     signing = ("AWS4" + secret).encode()
@@ -63,15 +63,21 @@ def signed(head, key_id, secret, now):
     return "\r\n".join(lines + [f"{name}: {value}" for name, value in added.items()])
 
 
+def first_key():
+    """The id and the secret of the first line of keys.txt."""
+    with open(os.path.join(os.path.dirname(os.path.abspath(__file__)), "keys.txt"), encoding="ascii") as keys:
+        return keys.readline().split()
+
+
 def main():
     if len(sys.argv) != 2:
         sys.exit("usage: sign.py REQUESTS.http")
-    with open(os.path.join(os.path.dirname(os.path.abspath(__file__)), "keys.txt"), encoding="ascii") as keys:
-        key_id, secret = keys.readline().split()
+    key_id, secret = first_key()
     now = datetime.datetime.now(datetime.timezone.utc)
     with open(sys.argv[1], "rb") as file:
         for head, body in requests_of(file.read()):
             sys.stdout.buffer.write(signed(head, key_id, secret, now).encode() + b"\r\n\r\n" + body)
 
 
-main()
+if __name__ == "__main__":
+    main()
