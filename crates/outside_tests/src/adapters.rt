@@ -63,8 +63,17 @@ fn the_system_answers(rt: HostRuntime) {
     assert!(rt; 1_700_000_000 < moment && moment < MOMENT_LIMIT - 1);
     let mut draws = RandomDraws::new(rt);
     assert!(rt; draws.draw() != draws.draw());
+    assert!(rt; RandomDraws::new(rt).draw() != RandomDraws::new(rt).draw());
     assert_eq!(rt; StdSink::output(rt).put(b""), Ok(()));
     assert_eq!(rt; StdSink::error(rt).put(b""), Ok(()));
+}
+
+/// A test that is to panic passes only where the text is on standard error, and the panic's own words don't have it.
+#[test]
+#[should_panic(expected = "s3gate: line")]
+fn standard_error_has_what_is_put(rt: HostRuntime) {
+    let put = StdSink::error(rt).put(b"s3gate: line\n");
+    assert!(rt; put.is_err());
 }
 
 /// A clock at this second, which can't be read where there is none, and no words of chance.

@@ -1,11 +1,15 @@
 //! Tests that must be code: stores that answer what is forbidden, the real adapters over a runtime in memory, generic
-//! functions over types that tell nothing, and copies that no program makes.
+//! functions over types that tell nothing, and a copy of each type of plain data.
 #![tactic(auto)]
 
 #[cfg(test)]
 mod adapters;
 #[cfg(test)]
 mod copies;
+#[cfg(test)]
+mod copies_of_s3;
+#[cfg(test)]
+mod copies_of_swift;
 #[cfg(test)]
 mod odd_stores;
 #[cfg(test)]
