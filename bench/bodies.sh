@@ -4,7 +4,7 @@
 #
 #   bench/bodies.sh [PROGRAM] [REQUESTS]
 #
-# PROGRAM is the one that `rt run` leaves in crates/s3gate/out (README.md, "Run it"); each is measured with 8 requests on one
+# PROGRAM is the one that `rt run` leaves in crates/s3gate/out (README.md, "Run it"); it is measured with 8 requests on one
 # connection unless told otherwise. The last column is the processor time beside that of md5sum, without which no body is
 # stored. Only Python's own libraries are used.
 set -euo pipefail
@@ -49,7 +49,8 @@ def take_reply(pipe):
 class Run:
     """A command over pipes: the seconds that it took by the clock and of a processor, and its greatest memory in MiB.
 
-    A session is read before its input ends, so that its memory can be asked for while it is there.
+    Its memory is asked for before its input ends: of a session once its replies are read, and of one that `ends` only with
+    its input once that is written.
     """
 
     def __init__(self, words, write, read, keys="examples/keys.txt", ends=False):
@@ -62,7 +63,8 @@ class Run:
                 write(process.stdin)
             except BrokenPipeError:
                 pass
-            ends or is_read.wait()
+            if not ends:
+                is_read.wait()
             self.memory = memory_of(process.pid)
             process.stdin.close()
 
