@@ -97,7 +97,7 @@ has_read_all text done [] h none =
     (sym all, rw all h.good)
 has_read_all text done (x ∷ rest) h none = absurd (omega arith)
 
-seam : (done : List AccessKey) (key : AccessKey) (more : List AccessKey) → slice_get (done ++ key ∷ more) (length done) ≡ Some key
+pub seam : (done : List AccessKey) (key : AccessKey) (more : List AccessKey) → slice_get (done ++ key ∷ more) (length done) ≡ Some key
 seam done key more =
     let within : length done < length (done ++ key ∷ more) = omega (arith, length-append done (key ∷ more)) in
     slice_get_read (done ++ key ∷ more) (length (done ++ key ∷ more)) (length done) key refl within (sym (get_or-append_seam done key more key))
@@ -113,7 +113,7 @@ has_read_twice text done rest line back key h full front tail made fit known =
     rw (all, take-append_seam done (key ∷ keys_of back), seam done key (keys_of back)) (h.good, (fit, known))
 
 -- a list has what a test finds
-finds : (test : AccessKey → Bool) (keys : List AccessKey) → is_some (find test keys) ≡ list_any test keys
+pub finds : (test : AccessKey → Bool) (keys : List AccessKey) → is_some (find test keys) ≡ list_any test keys
 finds test [] = refl
 finds test (key ∷ keys) = by_test (test key) key (find test keys) (list_any test keys) (finds test keys)
   where

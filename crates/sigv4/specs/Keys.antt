@@ -1,5 +1,6 @@
 -- The text of the access keys: lines `ID SECRET` (this profile).
-use Rattle.std.specs.Prelude.{◌≡◌, ℕ, Bool, true, false, not, ◌&&◌, ◌||◌, ◌==◌, nat_le, if◌then◌else◌, List, [], ◌∷◌, length, map, take, slice_get, find, Option, MatchOption, option_map, Result, Ok, Err}
+use Rattle.std.specs.Prelude.{◌≡◌, ℕ, Bool, true, false, not, ◌&&◌, ◌||◌, ◌==◌, nat_le, if◌then◌else◌, List, [], ◌∷◌, length, map, take}
+use Rattle.std.specs.Prelude.{slice_get, find, Option, MatchOption, option_map, Result, Ok, Err}
 use Rattle.std.specs.List.{list_all, list_any, before_first, after_first}
 use Rattle.std.specs.Str.{bytes_eq}
 use Rattle.gate_base.specs.Ascii.{is_letter_or_digit, is_visible}
@@ -57,7 +58,9 @@ IsBadAt n keys = (are_keys (take n keys) ≡ true) × MatchOption (slice_get key
 
 -- the line of that index gives the first whose id stands before it
 abbrev pub IsTwiceAt : ℕ → List AccessKey → Type 0
-IsTwiceAt n keys = (are_keys (take n keys) ≡ true) × MatchOption (slice_get keys n) ⊥ (λ key. (is_key key ≡ true) × (list_any (has_id key.id) (take n keys) ≡ true))
+IsTwiceAt n keys =
+    (are_keys (take n keys) ≡ true)
+    × MatchOption (slice_get keys n) ⊥ (λ key. (is_key key ≡ true) × (list_any (has_id key.id) (take n keys) ≡ true))
 
 -- what reading the keys of a text answers; memory may run out for any text
 abbrev pub ReadsKeys : List AccessKey → Result (List AccessKey) KeysFault → Type 0

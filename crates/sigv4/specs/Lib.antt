@@ -1,6 +1,7 @@
 pub mod Authorization
 pub mod Canonical
 pub mod Hmac
+pub mod Index
 pub mod Keys
 pub mod Laws
 pub mod Moment

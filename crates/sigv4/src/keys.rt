@@ -1,9 +1,10 @@
-ghost use Rattle.std.specs.Prelude.{◌≡◌, find, is_some, IfOk};
+ghost use Rattle.std.specs.Prelude.{◌≡◌, is_some, IfOk};
 ghost use Rattle.std.specs.Option.{option_copied};
 ghost use Rattle.std.specs.List.{list_all, list_any as any_of};
 ghost use Rattle.gate_base.specs.Ascii.{is_letter_or_digit, is_visible};
 ghost use Rattle.sigv4.specs.Keys.{is_newline, is_space, has_word_length, is_key, key_of, keys_of, has_id, are_keys, ReadsKeys, secret_of};
 
+use crate::index::Index;
 use gate_base::{Bytes, Copying, List, Memory, cut};
 use std::alloc::Global;
 use std::marker::Model;
@@ -60,24 +61,27 @@ impl From<Memory> for KeysFault {
 #[derive(Debug, Drop)]
 pub struct Keys {
     entries: List<AccessKey>,
+    index: Index,
 }
 
 impl Model for Keys {
     ghost use Rattle.std.specs.Prelude.{◌≡◌, List, true};
     ghost use Rattle.sigv4.specs.declared.keys.AccessKey.{AccessKey};
     ghost use Rattle.sigv4.specs.Keys.{are_keys};
+    ghost use Rattle.sigv4.specs.Index.{Finds};
 
     ghost Value = { List AccessKey };
 
     ghost view = { λ keys. keys.entries };
 
-    ghost invariant = { λ keys. are_keys keys.entries ≡ true };
+    ghost invariant = { λ keys. (are_keys keys.entries ≡ true) × Finds keys.index.places keys.entries };
 }
 
 impl Copying for Keys {
     fn copy(&self) -> Result<Keys, Memory> {
         Ok(Keys {
             entries: self.entries.copy()?,
+            index: self.index.copy()?,
         })
     }
 }
@@ -90,6 +94,7 @@ impl Keys {
         ensures { ReadsKeys (keys_of text.now) result }
     {
         let mut keys = List::new(alloc);
+        let mut index = Index::new(alloc);
         let mut rest = text;
         'lines: while !rest.is_empty() {
             let (line, behind) = cut(rest, b'\n');
@@ -97,13 +102,17 @@ impl Keys {
             if !is_key(&key) {
                 return Err(KeysFault::BadLine(keys.len() as u64));
             }
-            if has_id(key.id.as_slice(), keys.as_slice()) {
+            if index.has(keys.as_slice(), key.id.as_slice()) {
                 return Err(KeysFault::Twice(keys.len() as u64));
             }
+            index.add(alloc, keys.as_slice(), key.id.as_slice())?;
             keys.push(key)?;
             rest = behind;
         }
-        Ok(Keys { entries: keys })
+        Ok(Keys {
+            entries: keys,
+            index,
+        })
     }
 
     /// The secret of the id, or none exactly where no line has the id. It takes no memory.
@@ -111,19 +120,10 @@ impl Keys {
         ensures value { option_copied result ≡ secret_of id.now self.now }
         ensures found { is_some result ≡ any_of (has_id id.now) self.now }
     {
-        match self.find(id) {
+        match self.index.find(self.entries.as_slice(), id) {
             Some(key) => Some(key.secret.as_slice()),
             None => None,
         }
-    }
-
-    fn find(&self, id: &[u8]) -> Option<&AccessKey>
-        ensures { option_copied result ≡ find (has_id id.now) self.now }
-    {
-        self.entries
-            .as_slice()
-            .iter()
-            .find(|key| key.id.as_slice() == id)
     }
 }
 
@@ -176,10 +176,4 @@ fn is_visible(byte: u8) -> bool
     ensures { result ≡ is_visible byte }
 {
     byte.is_ascii_graphic()
-}
-
-fn has_id(id: &[u8], keys: &[AccessKey]) -> bool
-    ensures { result ≡ any_of (has_id id.now) keys.now }
-{
-    keys.iter().any(|key| key.id.as_slice() == id)
 }

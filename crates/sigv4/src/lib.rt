@@ -4,6 +4,7 @@
 
 mod authorization;
 mod hash;
+mod index;
 mod keys;
 mod laws;
 mod moment;
