@@ -13,11 +13,11 @@ use s3_names::Acl;
 use swift_calls::{Swift, SwiftRequest};
 use upload_records::readers;
 
-#[tactic(auto, using(crate::proofs::Names::container_name))]
 /// The access control list of a bucket, and `None` where the bucket is missing, by HEAD of its container (Object
 /// Storage API v1, "Show container metadata"). At most one call, and the S3 state stays. Failed comes only where the
 /// store's count of faults rose; Memory where memory ran out, before the call or to read its answer; Inconsistent
 /// never over an observable consistent account.
+#[tactic(auto, using(crate::proofs::Names::container_name))]
 pub fn head_bucket<W: Swift>(
     state: &mut Settled<'_, W>,
     bucket: &Bytes,
@@ -33,12 +33,12 @@ pub fn head_bucket<W: Swift>(
     bucket_in(&reply)
 }
 
-#[tactic(auto, using(crate::proofs::Names::container_name))]
 /// Makes a bucket that isn't there, by PUT of its container (Object Storage API v1, "Create container"): the one call
 /// that commits. At most one call. The moment is in seconds since the beginning of 1970, before the year 10000. After Ok
 /// the S3 state has the new bucket. After Failed, which comes only where the store's count of faults rose, and after
 /// Memory the state is the old one or the new one. Inconsistent never comes over an observable consistent account, on
 /// which the bucket is missing.
+#[tactic(auto, using(crate::proofs::Names::container_name))]
 pub fn make_bucket<W: Swift>(
     state: &mut Settled<'_, W>,
     bucket: &Bytes,
@@ -70,11 +70,11 @@ pub enum Dropped {
     Missing,
 }
 
-#[tactic(auto, using(crate::proofs::Names::container_name))]
 /// Deletes a bucket that has no object, by DELETE of its container (Object Storage API v1, "Delete container"): the one
 /// call that commits. At most one call. After Ok the S3 state is as the answer says. After Failed, which comes only where
 /// the store's count of faults rose, and after Memory the state is the old one or one of those that an answer tells.
 /// Inconsistent never comes over an observable consistent account.
+#[tactic(auto, using(crate::proofs::Names::container_name))]
 pub fn drop_bucket<W: Swift>(
     state: &mut Settled<'_, W>,
     bucket: &Bytes,
@@ -90,10 +90,10 @@ pub fn drop_bucket<W: Swift>(
     dropped_in(&reply)
 }
 
-#[tactic(auto, using(crate::proofs::Names::container_name))]
 /// Replaces the access control list of a bucket, by POST of its container (Object Storage API v1, "Create, update, or
 /// delete container metadata"): the one call that commits. At most one call. After Ok the answer says whether the bucket
 /// is there, and if so the S3 state has its new list. The faults are those of [`drop_bucket`].
+#[tactic(auto, using(crate::proofs::Names::container_name))]
 pub fn set_acl<W: Swift>(
     state: &mut Settled<'_, W>,
     bucket: &Bytes,
