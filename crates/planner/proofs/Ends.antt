@@ -2,7 +2,7 @@
 -- that changes it.
 use Rattle.std.specs.Prelude.{◌≡◌, ◌≢◌, ◌≤◌, ◌⊎◌, ℕ, ◌+◌, Bool, true, false, Result, Ok, Err, IfOk}
 use Rattle.std.specs.Result.{IsErrAnd}
-use Rattle.std.proofs.Common.{refl, sym, ap, subst, ◌∙◌, inl, inr, arith}
+use Rattle.std.proofs.Common.{refl, sym, subst, ◌∙◌, inl, inr, arith}
 use Rattle.gate_base.specs.Causes.{Rose}
 use Rattle.s3_machine.specs.declared.operation.Label.{Label}
 use Rattle.s3_machine.specs.declared.operation.Settings.{Settings}
@@ -23,6 +23,7 @@ use Rattle.recovery.specs.Calls.{Bound, always, by_account, IsWithin, Met, GoesO
 use Rattle.recovery.specs.Answers.{Stepped, machine, unavailable, memory, ends_by_commit}
 use Rattle.recovery.proofs.lemmas.Agree.{quiet_agree, passes_still, passes_at_once, passes_once, same_ids, answers_after}
 use Rattle.recovery.proofs.lemmas.Causes.{due_cause}
+use Rattle.recovery.proofs.lemmas.Faults.{err_is}
 use Rattle.recovery.proofs.lemmas.Idle.{none_made, grows_none}
 use Rattle.planner.specs.Plan.{reply_of, IsOwnReply, Ends, ended, CausesEnd, Plans, Answered}
 use Rattle.planner.proofs.Replies.{rose_of, steady_of, consistent_of, showable_of}
@@ -30,10 +31,6 @@ use Rattle.planner.proofs.Replies.{rose_of, steady_of, consistent_of, showable_o
 -- quiet calls leave the old state at each number
 old_quiet : {h : History} {p q : ℕ} → Stutters h p q → OldBefore h p q
 old_quiet quiet = λ k from to. quiet.same k from (omega arith)
-
-err_is : (end : Result Reply PlanFault) → IsErrAnd end (λ e. e ≡ Memory) → end ≡ Err Memory
-err_is (Ok reply) is = absurd is
-err_is (Err e) is = ap Err is
 
 module _ (settings : Settings) (h : History) (p q : ℕ) (op : Op) (label : Label) where
   -- quiet calls, and one failed
@@ -200,7 +197,7 @@ module _ {settings : Settings} {given : State → Type 0} {op : Op} {label : Lab
 
   -- memory ran out before a call
   pub wants_memory : (h : History) (end : Result Reply PlanFault) → IsErrAnd end (λ e. e ≡ Memory) → Plans most h h settings (Given given) op label Settled end
-  wants_memory h end is = subst (Plans most h h settings (Given given) op label Settled) (sym (err_is end is)) (record {
+  wants_memory h end is = subst (Plans most h h settings (Given given) op label Settled) (sym (err_is end Memory is)) (record {
     grows = grows_none most (Given given) h;
     cause = cause_of (ends_by_commit op) h.faults h.faults (Err Memory) refl;
     own = tt;
@@ -209,15 +206,15 @@ module _ {settings : Settings} {given : State → Type 0} {op : Op} {label : Lab
   })
 
   module _ {T : Type 0} {P : State → T → Type 0} {a b : History} (within : IsWider (always 1) most) where
-    -- the call told nothing
-    pub told_nothing : {fault : PlanFault} → Asks (always 1) a b IsSettled (Tells P) (Err fault) → Plans most a b settings (Given given) op label Settled (Err fault)
-    told_nothing {fault = fault} asks = record {
+    -- the call told nothing, and its fault is handed on
+    pub told_nothing : {fault : PlanFault} → Asks (always 1) a b IsSettled (Tells P) (Err fault) → (end : Result Reply PlanFault) → IsErrAnd end (λ e. e ≡ fault) → Plans most a b settings (Given given) op label Settled end
+    told_nothing {fault = fault} asks end is = subst (Plans most a b settings (Given given) op label Settled) (sym (err_is end fault is)) (record {
       grows = grows_more within met_settled asks.grows;
       cause = cause_of (ends_by_commit op) a.faults b.faults (Err fault) (cause_same fault asks.cause);
       own = tt;
       effect = λ met. not_read settings b a.called b.called op label (Tells P) fault (asks.effect (met_settled met));
       knows = λ observable settled is. asks.settled observable settled;
-    }
+    })
       where
         cause_same : (fault : PlanFault) → CausesFault {T = T} a.faults b.faults (Err fault) → CausesFault {T = Reply} a.faults b.faults (Err fault)
         cause_same Failed cause = cause

@@ -29,10 +29,9 @@ pub(crate) fn create_bucket<W: Swift>(
     ensures plans { Plans (always 2) (W.history state.old.store.now) (W.history state.new.store.now) state.old.settings.now
         (Given Any) (CreateBucket bucket.now acl) label.now known.Settled result }
 {
-    match head_bucket(state, bucket) {
-        Ok(None) => make_missing(state, bucket, acl, label),
-        Ok(Some(_)) => Ok(Reply::Refused(Code::BucketAlreadyOwnedByYou)),
-        Err(fault) => Err(fault),
+    match head_bucket(state, bucket)? {
+        None => make_missing(state, bucket, acl, label),
+        Some(_) => Ok(Reply::Refused(Code::BucketAlreadyOwnedByYou)),
     }
 }
 

@@ -8,8 +8,6 @@ use s3_machine::Reply;
 pub(crate) fn reply_after(end: Result<(), PlanFault>, reply: Reply) -> Result<Reply, PlanFault>
     ensures { result ≡ ended end (λ done. reply) }
 {
-    match end {
-        Ok(()) => Ok(reply),
-        Err(fault) => Err(fault),
-    }
+    end?;
+    Ok(reply)
 }

@@ -1,7 +1,9 @@
 //! The plans of the operations on objects.
 ghost use Rattle.std.specs.Prelude.{◌≡◌, ◌≢◌, ◌<◌, Some, IfOk, Err};
 ghost use Rattle.gate_base.specs.Told.{moment_limit};
+ghost use Rattle.s3_names.specs.declared.acl.Acl.{Acl};
 ghost use Rattle.s3_machine.specs.Step.{IsPlace, IsProperContent};
+ghost use Rattle.s3_machine.specs.declared.operation.Label.{Label};
 ghost use Rattle.s3_machine.specs.declared.operation.Op.TheVariants.{PutObject, GetObject, HeadObject, DeleteObject};
 ghost use Rattle.recovery.specs.Calls.{always, Any, Given, TellsBucket};
 ghost use Rattle.recovery.specs.Interpret.{IsShownHead};
@@ -39,24 +41,21 @@ pub(crate) fn put_object<W: Swift>(
     ensures plans { Plans (always 2) (W.history state.old.store.now) (W.history state.new.store.now) state.old.settings.now
         (Given Any) (PutObject bucket key acl content_type meta.now body) label.now known.Settled result }
 {
-    match head_bucket(state, &bucket) {
-        Ok(None) => Ok(Reply::Refused(Code::NoSuchBucket)),
-        Ok(Some(list)) => {
-            put_into(
-                alloc,
-                state,
-                bucket,
-                key,
-                acl,
-                list,
-                content_type,
-                meta,
-                body,
-                label,
-            )
-        }
-        Err(fault) => Err(fault),
-    }
+    let Some(list) = head_bucket(state, &bucket)? else {
+        return Ok(Reply::Refused(Code::NoSuchBucket));
+    };
+    put_into(
+        alloc,
+        state,
+        bucket,
+        key,
+        acl,
+        list,
+        content_type,
+        meta,
+        body,
+        label,
+    )
 }
 
 /// The rest of PutObject, in a bucket that has this access control list.
@@ -116,11 +115,10 @@ pub(crate) fn get_object<W: Swift>(
     ensures plans { Plans (always 3) (W.history state.old.store.now) (W.history state.new.store.now) state.old.settings.now
         (Given Any) (GetObject bucket.now key.now) label.now known.Settled result }
 {
-    match head_bucket(state, bucket) {
-        Ok(None) => Ok(Reply::Refused(Code::NoSuchBucket)),
-        Ok(Some(list)) => get_within(alloc, state, bucket, key, list, label),
-        Err(fault) => Err(fault),
-    }
+    let Some(list) = head_bucket(state, bucket)? else {
+        return Ok(Reply::Refused(Code::NoSuchBucket));
+    };
+    get_within(alloc, state, bucket, key, list, label)
 }
 
 /// The rest of GetObject, in a bucket that has this access control list.
@@ -140,33 +138,29 @@ fn get_within<W: Swift>(
     if !may_read(label.caller, list) {
         return Ok(Reply::Refused(Code::AccessDenied));
     }
-    match recovery::head_object(alloc, state, bucket, key) {
-        Ok(None) => Ok(Reply::Refused(Code::NoSuchKey)),
-        Ok(Some(head)) => get_bytes(state, bucket, key, list, head, label),
-        Err(fault) => Err(fault),
-    }
+    let Some(head) = recovery::head_object(alloc, state, bucket, key)? else {
+        return Ok(Reply::Refused(Code::NoSuchKey));
+    };
+    get_bytes(state, bucket, key, head)
 }
 
-/// The rest of GetObject, for an object that is there and may be read.
+/// The rest of GetObject, for an object that is there and may be read, whatever list its bucket has and whoever asks.
 fn get_bytes<W: Swift>(
     state: &mut Settled<'_, W>,
     bucket: &Bytes,
     key: &Bytes,
-    list: Acl,
     head: ObjectHead,
-    label: &Label,
 ) -> Result<Reply, PlanFault>
     requires place { IsPlace bucket.now key.now }
     requires shown { IsShownHead (Some head) }
     ensures stays { Stays state.old state.new }
-    ensures plans { Plans (always 1) (W.history state.old.store.now) (W.history state.new.store.now) state.old.settings.now
-        (Given (TellsReadable bucket.now key.now label.now.caller list head)) (GetObject bucket.now key.now) label.now known.Settled result }
+    ensures plans { (list : Acl) (label : Label) → Plans (always 1) (W.history state.old.store.now) (W.history state.new.store.now) state.old.settings.now
+        (Given (TellsReadable bucket.now key.now label.caller list head)) (GetObject bucket.now key.now) label known.Settled result }
 {
-    match recovery::get_object(state, bucket, key) {
-        Ok(Some(body)) => whole(head, body),
-        Ok(None) => Err(PlanFault::Inconsistent),
-        Err(fault) => Err(fault),
-    }
+    let Some(body) = recovery::get_object(state, bucket, key)? else {
+        return Err(PlanFault::Inconsistent);
+    };
+    whole(head, body)
 }
 
 /// The reply to GetObject. A store whose GET gives another number of bytes than its HEAD said is inconsistent.
@@ -203,11 +197,10 @@ pub(crate) fn head_object<W: Swift>(
     ensures plans { Plans (always 2) (W.history state.old.store.now) (W.history state.new.store.now) state.old.settings.now
         (Given Any) (HeadObject bucket.now key.now) label.now known.Settled result }
 {
-    match head_bucket(state, bucket) {
-        Ok(None) => Ok(Reply::Refused(Code::NoSuchBucket)),
-        Ok(Some(list)) => head_within(alloc, state, bucket, key, list, label),
-        Err(fault) => Err(fault),
-    }
+    let Some(list) = head_bucket(state, bucket)? else {
+        return Ok(Reply::Refused(Code::NoSuchBucket));
+    };
+    head_within(alloc, state, bucket, key, list, label)
 }
 
 /// The rest of HeadObject, in a bucket that has this access control list.
@@ -227,11 +220,10 @@ fn head_within<W: Swift>(
     if !may_read(label.caller, list) {
         return Ok(Reply::Refused(Code::AccessDenied));
     }
-    match recovery::head_object(alloc, state, bucket, key) {
-        Ok(None) => Ok(Reply::Refused(Code::NoSuchKey)),
-        Ok(Some(head)) => Ok(headed(alloc, head)),
-        Err(fault) => Err(fault),
-    }
+    let Some(head) = recovery::head_object(alloc, state, bucket, key)? else {
+        return Ok(Reply::Refused(Code::NoSuchKey));
+    };
+    Ok(headed(alloc, head))
 }
 
 /// The reply to HeadObject for an object with this head: what GetObject is answered, without the bytes.
@@ -256,32 +248,28 @@ pub(crate) fn delete_object<W: Swift>(
     state: &mut Settled<'_, W>,
     bucket: &Bytes,
     key: &Bytes,
-    label: &Label,
 ) -> Result<Reply, PlanFault>
     requires place { IsPlace bucket.now key.now }
     ensures stays { Stays state.old state.new }
-    ensures plans { Plans (always 2) (W.history state.old.store.now) (W.history state.new.store.now) state.old.settings.now
-        (Given Any) (DeleteObject bucket.now key.now) label.now known.Settled result }
+    ensures plans { (label : Label) → Plans (always 2) (W.history state.old.store.now) (W.history state.new.store.now) state.old.settings.now
+        (Given Any) (DeleteObject bucket.now key.now) label known.Settled result }
 {
-    match head_bucket(state, bucket) {
-        Ok(None) => Ok(Reply::Refused(Code::NoSuchBucket)),
-        Ok(Some(list)) => delete_from(state, bucket, key, list, label),
-        Err(fault) => Err(fault),
-    }
+    let Some(list) = head_bucket(state, bucket)? else {
+        return Ok(Reply::Refused(Code::NoSuchBucket));
+    };
+    delete_from(state, bucket, key)
 }
 
-/// The rest of DeleteObject, in a bucket that is there.
+/// The rest of DeleteObject, in a bucket that is there, whatever list it has.
 fn delete_from<W: Swift>(
     state: &mut Settled<'_, W>,
     bucket: &Bytes,
     key: &Bytes,
-    list: Acl,
-    label: &Label,
 ) -> Result<Reply, PlanFault>
     requires place { IsPlace bucket.now key.now }
     ensures stays { Stays state.old state.new }
-    ensures plans { Plans (always 1) (W.history state.old.store.now) (W.history state.new.store.now) state.old.settings.now
-        (Given (λ s. TellsBucket bucket.now s (Some list))) (DeleteObject bucket.now key.now) label.now known.Settled result }
+    ensures plans { (list : Acl) (label : Label) → Plans (always 1) (W.history state.old.store.now) (W.history state.new.store.now) state.old.settings.now
+        (Given (λ s. TellsBucket bucket.now s (Some list))) (DeleteObject bucket.now key.now) label known.Settled result }
 {
     reply_after(recovery::delete_object(state, bucket, key), Reply::Gone)
 }

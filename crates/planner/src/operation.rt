@@ -64,7 +64,7 @@ fn plan<W: Swift>(
         ),
         Op::GetObject { bucket, key } => get_object(alloc, state, &bucket, &key, label),
         Op::HeadObject { bucket, key } => head_object(alloc, state, &bucket, &key, label),
-        Op::DeleteObject { bucket, key } => delete_object(state, &bucket, &key, label),
+        Op::DeleteObject { bucket, key } => delete_object(state, &bucket, &key),
     }
 }
 

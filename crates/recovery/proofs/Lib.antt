@@ -3,7 +3,6 @@ pub mod Dates
 pub mod Drop
 pub mod Etags
 pub mod FaultFree
-pub mod Faults
 pub mod Files
 pub mod Fits
 pub mod Head

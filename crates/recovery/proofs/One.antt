@@ -20,8 +20,8 @@ use Rattle.recovery.specs.Interpret.{Gives}
 use Rattle.recovery.specs.Stutters.{LastFailed, was_lost, had_none}
 use Rattle.recovery.specs.Calls.{Bound, always, GoesOn, Met, Grows, Given, Keeps, Tells, Asks, Commits, Writes, Changes}
 use Rattle.recovery.proofs.lemmas.Causes.{due_cause}
+use Rattle.recovery.proofs.lemmas.Faults.{err_is}
 use Rattle.recovery.proofs.lemmas.Idle.{stays, none_made, grows_none}
-use Rattle.recovery.proofs.Faults.{err_is}
 
 -- ---- how the history goes on
 

@@ -4,11 +4,11 @@ use Rattle.planner.proofs.Ends.{told_nothing, answers, goes_on}
 use Rattle.planner.proofs.CreateBucket.{steps_owned}
 use Rattle.planner.proofs.buckets.create_bucket.Goals as goal
 
-pub returns-in-Ok-None-clause-plans : goal.returns-in-Ok-None-clause-plans
-returns-in-Ok-None-clause-plans g c = goes_on (lit≤ tt) None c.in-Ok-None.field-0-is c.head_bucket.ensures.stays.settings c.in-Ok-None.ensures.asks c.make_missing.ensures.plans (λ state any told. told)
+pub returns-in_err-head_bucket-clause-plans : goal.returns-in_err-head_bucket-clause-plans
+returns-in_err-head_bucket-clause-plans g c = told_nothing (lit≤ tt) c.in_err-head_bucket.ensures.asks _ c.from_residual.ensures.1
 
-pub returns-in-Ok-Some-clause-plans : goal.returns-in-Ok-Some-clause-plans
-returns-in-Ok-Some-clause-plans g c = answers (lit≤ tt) (Some c.in-Ok-Some.field-0-0) c.in-Ok-Some.field-0-is _ c.in-Ok-Some.ensures.asks (search rules) (λ state any told. steps_owned _ state _ _ _ _ told)
+pub returns-in-None-clause-plans : goal.returns-in-None-clause-plans
+returns-in-None-clause-plans g c = goes_on (lit≤ tt) None c.in-None.is c.head_bucket.ensures.stays.settings c.in_ok-head_bucket.ensures.asks c.make_missing.ensures.plans (λ state any told. told)
 
-pub returns-in-Err-clause-plans : goal.returns-in-Err-clause-plans
-returns-in-Err-clause-plans g c = told_nothing (lit≤ tt) c.in-Err.ensures.asks
+pub returns-in-Some-clause-plans : goal.returns-in-Some-clause-plans
+returns-in-Some-clause-plans g c = answers (lit≤ tt) (Some c.in-Some.field-0) c.in-Some.is _ c.in_ok-head_bucket.ensures.asks (search rules) (λ state any told. steps_owned _ state _ _ _ _ told)

@@ -5,6 +5,6 @@ use Rattle.planner.proofs.Steps.{deletes}
 use Rattle.planner.proofs.objects.delete_from.Goals as goal
 
 pub returns-clause-plans : goal.returns-clause-plans
-returns-clause-plans g c =
+returns-clause-plans g c = λ list label.
     subst (Plans _ _ _ _ _ _ _ _) (sym c.reply_after.ensures)
-    (commits _ (lit≤ tt) c.delete_object.ensures.changes (λ done. search rules) (λ state there. tt) (λ state done new there is. becomes (deletes _ state _ _ _ _ there) is))
+    (commits _ (lit≤ tt) c.delete_object.ensures.changes (λ done. search rules) (λ state there. tt) (λ state done new there is. becomes (deletes _ state _ _ _ list there) is))

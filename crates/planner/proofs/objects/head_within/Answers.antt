@@ -8,13 +8,13 @@ use Rattle.planner.proofs.objects.head_within.Goals as goal
 pub returns-then-not-may_read-clause-plans : goal.returns-then-not-may_read-clause-plans
 returns-then-not-may_read-clause-plans g c = needs_none _ (search rules) (λ state there. head_refused _ state _ _ _ _ there (sym c.may_read.ensures ∙ c.if-not-may_read.true))
 
-pub returns-in-Ok-None-clause-plans : goal.returns-in-Ok-None-clause-plans
-returns-in-Ok-None-clause-plans g c = answers (lit≤ tt) None c.in-Ok-None.field-0-is _ c.in-Ok-None.ensures.asks (search rules) (λ state there none. head_none _ state _ _ _ _ there (sym c.may_read.ensures ∙ c.if-not-may_read.false) none)
+pub returns-in_err-head-clause-plans : goal.returns-in_err-head-clause-plans
+returns-in_err-head-clause-plans g c = told_nothing (lit≤ tt) c.in_err-head.ensures.asks _ c.from_residual.ensures.1
 
-pub returns-in-Ok-Some-clause-plans : goal.returns-in-Ok-Some-clause-plans
-returns-in-Ok-Some-clause-plans g c =
-    ends_by (lit≤ tt) (Some c.in-Ok-Some.head) c.in-Ok-Some.field-0-is _ c.in-Ok-Some.ensures.asks c.headed.ensures.own (search rules)
-    (λ state there object. (headed_reply c.in-Ok-Some.head, ap Ok c.headed.ensures.reply, head_there _ state _ _ _ _ there (sym c.may_read.ensures ∙ c.if-not-may_read.false) _ object))
+pub returns-in_default-clause-plans : goal.returns-in_default-clause-plans
+returns-in_default-clause-plans g c = answers (lit≤ tt) None c.in_default.is _ c.in_ok-head.ensures.asks (search rules) (λ state there none. head_none _ state _ _ _ _ there (sym c.may_read.ensures ∙ c.if-not-may_read.false) none)
 
-pub returns-in-Err-clause-plans : goal.returns-in-Err-clause-plans
-returns-in-Err-clause-plans g c = told_nothing (lit≤ tt) c.in-Err.ensures.asks
+pub returns-clause-plans : goal.returns-clause-plans
+returns-clause-plans g c =
+    ends_by (lit≤ tt) (Some c.in-Some.head) c.in-Some.is _ c.in_ok-head.ensures.asks c.headed.ensures.own (search rules)
+    (λ state there object. (headed_reply c.in-Some.head, ap Ok c.headed.ensures.reply, head_there _ state _ _ _ _ there (sym c.may_read.ensures ∙ c.if-not-may_read.false) _ object))

@@ -4,11 +4,11 @@ use Rattle.planner.proofs.Ends.{told_nothing, answers, goes_on}
 use Rattle.planner.proofs.Steps.{put_missing}
 use Rattle.planner.proofs.objects.put_object.Goals as goal
 
-pub returns-in-Ok-None-clause-plans : goal.returns-in-Ok-None-clause-plans
-returns-in-Ok-None-clause-plans g c = answers (lit≤ tt) None c.in-Ok-None.field-0-is _ c.in-Ok-None.ensures.asks (search rules) (λ state any told. put_missing _ state _ _ _ told _ _ _ _)
+pub returns-in_err-list-clause-plans : goal.returns-in_err-list-clause-plans
+returns-in_err-list-clause-plans g c = told_nothing (lit≤ tt) c.in_err-list.ensures.asks _ c.from_residual.ensures.1
 
-pub returns-in-Ok-Some-clause-plans : goal.returns-in-Ok-Some-clause-plans
-returns-in-Ok-Some-clause-plans g c = goes_on (lit≤ tt) (Some c.in-Ok-Some.list) c.in-Ok-Some.field-0-is c.head_bucket.ensures.stays.settings c.in-Ok-Some.ensures.asks c.put_into.ensures.plans (λ state any told. told)
+pub returns-in_default-clause-plans : goal.returns-in_default-clause-plans
+returns-in_default-clause-plans g c = answers (lit≤ tt) None c.in_default.is _ c.in_ok-list.ensures.asks (search rules) (λ state any told. put_missing _ state _ _ _ told _ _ _ _)
 
-pub returns-in-Err-clause-plans : goal.returns-in-Err-clause-plans
-returns-in-Err-clause-plans g c = told_nothing (lit≤ tt) c.in-Err.ensures.asks
+pub returns-clause-plans : goal.returns-clause-plans
+returns-clause-plans g c = goes_on (lit≤ tt) (Some c.in-Some.list) c.in-Some.is c.head_bucket.ensures.stays.settings c.in_ok-list.ensures.asks c.put_into.ensures.plans (λ state any told. told)
