@@ -1,6 +1,6 @@
 -- What a request means: an operation, or the first reason to refuse it. Source: Amazon S3 API Reference, restated by
 -- this profile; the order of the refusals is this profile's, and what isn't built is NotImplemented.
-use Rattle.std.specs.Prelude.{Bool, false, not, ◌&&◌, nat_lt, if◌then◌else◌, List, [], ◌∷◌, length, Option, Some, None}
+use Rattle.std.specs.Prelude.{◌≡◌, Bool, false, not, ◌&&◌, nat_lt, if◌then◌else◌, List, [], ◌∷◌, length, Option, Some, None}
 use Rattle.gate_base.specs.declared.page.Caller.{Caller}
 use Rattle.gate_base.specs.declared.page.Caller.TheVariants.{Owner, Anonymous}
 use Rattle.s3_names.specs.declared.acl.Acl.TheVariants.{Private}
@@ -117,6 +117,10 @@ op_of _ message target = Refused NotImplemented
 abbrev pub judged : Option Row → Message → Target → Caller → Meant
 judged None message target caller = Refused MethodNotAllowed
 judged (Some row) message target caller = first_refusal (reasons row message target caller) (op_of row message target)
+
+-- the method and the target of a message stay, which its reply needs. The body may be gone
+abbrev pub KeepsFront : Message → Message → Type 0
+KeepsFront old new = (new.method ≡ old.method) × (new.target ≡ old.target)
 
 -- what a request means whose target was read
 unfoldable pub meaning_of : Settings → Message → Target → Caller → Meant

@@ -34,25 +34,25 @@ pub fn handle_request<N: Line<W>, W: Swift, C: Clock, D: Draws>(
     line: &mut N,
     clock: &mut C,
     draws: &mut D,
-    received: &Received,
+    mut received: Received,
 ) -> Handled
     requires { IsTrue (N.model line.old).is_open }
-    ensures endings { EndsWith (end_of received.now) result }
+    ensures endings { EndsWith (end_of received) result }
     ensures served { IsServed result }
     ensures writes { OnlyWrites (is_broken result) (N.model line.old) (N.model line.new) }
-    ensures serves { ServesOver service.now.settings (λ R old new. HandledOnce R old.line.transcript.begun (progress_of old) (progress_of new) (asks_of service.now received.now) result)
+    ensures serves { ServesOver service.now.settings (λ R old new. HandledOnce R old.line.transcript.begun (progress_of old) (progress_of new) (asks_of service.now received) result)
         (world (N.model line.old) (W.history store.old) known.old (C.model clock.old) (D.model draws.old))
         (world (N.model line.new) (W.history store.new) known.new (C.model clock.new) (D.model draws.new)) }
 {
     let next = next_label(clock, draws);
-    let resolved = resolve(alloc, service, received, next.moment);
+    let resolved = resolve(alloc, service, &mut received, next.moment);
     let label = sent_by(resolved.caller, next);
     let reply = reply_to(
         alloc,
         store,
         known,
         &service.settings,
-        &resolved.means,
+        resolved.means,
         &label,
     );
     match write_reply(

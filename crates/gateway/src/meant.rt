@@ -1,7 +1,7 @@
 //! What a request means.
 ghost use Rattle.std.specs.Prelude.{◌≡◌, ◌≢◌, ◌&&◌, ◌||◌, not, nat_lt, length, IfOk};
 ghost use Rattle.gateway.specs.ResolvedRequest.{IsProperMeant};
-ghost use Rattle.gateway.specs.Meaning.{first_refusal, target_reasons, judged, reasons, header_reasons, content_reasons, caller_reasons, meaning_of, op_of, is_denied, has_bad_bucket, row_of};
+ghost use Rattle.gateway.specs.Meaning.{first_refusal, target_reasons, judged, reasons, header_reasons, content_reasons, caller_reasons, meaning_of, op_of, KeepsFront, is_denied, has_bad_bucket, row_of};
 ghost use Rattle.gateway.specs.declared.meant.Meant.TheVariants as variant;
 ghost use Rattle.gateway.specs.Rows.{shape_of, level_of};
 ghost use Rattle.gateway.specs.Meaning.{has_long_key, has_bad_key};
@@ -22,6 +22,7 @@ use http_wire::Message;
 use s3_machine::{Code, Op, Settings, is_content_type, is_proper_meta};
 use s3_names::{Acl, Meta, Target, is_bucket, is_key};
 use std::alloc::Global;
+use std::mem;
 
 /// The most bytes of a key (Amazon S3 User Guide, "Naming Amazon S3 objects").
 const MOST_KEY_BYTES: usize = 1024;
@@ -38,16 +39,18 @@ pub enum Meant {
 }
 
 /// What a request means whose target was read (Amazon S3 API Reference, restated by this profile): the operation that it
-/// asks for, or the code of the first reason to refuse it.
+/// asks for, or the code of the first reason to refuse it. The body moves into an operation that has one; the method and
+/// the target of the message stay.
 pub fn meaning(
     alloc: Global,
-    message: &Message,
+    message: &mut Message,
     target: &Target,
     caller: &Caller,
     settings: &Settings,
 ) -> Meant
-    ensures value { result ≢ variant.Memory → result ≡ meaning_of settings.now message.now target.now caller.now }
+    ensures value { result ≢ variant.Memory → result ≡ meaning_of settings.now message.entry.now target.now caller.now }
     ensures proper { IsProperMeant result }
+    ensures keeps { KeepsFront message.entry.now message.exit.now }
 {
     match by_target(alloc, settings, message, target, caller) {
         Ok(meant) => meant,
@@ -60,11 +63,12 @@ pub fn meaning(
 fn by_target(
     alloc: Global,
     settings: &Settings,
-    message: &Message,
+    message: &mut Message,
     target: &Target,
     caller: &Caller,
 ) -> Result<Meant, Memory>
-    ensures { IfOk result (λ meant. meant ≡ meaning_of settings.now message.now target.now caller.now) }
+    ensures value { IfOk result (λ meant. meant ≡ meaning_of settings.now message.entry.now target.now caller.now) }
+    ensures keeps { KeepsFront message.entry.now message.exit.now }
 {
     if !is_method(message.method.as_slice()) {
         return Ok(Meant::Refused(Code::MethodNotAllowed));
@@ -91,11 +95,12 @@ fn by_target(
 fn by_row(
     alloc: Global,
     row: Row,
-    message: &Message,
+    message: &mut Message,
     target: &Target,
     caller: &Caller,
 ) -> Result<Meant, Memory>
-    ensures { IfOk result (λ meant. meant ≡ first_refusal (reasons row message.now target.now caller.now) (op_of row message.now target.now)) }
+    ensures value { IfOk result (λ meant. meant ≡ first_refusal (reasons row message.entry.now target.now caller.now) (op_of row message.entry.now target.now)) }
+    ensures keeps { KeepsFront message.entry.now message.exit.now }
 {
     if !shape_of(row).is_built() {
         return Ok(Meant::Refused(Code::NotImplemented));
@@ -113,11 +118,12 @@ fn by_row(
 fn by_headers(
     alloc: Global,
     row: Row,
-    message: &Message,
+    message: &mut Message,
     target: &Target,
     caller: &Caller,
 ) -> Result<Meant, Memory>
-    ensures { IfOk result (λ meant. meant ≡ first_refusal (header_reasons row message.now target.now caller.now) (op_of row message.now target.now)) }
+    ensures value { IfOk result (λ meant. meant ≡ first_refusal (header_reasons row message.entry.now target.now caller.now) (op_of row message.entry.now target.now)) }
+    ensures keeps { KeepsFront message.entry.now message.exit.now }
 {
     let method = message.method.as_slice();
     let headers = message.headers.as_slice();
@@ -149,11 +155,12 @@ fn by_headers(
 fn by_content(
     alloc: Global,
     row: Row,
-    message: &Message,
+    message: &mut Message,
     target: &Target,
     caller: &Caller,
 ) -> Result<Meant, Memory>
-    ensures { IfOk result (λ meant. meant ≡ first_refusal (content_reasons row message.now caller.now) (op_of row message.now target.now)) }
+    ensures value { IfOk result (λ meant. meant ≡ first_refusal (content_reasons row message.entry.now caller.now) (op_of row message.entry.now target.now)) }
+    ensures keeps { KeepsFront message.entry.now message.exit.now }
 {
     let headers = message.headers.as_slice();
     if has_bad_digest(alloc, headers)? {
@@ -179,24 +186,26 @@ fn by_content(
     if is_denied(row, *caller) {
         return Ok(Meant::Refused(Code::AccessDenied));
     }
-    op_of(row, message, target, content_type, meta)
+    op_of(alloc, row, message, target, content_type, meta)
 }
 
 /// The operation of a row, with the content type and the metadata that it takes.
 fn op_of(
+    alloc: Global,
     row: Row,
-    message: &Message,
+    message: &mut Message,
     target: &Target,
     content_type: Bytes,
     meta: Meta,
 ) -> Result<Meant, Memory>
     requires content_type { content_type ≡ taken_type row message.now.headers }
     requires meta { meta ≡ taken_meta row message.now.headers }
-    ensures { IfOk result (λ meant. meant ≡ op_of row message.now target.now) }
+    ensures value { IfOk result (λ meant. meant ≡ op_of row message.entry.now target.now) }
+    ensures keeps { KeepsFront message.entry.now message.exit.now }
 {
     match row {
         Row::CreateBucket => create_bucket(target),
-        Row::PutObject => put_object(message, target, content_type, meta),
+        Row::PutObject => put_object(alloc, message, target, content_type, meta),
         Row::GetObject => get_object(target),
         Row::HeadObject => head_object(target),
         Row::DeleteObject => delete_object(target),
@@ -229,32 +238,33 @@ fn create_bucket(target: &Target) -> Result<Meant, Memory>
 }
 
 fn put_object(
-    message: &Message,
+    alloc: Global,
+    message: &mut Message,
     target: &Target,
     content_type: Bytes,
     meta: Meta,
 ) -> Result<Meant, Memory>
-    ensures { IfOk result (λ meant. meant ≡ Meant.Op (Op.PutObject target.now.bucket target.now.key None content_type meta message.now.body)) }
+    ensures value { IfOk result (λ meant. meant ≡ Meant.Op (Op.PutObject target.now.bucket target.now.key None content_type meta message.entry.now.body)) }
+    ensures keeps { KeepsFront message.entry.now message.exit.now }
 {
-    let (bucket, key, body) = put_copies(message, target)?;
+    let (bucket, key) = place(target)?;
     Ok(Meant::Op(Op::PutObject {
         bucket,
         key,
         acl: None,
         content_type,
         meta,
-        body,
+        body: mem::replace(&mut message.body, Bytes::new(alloc)),
     }))
 }
 
-/// The bucket and the key of the target, and the body.
-fn put_copies(message: &Message, target: &Target) -> Result<(Bytes, Bytes, Bytes), Memory>
-    ensures { IfOk result (λ copies. copies ≡ record { 0 = target.now.bucket; 1 = target.now.key; 2 = message.now.body }) }
+/// The bucket and the key of the target.
+fn place(target: &Target) -> Result<(Bytes, Bytes), Memory>
+    ensures { IfOk result (λ copies. copies ≡ record { 0 = target.now.bucket; 1 = target.now.key }) }
 {
     let bucket = target.bucket.copy()?;
     let key = target.key.copy()?;
-    let body = message.body.copy()?;
-    Ok((bucket, key, body))
+    Ok((bucket, key))
 }
 
 fn get_object(target: &Target) -> Result<Meant, Memory>

@@ -32,26 +32,26 @@ pub fn reply_to<W: Swift>(
     store: &mut W,
     known: &mut Known,
     settings: &Settings,
-    means: &Meant,
+    means: Meant,
     label: &Label,
 ) -> Reply
-    requires proper { IsProperMeant means.now }
+    requires proper { IsProperMeant means }
     requires moment { label.now.moment < moment_limit }
 
     ensures showable { IsShowable result }
     ensures goes_on { GoesOn (W.history store.old) (W.history store.new) }
     ensures unavailable { result ≡ answer.Refused ServiceUnavailable → Rose (W.history store.old).faults (W.history store.new).faults }
-    ensures wanted { means.now ≡ variant.Memory → result ≡ answer.Memory }
+    ensures wanted { means ≡ variant.Memory → result ≡ answer.Memory }
     ensures stands { Stands settings.now known.old known.new (W.history store.old) (W.history store.new) }
 
     // Where memory ran out, some reply is expected, and it is not this one; then who sent the request may be unknown.
-    ensures effect { (all : Bool) → Where all (Met (IsKnown known.old) (W.history store.old)) → (request : Request) → Understands means.now request
-        → (means.now ≢ variant.Memory → label.now.caller ≡ request.caller)
+    ensures effect { (all : Bool) → Where all (Met (IsKnown known.old) (W.history store.old)) → (request : Request) → Understands means request
+        → (means ≢ variant.Memory → label.now.caller ≡ request.caller)
         → RepliesExpected (RepliesBy all settings.now (W.history store.new)) (mark (W.history store.old) known.old) (mark (W.history store.new) known.new) request (sent_by request.caller label.now) result }
 {
     match means {
         Meant::Op(op) => operate(alloc, store, known, settings, op, label),
-        Meant::Refused(code) => Reply::Refused(*code),
+        Meant::Refused(code) => Reply::Refused(code),
         Meant::Memory => Reply::Memory,
     }
 }
@@ -62,11 +62,11 @@ fn operate<W: Swift>(
     store: &mut W,
     known: &mut Known,
     settings: &Settings,
-    op: &Op,
+    op: Op,
     label: &Label,
 ) -> Reply
-    requires { IsProper op.now label.now }
-    ensures { Operated settings.now op.now label.now (W.history store.old) (W.history store.new) known.old known.new result }
+    requires { IsProper op label.now }
+    ensures { Operated settings.now op label.now (W.history store.old) (W.history store.new) known.old known.new result }
 {
     match known {
         Known::Settled => {}
@@ -90,11 +90,11 @@ fn perform<W: Swift>(
     alloc: Global,
     store: &mut W,
     settings: &Settings,
-    op: &Op,
+    op: Op,
     label: &Label,
 ) -> Reply
-    requires { IsProper op.now label.now }
-    ensures { Answered (most_calls op.now (present (W.history store.old))) (W.history store.old) (W.history store.new) settings.now op.now label.now known.Settled result }
+    requires { IsProper op label.now }
+    ensures { Answered (most_calls op (present (W.history store.old))) (W.history store.old) (W.history store.new) settings.now op label.now known.Settled result }
 {
     planner::answer(alloc, &mut Settled::hold(store, settings), op, label)
 }

@@ -2,6 +2,7 @@
 ghost use Rattle.std.specs.Prelude.{◌≡◌, ◌≢◌, false, cond, codes, [], Some, position, IfSome, ◌<◌, length};
 ghost use Rattle.gate_base.specs.declared.page.Caller.TheVariants.{Anonymous as anonymous};
 ghost use Rattle.s3_names.specs.Target.{target_of};
+ghost use Rattle.gateway.specs.Meaning.{KeepsFront};
 ghost use Rattle.gateway.specs.ResolvedRequest.{Is, IsProperMeant};
 ghost use Rattle.gateway.specs.Request.{raw_path, end_after, resolve_target, admitted, caller_of, caller_or_anonymous, caller_or_refusal_at, refused_by, request_of, refused_request, asks_of, end_of, code_of, is_question_mark};
 ghost use Rattle.gateway.specs.Serving.{has_ended_failed};
@@ -18,17 +19,17 @@ use s3_names::{NameFault, Target};
 use sigv4::{Refusal, verify};
 use std::alloc::Global;
 
-/// What was received, as it is answered at that moment.
+/// What was received, as it is answered at that moment. A body moves into its operation.
 pub fn resolve<'a>(
     alloc: Global,
     service: &Service,
-    received: &'a Received,
+    received: &'a mut Received,
     moment: u64,
 ) -> ResolvedRequest<'a>
     ensures proper { IsProperMeant result.means }
-    ensures ends { result.end ≡ end_of received.now }
+    ensures ends { result.end ≡ end_of received.old }
     ensures served { has_ended_failed result.end ≡ false }
-    ensures is { Is result (asks_of service.now received.now moment) }
+    ensures is { Is result (asks_of service.now received.old moment) }
 {
     match received {
         Received::Message(message) => resolve_message(alloc, service, message, moment),
@@ -40,21 +41,22 @@ pub fn resolve<'a>(
 fn resolve_message<'a>(
     alloc: Global,
     service: &Service,
-    message: &'a Message,
+    message: &'a mut Message,
     moment: u64,
 ) -> ResolvedRequest<'a>
     ensures proper { IsProperMeant result.means }
-    ensures ends { result.end ≡ end_after message.now }
+    ensures ends { result.end ≡ end_after message.entry.now }
     ensures served { has_ended_failed result.end ≡ false }
-    ensures is { Is result (request_of service.now moment message.now) }
+    ensures is { Is result (request_of service.now moment message.entry.now) }
 {
+    let end = end_of(message);
     let understood = understand(alloc, service, message, moment);
     ResolvedRequest {
         caller: understood.caller,
         method: message.method.as_slice(),
         resource: path_of(message.target.as_slice()),
         means: understood.means,
-        end: end_of(message),
+        end,
     }
 }
 
@@ -85,10 +87,11 @@ fn unknown() -> Understood
 }
 
 /// The target is read, then the signature is verified, and then the meaning is found.
-fn understand(alloc: Global, service: &Service, message: &Message, moment: u64) -> Understood
+fn understand(alloc: Global, service: &Service, message: &mut Message, moment: u64) -> Understood
     ensures proper { IsProperMeant result.means }
-    ensures means { result.means ≢ variant.Memory → result.means ≡ resolve_target service.now moment message.now (target_of message.now.target) }
-    ensures caller { result.means ≢ variant.Memory → result.caller ≡ caller_of service.now moment message.now (target_of message.now.target) }
+    ensures means { result.means ≢ variant.Memory → result.means ≡ resolve_target service.now moment message.entry.now (target_of message.entry.now.target) }
+    ensures caller { result.means ≢ variant.Memory → result.caller ≡ caller_of service.now moment message.entry.now (target_of message.entry.now.target) }
+    ensures keeps { KeepsFront message.entry.now message.exit.now }
 {
     match Target::read(alloc, message.target.as_slice()) {
         Ok(target) => authenticate(alloc, service, message, &target, moment),
@@ -108,13 +111,14 @@ fn understand(alloc: Global, service: &Service, message: &Message, moment: u64) 
 fn authenticate(
     alloc: Global,
     service: &Service,
-    message: &Message,
+    message: &mut Message,
     target: &Target,
     moment: u64,
 ) -> Understood
     ensures proper { IsProperMeant result.means }
-    ensures means { result.means ≢ variant.Memory → result.means ≡ admitted service.now.settings message.now target.now (caller_or_refusal_at service.now moment message.now target.now) }
-    ensures caller { result.means ≢ variant.Memory → result.caller ≡ caller_or_anonymous (caller_or_refusal_at service.now moment message.now target.now) }
+    ensures means { result.means ≢ variant.Memory → result.means ≡ admitted service.now.settings message.entry.now target.now (caller_or_refusal_at service.now moment message.entry.now target.now) }
+    ensures caller { result.means ≢ variant.Memory → result.caller ≡ caller_or_anonymous (caller_or_refusal_at service.now moment message.entry.now target.now) }
+    ensures keeps { KeepsFront message.entry.now message.exit.now }
 {
     let region = service.settings.region.as_slice();
     match verify(alloc, &service.keys, region, message, target, moment) {

@@ -90,7 +90,7 @@ fn serve_next<N: Line<W>, W: Swift, C: Clock, D: Draws>(
             line,
             clock,
             draws,
-            &Received::Message(message),
+            Received::Message(message),
         ),
         Ok(Got::Refused { kind, place, head }) => answer(
             alloc,
@@ -100,7 +100,7 @@ fn serve_next<N: Line<W>, W: Swift, C: Clock, D: Draws>(
             line,
             clock,
             draws,
-            &Received::Refused { kind, place, head },
+            Received::Refused { kind, place, head },
         ),
         Ok(Got::End) => Some(Ended::End),
         Ok(Got::CutShort(place)) => Some(Ended::CutShort(place)),
@@ -118,12 +118,12 @@ fn answer<N: Line<W>, W: Swift, C: Clock, D: Draws>(
     line: &mut N,
     clock: &mut C,
     draws: &mut D,
-    received: &Received,
+    received: Received,
 ) -> Option<Ended>
     requires { IsTrue (N.model line.old).is_open }
-    ensures ends { result ≡ None → end_of received.now ≡ None }
+    ensures ends { result ≡ None → end_of received ≡ None }
     ensures writes { OnlyWrites (has_ended_failed result) (N.model line.old) (N.model line.new) }
-    ensures serves { ServesOver service.now.settings (λ R old new. HandledEnds R old.line.transcript.begun (progress_of old) (progress_of new) (asks_of service.now received.now) result)
+    ensures serves { ServesOver service.now.settings (λ R old new. HandledEnds R old.line.transcript.begun (progress_of old) (progress_of new) (asks_of service.now received) result)
         (world (N.model line.old) (W.history store.old) known.old (C.model clock.old) (D.model draws.old))
         (world (N.model line.new) (W.history store.new) known.new (C.model clock.new) (D.model draws.new)) }
 {

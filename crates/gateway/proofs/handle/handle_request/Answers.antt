@@ -8,7 +8,7 @@ returns-in-Whole-clause-serves g c = record {
   stands = c.reply_to-reply.ensures.stands;
   effect = λ told all met.
       let wrote = c.in-Whole.ensures.effect told.line in
-      resolved_whole _ _ _ _ _ _ _ _ (asks_of c.args.service.now c.args.received.now) c.next_label-next.result c.sent_by-label.result c.reply_to-reply.result c.resolve-resolved.result c.resolve-resolved.ensures.is
+      resolved_whole _ _ _ _ _ _ _ _ (asks_of c.args.service.now c.args.received) c.next_label-next.result c.sent_by-label.result c.reply_to-reply.result c.resolve-resolved.result c.resolve-resolved.ensures.is
       c.sent_by-label.ensures (c.next_label-next.ensures.effect told.clock told.draws) c.reply_to-reply.ensures.wanted (c.reply_to-reply.ensures.effect all met) _ c.is_some.ensures wrote.0 wrote.1;
 }
 
@@ -17,7 +17,7 @@ returns-in-Memory-clause-serves g c = record {
   on = record { line = c.in-Memory.ensures.writes.serves.observable; store = c.reply_to-reply.ensures.goes_on; clock = c.next_label-next.ensures.clock_observable; draws = c.next_label-next.ensures.draws_observable };
   stands = c.reply_to-reply.ensures.stands;
   effect = λ told all met.
-      resolved_wanted _ _ _ _ _ _ _ _ (asks_of c.args.service.now c.args.received.now) c.next_label-next.result c.sent_by-label.result c.reply_to-reply.result c.resolve-resolved.result c.resolve-resolved.ensures.is
+      resolved_wanted _ _ _ _ _ _ _ _ (asks_of c.args.service.now c.args.received) c.next_label-next.result c.sent_by-label.result c.reply_to-reply.result c.resolve-resolved.result c.resolve-resolved.ensures.is
       c.sent_by-label.ensures (c.next_label-next.ensures.effect told.clock told.draws) c.reply_to-reply.ensures.wanted (c.reply_to-reply.ensures.effect all met) (c.in-Memory.ensures.effect told.line);
 }
 
@@ -26,6 +26,6 @@ returns-clause-serves g c = record {
   on = record { line = c.in-Failed.ensures.writes.serves.observable; store = c.reply_to-reply.ensures.goes_on; clock = c.next_label-next.ensures.clock_observable; draws = c.next_label-next.ensures.draws_observable };
   stands = c.reply_to-reply.ensures.stands;
   effect = λ told all met.
-      resolved_broken _ _ _ _ _ _ _ _ (asks_of c.args.service.now c.args.received.now) c.next_label-next.result c.sent_by-label.result c.reply_to-reply.result c.resolve-resolved.result c.resolve-resolved.ensures.is
+      resolved_broken _ _ _ _ _ _ _ _ (asks_of c.args.service.now c.args.received) c.next_label-next.result c.sent_by-label.result c.reply_to-reply.result c.resolve-resolved.result c.resolve-resolved.ensures.is
       c.sent_by-label.ensures (c.next_label-next.ensures.effect told.clock told.draws) c.reply_to-reply.ensures.wanted (c.reply_to-reply.ensures.effect all met) _ c.is_some.ensures (c.in-Failed.ensures.effect told.line);
 }

@@ -5,4 +5,4 @@ use Rattle.gateway.proofs.meant.meaning.Goals as goal
 
 pub returns-in-Ok-clause-proper : goal.returns-in-Ok-clause-proper
 returns-in-Ok-clause-proper c =
-    subst IsProperMeant (sym c.in-Ok.ensures) (meaning_proper c.args.settings.now c.args.message.now c.args.target.now c.args.caller.now)
+    subst IsProperMeant (sym c.in-Ok.ensures.value) (meaning_proper c.args.settings.now c.args.message.now c.args.target.now c.args.caller.now)

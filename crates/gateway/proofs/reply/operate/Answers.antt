@@ -17,5 +17,5 @@ returns g c =
       | in-Settled w ↦ (readied_at_once w.in-Settled.is (ap g.W.Swift.history w.store-is), w.known-is ∙ w.in-Settled.is)
       | in-Unsure+in-Ok w ↦ (readied_by w.in-Unsure.is (ap g.W.Swift.history w.store-is) w.in-Ok.ensures, w.known-is)
     ] in
-    let P : Known → Type 0 = λ now. Operated c.args.settings.now c.args.op.now c.args.label.now old (g.W.Swift.history c.perform.new.store) c.args.known.now now c.perform.result in
+    let P : Known → Type 0 = λ now. Operated c.args.settings.now c.args.op c.args.label.now old (g.W.Swift.history c.perform.new.store) c.args.known.now now c.perform.result in
     subst P (sym readied.1) (operated_by readied.0 c.perform.ensures)
