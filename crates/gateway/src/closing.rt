@@ -1,9 +1,9 @@
-ghost use Rattle.std.specs.Prelude.{◌≡◌, ◌&&◌, ◌||◌, map, filter, take, drop, length, codes, bytes_eq, position, IfSome, ◌<◌};
+ghost use Rattle.std.specs.Prelude.{◌≡◌, ◌||◌, ◌-◌, ◌≤◌, map, filter, take, drop, length, codes, bytes_eq, position, IfSome, ◌<◌};
 ghost use Rattle.std.specs.Char.{to_ascii_lowercase};
-ghost use Rattle.std.specs.List.{list_any, list_all, slice_split};
+ghost use Rattle.std.specs.List.{list_any, prefix_len, suffix_len, slice_split};
 ghost use Rattle.http_wire.specs.FirstMessage.{has_name, value_of, values_of};
 ghost use Rattle.gate_base.specs.Ascii.{is_blank};
-ghost use Rattle.gateway.specs.Closing.{skip_blanks, is_close, is_comma, has_close, is_closing};
+ghost use Rattle.gateway.specs.Closing.{behind_blanks, before_blanks, is_close, is_comma, has_close, is_closing};
 
 use gate_base::Pair;
 use http_wire::Message;
@@ -73,35 +73,37 @@ fn comma(byte: u8) -> bool
 fn close_word(piece: &[u8]) -> bool
     ensures { result ≡ is_close piece.now }
 {
-    let word = after_blanks(piece);
-    if word.len() < 5 {
-        return false;
-    }
-    word[..5].eq_ignore_ascii_case(b"close") && all_blank(&word[5..])
+    before_blanks(behind_blanks(piece)).eq_ignore_ascii_case(b"close")
 }
 
-#[tactic(auto, unfolding(crate::specs::Closing::skip_blanks))]
-fn after_blanks(piece: &[u8]) -> &[u8]
-    ensures { result.now ≡ skip_blanks piece.now }
+fn behind_blanks(text: &[u8]) -> &[u8]
+    ensures { result.now ≡ behind_blanks text.now }
 {
-    let mut rest = piece;
-    'blanks: while let [byte, others @ ..] = rest {
-        if !blank(*byte) {
-            break;
-        }
-        rest = others;
-    }
-    rest
+    &text[first_blanks(text)..]
+}
+
+fn before_blanks(text: &[u8]) -> &[u8]
+    ensures { result.now ≡ before_blanks text.now }
+{
+    &text[..text.len() - last_blanks(text)]
+}
+
+fn first_blanks(text: &[u8]) -> usize
+    ensures is { result ≡ prefix_len is_blank text.now }
+    ensures within { result ≤ length text.now }
+{
+    text.iter().take_while(|byte| blank(**byte)).count()
+}
+
+fn last_blanks(text: &[u8]) -> usize
+    ensures is { result ≡ suffix_len is_blank text.now }
+    ensures within { result ≤ length text.now }
+{
+    text.iter().rev().take_while(|byte| blank(**byte)).count()
 }
 
 fn blank(byte: u8) -> bool
     ensures { result ≡ is_blank byte }
 {
     byte == b' ' || byte == b'\t'
-}
-
-fn all_blank(bytes: &[u8]) -> bool
-    ensures { result ≡ list_all is_blank bytes.now }
-{
-    bytes.iter().all(|byte| blank(*byte))
 }
