@@ -1,3 +1,4 @@
+pub mod Entries
 pub mod Handling
 pub mod JoinLemmas
 pub mod Living

@@ -4,6 +4,7 @@ pub mod Content
 pub mod Exchange
 pub mod Handled
 pub mod Headers
+pub mod Laws
 pub mod Life
 pub mod Meaning
 pub mod Proper

@@ -1,4 +1,5 @@
 //! Laws of the definitions, each the contract of a function that does nothing.
+ghost use Rattle.gateway.specs.Laws.{GivenMeta};
 ghost use Rattle.gateway.specs.Life.{ManyRuns, OneRun, SentIsCounted, StandsAll};
 
 /// Through a run the account is consistent after each call, and goes through the steps of the request that has the call.
@@ -20,4 +21,9 @@ pub fn law_many_runs()
 /// A request that was answered by the service itself is counted from the first piece of its reply on.
 pub fn law_sent_is_counted()
     ensures { SentIsCounted }
+{}
+
+/// The metadata of headers has their entries and no other, each name once and in order.
+pub fn law_given_meta()
+    ensures { GivenMeta }
 {}
