@@ -1,7 +1,10 @@
+ghost use Rattle.std.specs.Prelude.{◌≡◌};
+
+use gate_base::{Copying, Memory};
 use http_wire::Kind;
 
 /// How a connection ended.
-#[derive(Debug, Drop)]
+#[derive(Clone, Copy, Debug, PartialEq, Eq)]
 pub enum Ended {
     /// No byte was left.
     End,
@@ -15,4 +18,12 @@ pub enum Ended {
     LineFailed,
     /// Memory ran out.
     Memory,
+}
+
+impl Copying for Ended {
+    fn copy(&self) -> Result<Ended, Memory>
+        ensures { result ≡ Ok self.now }
+    {
+        Ok(*self)
+    }
 }

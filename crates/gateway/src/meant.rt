@@ -38,6 +38,16 @@ pub enum Meant {
     Memory,
 }
 
+impl Copying for Meant {
+    fn copy(&self) -> Result<Meant, Memory> {
+        match self {
+            Meant::Op(op) => Ok(Meant::Op(op.copy()?)),
+            Meant::Refused(code) => Ok(Meant::Refused(*code)),
+            Meant::Memory => Ok(Meant::Memory),
+        }
+    }
+}
+
 /// What a request means whose target was read (Amazon S3 API Reference, restated by this profile): the operation that it
 /// asks for, or the code of the first reason to refuse it. The body moves into an operation that has one; the method and
 /// the target of the message stay.

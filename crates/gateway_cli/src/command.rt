@@ -1,4 +1,6 @@
-use gate_base::{Bytes, Memory};
+ghost use Rattle.std.specs.Prelude.{◌≡◌};
+
+use gate_base::{Bytes, Copying, Memory};
 use std::alloc::AllocError;
 
 /// What the words ask for. `Session`: to serve one connection as this region. `Sign`: to sign a request with the
@@ -9,11 +11,33 @@ pub enum Command {
     Sign { key: Bytes, region: Bytes },
 }
 
+impl Copying for Command {
+    fn copy(&self) -> Result<Command, Memory> {
+        match self {
+            Command::Session { region } => Ok(Command::Session {
+                region: region.copy()?,
+            }),
+            Command::Sign { key, region } => Ok(Command::Sign {
+                key: key.copy()?,
+                region: region.copy()?,
+            }),
+        }
+    }
+}
+
 /// Why there is no command. `Refused`: the words name none. `Memory`: memory ran out.
 #[derive(Clone, Copy, Debug, PartialEq, Eq)]
 pub enum WordsFault {
     Refused,
     Memory,
+}
+
+impl Copying for WordsFault {
+    fn copy(&self) -> Result<WordsFault, Memory>
+        ensures { result ≡ Ok self.now }
+    {
+        Ok(*self)
+    }
 }
 
 impl From<Memory> for WordsFault {
