@@ -24,9 +24,8 @@ use s3_machine::{Code, Label, Op, Reply, Settings};
 use std::alloc::Global;
 use swift_calls::Swift;
 
-/// The reply to what a request means: its code, without a call of the store; or what the operation is answered. `known` is
-/// what is known of the store as the request comes: whether a completion may be sealed on it. It goes from one request to
-/// the next. After the call it says what is known then.
+/// The reply to what a request means: its code, without a call of the store; or what the operation is answered. `known`,
+/// what is known of the store, goes from one request to the next.
 pub fn reply_to<W: Swift>(
     alloc: Global,
     store: &mut W,
@@ -78,14 +77,12 @@ fn operate<W: Swift>(
     perform(alloc, store, settings, op, label)
 }
 
-/// Settles a store.
 fn settle<W: Swift>(store: &mut W, settings: &Settings) -> Result<(), SettleFault>
     ensures { Settles (W.history store.old) (W.history store.new) result }
 {
     Unsure::open(store, settings).settle()
 }
 
-/// Answers an operation over a store that is settled.
 fn perform<W: Swift>(
     alloc: Global,
     store: &mut W,

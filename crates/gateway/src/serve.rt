@@ -21,8 +21,7 @@ use swift_calls::Swift;
 /// Serves one open connection to its end: its requests are resolved and answered in order. After the first that ends the
 /// connection, and where the line fails or memory runs out while a request is read, no more is read of it.
 ///
-/// `known` is what is known of the store as the connection begins: whether a completion may be sealed on it. It goes from
-/// one connection to the next. After the call it says what is known then.
+/// `known`, whether a completion may be sealed on the store, goes from one connection to the next.
 pub fn serve_connection<N: Line<W>, W: Swift, C: Clock, D: Draws>(
     alloc: Global,
     store: &mut W,

@@ -64,7 +64,6 @@ pub fn write_memory<N: Line<W>, W: Swift>(line: &mut N, store: &W, head: bool) -
     write_wanted(line, store, print_memory(head))
 }
 
-/// Writes these bytes, which are the out-of-memory reply.
 fn write_wanted<N: Line<W>, W: Swift>(line: &mut N, store: &W, bytes: &[u8]) -> Written
     requires { IsTrue (N.model line.old).is_open }
     ensures outcome { result ≢ written.Whole }
@@ -78,10 +77,8 @@ fn write_wanted<N: Line<W>, W: Swift>(line: &mut N, store: &W, bytes: &[u8]) -> 
 }
 
 /// The bytes of a reply to a request of that method, whose target has the raw path `resource`; `closing` says that the
-/// connection ends after it. The moments in the label and the reply, in seconds since the beginning of 1970, lie before
-/// the year 10000, and an object's range ends at most at 2^63 and isn't empty where it is partial.
-/// The call fails where memory runs out, and for the reply that says so, whose bytes are fixed and need none
-/// ([`http_wire::print_memory`]).
+/// connection ends after it. Moments are seconds since the beginning of 1970. The reply that says that memory ran out has
+/// its bytes from [`http_wire::print_memory`]: for it the call fails.
 #[tactic(auto, using(crate::proofs::Statuses::reply_status), unfolding(crate::specs::Request::reply_text))]
 pub fn print_reply(
     alloc: Global,

@@ -32,22 +32,9 @@ use swift_calls::Swift;
 /// signature failed; 8 where no request stood first on the line, or one that can't be signed.
 ///
 /// Of a run that serves, three clauses say what became of its requests, each with its span: the numbers of calls before
-/// it, as its operation began, at its commit point, and after it.
-///
-/// `heard`, where line, clock and draws are observable, over every store: the connections were served in order, none
-/// skipped, and in each the requests that stand in its bytes were answered in order. The bytes that are expected for a
-/// request, or where the line failed under them the first of these, were sent at its commit point or later, and before
-/// the next request's first call. A request that is no operation got its code without a call, ServiceUnavailable came
-/// only where the store's count of faults rose, and the spans follow one another from entry to exit, with no call outside
-/// them.
-///
-/// `stands`, where the store is observable and its account is consistent at entry, whatever the line tells: there are
-/// requests whose spans follow one another from entry to exit, and the account goes through the steps of each. At each
-/// number of calls it is consistent, and one that the request which has the number goes through. So it is left where a
-/// run is stopped (see [`gateway::law_many_runs`]).
-///
-/// `effect`, where all of these hold: both of the same requests, and the reply to an operation is the machine's, by the step
-/// that the account took, or tells that the store failed or that memory ran out.
+/// it, as its operation began, at its commit point, and after it. `heard` is over every store, `stands` over every line,
+/// and `effect` joins both. So an account that is consistent at entry is left consistent also where a run is stopped (see
+/// [`gateway::law_many_runs`]).
 pub fn run<N: Line<W>, R: Sink, W: Swift, C: Clock, D: Draws>(
     alloc: Global,
     words: &[String],
@@ -92,9 +79,11 @@ pub fn run<N: Line<W>, R: Sink, W: Swift, C: Clock, D: Draws>(
     ensures fault_free { IsTrue (W.history store.old).observable → (W.history store.new).called < budget → (Rose (W.history store.old).faults (W.history store.new).faults → ⊥)
         → FaultFree (W.history store.new) (W.history store.old).called (W.history store.new).called }
 
-    // Where line, clock and draws are observable, a run that serves is a trace: the requests of its connections in order,
-    // each with its span. Over every store a request that is no operation gets its code without a call, and
-    // ServiceUnavailable comes only where the store's count of faults rose.
+    // Where line, clock and draws are observable, a run that serves is a trace: its connections in order, none skipped, and
+    // of each the requests in order. The bytes that are expected for a request, or where the line failed under them the
+    // first of these, are sent at its commit point or later, and before the next request's first call. Over every store a
+    // request that is no operation gets its code without a call, ServiceUnavailable comes only where the store's count of
+    // faults rose, and no call lies outside the spans.
     ensures heard { (serving : Serving) → serving_of (command_of words.now) ≡ Some serving
         → IsObservable (world (N.model line.old) (W.history store.old) Unsure (C.model clock.old) (D.model draws.old))
         → RunHeard (service_of serving keys.now)
