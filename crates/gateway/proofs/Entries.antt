@@ -6,7 +6,7 @@ use Rattle.std.proofs.lemmas.List.Elements.{Contains-append_left, Contains-appen
 use Rattle.std.proofs.lemmas.Slice.Eq.{bytes_eq-Decides}
 use Rattle.gate_base.specs.declared.page.Pair.{Pair}
 use Rattle.s3_names.specs.Meta.{names_ascend, has_name, place_of, with_pair}
-use Rattle.s3_names.proofs.MetaLemmas.{with_pair_ascends}
+use Rattle.s3_names.proofs.lemmas.MetaLemmas.{with_pair_ascends}
 use Rattle.s3_machine.specs.Limits.{is_kept_header}
 use Rattle.gateway.specs.Content.{is_own_header, is_entry, entry_name, entered, given_meta}
 use Rattle.gateway.specs.Headers.{text_of}
