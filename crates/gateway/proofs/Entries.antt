@@ -9,7 +9,7 @@ use Rattle.s3_names.specs.Meta.{names_ascend, has_name, place_of, with_pair}
 use Rattle.s3_names.proofs.lemmas.MetaLemmas.{with_pair_ascends}
 use Rattle.s3_machine.specs.Limits.{is_kept_header}
 use Rattle.gateway.specs.Content.{is_own_header, is_entry, entry_name, entered, given_meta}
-use Rattle.gateway.specs.Headers.{text_of}
+use Rattle.http_wire.specs.Headers.{text_of}
 use Rattle.gateway.specs.Laws.{entry_of, Makes, HasMade}
 
 -- ---- no two headers make entries of one name
@@ -102,10 +102,10 @@ keeps_if true name value meta pair c = with_pair_keeps name value meta pair c
 keeps_if false name value meta pair c = c
 
 sound_if : (entry has : Bool) (headers meta : List Pair) (header : Pair) → is_entry header.name ≡ entry → has_name (entry_name header.name) meta ≡ has → Contains headers header → Sound headers meta
-    → Sound headers (cond (entry && not has) (with_pair (entry_name header.name) (text_of headers header.name) meta) meta)
+    → Sound headers (cond (entry && not has) (with_pair (entry_name header.name) (text_of header.name headers) meta) meta)
 sound_if true false headers meta header e f given sound = record {
-  ascends = with_pair_ascends (entry_name header.name) (text_of headers header.name) meta sound.ascends f;
-  made = λ entry c. of entry (with_pair_only (entry_name header.name) (text_of headers header.name) meta entry c);
+  ascends = with_pair_ascends (entry_name header.name) (text_of header.name headers) meta sound.ascends f;
+  made = λ entry c. of entry (with_pair_only (entry_name header.name) (text_of header.name headers) meta entry c);
 }
   where
     of : (entry : Pair) → (entry ≡ entry_of headers header) ⊎ Contains meta entry → Makes headers entry
@@ -139,16 +139,16 @@ found name (pair ∷ pairs) h = of (found name pairs) (either (bytes_eq pair.nam
         record { pair = rest.pair; there = Contains-append_right (pair ∷ []) pairs rest.pair rest.there; named = rest.named }
 
 has_if : (has : Bool) (headers meta : List Pair) (header : Pair) → is_entry header.name ≡ true → has_name (entry_name header.name) meta ≡ has → Sound headers meta
-    → Contains (cond (is_entry header.name && not has) (with_pair (entry_name header.name) (text_of headers header.name) meta) meta) (entry_of headers header)
+    → Contains (cond (is_entry header.name && not has) (with_pair (entry_name header.name) (text_of header.name headers) meta) meta) (entry_of headers header)
 has_if false headers meta header e f sound =
-    subst (λ b. Contains (cond (b && true) (with_pair (entry_name header.name) (text_of headers header.name) meta) meta) (entry_of headers header)) (sym e)
-    (with_pair_has (entry_name header.name) (text_of headers header.name) meta)
+    subst (λ b. Contains (cond (b && true) (with_pair (entry_name header.name) (text_of header.name headers) meta) meta) (entry_of headers header)) (sym e)
+    (with_pair_has (entry_name header.name) (text_of header.name headers) meta)
 has_if true headers meta header e f sound =
     let one = found (entry_name header.name) meta f in
     let by = sound.made one.pair one.there in
     let name : by.header.name ≡ header.name = same_name by.header.name header.name by.makes e (sym (ap (λ p. p.name) by.is) ∙ one.named) in
-    let same : one.pair ≡ entry_of headers header = by.is ∙ ap (λ n. (let p : Pair = record { name = entry_name n; value = text_of headers n } in p)) name in
-    subst (λ b. Contains (cond (b && false) (with_pair (entry_name header.name) (text_of headers header.name) meta) meta) (entry_of headers header)) (sym e)
+    let same : one.pair ≡ entry_of headers header = by.is ∙ ap (λ n. (let p : Pair = record { name = entry_name n; value = text_of n headers } in p)) name in
+    subst (λ b. Contains (cond (b && false) (with_pair (entry_name header.name) (text_of header.name headers) meta) meta) (entry_of headers header)) (sym e)
     (subst (λ p. Contains meta p) same one.there)
 
 -- ---- all of them
@@ -157,7 +157,7 @@ all_keep : (headers rest meta : List Pair) (pair : Pair) → Contains meta pair 
 all_keep headers [] meta pair c = c
 all_keep headers (header ∷ rest) meta pair c =
     all_keep headers rest (entered headers meta header) pair
-    (keeps_if (is_entry header.name && not (has_name (entry_name header.name) meta)) (entry_name header.name) (text_of headers header.name) meta pair c)
+    (keeps_if (is_entry header.name && not (has_name (entry_name header.name) meta)) (entry_name header.name) (text_of header.name headers) meta pair c)
 
 one_more : (headers meta : List Pair) (header : Pair) → Contains headers header → Sound headers meta → Sound headers (entered headers meta header)
 one_more headers meta header given sound = sound_if (is_entry header.name) (has_name (entry_name header.name) meta) headers meta header refl refl given sound

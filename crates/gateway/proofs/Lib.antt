@@ -1,6 +1,5 @@
 pub mod Entries
 pub mod Handling
-pub mod JoinLemmas
 pub mod Living
 pub mod Looping
 pub mod Map

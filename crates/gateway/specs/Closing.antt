@@ -4,7 +4,7 @@ use Rattle.std.specs.Prelude.{ℕ, Bool, ◌||◌, ◌==◌, ◌-◌, List, map,
 use Rattle.std.specs.Char.{to_ascii_lowercase}
 use Rattle.std.specs.List.{list_any, prefix_len, suffix_len, slice_split}
 use Rattle.http_wire.specs.declared.message.Message.{Message}
-use Rattle.http_wire.specs.FirstMessage.{values_of}
+use Rattle.http_wire.specs.Headers.{values_of}
 use Rattle.gate_base.specs.Ascii.{is_blank}
 
 -- the text behind the blanks at its start, and the text before those at its end

@@ -11,7 +11,7 @@ use Rattle.gate_base.specs.declared.page.Pair.{Pair}
 use Rattle.s3_names.specs.Meta.{has_name, with_pair}
 use Rattle.s3_machine.specs.Limits.{is_kept_header, is_proper_pair, most_body_bytes}
 use Rattle.gateway.specs.declared.rows.Row.{Row}
-use Rattle.gateway.specs.Headers.{has_header, text_of}
+use Rattle.http_wire.specs.Headers.{has_header, text_of}
 use Rattle.gateway.specs.Rows.{shape_of}
 
 abbrev pub has_sixteen_bytes : Result (List ℕ) DecodeError → Bool
@@ -24,17 +24,17 @@ is_digest text = has_sixteen_bytes (decode_of standard text)
 
 -- a Content-MD5 that is none
 abbrev pub has_bad_digest : List Pair → Bool
-has_bad_digest headers = has_header headers (codes "content-md5") && not (is_digest (text_of headers (codes "content-md5")))
+has_bad_digest headers = has_header (codes "content-md5") headers && not (is_digest (text_of (codes "content-md5") headers))
 
 -- a Content-MD5 other than the body's
 abbrev pub is_other_body : List Pair → List ℕ → Bool
 is_other_body headers body =
-    has_header headers (codes "content-md5") && not (bytes_eq (text_of headers (codes "content-md5")) (encode_of standard (md5 body)))
+    has_header (codes "content-md5") headers && not (bytes_eq (text_of (codes "content-md5") headers) (encode_of standard (md5 body)))
 
 -- an absent or empty Content-Type is `binary/octet-stream`
 abbrev pub given_type : List Pair → List ℕ
 given_type headers =
-    if length (text_of headers (codes "content-type")) == 0 then codes "binary/octet-stream" else text_of headers (codes "content-type")
+    if length (text_of (codes "content-type") headers) == 0 then codes "binary/octet-stream" else text_of (codes "content-type") headers
 
 abbrev pub taken_type : Row → List Pair → List ℕ
 taken_type row headers = if (shape_of row).has_content then given_type headers else codes "binary/octet-stream"
@@ -55,7 +55,7 @@ entry_name name = if is_own_header name then drop 10 name else name
 abbrev pub entered : List Pair → List Pair → Pair → List Pair
 entered headers meta header =
     if is_entry header.name && not (has_name (entry_name header.name) meta)
-    then with_pair (entry_name header.name) (text_of headers header.name) meta
+    then with_pair (entry_name header.name) (text_of header.name headers) meta
     else meta
 
 -- the entries of all headers

@@ -1,19 +1,12 @@
 -- What the headers of a request say. Sources: RFC 9110, section 5.3 (several headers of one name), and Amazon S3 API
 -- Reference, "Common request headers"; which of them are refused is this profile.
 use Rattle.std.specs.Prelude.{ℕ, Bool, false, not, ◌&&◌, ◌||◌, nat_eq, List, [], ◌∷◌, codes, bytes_eq}
-use Rattle.std.specs.List.{list_any, starts_with, join_with_byte}
+use Rattle.std.specs.List.{list_any, starts_with}
 use Rattle.gate_base.specs.declared.page.Pair.{Pair}
-use Rattle.http_wire.specs.FirstMessage.{has_name, values_of}
+use Rattle.http_wire.specs.Headers.{has_header, text_of}
 use Rattle.gateway.specs.declared.rows.Level.{Level}
 use Rattle.gateway.specs.declared.rows.Level.TheVariants.{Key}
 use Rattle.gateway.specs.Rows.{is_same_level}
-
-abbrev pub has_header : List Pair → List ℕ → Bool
-has_header headers name = list_any (has_name name) headers
-
--- the values of the headers of a name in their order, with `,` between each two; no byte where there is none
-abbrev pub text_of : List Pair → List ℕ → List ℕ
-text_of headers name = join_with_byte 44 (values_of name headers)
 
 -- copies, tags, redirections and the tokens of sessions
 abbrev pub is_unsupported_name : List ℕ → Bool
@@ -40,7 +33,7 @@ has_part word (byte ∷ text) = starts_with nat_eq (byte ∷ text) word || has_p
 
 -- the body would come in the chunks of Signature Version 4
 abbrev pub is_chunked : List Pair → Bool
-is_chunked headers = has_part (codes "aws-chunked") (text_of headers (codes "content-encoding"))
+is_chunked headers = has_part (codes "aws-chunked") (text_of (codes "content-encoding") headers)
 
 abbrev pub is_read : List ℕ → Bool
 is_read method = bytes_eq method (codes "GET") || bytes_eq method (codes "HEAD")
@@ -48,13 +41,13 @@ is_read method = bytes_eq method (codes "GET") || bytes_eq method (codes "HEAD")
 -- a condition on the ETag with another method than GET and HEAD
 abbrev pub is_conditional_write : List ℕ → List Pair → Bool
 is_conditional_write method headers =
-    not (is_read method) && (has_header headers (codes "if-match") || has_header headers (codes "if-none-match"))
+    not (is_read method) && (has_header (codes "if-match") headers || has_header (codes "if-none-match") headers)
 
 -- a range or a condition
 abbrev pub is_conditional : List Pair → Bool
 is_conditional headers =
-    has_header headers (codes "range") || has_header headers (codes "if-match") || has_header headers (codes "if-none-match")
-    || has_header headers (codes "if-modified-since") || has_header headers (codes "if-unmodified-since")
+    has_header (codes "range") headers || has_header (codes "if-match") headers || has_header (codes "if-none-match") headers
+    || has_header (codes "if-modified-since") headers || has_header (codes "if-unmodified-since") headers
 
 -- these with a GET or HEAD of a key, where they aren't built
 abbrev pub is_conditional_read : List ℕ → Level → List Pair → Bool
@@ -62,9 +55,9 @@ is_conditional_read method level headers = is_read method && is_same_level level
 
 -- an access control list, where it isn't built
 abbrev pub names_acl : List Pair → Bool
-names_acl headers = has_header headers (codes "x-amz-acl")
+names_acl headers = has_header (codes "x-amz-acl") headers
 
 -- a storage class other than `STANDARD`
 abbrev pub has_other_class : List Pair → Bool
 has_other_class headers =
-    has_header headers (codes "x-amz-storage-class") && not (bytes_eq (text_of headers (codes "x-amz-storage-class")) (codes "STANDARD"))
+    has_header (codes "x-amz-storage-class") headers && not (bytes_eq (text_of (codes "x-amz-storage-class") headers) (codes "STANDARD"))

@@ -3,11 +3,11 @@ use Rattle.std.specs.Prelude.{◌≡◌, true, List, Contains}
 use Rattle.gate_base.specs.declared.page.Pair.{Pair}
 use Rattle.s3_names.specs.Meta.{names_ascend}
 use Rattle.gateway.specs.Content.{is_entry, entry_name, given_meta}
-use Rattle.gateway.specs.Headers.{text_of}
+use Rattle.http_wire.specs.Headers.{text_of}
 
 -- the entry that a header makes: its value is the text of all headers of the header's name
 abbrev pub entry_of : List Pair → Pair → Pair
-entry_of headers header = record { name = entry_name header.name; value = text_of headers header.name }
+entry_of headers header = record { name = entry_name header.name; value = text_of header.name headers }
 
 -- a header of the list makes this entry
 pub record Makes (headers : List Pair) (entry : Pair) : Type 0 where

@@ -6,15 +6,15 @@ ghost use Rattle.base64.specs.GeneralPurpose.{decode_of, encode_of, IsBytes};
 ghost use Rattle.md5.specs.Md5.{md5};
 ghost use Rattle.s3_names.specs.Meta.{with_pair};
 ghost use Rattle.s3_machine.specs.Limits.{is_content_type, is_proper_pair, is_proper_meta, is_kept_header};
-ghost use Rattle.gateway.specs.Headers.{has_header, text_of};
+ghost use Rattle.http_wire.specs.Headers.{has_header, text_of};
 ghost use Rattle.gateway.specs.Rows.{shape_of};
 ghost use Rattle.gateway.specs.Content.{is_digest, has_bad_digest, is_other_body, given_type, taken_type, is_own_header, is_entry, entry_name, entered, given_meta, taken_meta, is_bad_entry, has_bad_entry, is_long_body, has_unread_body};
 
-use crate::headers::{has_header, text_of};
 use crate::rows::{Row, shape_of};
 use base64::DecodeAllocError;
 use base64::engine::general_purpose::STANDARD;
 use gate_base::{Bytes, Memory, Pair};
+use http_wire::{has_header, text_of};
 use md5::{Digest, Md5};
 use s3_machine::{MOST_BODY_BYTES, is_meta_name, is_meta_value};
 use s3_names::Meta;

@@ -59,7 +59,7 @@ pub fn handle_request<N: Line<W>, W: Swift, C: Clock, D: Draws>(
         alloc,
         line,
         store,
-        &reply,
+        reply,
         &label,
         resolved.method,
         resolved.resource,

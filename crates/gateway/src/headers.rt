@@ -1,50 +1,16 @@
 //! What the headers of a request say, and which of them no row takes.
 ghost use Rattle.std.specs.Prelude.{◌≡◌, ◌&&◌, ◌||◌, not, nat_eq, ◌==◌, [], ◌∷◌, length, codes, bytes_eq, IfOk, take, map, filter};
 ghost use Rattle.std.specs.List.{list_any, starts_with, join_with_byte};
-ghost use Rattle.http_wire.specs.FirstMessage.{has_name, value_of, values_of};
+ghost use Rattle.http_wire.specs.Headers.{has_header, text_of};
 ghost use Rattle.gateway.specs.declared.rows.Level.{Level};
 ghost use Rattle.gateway.specs.declared.rows.Level.TheVariants.{Key};
 ghost use Rattle.gateway.specs.Rows.{is_same_level};
-ghost use Rattle.gateway.specs.Headers.{has_header, text_of, is_unsupported_name, is_unsupported_kind, is_unsupported, has_unsupported, has_part, is_chunked, is_read, is_conditional_write, is_conditional, is_conditional_read, names_acl, has_other_class};
+ghost use Rattle.gateway.specs.Headers.{is_unsupported_name, is_unsupported_kind, is_unsupported, has_unsupported, has_part, is_chunked, is_read, is_conditional_write, is_conditional, is_conditional_read, names_acl, has_other_class};
 
-use crate::join::joined;
 use crate::rows::{Level, is_same_level};
-use gate_base::{Bytes, Copying, List, Memory, Pair};
+use gate_base::{Memory, Pair};
+use http_wire::{has_header, text_of};
 use std::alloc::Global;
-
-fn has_name(name: &[u8], header: &Pair) -> bool
-    ensures { result ≡ has_name name.now header.now }
-{
-    header.name.as_slice() == name
-}
-
-/// Whether there is a header of the name.
-pub fn has_header(headers: &[Pair], name: &[u8]) -> bool
-    ensures { result ≡ has_header headers.now name.now }
-{
-    headers.iter().any(|header| has_name(name, header))
-}
-
-fn values_of(alloc: Global, headers: &[Pair], name: &[u8]) -> Result<List<Bytes>, Memory>
-    ensures { IfOk result (λ values. values ≡ values_of name.now headers.now) }
-{
-    let mut values = List::new(alloc);
-    for header in headers {
-        if has_name(name, header) {
-            values.push(header.value.copy()?)?;
-        }
-    }
-    Ok(values)
-}
-
-/// The values of the headers of a name in their order, with `,` between each two (RFC 9110, section 5.3); no byte where
-/// there is none.
-pub fn text_of(alloc: Global, headers: &[Pair], name: &[u8]) -> Result<Bytes, Memory>
-    ensures { IfOk result (λ text. text ≡ text_of headers.now name.now) }
-{
-    let values = values_of(alloc, headers, name)?;
-    joined(alloc, b',', values.as_slice())
-}
 
 fn is_unsupported_name(name: &[u8]) -> bool
     ensures { result ≡ is_unsupported_name name.now }

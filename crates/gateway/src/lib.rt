@@ -6,7 +6,6 @@ mod content;
 mod ended;
 mod handle;
 mod headers;
-mod join;
 mod label;
 mod laws;
 mod meant;

@@ -32,18 +32,18 @@ pub fn write_reply<N: Line<W>, W: Swift>(
     alloc: Global,
     line: &mut N,
     store: &W,
-    reply: &Reply,
+    reply: Reply,
     label: &Label,
     method: &[u8],
     resource: &[u8],
     closing: bool,
 ) -> Written
     requires open { IsTrue (N.model line.old).is_open }
-    requires showable { IsShowable reply.now }
+    requires showable { IsShowable reply }
     requires moment { label.now.moment < moment_limit }
     ensures writes { OnlyWrites (has_failed_write result) (N.model line.old) (N.model line.new) }
     ensures effect { IsTrue (N.model line.old).observable
-        → Writes (N.model line.old).transcript (W.history store.now).called reply.now label.now method.now resource.now closing result (N.model line.new).transcript }
+        → Writes (N.model line.old).transcript (W.history store.now).called reply label.now method.now resource.now closing result (N.model line.new).transcript }
 {
     match print_reply(alloc, reply, label, method, resource, closing) {
         Ok(text) => match line.write(store, text.as_slice()) {
@@ -82,16 +82,16 @@ fn write_wanted<N: Line<W>, W: Swift>(line: &mut N, store: &W, bytes: &[u8]) -> 
 #[tactic(auto, using(crate::proofs::Statuses::reply_status), unfolding(crate::specs::Request::reply_text))]
 pub fn print_reply(
     alloc: Global,
-    reply: &Reply,
+    reply: Reply,
     label: &Label,
     method: &[u8],
     resource: &[u8],
     closing: bool,
 ) -> Result<Bytes, Memory>
-    requires showable { IsShowable reply.now }
+    requires showable { IsShowable reply }
     requires moment { label.now.moment < moment_limit }
-    ensures text { IfOk result (λ text. text ≡ reply_text reply.now label.now method.now resource.now closing) }
-    ensures known { OnOk result (reply.now ≢ answer.Memory) }
+    ensures text { IfOk result (λ text. text ≡ reply_text reply label.now method.now resource.now closing) }
+    ensures known { OnOk result (reply ≢ answer.Memory) }
 {
     if let Reply::Memory = reply {
         return Err(Memory);

@@ -7,6 +7,9 @@ use http::StatusCode;
 use itoa::Buffer;
 use std::alloc::Global;
 
+/// Room for the head of most replies, so that no body is moved as its text grows.
+const HEAD_ROOM: usize = 1024;
+
 /// The bytes of a page that answers a request of that method: the status line, the page's headers in their order,
 /// Content-Length, which is left out for 204 and 304 and where the page has a header of that name, `Connection: close`
 /// where the connection ends after the reply, an empty line, and the body, which is left out for HEAD, 204 and 304
@@ -15,7 +18,7 @@ pub fn print_page(alloc: Global, page: &Page, method: &[u8], closing: bool) -> R
     requires { IsReplyStatus page.now.status }
     ensures { IfOk result (λ text. text ≡ page_text page.now method.now closing) }
 {
-    let mut text = Bytes::new(alloc);
+    let mut text = Bytes::with_room(alloc, page.body.len().saturating_add(HEAD_ROOM))?;
     append_status(&mut text, page.status)?;
     append_headers(&mut text, page.headers.as_slice())?;
     append_length(&mut text, page)?;

@@ -1,6 +1,6 @@
 use Rattle.std.proofs.Common.{◌≡◌, codes, drop}
 use Rattle.std.specs.List.{list_any}
-use Rattle.http_wire.specs.FirstMessage.{values_of}
+use Rattle.http_wire.specs.Headers.{values_of}
 use Rattle.gateway.specs.Closing.{has_close}
 use Rattle.gateway.proofs.closing.close_header.Given as goal
 
