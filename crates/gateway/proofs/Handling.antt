@@ -17,7 +17,7 @@ use Rattle.gateway.specs.declared.meant.Meant.TheVariants as meant
 use Rattle.gateway.specs.ResolvedRequest.{Is, Understands}
 use Rattle.gateway.specs.declared.handle.Handled.TheVariants.{Served, Broken}
 use Rattle.gateway.specs.Request.{Request, reply_text, print}
-use Rattle.gateway.specs.Exchange.{Mark, Span, RepliesExpected, printed, wanted, Sends, SendsPart, IsPiece}
+use Rattle.gateway.specs.Exchange.{ReplyRelation, Mark, RepliesExpected, printed, wanted, Sends, SendsPart, IsPiece}
 use Rattle.gateway.specs.Connection.{LabelGiven, sent_by, progress}
 use Rattle.gateway.specs.Handled.{HandledOnce}
 use Rattle.gateway.specs.Write.{IsText}

@@ -3,8 +3,6 @@ use Rattle.std.proofs.Common.{◌≡◌, ℕ, List, [], ◌∷◌, ◌++◌, Boo
 use Rattle.gate_base.specs.Causes.{RisesIf}
 use Rattle.gate_base.specs.Line.{LineModel, LineServes, TranscriptServes}
 use Rattle.gate_base.specs.Transcript.{Transcript}
-use Rattle.s3_machine.specs.declared.operation.Label.{Label}
-use Rattle.s3_machine.specs.declared.operation.Reply.{Reply}
 use Rattle.s3_machine.specs.declared.operation.Settings.{Settings}
 use Rattle.swift_calls.specs.History.{History, Extends}
 use Rattle.upload_records.specs.Consistent.{IsConsistent}
@@ -14,8 +12,7 @@ use Rattle.recovery.specs.Settling.{IsKnown}
 use Rattle.http_wire.specs.Gives.{Pending}
 use Rattle.gateway.specs.declared.ended.Ended.{Ended}
 use Rattle.gateway.specs.declared.service.Service.{Service}
-use Rattle.gateway.specs.Request.{Request}
-use Rattle.gateway.specs.Exchange.{Mark, Span, RepliesBy, Where}
+use Rattle.gateway.specs.Exchange.{ReplyRelation, Mark, Span, RepliesBy, Where}
 use Rattle.gateway.specs.Connection.{Progress, ConnectionCursor, progress, cursor, Exchanges, none, more, ConnectionTrace}
 use Rattle.gateway.specs.Serving.{NextOne, EndsUnread}
 use Rattle.gateway.specs.Stands.{Stands}

@@ -14,7 +14,8 @@ use Rattle.sigv4.specs.declared.authorization.Authorization.{Authorization}
 use Rattle.sigv4.specs.declared.keys.AccessKey.{AccessKey}
 use Rattle.sigv4.specs.declared.refusal.Refusal.{Refusal}
 use Rattle.sigv4.specs.declared.refusal.Refusal.TheVariants as signature
-use Rattle.sigv4.specs.Verdict.{is_unknown, has_wrong_scope, leaves_unsigned, lacks_date, time_of, is_streaming, lacks_payload_hash, signature_differs, expected, payload_differs, claim_of, judged, caller_or_refusal, Gives}
+use Rattle.sigv4.specs.Verdict.{has_wrong_scope, leaves_unsigned, lacks_date, time_of, is_streaming, lacks_payload_hash, signature_differs, expected, payload_differs, claim_of, judged_with, judged, caller_or_refusal, Gives}
+use Rattle.sigv4.specs.Keys.{secret_of}
 use Rattle.sigv4.specs.Moment.{is_skewed}
 use Rattle.gateway.specs.declared.ended.Ended.TheVariants as ended
 use Rattle.gateway.specs.declared.resolved.ResolvedRequest.{ResolvedRequest}
@@ -32,18 +33,23 @@ known_if true refusal rest one others = λ e. one (let same : refusal ≡ signat
 known_if false refusal rest one others = others
 
 -- no reason to refuse a signature is a lack of memory
-judged_known : (keys : List AccessKey) (region : List ℕ) (message : Message) (target : Target) (moment : ℕ) (claim : Option Authorization) → judged keys region message target moment claim ≢ Err signature.Memory
-judged_known keys region message target moment None = λ e. cc
-judged_known keys region message target moment (Some claim) =
-    known_if (is_unknown keys claim) signature.UnknownKey _ (λ e. cc)
-    (known_if (has_wrong_scope region claim) signature.WrongScope _ (λ e. cc)
+secret_known : (secret : Option (List ℕ)) (region : List ℕ) (message : Message) (target : Target) (moment : ℕ) (claim : Authorization)
+    → judged_with secret region message target moment claim ≢ Err signature.Memory
+secret_known None region message target moment claim = λ e. cc
+secret_known (Some secret) region message target moment claim =
+    known_if (has_wrong_scope region claim) signature.WrongScope _ (λ e. cc)
     (known_if (leaves_unsigned claim message.headers) signature.UnsignedHeader _ (λ e. cc)
     (known_if (lacks_date claim message.headers) signature.NoDate _ (λ e. cc)
     (known_if (is_skewed (time_of message.headers) moment) signature.Skewed _ (λ e. cc)
     (known_if (is_streaming message.headers) signature.Streaming _ (λ e. cc)
     (known_if (lacks_payload_hash message.headers) signature.NoPayloadHash _ (λ e. cc)
-    (known_if (signature_differs claim (expected keys region message target claim)) (signature.SignatureDiffers (expected keys region message target claim).canonical_hash) _ (λ e. cc)
-    (known_if (payload_differs message) signature.PayloadDiffers (Ok Owner) (λ e. cc) (λ e. cc)))))))))
+    (known_if (signature_differs claim (expected secret region message target claim)) (signature.SignatureDiffers (expected secret region message target claim).canonical_hash) _ (λ e. cc)
+    (known_if (payload_differs message) signature.PayloadDiffers (Ok Owner) (λ e. cc) (λ e. cc))))))))
+
+judged_known : (keys : List AccessKey) (region : List ℕ) (message : Message) (target : Target) (moment : ℕ) (claim : Option Authorization)
+    → judged keys region message target moment claim ≢ Err signature.Memory
+judged_known keys region message target moment None = λ e. cc
+judged_known keys region message target moment (Some claim) = secret_known (secret_of claim.id keys) region message target moment claim
 
 claimed_known : (b : Bool) (judgement : Result Caller Refusal) → judgement ≢ Err signature.Memory → cond b judgement (Ok Anonymous) ≢ Err signature.Memory
 claimed_known true judgement known = known

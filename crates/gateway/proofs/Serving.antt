@@ -2,8 +2,6 @@
 use Rattle.std.proofs.Common.{◌≡◌, ℕ, Bool, true, false, List, [], ◌∷◌, Option, None, Some, refl, sym, ap, subst, ◌∙◌, inl, inr}
 use Rattle.gate_base.specs.declared.outside.Piece.{Piece}
 use Rattle.gate_base.specs.Transcript.{Transcript}
-use Rattle.s3_machine.specs.declared.operation.Label.{Label}
-use Rattle.s3_machine.specs.declared.operation.Reply.{Reply}
 use Rattle.gateway.specs.declared.service.Service.{Service}
 use Rattle.http_wire.specs.declared.message.Message.{Message}
 use Rattle.http_wire.specs.declared.message.Kind.{Kind}
@@ -13,7 +11,7 @@ use Rattle.http_wire.specs.Print.{memory_reply}
 use Rattle.gateway.specs.declared.ended.Ended.{Ended}
 use Rattle.gateway.specs.declared.ended.Ended.TheVariants.{End, Closed, CutShort, Refused, LineFailed, Memory}
 use Rattle.gateway.specs.declared.handle.Handled.TheVariants.{Served, Broken}
-use Rattle.gateway.specs.Exchange.{Mark, Span, Sends, SendsPart}
+use Rattle.gateway.specs.Exchange.{ReplyRelation, Mark, Sends, SendsPart}
 use Rattle.gateway.specs.Request.{Request, refused_request, asks_of}
 use Rattle.gateway.specs.declared.received.Received.TheVariants as received
 use Rattle.gateway.specs.Connection.{Progress, ConnectionCursor, progress, cursor, Resolves, read, rejected, over, cut, served, unread, unheard, untold, broken}

@@ -2,16 +2,13 @@
 use Rattle.std.proofs.Common.{Bool, IsTrue}
 use Rattle.gate_base.specs.Line.{LineModel}
 use Rattle.gate_base.specs.Told.{SourceModel}
-use Rattle.s3_machine.specs.declared.operation.Label.{Label}
-use Rattle.s3_machine.specs.declared.operation.Reply.{Reply}
 use Rattle.s3_machine.specs.declared.operation.Settings.{Settings}
 use Rattle.swift_calls.specs.History.{History, Extends}
 use Rattle.recovery.specs.declared.state.Known.{Known}
 use Rattle.recovery.specs.Calls.{Met}
 use Rattle.recovery.specs.Settling.{IsKnown}
 use Rattle.recovery.proofs.lemmas.Idle.{goes_none}
-use Rattle.gateway.specs.Request.{Request}
-use Rattle.gateway.specs.Exchange.{ReplyRelation, Mark, Span, RepliesBy, Where}
+use Rattle.gateway.specs.Exchange.{ReplyRelation, RepliesBy, Where}
 use Rattle.gateway.specs.World.{World, world, IsObservable, Continues, ServesOver}
 use Rattle.gateway.proofs.Operating.{goes_on_trans}
 use Rattle.gateway.proofs.Replying.{stands_still}

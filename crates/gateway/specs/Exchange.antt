@@ -46,10 +46,6 @@ IsKnownOf h m = IsKnown m.known (h.tree_at m.number)
 
 -- ---- one request
 
--- what is said of a reply: of the mark before the request, its span, the mark after it, the request, its label and the reply
-abbrev pub ReplyRelation : Type 1
-ReplyRelation = Mark → Span → Mark → Request → Label → Reply → Type 0
-
 -- an operation with its label
 pub record Asked : Type 0 where
   pub op : Op
@@ -70,6 +66,10 @@ pub record Span : Type 0 where
   pub to : ℕ
   pub asked : Option Asked
   pub takes : ℕ
+
+-- what is said of a reply: of the mark before the request, its span, the mark after it, the request, its label and the reply
+abbrev pub ReplyRelation : Type 1
+ReplyRelation = Mark → Span → Mark → Request → Label → Reply → Type 0
 
 -- the span of a request that asks for this, between two marks
 pub record IsSpan (old : Mark) (span : Span) (new : Mark) (asks : Option Asked) : Type 0 where

@@ -1,13 +1,12 @@
 -- What becomes of one request, between two points of progress. Source: this profile.
 use Rattle.std.specs.Prelude.{◌≡◌, ◌⊎◌, ℕ, Bool, true, false, Option, None, Some}
 use Rattle.s3_machine.specs.declared.operation.Label.{Label}
-use Rattle.s3_machine.specs.declared.operation.Reply.{Reply}
 use Rattle.gateway.specs.declared.ended.Ended.{Ended}
 use Rattle.gateway.specs.declared.ended.Ended.TheVariants.{LineFailed, Memory}
 use Rattle.gateway.specs.declared.handle.Handled.{Handled}
 use Rattle.gateway.specs.declared.handle.Handled.TheVariants.{Served, Broken}
 use Rattle.gateway.specs.Request.{Request}
-use Rattle.gateway.specs.Exchange.{ReplyRelation, Mark, Span, Exchange, CutExchange}
+use Rattle.gateway.specs.Exchange.{ReplyRelation, Span, Exchange, CutExchange}
 use Rattle.gateway.specs.Connection.{Progress, Labels}
 use Rattle.gateway.specs.Serving.{has_ended_failed}
 

@@ -1,14 +1,11 @@
 -- One step of a connection: a request that was answered, or its end. Source: this profile.
 use Rattle.std.specs.Prelude.{ℕ, Bool, false, List, Option, None, Some}
 use Rattle.gate_base.specs.Transcript.{Transcript}
-use Rattle.s3_machine.specs.declared.operation.Label.{Label}
-use Rattle.s3_machine.specs.declared.operation.Reply.{Reply}
 use Rattle.gateway.specs.declared.service.Service.{Service}
 use Rattle.http_wire.specs.Print.{memory_reply}
 use Rattle.gateway.specs.declared.ended.Ended.{Ended}
 use Rattle.gateway.specs.declared.ended.Ended.TheVariants.{End, Closed, CutShort, Refused, LineFailed, Memory}
-use Rattle.gateway.specs.Request.{Request}
-use Rattle.gateway.specs.Exchange.{ReplyRelation, Mark, Span, Sends, SendsPart}
+use Rattle.gateway.specs.Exchange.{ReplyRelation, Span, Sends, SendsPart}
 use Rattle.gateway.specs.Connection.{ConnectionCursor, Serves, Ends, has_failed}
 
 -- whether the connection ended because the line failed

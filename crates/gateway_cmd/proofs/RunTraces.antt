@@ -4,13 +4,10 @@ use Rattle.std.specs.Prelude.{◌≡◌, ◌≤◌, ℕ, ◌+◌, ◌-◌, Bool,
 use Rattle.std.proofs.Common.{refl, ap, ◌∙◌, arith}
 use Rattle.std.proofs.lemmas.List.{length-set, length-append}
 use Rattle.gate_base.specs.Causes.{Rose}
-use Rattle.s3_machine.specs.declared.operation.Label.{Label}
-use Rattle.s3_machine.specs.declared.operation.Reply.{Reply}
 use Rattle.swift_calls.specs.History.{History, Extends}
 use Rattle.upload_records.specs.Consistent.{IsConsistent}
 use Rattle.gateway.specs.declared.service.Service.{Service}
-use Rattle.gateway.specs.Request.{Request}
-use Rattle.gateway.specs.Exchange.{Mark, Span, IsKnownOf, Replies, RepliesBy, FaultFreeReplies}
+use Rattle.gateway.specs.Exchange.{ReplyRelation, Mark, Span, IsKnownOf, Replies, RepliesBy, FaultFreeReplies}
 use Rattle.gateway.specs.Connection.{has_failed}
 use Rattle.gateway.specs.Stands.{Follows, AllPass, StandsThroughout}
 use Rattle.gateway.proofs.Order.{follows_none, follows_append, connection_trace_order, connection_trace_order_faults, connection_trace_follow}

@@ -4,8 +4,6 @@ use Rattle.gate_base.specs.Line.{LineModel, TranscriptServes}
 use Rattle.gate_base.specs.Told.{SourceModel}
 use Rattle.gate_base.specs.Transcript.{Begins}
 use Rattle.gate_base.specs.declared.outside.Piece.{Piece}
-use Rattle.s3_machine.specs.declared.operation.Label.{Label}
-use Rattle.s3_machine.specs.declared.operation.Reply.{Reply}
 use Rattle.s3_machine.specs.declared.operation.Settings.{Settings}
 use Rattle.swift_calls.specs.History.{History, Extends}
 use Rattle.upload_records.specs.Consistent.{IsConsistent}
@@ -18,9 +16,8 @@ use Rattle.recovery.specs.Calls.{GoesOn, Met}
 use Rattle.recovery.specs.Settling.{IsKnown, Anything}
 use Rattle.gateway.specs.declared.ended.Ended.{Ended as Close}
 use Rattle.gateway.specs.declared.service.Service.{Service}
-use Rattle.gateway.specs.Request.{Request as Asking}
 use Rattle.gateway.specs.Connection.{ConnectionTrace, has_failed, cursor, progress}
-use Rattle.gateway.specs.Exchange.{ReplyRelation, Mark, Span, mark, RepliesBy, Where}
+use Rattle.gateway.specs.Exchange.{ReplyRelation, Span, mark, RepliesBy, Where}
 use Rattle.gateway.specs.Stands.{Stands}
 use Rattle.gateway.specs.World.{World, world, progress_of, start_of, IsObservable, ServesOver}
 use Rattle.gateway.proofs.Standing.{stands_throughout}

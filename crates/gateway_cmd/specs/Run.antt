@@ -1,14 +1,11 @@
 -- A whole run: the connections of the line, in order, none skipped. Source: this profile.
 use Rattle.std.specs.Prelude.{◌≡◌, ℕ, ◌+◌, ◌-◌, Bool, true, false, List, [], ◌∷◌, ◌++◌, slice_set, if◌then◌else◌}
-use Rattle.s3_machine.specs.declared.operation.Label.{Label}
-use Rattle.s3_machine.specs.declared.operation.Reply.{Reply}
 use Rattle.s3_machine.specs.declared.operation.Settings.{Settings}
 use Rattle.recovery.specs.declared.state.Known.{Known}
 use Rattle.gateway.specs.declared.service.Service.{Service}
 use Rattle.swift_calls.specs.History.{History}
 use Rattle.gateway.specs.declared.ended.Ended.{Ended}
-use Rattle.gateway.specs.Request.{Request}
-use Rattle.gateway.specs.Exchange.{ReplyRelation, Mark, Span, Replies, RepliesAny}
+use Rattle.gateway.specs.Exchange.{ReplyRelation, Span, Replies, RepliesAny}
 use Rattle.gateway.specs.Connection.{Progress, ConnectionTrace, has_failed}
 use Rattle.gateway.specs.World.{World, progress_of}
 use Rattle.gateway.specs.Stands.{Follows, AllPass, StandsThroughout}

@@ -4,8 +4,6 @@ use Rattle.std.specs.Prelude.{Result, Ok, Err}
 use Rattle.gate_base.specs.Causes.{Rose, RisesIf}
 use Rattle.gate_base.specs.Line.{LineModel}
 use Rattle.gate_base.specs.Transcript.{Transcript}
-use Rattle.s3_machine.specs.declared.operation.Label.{Label}
-use Rattle.s3_machine.specs.declared.operation.Reply.{Reply}
 use Rattle.s3_machine.specs.declared.operation.Settings.{Settings}
 use Rattle.recovery.specs.declared.state.Known.{Known}
 use Rattle.sigv4.specs.Keys.{keys_of, are_keys, secret_of}
@@ -15,8 +13,7 @@ use Rattle.sigv4.specs.declared.keys.KeysFault.TheVariants as fault
 use Rattle.sign_cmd.specs.Signing.{AnswersFirst, SignsOn}
 use Rattle.sign_cmd.specs.declared.first.Signing.{Signing}
 use Rattle.gateway.specs.declared.service.Service.{Service}
-use Rattle.gateway.specs.Request.{Request}
-use Rattle.gateway.specs.Exchange.{ReplyRelation, Mark, Span}
+use Rattle.gateway.specs.Exchange.{ReplyRelation, Span}
 use Rattle.gateway.specs.World.{World, ServesOver}
 use Rattle.gateway_cli.specs.declared.command.Command.{Command}
 use Rattle.gateway_cli.specs.declared.command.Command.TheVariants.{Session, Sign}
