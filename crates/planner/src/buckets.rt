@@ -19,17 +19,17 @@ use swift_calls::Swift;
 /// the PUT, so that no memory is needed after it. The faults are those of the two calls.
 pub(crate) fn create_bucket<W: Swift>(
     state: &mut Settled<'_, W>,
-    bucket: &Bytes,
+    bucket: Bytes,
     acl: Acl,
     label: &Label,
 ) -> Result<Reply, PlanFault>
-    requires name { is_bucket bucket.now ≡ true }
+    requires name { is_bucket bucket ≡ true }
     requires moment { label.now.moment < moment_limit }
     ensures stays { Stays state.old state.new }
     ensures plans { Plans (always 2) (W.history state.old.store.now) (W.history state.new.store.now) state.old.settings.now
-        (Given Any) (CreateBucket bucket.now acl) label.now known.Settled result }
+        (Given Any) (CreateBucket bucket acl) label.now known.Settled result }
 {
-    match head_bucket(state, bucket)? {
+    match head_bucket(state, &bucket)? {
         None => make_missing(state, bucket, acl, label),
         Some(_) => Ok(Reply::Refused(Code::BucketAlreadyOwnedByYou)),
     }
@@ -38,15 +38,15 @@ pub(crate) fn create_bucket<W: Swift>(
 /// The rest of CreateBucket, where the bucket is missing.
 fn make_missing<W: Swift>(
     state: &mut Settled<'_, W>,
-    bucket: &Bytes,
+    bucket: Bytes,
     acl: Acl,
     label: &Label,
 ) -> Result<Reply, PlanFault>
-    requires name { is_bucket bucket.now ≡ true }
+    requires name { is_bucket bucket ≡ true }
     requires moment { label.now.moment < moment_limit }
     ensures stays { Stays state.old state.new }
     ensures plans { Plans (always 1) (W.history state.old.store.now) (W.history state.new.store.now) state.old.settings.now
-        (Given (λ s. TellsBucket bucket.now s None)) (CreateBucket bucket.now acl) label.now known.Settled result }
+        (Given (λ s. TellsBucket bucket s None)) (CreateBucket bucket acl) label.now known.Settled result }
 {
     let reply = Reply::Made {
         bucket: bucket.copy()?,

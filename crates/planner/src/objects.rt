@@ -106,16 +106,16 @@ fn put_into<W: Swift>(
 pub(crate) fn get_object<W: Swift>(
     alloc: Global,
     state: &mut Settled<'_, W>,
-    bucket: &Bytes,
-    key: &Bytes,
+    bucket: Bytes,
+    key: Bytes,
     label: &Label,
 ) -> Result<Reply, PlanFault>
-    requires place { IsPlace bucket.now key.now }
+    requires place { IsPlace bucket key }
     ensures stays { Stays state.old state.new }
     ensures plans { Plans (always 3) (W.history state.old.store.now) (W.history state.new.store.now) state.old.settings.now
-        (Given Any) (GetObject bucket.now key.now) label.now known.Settled result }
+        (Given Any) (GetObject bucket key) label.now known.Settled result }
 {
-    let Some(list) = head_bucket(state, bucket)? else {
+    let Some(list) = head_bucket(state, &bucket)? else {
         return Ok(Reply::Refused(Code::NoSuchBucket));
     };
     get_within(alloc, state, bucket, key, list, label)
@@ -125,20 +125,20 @@ pub(crate) fn get_object<W: Swift>(
 fn get_within<W: Swift>(
     alloc: Global,
     state: &mut Settled<'_, W>,
-    bucket: &Bytes,
-    key: &Bytes,
+    bucket: Bytes,
+    key: Bytes,
     list: Acl,
     label: &Label,
 ) -> Result<Reply, PlanFault>
-    requires place { IsPlace bucket.now key.now }
+    requires place { IsPlace bucket key }
     ensures stays { Stays state.old state.new }
     ensures plans { Plans (always 2) (W.history state.old.store.now) (W.history state.new.store.now) state.old.settings.now
-        (Given (λ s. TellsBucket bucket.now s (Some list))) (GetObject bucket.now key.now) label.now known.Settled result }
+        (Given (λ s. TellsBucket bucket s (Some list))) (GetObject bucket key) label.now known.Settled result }
 {
     if !may_read(label.caller, list) {
         return Ok(Reply::Refused(Code::AccessDenied));
     }
-    let Some(head) = recovery::head_object(alloc, state, bucket, key)? else {
+    let Some(head) = recovery::head_object(alloc, state, &bucket, &key)? else {
         return Ok(Reply::Refused(Code::NoSuchKey));
     };
     get_bytes(state, bucket, key, head)
@@ -147,15 +147,15 @@ fn get_within<W: Swift>(
 /// The rest of GetObject, for an object that is there and may be read, whatever list its bucket has and whoever asks.
 fn get_bytes<W: Swift>(
     state: &mut Settled<'_, W>,
-    bucket: &Bytes,
-    key: &Bytes,
+    bucket: Bytes,
+    key: Bytes,
     head: ObjectHead,
 ) -> Result<Reply, PlanFault>
-    requires place { IsPlace bucket.now key.now }
+    requires place { IsPlace bucket key }
     requires shown { IsShownHead (Some head) }
     ensures stays { Stays state.old state.new }
     ensures plans { (list : Acl) (label : Label) → Plans (always 1) (W.history state.old.store.now) (W.history state.new.store.now) state.old.settings.now
-        (Given (TellsReadable bucket.now key.now label.caller list head)) (GetObject bucket.now key.now) label known.Settled result }
+        (Given (TellsReadable bucket key label.caller list head)) (GetObject bucket key) label known.Settled result }
 {
     let Some(body) = recovery::get_object(state, bucket, key)? else {
         return Err(PlanFault::Inconsistent);
@@ -246,15 +246,15 @@ fn headed(alloc: Global, head: ObjectHead) -> Reply
 /// The faults are those of the two calls.
 pub(crate) fn delete_object<W: Swift>(
     state: &mut Settled<'_, W>,
-    bucket: &Bytes,
-    key: &Bytes,
+    bucket: Bytes,
+    key: Bytes,
 ) -> Result<Reply, PlanFault>
-    requires place { IsPlace bucket.now key.now }
+    requires place { IsPlace bucket key }
     ensures stays { Stays state.old state.new }
     ensures plans { (label : Label) → Plans (always 2) (W.history state.old.store.now) (W.history state.new.store.now) state.old.settings.now
-        (Given Any) (DeleteObject bucket.now key.now) label known.Settled result }
+        (Given Any) (DeleteObject bucket key) label known.Settled result }
 {
-    let Some(list) = head_bucket(state, bucket)? else {
+    let Some(list) = head_bucket(state, &bucket)? else {
         return Ok(Reply::Refused(Code::NoSuchBucket));
     };
     delete_from(state, bucket, key)
@@ -263,13 +263,13 @@ pub(crate) fn delete_object<W: Swift>(
 /// The rest of DeleteObject, in a bucket that is there, whatever list it has.
 fn delete_from<W: Swift>(
     state: &mut Settled<'_, W>,
-    bucket: &Bytes,
-    key: &Bytes,
+    bucket: Bytes,
+    key: Bytes,
 ) -> Result<Reply, PlanFault>
-    requires place { IsPlace bucket.now key.now }
+    requires place { IsPlace bucket key }
     ensures stays { Stays state.old state.new }
     ensures plans { (list : Acl) (label : Label) → Plans (always 1) (W.history state.old.store.now) (W.history state.new.store.now) state.old.settings.now
-        (Given (λ s. TellsBucket bucket.now s (Some list))) (DeleteObject bucket.now key.now) label known.Settled result }
+        (Given (λ s. TellsBucket bucket s (Some list))) (DeleteObject bucket key) label known.Settled result }
 {
     reply_after(recovery::delete_object(state, bucket, key), Reply::Gone)
 }

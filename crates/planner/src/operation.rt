@@ -43,7 +43,7 @@ fn plan<W: Swift>(
         (Given Any) op label.now known.Settled result }
 {
     match op {
-        Op::CreateBucket { bucket, acl } => create_bucket(state, &bucket, acl, label),
+        Op::CreateBucket { bucket, acl } => create_bucket(state, bucket, acl, label),
         Op::PutObject {
             bucket,
             key,
@@ -62,9 +62,9 @@ fn plan<W: Swift>(
             body,
             label,
         ),
-        Op::GetObject { bucket, key } => get_object(alloc, state, &bucket, &key, label),
+        Op::GetObject { bucket, key } => get_object(alloc, state, bucket, key, label),
         Op::HeadObject { bucket, key } => head_object(alloc, state, &bucket, &key, label),
-        Op::DeleteObject { bucket, key } => delete_object(state, &bucket, &key),
+        Op::DeleteObject { bucket, key } => delete_object(state, bucket, key),
     }
 }
 

@@ -41,17 +41,17 @@ pub fn head_bucket<W: Swift>(
 #[tactic(auto, using(crate::proofs::Names::container_name))]
 pub fn make_bucket<W: Swift>(
     state: &mut Settled<'_, W>,
-    bucket: &Bytes,
+    bucket: Bytes,
     acl: Acl,
     moment: u64,
 ) -> Result<(), PlanFault>
-    requires name { is_bucket bucket.now ≡ true }
+    requires name { is_bucket bucket ≡ true }
     requires moment { moment < moment_limit }
     ensures stays { Stays state.old state.new }
-    ensures changes { Changes (always 1) (W.history state.old.store.now) (W.history state.new.store.now) (Given (LacksBucket bucket.now)) (Becomes (makes_bucket bucket.now acl moment)) result }
+    ensures changes { Changes (always 1) (W.history state.old.store.now) (W.history state.new.store.now) (Given (LacksBucket bucket)) (Becomes (makes_bucket bucket acl moment)) result }
 {
     let request = SwiftRequest::PutContainer {
-        container: bucket.copy()?,
+        container: bucket,
         readers: readers(acl),
         created: Some(moment),
     };
@@ -77,15 +77,13 @@ pub enum Dropped {
 #[tactic(auto, using(crate::proofs::Names::container_name))]
 pub fn drop_bucket<W: Swift>(
     state: &mut Settled<'_, W>,
-    bucket: &Bytes,
+    bucket: Bytes,
 ) -> Result<Dropped, PlanFault>
-    requires { is_bucket bucket.now ≡ true }
+    requires { is_bucket bucket ≡ true }
     ensures stays { Stays state.old state.new }
-    ensures changes { Changes (always 1) (W.history state.old.store.now) (W.history state.new.store.now) (Given Any) (DropsBucket bucket.now) result }
+    ensures changes { Changes (always 1) (W.history state.old.store.now) (W.history state.new.store.now) (Given Any) (DropsBucket bucket) result }
 {
-    let request = SwiftRequest::DeleteContainer {
-        container: bucket.copy()?,
-    };
+    let request = SwiftRequest::DeleteContainer { container: bucket };
     let reply = state.store.call(&request)?;
     dropped_in(&reply)
 }
@@ -96,15 +94,15 @@ pub fn drop_bucket<W: Swift>(
 #[tactic(auto, using(crate::proofs::Names::container_name))]
 pub fn set_acl<W: Swift>(
     state: &mut Settled<'_, W>,
-    bucket: &Bytes,
+    bucket: Bytes,
     acl: Acl,
 ) -> Result<bool, PlanFault>
-    requires { is_bucket bucket.now ≡ true }
+    requires { is_bucket bucket ≡ true }
     ensures stays { Stays state.old state.new }
-    ensures changes { Changes (always 1) (W.history state.old.store.now) (W.history state.new.store.now) (Given Any) (SetsAcl bucket.now acl) result }
+    ensures changes { Changes (always 1) (W.history state.old.store.now) (W.history state.new.store.now) (Given Any) (SetsAcl bucket acl) result }
 {
     let request = SwiftRequest::PostContainer {
-        container: bucket.copy()?,
+        container: bucket,
         readers: readers(acl),
     };
     let reply = state.store.call(&request)?;

@@ -51,19 +51,17 @@ pub fn head_object<W: Swift>(
 #[tactic(auto, using(crate::proofs::Names::container_name, crate::proofs::Names::object_name))]
 pub fn get_object<W: Swift>(
     state: &mut Settled<'_, W>,
-    bucket: &Bytes,
-    key: &Bytes,
+    bucket: Bytes,
+    key: Bytes,
 ) -> Result<Option<Bytes>, PlanFault>
-    requires name { is_bucket bucket.now ≡ true }
-    requires key { is_key key.now ≡ true }
+    requires name { is_bucket bucket ≡ true }
+    requires key { is_key key ≡ true }
     ensures stays { Stays state.old state.new }
-    ensures asks { Asks (always 1) (W.history state.old.store.now) (W.history state.new.store.now) IsSettled (Tells (TellsBytes bucket.now key.now)) result }
+    ensures asks { Asks (always 1) (W.history state.old.store.now) (W.history state.new.store.now) IsSettled (Tells (TellsBytes bucket key)) result }
 {
-    let container = bucket.copy()?;
-    let name = key.copy()?;
     let request = SwiftRequest::GetObject {
-        container,
-        name,
+        container: bucket,
+        name: key,
         range: None,
     };
     let reply = state.store.call(&request)?;
@@ -152,17 +150,18 @@ fn tag_text(alloc: Global, content_type: Bytes, etag: &[u8], moment: u64) -> Res
 #[tactic(auto, using(crate::proofs::Names::container_name, crate::proofs::Names::object_name))]
 pub fn delete_object<W: Swift>(
     state: &mut Settled<'_, W>,
-    bucket: &Bytes,
-    key: &Bytes,
+    bucket: Bytes,
+    key: Bytes,
 ) -> Result<(), PlanFault>
-    requires name { is_bucket bucket.now ≡ true }
-    requires key { is_key key.now ≡ true }
+    requires name { is_bucket bucket ≡ true }
+    requires key { is_key key ≡ true }
     ensures stays { Stays state.old state.new }
-    ensures changes { Changes (always 1) (W.history state.old.store.now) (W.history state.new.store.now) (Given Any) (Becomes (drops_object bucket.now key.now)) result }
+    ensures changes { Changes (always 1) (W.history state.old.store.now) (W.history state.new.store.now) (Given Any) (Becomes (drops_object bucket key)) result }
 {
-    let container = bucket.copy()?;
-    let name = key.copy()?;
-    let request = SwiftRequest::DeleteObject { container, name };
+    let request = SwiftRequest::DeleteObject {
+        container: bucket,
+        name: key,
+    };
     let reply = state.store.call(&request)?;
     gone_in(&reply)
 }

@@ -1,14 +1,12 @@
-use Rattle.recovery.proofs.One.{not_sent, sent_in_vain, sent}
+use Rattle.std.proofs.Common.{refl}
+use Rattle.recovery.proofs.One.{sent_in_vain, sent}
 use Rattle.recovery.proofs.Put.{puts}
 use Rattle.recovery.proofs.bucket.make_bucket.Goals as goal
 
-pub returns-in_err-copy-clause-changes : goal.returns-in_err-copy-clause-changes
-returns-in_err-copy-clause-changes g c = not_sent _ _ c.from_residual.ensures.1
-
 pub returns-in_err-reply-clause-changes : goal.returns-in_err-reply-clause-changes
 returns-in_err-reply-clause-changes g c =
-    sent_in_vain (puts (record { named = c.in_ok-copy.ensures; listed = c.readers.ensures; is = c.requires.name; below = c.requires.moment })) c.in_err-reply.ensures _ c.from_residual-in_err-reply.ensures.1
+    sent_in_vain (puts (record { named = refl; listed = c.readers.ensures; is = c.requires.name; below = c.requires.moment })) c.in_err-reply.ensures _ c.from_residual.ensures.1
 
 pub returns-clause-changes : goal.returns-clause-changes
 returns-clause-changes g c =
-    sent (puts (record { named = c.in_ok-copy.ensures; listed = c.readers.ensures; is = c.requires.name; below = c.requires.moment })) c.in_ok-reply.ensures _ c.made_in.ensures.due c.made_in.ensures.own
+    sent (puts (record { named = refl; listed = c.readers.ensures; is = c.requires.name; below = c.requires.moment })) c.in_ok-reply.ensures _ c.made_in.ensures.due c.made_in.ensures.own

@@ -1,15 +1,10 @@
+use Rattle.std.proofs.Common.{refl}
 use Rattle.recovery.proofs.Files.{deletes}
-use Rattle.recovery.proofs.One.{not_sent, sent_in_vain, sent}
+use Rattle.recovery.proofs.One.{sent_in_vain, sent}
 use Rattle.recovery.proofs.object.delete_object.Goals as goal
 
-pub returns-in_err-container-clause-changes : goal.returns-in_err-container-clause-changes
-returns-in_err-container-clause-changes g c = not_sent _ _ c.from_residual.ensures.1
-
-pub returns-in_err-name-clause-changes : goal.returns-in_err-name-clause-changes
-returns-in_err-name-clause-changes g c = not_sent _ _ c.from_residual-in_err-name.ensures.1
-
 pub returns-in_err-reply-clause-changes : goal.returns-in_err-reply-clause-changes
-returns-in_err-reply-clause-changes g c = sent_in_vain (deletes c.in_ok-container.ensures c.in_ok-name.ensures c.requires.name) c.in_err-reply.ensures _ c.from_residual-in_err-reply.ensures.1
+returns-in_err-reply-clause-changes g c = sent_in_vain (deletes refl refl c.requires.name) c.in_err-reply.ensures _ c.from_residual.ensures.1
 
 pub returns-clause-changes : goal.returns-clause-changes
-returns-clause-changes g c = sent (deletes c.in_ok-container.ensures c.in_ok-name.ensures c.requires.name) c.in_ok-reply.ensures _ c.gone_in.ensures.due c.gone_in.ensures.own
+returns-clause-changes g c = sent (deletes refl refl c.requires.name) c.in_ok-reply.ensures _ c.gone_in.ensures.due c.gone_in.ensures.own

@@ -1,16 +1,10 @@
-use Rattle.std.proofs.Common.{inr}
+use Rattle.std.proofs.Common.{refl, inr}
 use Rattle.recovery.proofs.Files.{get_reads}
-use Rattle.recovery.proofs.One.{not_asked, asked_in_vain, asked}
+use Rattle.recovery.proofs.One.{asked_in_vain, asked}
 use Rattle.recovery.proofs.object.get_object.Goals as goal
 
-pub returns-in_err-container-clause-asks : goal.returns-in_err-container-clause-asks
-returns-in_err-container-clause-asks g c = not_asked _ _ _ c.from_residual.ensures.1
-
-pub returns-in_err-name-clause-asks : goal.returns-in_err-name-clause-asks
-returns-in_err-name-clause-asks g c = not_asked _ _ _ c.from_residual-in_err-name.ensures.1
-
 pub returns-in_err-reply-clause-asks : goal.returns-in_err-reply-clause-asks
-returns-in_err-reply-clause-asks g c = asked_in_vain (get_reads c.in_ok-container.ensures c.in_ok-name.ensures c.requires.name) c.in_err-reply.ensures _ c.from_residual-in_err-reply.ensures.1
+returns-in_err-reply-clause-asks g c = asked_in_vain (get_reads refl refl c.requires.name) c.in_err-reply.ensures _ c.from_residual.ensures.1
 
 pub returns-clause-asks : goal.returns-clause-asks
-returns-clause-asks g c = asked (get_reads c.in_ok-container.ensures c.in_ok-name.ensures c.requires.name) c.in_ok-reply.ensures _ (inr c.bytes_in.ensures.due) c.bytes_in.ensures.own
+returns-clause-asks g c = asked (get_reads refl refl c.requires.name) c.in_ok-reply.ensures _ (inr c.bytes_in.ensures.due) c.bytes_in.ensures.own
