@@ -1,3 +1,4 @@
+pub mod DueLemmas
 pub mod FillLemmas
 pub mod FirstMessageLemmas
 pub mod HeadersLemmas

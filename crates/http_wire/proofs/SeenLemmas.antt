@@ -1,10 +1,10 @@
 -- What was found in the bytes that came, by what the last look saw.
-use Rattle.std.proofs.Common.{◌≡◌, ℕ, ◌<◌, ◌≤◌, List, [], ◌∷◌, length, refl, sym, subst, arith}
+use Rattle.std.proofs.Common.{◌≡◌, ℕ, ◌<◌, ◌≤◌, List, [], ◌∷◌, length, refl, subst, arith}
 use Rattle.httparse.specs.declared.spans.HeaderSpan.{HeaderSpan}
 use Rattle.httparse.specs.Grammar.{HasNoRequest}
 use Rattle.http_wire.specs.declared.advance.Found.TheVariants.{Long}
 use Rattle.http_wire.specs.FirstMessage.{HasDeadPrefix}
-use Rattle.http_wire.specs.Seen.{AtEnd, IsFound, end_of, window}
+use Rattle.http_wire.specs.Seen.{AtEnd, IsFound, IsOpen, end_of, window}
 
 pub found_long : (bytes seen : List ℕ) (headers : List HeaderSpan) → seen ≡ window bytes → HasNoRequest seen
     → ¬ (HasDeadPrefix seen) → 16384 ≤ length bytes
@@ -18,12 +18,8 @@ pub found_end : (bytes : List ℕ) (headers : List HeaderSpan) → HasNoRequest 
 found_end [] headers none lives short = refl
 found_end (b ∷ bytes) headers none lives short = (omega arith, short, none, lives)
 
--- the same, where the last read gave nothing
-pub found_ended : (old new seen : List ℕ) (headers : List HeaderSpan) → seen ≡ window old → new ≡ old → HasNoRequest seen
-    → ¬ (HasDeadPrefix seen) → length old < 16384 → IsFound new headers (end_of new)
-found_ended old new seen headers same stays none lives short =
-    subst (λ v. IsFound v headers (end_of v)) (sym stays)
-    (found_end old headers (subst HasNoRequest same none) (subst (λ v. ¬ (HasDeadPrefix v)) same lives) short)
+pub found_open : (bytes seen : List ℕ) → seen ≡ window bytes → HasNoRequest seen → ¬ (HasDeadPrefix seen) → length bytes < 16384 → IsOpen bytes
+found_open bytes seen same none lives short = (subst HasNoRequest same none, subst (λ v. ¬ (HasDeadPrefix v)) same lives, short)
 
 pub at_end : (bytes rest : List ℕ) → rest ≡ [] → AtEnd (end_of bytes) rest
 at_end [] rest none = none

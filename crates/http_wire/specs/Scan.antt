@@ -1,5 +1,5 @@
--- The test for bytes that end inside a target, as it goes over them.
-use Rattle.std.specs.Prelude.{ℕ, Bool, false, ◌&&◌, ◌==◌, List, [], ◌∷◌, if◌then◌else◌}
+-- The tests for bytes that end inside a target, and for an empty line among them, as they go over them.
+use Rattle.std.specs.Prelude.{ℕ, Bool, false, not, ◌&&◌, ◌||◌, ◌==◌, nat_lt, List, [], ◌∷◌, drop, if◌then◌else◌}
 use Rattle.std.specs.List.{list_all}
 use Rattle.httparse.specs.Ascii.{line_feed, carriage_return, space}
 use Rattle.httparse.specs.Grammar.{is_token_byte}
@@ -36,3 +36,16 @@ starts_method (b ∷ bytes) = is_token_byte b && in_method bytes
 
 abbrev pub is_inside : List ℕ → Bool
 is_inside bytes = starts_method (skip_blank bytes)
+
+-- a byte of a line, and not of its end
+abbrev pub is_text : ℕ → Bool
+is_text b = not (b == carriage_return) && not (b == line_feed)
+
+-- a line ends here, and an empty one comes behind it
+abbrev pub starts_empty : List ℕ → Bool
+starts_empty bytes = nat_lt 0 (line_end_len bytes) && nat_lt 0 (line_end_len (drop (line_end_len bytes) bytes))
+
+-- somewhere an empty line comes behind one that isn't
+unfoldable pub has_empty : List ℕ → Bool
+has_empty [] = false
+has_empty (b ∷ bytes) = (is_text b && starts_empty bytes) || has_empty bytes

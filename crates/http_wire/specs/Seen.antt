@@ -27,6 +27,10 @@ IsFound bytes headers Long = HasNoRequest (window bytes) × ¬ (HasDeadPrefix (w
 IsFound bytes headers Cut = (0 < length bytes) × (length bytes < 16384) × HasNoRequest (window bytes) × ¬ (HasDeadPrefix (window bytes))
 IsFound bytes headers Nothing = bytes ≡ []
 
+-- bytes of which it isn't known yet what stands first in them, fewer than a head may have
+abbrev pub IsOpen : List ℕ → Type 0
+IsOpen bytes = HasNoRequest (window bytes) × ¬ (HasDeadPrefix (window bytes)) × (length bytes < 16384)
+
 -- at the connection's end no byte of it is left
 abbrev pub AtEnd : Found → List ℕ → Type 0
 AtEnd (Head spans) rest = Unit {0}

@@ -1,16 +1,21 @@
-ghost use Rattle.std.specs.Prelude.{◌≡◌, ◌≤◌, ◌++◌, length, IsTrue, IfOk};
+ghost use Rattle.std.specs.Prelude.{◌≡◌, ◌≤◌, ◌<◌, ◌++◌, ◌==◌, ℕ, List, [], false, length, take, IsTrue, IfOk, IfSome, MatchOption};
 ghost use Rattle.gate_base.specs.Line.{OnlyReads};
+ghost use Rattle.httparse.specs.Grammar.{HasNoRequest};
 ghost use Rattle.http_wire.specs.Gives.{is_failed, weight};
-ghost use Rattle.http_wire.specs.Seen.{AtEnd, IsFound, end_of, window};
+ghost use Rattle.http_wire.specs.Seen.{AtEnd, IsFound, IsOpen, end_of, window};
 
 use crate::ReadFault;
 use crate::fill::fill;
 use crate::look::{Verdict, look};
+use crate::scan::has_empty;
 use gate_base::{Counted, Line};
 use httparse::spans::{HeaderSpan, RequestSpans};
 
 /// The bytes of a head, at most.
 pub(crate) const HEAD_LIMIT: usize = 16_384;
+
+/// The bytes of two line ends, at most.
+const LINE_ENDS: usize = 4;
 
 /// What the bytes that came begin with.
 #[derive(Clone, Copy, Debug, PartialEq, Eq)]
@@ -56,18 +61,60 @@ pub(crate) fn advance<N: Line<C>, C: Counted>(
     ensures found { IfOk result (IsFound pending.new.items headers.new) }
     ensures at_end { IsTrue (N.model line.old).observable → IfOk result (λ found. AtEnd found (N.model line.new).transcript.rest) }
 {
+    let mut seen = 0;
     'come: loop {
-        match look(window(pending), headers) {
-            Verdict::Whole(spans) => return Ok(Found::Head(spans)),
-            Verdict::Dead => return Ok(Found::Bad),
-            Verdict::More => (),
-        }
-        if pending.len() >= HEAD_LIMIT {
-            return Ok(Found::Long);
+        if is_due(pending, seen) {
+            match found_in(pending, headers) {
+                Some(found) => return Ok(found),
+                None => seen = pending.len(),
+            }
         }
         if fill(pending, line, store)? == 0 {
-            return Ok(ended(pending));
+            return Ok(found_at_end(pending, headers));
         }
+    }
+}
+
+/// Whether bytes are to be looked at again, of which so many were seen before. They have to be where an empty line came,
+/// since a head ends with one, and where there are as many as a head may have. Else it is enough to look as often as
+/// there is an eighth more of them: so a head that comes byte by byte isn't parsed once for each byte.
+fn is_due(bytes: &[u8], seen: usize) -> bool
+    requires { seen ≤ length bytes.now }
+    ensures { result ≡ false → HasNoRequest (take seen bytes.now) → HasNoRequest bytes.now }
+{
+    bytes.len() >= HEAD_LIMIT
+        || bytes.len() - seen > seen / 8
+        || has_empty(&bytes[seen.saturating_sub(LINE_ENDS)..])
+}
+
+/// What stands first in bytes that more may follow. None where it isn't known yet.
+fn found_in(bytes: &[u8], headers: &mut [HeaderSpan]) -> Option<Found>
+    requires { 8192 ≤ length headers.old }
+    ensures found { MatchOption result (IsOpen bytes.now) (IsFound bytes.now headers.new) }
+    ensures at_end { IfSome result (λ found. (rest : List ℕ) → AtEnd found rest) }
+{
+    match look(window(bytes), headers) {
+        Verdict::Whole(spans) => Some(Found::Head(spans)),
+        Verdict::Dead => Some(Found::Bad),
+        Verdict::More => {
+            if bytes.len() >= HEAD_LIMIT {
+                Some(Found::Long)
+            } else {
+                None
+            }
+        }
+    }
+}
+
+/// What stands first in bytes that none follow.
+fn found_at_end(bytes: &[u8], headers: &mut [HeaderSpan]) -> Found
+    requires { 8192 ≤ length headers.old }
+    ensures found { IsFound bytes.now headers.new result }
+    ensures at_end { (rest : List ℕ) → rest ≡ [] → AtEnd result rest }
+{
+    match found_in(bytes, headers) {
+        Some(found) => found,
+        None => ended(bytes),
     }
 }
 

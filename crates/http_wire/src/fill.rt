@@ -22,6 +22,7 @@ pub(crate) fn fill<N: Line<C>, C: Counted>(
     ensures falls { IfOk result (λ count. 0 < count
         → weight (N.model line.new).spent pending.new.items < weight (N.model line.old).spent pending.old.items) }
     ensures same { IfOk result (λ count. count ≡ 0 → pending.new.items ≡ pending.old.items) }
+    ensures grows { length pending.old.items ≤ length pending.new.items }
     ensures kept { IsTrue (N.model line.old).observable → pending.new.items ++ (N.model line.new).transcript.rest ≡ pending.old.items ++ (N.model line.old).transcript.rest }
     ensures at_end { IsTrue (N.model line.old).observable → IfOk result (λ count. count ≡ 0 → (N.model line.new).transcript.rest ≡ []) }
 {

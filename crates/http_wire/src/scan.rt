@@ -2,7 +2,7 @@ ghost use Rattle.std.specs.Prelude.{◌≡◌, ◌≤◌, ◌↔◌, IsTrue, len
 ghost use Rattle.std.specs.List.{list_all};
 ghost use Rattle.httparse.specs.Grammar.{is_token_byte};
 ghost use Rattle.http_wire.specs.FirstMessage.{EndsInside, stays_in_target};
-ghost use Rattle.http_wire.specs.Scan.{in_method, line_end_len, skip_blank, starts_lf, starts_method};
+ghost use Rattle.http_wire.specs.Scan.{has_empty, in_method, is_text, line_end_len, skip_blank, starts_empty, starts_lf, starts_method};
 
 /// Whether the bytes end inside a target: after any empty lines a method, one space and no space, CR or LF since.
 #[tactic(auto, using(crate::proofs::ScanLemmas::is_inside_decides))]
@@ -25,6 +25,35 @@ fn skip_blank(bytes: &[u8]) -> &[u8]
         }
         rest = &rest[count..];
     }
+}
+
+/// Whether an empty line comes somewhere behind one that isn't empty.
+#[tactic(auto, unfolding(crate::specs::Scan::has_empty))]
+pub(crate) fn has_empty(bytes: &[u8]) -> bool
+    ensures { result ≡ has_empty bytes.now }
+{
+    let mut rest = bytes;
+    'bytes: while let Some((first, behind)) = rest.split_first() {
+        if is_text(*first) && starts_empty(behind) {
+            return true;
+        }
+        rest = behind;
+    }
+    false
+}
+
+fn is_text(byte: u8) -> bool
+    ensures { result ≡ is_text byte }
+{
+    byte != b'\r' && byte != b'\n'
+}
+
+/// Whether a line ends here, and an empty one comes behind it.
+fn starts_empty(bytes: &[u8]) -> bool
+    ensures { result ≡ starts_empty bytes.now }
+{
+    let end = line_end(bytes);
+    0 < end && 0 < line_end(&bytes[end..])
 }
 
 /// How long the line end is that stands first; 0 for none.

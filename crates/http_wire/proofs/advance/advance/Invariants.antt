@@ -8,6 +8,7 @@ abbrev pub invariant-come : goal.invariant-come
 invariant-come g l = record {
   reads : OnlyReads false (g.N.Line.model l.initial.line) (g.N.Line.model l.line);
   room : 8192 ≤ length l.headers;
+  seen : l.seen ≤ length l.pending.items;
   weighs : weight (g.N.Line.model l.line).spent l.pending.items ≤ weight (g.N.Line.model l.initial.line).spent l.initial.pending.items;
   kept : IsTrue (g.N.Line.model l.initial.line).observable
       → l.pending.items ++ (g.N.Line.model l.line).transcript.rest ≡ l.initial.pending.items ++ (g.N.Line.model l.initial.line).transcript.rest;
