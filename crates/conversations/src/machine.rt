@@ -103,12 +103,12 @@ impl Machine {
     /// The next request of a connection. One that is refused before it is understood is not for the machine.
     fn hear(&mut self, talk: &mut Talk, turn: &Turn, tally: &mut Tally) -> Result<(), Fault> {
         match talk.next() {
-            Some(message) => self.read(&message, turn, tally),
+            Some(mut message) => self.read(&mut message, turn, tally),
             None => Ok(()),
         }
     }
 
-    fn read(&mut self, message: &Message, turn: &Turn, tally: &mut Tally) -> Result<(), Fault> {
+    fn read(&mut self, message: &mut Message, turn: &Turn, tally: &mut Tally) -> Result<(), Fault> {
         match Target::read(self.alloc, message.target.as_slice()) {
             Ok(target) => self.admit(message, &target, turn, tally),
             Err(_) => Ok(()),
@@ -117,7 +117,7 @@ impl Machine {
 
     fn admit(
         &mut self,
-        message: &Message,
+        message: &mut Message,
         target: &Target,
         turn: &Turn,
         tally: &mut Tally,
@@ -132,7 +132,7 @@ impl Machine {
 
     fn understand(
         &mut self,
-        message: &Message,
+        message: &mut Message,
         target: &Target,
         caller: Caller,
         turn: &Turn,

@@ -33,7 +33,7 @@ pub(crate) fn answer(alloc: Global, verb: &str, words: &str, given: &[u8]) -> Re
     };
     let mut message = no_message(alloc);
     fill(alloc, kind, line, below, &mut message)?;
-    by_message(alloc, kind, caller, &message)
+    by_message(alloc, kind, caller, &mut message)
 }
 
 fn kind_of(verb: &str) -> Result<Kind, Fault> {
@@ -173,7 +173,7 @@ fn by_message(
     alloc: Global,
     kind: Kind,
     caller: Caller,
-    message: &Message,
+    message: &mut Message,
 ) -> Result<Bytes, Fault> {
     match Target::read(alloc, message.target.as_slice()) {
         Ok(target) => by_target(alloc, kind, caller, message, &target),
@@ -186,7 +186,7 @@ fn by_target(
     alloc: Global,
     kind: Kind,
     caller: Caller,
-    message: &Message,
+    message: &mut Message,
     target: &Target,
 ) -> Result<Bytes, Fault> {
     let settings = Settings {
@@ -202,7 +202,7 @@ fn by_target(
 
 fn mean(
     alloc: Global,
-    message: &Message,
+    message: &mut Message,
     target: &Target,
     caller: Caller,
     settings: &Settings,
