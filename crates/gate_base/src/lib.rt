@@ -2,6 +2,7 @@
 //! outside world, each with a form in memory for tests and a thin adapter over the real thing.
 #![tactic(auto)]
 
+mod caller;
 mod copying;
 mod cuts;
 mod faults;
@@ -16,6 +17,7 @@ mod sink_memory;
 mod told_memory;
 mod wire_memory;
 
+pub use caller::Caller;
 pub use copying::Copying;
 pub use cuts::{cut, cut_last, first_place};
 pub use faults::{Failed, Memory};
@@ -23,7 +25,7 @@ pub use line_memory::MemLine;
 pub use lists::{Bytes, List};
 pub use named::Named;
 pub use outside::{CALL_LIMIT, Clock, Counted, Draws, Line, MOMENT_LIMIT, NoCount, Piece, Sink};
-pub use page::{Caller, Page, Pair};
+pub use page::{Page, Pair};
 pub use real::{RandomDraws, StdLine, StdSink, SystemClock};
 pub use sink_memory::MemSink;
 pub use told_memory::{ListClock, ListDraws};

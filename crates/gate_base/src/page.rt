@@ -1,21 +1,4 @@
-ghost use Rattle.std.specs.Prelude.{◌≡◌};
-
 use crate::{Bytes, Copying, List, Memory};
-
-/// Who sent a request: the holder of a key that signed it, or an anonymous caller.
-#[derive(Clone, Copy, Debug, PartialEq, Eq)]
-pub enum Caller {
-    Owner,
-    Anonymous,
-}
-
-impl Copying for Caller {
-    fn copy(&self) -> Result<Caller, Memory>
-        ensures { result ≡ Ok self.now }
-    {
-        Ok(*self)
-    }
-}
 
 /// A name with its value, as a header or a query has it.
 #[derive(Debug, Drop)]

@@ -9,7 +9,7 @@ use Rattle.s3_machine.specs.declared.operation.Reply.{Reply}
 use Rattle.s3_machine.specs.declared.operation.Reply.TheVariants as answer
 use Rattle.http_wire.specs.FirstMessage.{is_head}
 use Rattle.http_wire.specs.Print.{memory_reply}
-use Rattle.gate_base.specs.declared.page.Caller.{Caller}
+use Rattle.gate_base.specs.declared.caller.Caller.{Caller}
 use Rattle.gateway.specs.declared.ended.Ended.{Ended}
 use Rattle.gateway.specs.declared.ended.Ended.TheVariants as ended
 use Rattle.gateway.specs.declared.resolved.ResolvedRequest.{ResolvedRequest}

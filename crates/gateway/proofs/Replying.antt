@@ -1,7 +1,7 @@
 -- What a request means, and what it is answered.
 use Rattle.std.specs.Prelude.{◌≡◌, ◌≢◌, ℕ, Bool, true, false, [], ◌∷◌, Option}
 use Rattle.std.proofs.Common.{refl, sym, ap, subst, ◌∙◌, inl, inr, arith}
-use Rattle.gate_base.specs.declared.page.Caller.{Caller}
+use Rattle.gate_base.specs.declared.caller.Caller.{Caller}
 use Rattle.s3_machine.specs.declared.code.Code.{Code}
 use Rattle.s3_machine.specs.declared.code.Code.TheVariants.{ServiceUnavailable}
 use Rattle.s3_machine.specs.declared.operation.Label.{Label}

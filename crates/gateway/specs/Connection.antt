@@ -2,7 +2,7 @@
 -- then the number of the connection. Source: RFC 9112 section 9 and this profile.
 use Rattle.std.specs.Prelude.{◌≡◌, ◌<◌, ℕ, Bool, IsTrue, true, false, List, [], ◌∷◌, ◌++◌, drop, Option, None, Some}
 use Rattle.gate_base.specs.declared.outside.Piece.{Piece}
-use Rattle.gate_base.specs.declared.page.Caller.{Caller}
+use Rattle.gate_base.specs.declared.caller.Caller.{Caller}
 use Rattle.gate_base.specs.Told.{SourceModel, GivesMoment, GivesDraw, moment_limit}
 use Rattle.s3_machine.specs.declared.operation.Label.{Label}
 use Rattle.gateway.specs.declared.service.Service.{Service}
@@ -134,10 +134,10 @@ pub record ConnectionTrace (service : Service) (R : ReplyRelation) (connection :
   pub all : spans ≡ before ++ after
 
 -- whether the line failed under this connection
-abbrev pub has_failed : Ended → Bool
-has_failed End = false
-has_failed Closed = false
-has_failed (CutShort place) = false
-has_failed (Refused kind place) = false
-has_failed LineFailed = true
-has_failed Memory = false
+abbrev pub is_failed_end : Ended → Bool
+is_failed_end End = false
+is_failed_end Closed = false
+is_failed_end (CutShort place) = false
+is_failed_end (Refused kind place) = false
+is_failed_end LineFailed = true
+is_failed_end Memory = false

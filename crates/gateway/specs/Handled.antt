@@ -8,12 +8,12 @@ use Rattle.gateway.specs.declared.handle.Handled.TheVariants.{Served, Broken}
 use Rattle.gateway.specs.Request.{Request}
 use Rattle.gateway.specs.Exchange.{ReplyRelation, Span, Exchange, CutExchange}
 use Rattle.gateway.specs.Connection.{Progress, Labels}
-use Rattle.gateway.specs.Serving.{has_ended_failed}
+use Rattle.gateway.specs.Serving.{is_failed_step}
 
 -- whether the line failed under the reply
-abbrev pub is_broken : Handled → Bool
-is_broken (Served ended) = false
-is_broken Broken = true
+abbrev pub is_failed_reply : Handled → Bool
+is_failed_reply (Served ended) = false
+is_failed_reply Broken = true
 
 -- a request that was answered ends the connection as was said, or because memory ran out
 abbrev pub EndsWith : Option Ended → Handled → Type 0
@@ -22,7 +22,7 @@ EndsWith end Broken = Unit {0}
 
 -- a request that was answered in whole doesn't end the connection as a failed line does
 abbrev pub IsServed : Handled → Type 0
-IsServed (Served ended) = has_ended_failed ended ≡ false
+IsServed (Served ended) = is_failed_step ended ≡ false
 IsServed Broken = Unit {0}
 
 -- the request was answered in whole, with this end of the connection; what it asks is known at its moment

@@ -1,8 +1,8 @@
 -- What a request means: an operation, or the first reason to refuse it. Source: Amazon S3 API Reference, restated by
 -- this profile; the order of the refusals is this profile's, and what isn't built is NotImplemented.
 use Rattle.std.specs.Prelude.{◌≡◌, Bool, false, not, ◌&&◌, nat_lt, if◌then◌else◌, List, [], ◌∷◌, length, Option, Some, None}
-use Rattle.gate_base.specs.declared.page.Caller.{Caller}
-use Rattle.gate_base.specs.declared.page.Caller.TheVariants.{Owner, Anonymous}
+use Rattle.gate_base.specs.declared.caller.Caller.{Caller}
+use Rattle.gate_base.specs.declared.caller.Caller.TheVariants.{Owner, Anonymous}
 use Rattle.s3_names.specs.declared.acl.Acl.TheVariants.{Private}
 use Rattle.s3_names.specs.declared.target.Target.{Target}
 use Rattle.s3_names.specs.Bucket.{is_bucket}

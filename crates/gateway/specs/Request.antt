@@ -1,8 +1,8 @@
 -- A request as it is answered, whether it was read as a message or refused before. Source: this profile.
 use Rattle.std.specs.Prelude.{ℕ, Bool, cond, is_some, ◌==◌, List, [], Option, None, Some, Result, Ok, Err, codes}
 use Rattle.std.specs.List.{before_first}
-use Rattle.gate_base.specs.declared.page.Caller.{Caller}
-use Rattle.gate_base.specs.declared.page.Caller.TheVariants.{Anonymous}
+use Rattle.gate_base.specs.declared.caller.Caller.{Caller}
+use Rattle.gate_base.specs.declared.caller.Caller.TheVariants.{Anonymous}
 use Rattle.s3_machine.specs.declared.code.Code.{Code}
 use Rattle.s3_machine.specs.declared.code.Code.TheVariants.{AccessDenied, AuthorizationHeaderMalformed, EntityTooLarge, IncompleteBody}
 use Rattle.s3_machine.specs.declared.code.Code.TheVariants.{InvalidAccessKeyId, InvalidRequest, InvalidURI, MissingContentLength, NotImplemented}

@@ -6,12 +6,12 @@ use Rattle.http_wire.specs.Print.{memory_reply}
 use Rattle.gateway.specs.declared.ended.Ended.{Ended}
 use Rattle.gateway.specs.declared.ended.Ended.TheVariants.{End, Closed, CutShort, Refused, LineFailed, Memory}
 use Rattle.gateway.specs.Exchange.{ReplyRelation, Span, Sends, SendsPart}
-use Rattle.gateway.specs.Connection.{ConnectionCursor, Serves, Ends, has_failed}
+use Rattle.gateway.specs.Connection.{ConnectionCursor, Serves, Ends, is_failed_end}
 
 -- whether the connection ended because the line failed
-abbrev pub has_ended_failed : Option Ended → Bool
-has_ended_failed None = false
-has_ended_failed (Some ended) = has_failed ended
+abbrev pub is_failed_step : Option Ended → Bool
+is_failed_step None = false
+is_failed_step (Some ended) = is_failed_end ended
 
 -- a request was answered and the connection goes on, or it ended so
 abbrev pub NextOne : Service → ReplyRelation → ℕ → ConnectionCursor → Option Ended → ConnectionCursor → Type 0

@@ -30,7 +30,7 @@ WritesWanted old at bytes Memory new = new ≡ with_piece old at bytes
 WritesWanted old at bytes Failed new = SendsPrefix old at bytes new
 
 -- whether the line failed
-abbrev pub has_failed_write : Written → Bool
-has_failed_write Whole = false
-has_failed_write Memory = false
-has_failed_write Failed = true
+abbrev pub is_failed_write : Written → Bool
+is_failed_write Whole = false
+is_failed_write Memory = false
+is_failed_write Failed = true

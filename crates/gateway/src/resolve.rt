@@ -1,11 +1,11 @@
 //! How a request is resolved: a message that was read, or one that was refused before it was understood.
 ghost use Rattle.std.specs.Prelude.{◌≡◌, ◌≢◌, false, cond, codes, [], Some, position, IfSome, ◌<◌, length};
-ghost use Rattle.gate_base.specs.declared.page.Caller.TheVariants.{Anonymous as anonymous};
+ghost use Rattle.gate_base.specs.declared.caller.Caller.TheVariants.{Anonymous as anonymous};
 ghost use Rattle.s3_names.specs.Target.{target_of};
 ghost use Rattle.gateway.specs.Meaning.{KeepsFront};
 ghost use Rattle.gateway.specs.ResolvedRequest.{Is, IsProperMeant};
 ghost use Rattle.gateway.specs.Request.{raw_path, end_after, resolve_target, admitted, caller_of, caller_or_anonymous, caller_or_refusal_at, refused_by, request_of, refused_request, asks_of, end_of, code_of, is_question_mark};
-ghost use Rattle.gateway.specs.Serving.{has_ended_failed};
+ghost use Rattle.gateway.specs.Serving.{is_failed_step};
 ghost use Rattle.gateway.specs.declared.ended.Ended.TheVariants as ended;
 ghost use Rattle.gateway.specs.declared.meant.Meant.TheVariants as variant;
 
@@ -28,7 +28,7 @@ pub fn resolve<'a>(
 ) -> ResolvedRequest<'a>
     ensures proper { IsProperMeant result.means }
     ensures ends { result.end ≡ end_of received.old }
-    ensures served { has_ended_failed result.end ≡ false }
+    ensures served { is_failed_step result.end ≡ false }
     ensures is { Is result (asks_of service.now received.old moment) }
 {
     match received {
@@ -46,7 +46,7 @@ fn resolve_message<'a>(
 ) -> ResolvedRequest<'a>
     ensures proper { IsProperMeant result.means }
     ensures ends { result.end ≡ end_after message.entry.now }
-    ensures served { has_ended_failed result.end ≡ false }
+    ensures served { is_failed_step result.end ≡ false }
     ensures is { Is result (request_of service.now moment message.entry.now) }
 {
     let end = end_of(message);
@@ -155,7 +155,7 @@ fn refused_by(refusal: Refusal) -> Meant
 /// How the connection ends after the reply to a message, if it does.
 fn end_of(message: &Message) -> Option<Ended>
     ensures is { result ≡ end_after message.now }
-    ensures served { has_ended_failed result ≡ false }
+    ensures served { is_failed_step result ≡ false }
 {
     if closing(message) {
         Some(Ended::Closed)
@@ -169,7 +169,7 @@ fn end_of(message: &Message) -> Option<Ended>
 fn resolve_refused(kind: Kind, place: u64, head: bool) -> ResolvedRequest<'static>
     ensures proper { IsProperMeant result.means }
     ensures ends { result.end ≡ Some (ended.Refused kind place) }
-    ensures served { has_ended_failed result.end ≡ false }
+    ensures served { is_failed_step result.end ≡ false }
     ensures is { Is result (refused_request kind place head) }
 {
     ResolvedRequest {

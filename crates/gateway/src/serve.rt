@@ -2,10 +2,10 @@ ghost use Rattle.std.specs.Prelude.{◌≡◌, ◌<◌, false, List, IsTrue, Non
 ghost use Rattle.gate_base.specs.Line.{LineServes, OnlyWrites};
 ghost use Rattle.http_wire.specs.Gives.{weight};
 ghost use Rattle.gateway.specs.Exchange.{Span};
-ghost use Rattle.gateway.specs.Connection.{has_failed, ConnectionTrace};
+ghost use Rattle.gateway.specs.Connection.{is_failed_end, ConnectionTrace};
 ghost use Rattle.gateway.specs.Request.{asks_of, end_of};
 ghost use Rattle.gateway.specs.Handled.{HandledEnds};
-ghost use Rattle.gateway.specs.Serving.{has_ended_failed, NextOne, EndsUnread};
+ghost use Rattle.gateway.specs.Serving.{is_failed_step, NextOne, EndsUnread};
 ghost use Rattle.gateway.specs.World.{world, progress_of, start_of, cursor_of, ServesOver};
 
 use crate::handle::{Handled, handle_request};
@@ -32,7 +32,7 @@ pub fn serve_connection<N: Line<W>, W: Swift, C: Clock, D: Draws>(
     draws: &mut D,
 ) -> Ended
     requires { IsTrue (N.model line.old).is_open }
-    ensures line { LineServes (has_failed result) (N.model line.old) (N.model line.new) }
+    ensures line { LineServes (is_failed_end result) (N.model line.old) (N.model line.new) }
 
     // Where line, clock and draws are observable, it is one connection.
     ensures serves { ServesOver service.now.settings (λ R old new. (spans : List Span) × ConnectionTrace service.now R old.line.transcript.begun result (start_of old) spans (progress_of new))
@@ -75,7 +75,7 @@ fn serve_next<N: Line<W>, W: Swift, C: Clock, D: Draws>(
     requires goes { reader.old.ended ≡ false }
     ensures goes { result ≡ None → reader.new.ended ≡ false }
     ensures falls { result ≡ None → weight (N.model line.new).spent reader.new.bytes < weight (N.model line.old).spent reader.old.bytes }
-    ensures line { LineServes (has_ended_failed result) (N.model line.old) (N.model line.new) }
+    ensures line { LineServes (is_failed_step result) (N.model line.old) (N.model line.new) }
     ensures serves { ServesOver service.now.settings (λ R old new. NextOne service.now R old.line.transcript.begun (cursor_of reader.old old) result (cursor_of reader.new new))
         (world (N.model line.old) (W.history store.old) known.old (C.model clock.old) (D.model draws.old))
         (world (N.model line.new) (W.history store.new) known.new (C.model clock.new) (D.model draws.new)) }
@@ -121,7 +121,7 @@ fn answer<N: Line<W>, W: Swift, C: Clock, D: Draws>(
 ) -> Option<Ended>
     requires { IsTrue (N.model line.old).is_open }
     ensures ends { result ≡ None → end_of received ≡ None }
-    ensures writes { OnlyWrites (has_ended_failed result) (N.model line.old) (N.model line.new) }
+    ensures writes { OnlyWrites (is_failed_step result) (N.model line.old) (N.model line.new) }
     ensures serves { ServesOver service.now.settings (λ R old new. HandledEnds R old.line.transcript.begun (progress_of old) (progress_of new) (asks_of service.now received) result)
         (world (N.model line.old) (W.history store.old) known.old (C.model clock.old) (D.model draws.old))
         (world (N.model line.new) (W.history store.new) known.new (C.model clock.new) (D.model draws.new)) }
@@ -135,7 +135,7 @@ fn answer<N: Line<W>, W: Swift, C: Clock, D: Draws>(
 /// Ends a connection whose next request could not be read because memory ran out: the reply for that is written.
 fn end_unread<N: Line<W>, W: Swift>(line: &mut N, store: &W) -> Ended
     requires { IsTrue (N.model line.old).is_open }
-    ensures writes { OnlyWrites (has_failed result) (N.model line.old) (N.model line.new) }
+    ensures writes { OnlyWrites (is_failed_end result) (N.model line.old) (N.model line.new) }
     ensures effect { IsTrue (N.model line.old).observable → EndsUnread (W.history store.now).called (N.model line.old).transcript result (N.model line.new).transcript }
 {
     match write_memory(line, store, false) {

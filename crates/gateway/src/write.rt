@@ -7,7 +7,7 @@ ghost use Rattle.s3_machine.specs.declared.operation.Reply.TheVariants as answer
 ghost use Rattle.s3_machine.specs.Shown.{IsShowable};
 ghost use Rattle.gateway.specs.declared.write.Written.TheVariants as written;
 ghost use Rattle.gateway.specs.Request.{reply_text};
-ghost use Rattle.gateway.specs.Write.{Writes, WritesWanted, has_failed_write};
+ghost use Rattle.gateway.specs.Write.{Writes, WritesWanted, is_failed_write};
 
 use gate_base::{Bytes, Line, Memory};
 use http_wire::{print_memory, print_page};
@@ -41,7 +41,7 @@ pub fn write_reply<N: Line<W>, W: Swift>(
     requires open { IsTrue (N.model line.old).is_open }
     requires showable { IsShowable reply }
     requires moment { label.now.moment < moment_limit }
-    ensures writes { OnlyWrites (has_failed_write result) (N.model line.old) (N.model line.new) }
+    ensures writes { OnlyWrites (is_failed_write result) (N.model line.old) (N.model line.new) }
     ensures effect { IsTrue (N.model line.old).observable
         → Writes (N.model line.old).transcript (W.history store.now).called reply label.now method.now resource.now closing result (N.model line.new).transcript }
 {
@@ -58,7 +58,7 @@ pub fn write_reply<N: Line<W>, W: Swift>(
 pub fn write_memory<N: Line<W>, W: Swift>(line: &mut N, store: &W, head: bool) -> Written
     requires { IsTrue (N.model line.old).is_open }
     ensures outcome { result ≢ written.Whole }
-    ensures writes { OnlyWrites (has_failed_write result) (N.model line.old) (N.model line.new) }
+    ensures writes { OnlyWrites (is_failed_write result) (N.model line.old) (N.model line.new) }
     ensures effect { IsTrue (N.model line.old).observable → WritesWanted (N.model line.old).transcript (W.history store.now).called (memory_reply head) result (N.model line.new).transcript }
 {
     write_wanted(line, store, print_memory(head))
@@ -67,7 +67,7 @@ pub fn write_memory<N: Line<W>, W: Swift>(line: &mut N, store: &W, head: bool) -
 fn write_wanted<N: Line<W>, W: Swift>(line: &mut N, store: &W, bytes: &[u8]) -> Written
     requires { IsTrue (N.model line.old).is_open }
     ensures outcome { result ≢ written.Whole }
-    ensures writes { OnlyWrites (has_failed_write result) (N.model line.old) (N.model line.new) }
+    ensures writes { OnlyWrites (is_failed_write result) (N.model line.old) (N.model line.new) }
     ensures effect { IsTrue (N.model line.old).observable → WritesWanted (N.model line.old).transcript (W.called store.now) bytes.now result (N.model line.new).transcript }
 {
     match line.write(store, bytes) {

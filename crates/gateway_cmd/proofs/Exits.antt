@@ -7,7 +7,7 @@ use Rattle.gateway_cmd.specs.declared.status.RunOutcome.{RunOutcome}
 use Rattle.gateway_cmd.specs.declared.status.RunOutcome.TheVariants.{Signed, Plain}
 use Rattle.gateway_cmd.specs.declared.status.Status.{Status}
 use Rattle.gateway_cmd.specs.declared.status.Status.TheVariants.{Done, Usage, Line, Request, Memory}
-use Rattle.gateway_cmd.specs.Report.{IsStatus, Says, Task, nothing, to_serve, to_sign, task_of, is_possible, Fits, code_of, is_plain, is_line, is_done}
+use Rattle.gateway_cmd.specs.Report.{IsStatus, Says, Task, nothing, to_serve, to_sign, task_of, is_possible, Fits, code_of, is_plain, is_failed_run, is_done}
 use Rattle.gateway_cmd.specs.Session.{LineServed, Serving, serving_of}
 
 -- the exit status of a run that ended so; 6 is that of a signature whose report failed
@@ -83,15 +83,15 @@ exits_done (Plain Memory) n x e plain = absurd (omega arith)
 exits_done (Plain Request) n x e plain = absurd (omega arith)
 
 -- whether the line failed, by the status
-pub exits_is_line : (ended : RunOutcome) (n : ℕ) → Exits ended n → is_line ended ≡ (n == 3)
-exits_is_line (Signed signed) n (inl zero) = sym (ap (λ k. k == 3) zero)
-exits_is_line (Signed signed) n (inr (inl five)) = sym (ap (λ k. k == 3) five)
-exits_is_line (Signed signed) n (inr (inr six)) = sym (ap (λ k. k == 3) six)
-exits_is_line (Plain Done) n e = sym (ap (λ k. k == 3) e)
-exits_is_line (Plain Usage) n e = sym (ap (λ k. k == 3) e)
-exits_is_line (Plain Line) n e = sym (ap (λ k. k == 3) e)
-exits_is_line (Plain Memory) n e = sym (ap (λ k. k == 3) e)
-exits_is_line (Plain Request) n e = sym (ap (λ k. k == 3) e)
+pub exits_failed_run : (ended : RunOutcome) (n : ℕ) → Exits ended n → is_failed_run ended ≡ (n == 3)
+exits_failed_run (Signed signed) n (inl zero) = sym (ap (λ k. k == 3) zero)
+exits_failed_run (Signed signed) n (inr (inl five)) = sym (ap (λ k. k == 3) five)
+exits_failed_run (Signed signed) n (inr (inr six)) = sym (ap (λ k. k == 3) six)
+exits_failed_run (Plain Done) n e = sym (ap (λ k. k == 3) e)
+exits_failed_run (Plain Usage) n e = sym (ap (λ k. k == 3) e)
+exits_failed_run (Plain Line) n e = sym (ap (λ k. k == 3) e)
+exits_failed_run (Plain Memory) n e = sym (ap (λ k. k == 3) e)
+exits_failed_run (Plain Request) n e = sym (ap (λ k. k == 3) e)
 
 -- and whether all was done, where there is no signature
 pub exits_is_done : (ended : RunOutcome) (n : ℕ) → is_plain ended ≡ true → Exits ended n → is_done ended ≡ (n == 0)
@@ -103,9 +103,9 @@ exits_is_done (Plain Memory) n plain e = sym (ap (λ k. k == 0) e)
 exits_is_done (Plain Request) n plain e = sym (ap (λ k. k == 0) e)
 
 -- so it is said of the line of a run that serves
-pub serving_line : {serving : Serving} {old new : LineModel} (ended : RunOutcome) (n : ℕ) → is_plain ended ≡ true → Exits ended n → LineServed serving (is_line ended) (is_done ended) old new → LineServed serving (n == 3) (n == 0) old new
+pub serving_line : {serving : Serving} {old new : LineModel} (ended : RunOutcome) (n : ℕ) → is_plain ended ≡ true → Exits ended n → LineServed serving (is_failed_run ended) (is_done ended) old new → LineServed serving (n == 3) (n == 0) old new
 serving_line {serving = serving} {old = old} {new = new} ended n plain x line =
-    subst (λ failed. LineServed serving failed (n == 0) old new) (exits_is_line ended n x) (subst (λ done. LineServed serving (is_line ended) done old new) (exits_is_done ended n plain x) line)
+    subst (λ failed. LineServed serving failed (n == 0) old new) (exits_failed_run ended n x) (subst (λ done. LineServed serving (is_failed_run ended) done old new) (exits_is_done ended n plain x) line)
 
 -- an end whose status the run hasn't is not its end
 pub exits_other : (ended : RunOutcome) (status : Status) (n : ℕ) → Exits ended n → (n ≡ code_of status → ⊥) → ended ≢ Plain status

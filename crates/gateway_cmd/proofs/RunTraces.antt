@@ -8,7 +8,7 @@ use Rattle.swift_calls.specs.History.{History, Extends}
 use Rattle.upload_records.specs.Consistent.{IsConsistent}
 use Rattle.gateway.specs.declared.service.Service.{Service}
 use Rattle.gateway.specs.Exchange.{ReplyRelation, Mark, Span, IsKnownOf, Replies, RepliesBy, FaultFreeReplies}
-use Rattle.gateway.specs.Connection.{has_failed}
+use Rattle.gateway.specs.Connection.{is_failed_end}
 use Rattle.gateway.specs.Stands.{Follows, AllPass, StandsThroughout}
 use Rattle.gateway.proofs.Order.{follows_none, follows_append, connection_trace_order, connection_trace_order_faults, connection_trace_follow}
 use Rattle.gateway.proofs.Map.{Between, between_ends, FollowsBetween, connection_trace_map, by_agree, fault_free_map}
@@ -53,7 +53,7 @@ module _ {service : Service} {R : ReplyRelation} where
       let rises = run_trace_begun trace in
       let before = run_trace_marks trace in
       let begun = serves.begun in
-      let one = ap length serves.marks ∙ marks_more (has_failed serves.ended) middle.marks (new.begun - 1) in
+      let one = ap length serves.marks ∙ marks_more (is_failed_end serves.ended) middle.marks (new.begun - 1) in
       omega arith
 
 -- ---- what is said of replies, said otherwise

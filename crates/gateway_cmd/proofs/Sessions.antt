@@ -16,7 +16,7 @@ use Rattle.recovery.specs.Calls.{GoesOn, Met}
 use Rattle.recovery.specs.Settling.{IsKnown, Anything}
 use Rattle.gateway.specs.declared.ended.Ended.{Ended as Close}
 use Rattle.gateway.specs.declared.service.Service.{Service}
-use Rattle.gateway.specs.Connection.{ConnectionTrace, has_failed, cursor, progress}
+use Rattle.gateway.specs.Connection.{ConnectionTrace, is_failed_end, cursor, progress}
 use Rattle.gateway.specs.Exchange.{ReplyRelation, Span, mark, RepliesBy, Where}
 use Rattle.gateway.specs.Stands.{Stands}
 use Rattle.gateway.specs.World.{World, world, progress_of, start_of, IsObservable, ServesOver}
@@ -28,7 +28,7 @@ use Rattle.gateway_cmd.specs.declared.status.RunOutcome.{RunOutcome}
 use Rattle.gateway_cmd.specs.declared.status.RunOutcome.TheVariants.{Plain}
 use Rattle.gateway_cmd.specs.declared.status.Status.{Status}
 use Rattle.gateway_cmd.specs.declared.status.Status.TheVariants.{Done, Usage, Line, Request, Memory}
-use Rattle.gateway_cmd.specs.Report.{is_line, is_done, is_plain}
+use Rattle.gateway_cmd.specs.Report.{is_failed_run, is_done, is_plain}
 use Rattle.gateway_cmd.specs.Run.{run_cursor_of, RunTrace, none, more, RunTraces, RunHeard, RunStands, RunTold}
 use Rattle.gateway_cmd.specs.Session.{settings_of, Serving, serving_of, service_of, NextCursor, LineServed, LineServesAll, RunServes, RunSigns}
 use Rattle.gateway_cmd.proofs.Marks.{unmarked_none}
@@ -64,7 +64,7 @@ marked false marks marks' marks'' begun begun'' began same is = is ∙ began
 
 -- a connection that began was served
 pub next_served : (service : Service) (R : ReplyRelation) (line line' : LineModel) (store : History) (known : Known) (clock draws : SourceModel) (new : World) (ended : Close)
-    → Begins true line.transcript line'.transcript → TranscriptServes (has_failed ended) line'.transcript new.line.transcript
+    → Begins true line.transcript line'.transcript → TranscriptServes (is_failed_end ended) line'.transcript new.line.transcript
     → ((spans : List Span) × ConnectionTrace service R line'.transcript.begun ended (start_of (world line' store known clock draws)) spans (progress_of new))
     → NextCursor service R None (world line store known clock draws) new
 next_served service R line line' store known clock draws new ended begins serves trace =
@@ -75,7 +75,7 @@ next_served service R line line' store known clock draws new ended begins serves
         ended = ended;
         waiting = begins.0 ∙ ap (λ w. line'.transcript.rest ∷ w) (sym serves.waiting);
         begun = serves.begun ∙ begins.1;
-        marks = marked (has_failed ended) line.transcript.marks line'.transcript.marks new.line.transcript.marks line'.transcript.begun new.line.transcript.begun begins.3 serves.begun serves.marks;
+        marks = marked (is_failed_end ended) line.transcript.marks line'.transcript.marks new.line.transcript.marks line'.transcript.begun new.line.transcript.begun begins.3 serves.begun serves.marks;
         trace = subst P (λ i. (sym serves.begun i, begins.2 i)) trace.1;
       },
     )
@@ -99,12 +99,12 @@ line_served_none serving false complete line fails ends = record {
 }
 
 -- a run that made no call
-pub run_serves_none : (serving : Serving) (keys : List ℕ) (ended : RunOutcome) (line : LineModel) (store : History) (clock draws : SourceModel) → is_plain ended ≡ true → is_line ended ≡ false → is_done ended ≡ false
+pub run_serves_none : (serving : Serving) (keys : List ℕ) (ended : RunOutcome) (line : LineModel) (store : History) (clock draws : SourceModel) → is_plain ended ≡ true → is_failed_run ended ≡ false → is_done ended ≡ false
     → RunServes serving keys ended (world line store Unsure clock draws) (λ known. world line store known clock draws)
 run_serves_none serving keys ended line store clock draws plain fails ends = record {
   plain = plain;
   known = Unsure;
-  line = line_served_none serving (is_line ended) (is_done ended) line fails ends;
+  line = line_served_none serving (is_failed_run ended) (is_done ended) line fails ends;
   serves = serves_none (λ t. t) (λ told R. ([], none (run_cursor_of (world line store Unsure clock draws))));
 }
 
@@ -112,10 +112,10 @@ signs_on_none : (failed : Bool) (line : LineModel) → failed ≡ false → Sign
 signs_on_none true line fails = cc
 signs_on_none false line fails = record { faults = refl; next_faults = λ same. refl; observable = λ t. t; begun = λ t. omega arith; sent = λ t. refl }
 
-pub run_signs_none : (id region keys : List ℕ) (ended : RunOutcome) (line : LineModel) → is_line ended ≡ false → ended ≢ Plain Done → (are_keys (keys_of keys) ≡ true → ended ≢ Plain Memory → ⊥) → RunSigns id region keys ended line line
+pub run_signs_none : (id region keys : List ℕ) (ended : RunOutcome) (line : LineModel) → is_failed_run ended ≡ false → ended ≢ Plain Done → (are_keys (keys_of keys) ≡ true → ended ≢ Plain Memory → ⊥) → RunSigns id region keys ended line line
 run_signs_none id region keys ended line fails other never = record {
   other = other;
-  line = signs_on_none (is_line ended) line fails;
+  line = signs_on_none (is_failed_run ended) line fails;
   effect = λ secret good has observable memory. absurd (never good memory);
 }
 
@@ -140,7 +140,7 @@ done_is Line is = absurd (let clash : false ≡ true = is in cc)
 done_is Request is = absurd (let clash : false ≡ true = is in cc)
 done_is Memory is = absurd (let clash : false ≡ true = is in cc)
 
-status_line : (serving : Serving) (status : Status) (old new : LineModel) → LineServesAll status old new → LineServed serving (is_line (Plain status)) (is_done (Plain status)) old new
+status_line : (serving : Serving) (status : Status) (old new : LineModel) → LineServesAll status old new → LineServed serving (is_failed_run (Plain status)) (is_done (Plain status)) old new
 status_line serving status old new line = record {
   next_faults = line.next_faults;
   served_out = λ observable ends. inl (line.done observable (done_is status ends));

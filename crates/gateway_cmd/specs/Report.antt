@@ -97,13 +97,13 @@ pub record Reports (text : List ℕ) (old new : SinkModel) : Type 0 where
   pub effect : IsTrue old.observable → (new.bytes ≡ old.bytes ++ text) ⊎ (Rose old.faults new.faults × PutsPrefix old.bytes text new.bytes)
 
 -- the run ended for the line, and the run ended with all served
-abbrev pub is_line : RunOutcome → Bool
-is_line (Signed signed) = false
-is_line (Plain Done) = false
-is_line (Plain Usage) = false
-is_line (Plain Line) = true
-is_line (Plain Request) = false
-is_line (Plain Memory) = false
+abbrev pub is_failed_run : RunOutcome → Bool
+is_failed_run (Signed signed) = false
+is_failed_run (Plain Done) = false
+is_failed_run (Plain Usage) = false
+is_failed_run (Plain Line) = true
+is_failed_run (Plain Request) = false
+is_failed_run (Plain Memory) = false
 
 abbrev pub is_done : RunOutcome → Bool
 is_done (Signed signed) = false

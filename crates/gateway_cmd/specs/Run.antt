@@ -6,7 +6,7 @@ use Rattle.gateway.specs.declared.service.Service.{Service}
 use Rattle.swift_calls.specs.History.{History}
 use Rattle.gateway.specs.declared.ended.Ended.{Ended}
 use Rattle.gateway.specs.Exchange.{ReplyRelation, Span, Replies, RepliesAny}
-use Rattle.gateway.specs.Connection.{Progress, ConnectionTrace, has_failed}
+use Rattle.gateway.specs.Connection.{Progress, ConnectionTrace, is_failed_end}
 use Rattle.gateway.specs.World.{World, progress_of}
 use Rattle.gateway.specs.Stands.{Follows, AllPass, StandsThroughout}
 
@@ -24,7 +24,7 @@ run_cursor_of w = record { waiting = w.line.transcript.waiting; begun = w.line.t
 
 -- the marks after a connection, which is the last that began
 abbrev pub marks_after : List Bool → ℕ → Ended → List Bool
-marks_after marks begun ended = if has_failed ended then slice_set (marks ++ false ∷ []) (begun - 1) true else marks ++ false ∷ []
+marks_after marks begun ended = if is_failed_end ended then slice_set (marks ++ false ∷ []) (begun - 1) true else marks ++ false ∷ []
 
 -- the next connection was served
 pub record ServesNext (service : Service) (R : ReplyRelation) (old : RunCursor) (spans : List Span) (new : RunCursor) : Type 0 where

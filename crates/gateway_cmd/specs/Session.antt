@@ -21,7 +21,7 @@ use Rattle.gateway_cmd.specs.declared.status.Status.{Status}
 use Rattle.gateway_cmd.specs.declared.status.Status.TheVariants.{Done, Usage, Line, Request as NoRequest, Memory}
 use Rattle.gateway_cmd.specs.declared.status.RunOutcome.{RunOutcome}
 use Rattle.gateway_cmd.specs.declared.status.RunOutcome.TheVariants.{Plain}
-use Rattle.gateway_cmd.specs.Report.{end_of, is_plain, is_line, is_done}
+use Rattle.gateway_cmd.specs.Report.{end_of, is_plain, is_failed_run, is_done}
 use Rattle.gateway_cmd.specs.Run.{run_cursor_of, ServesNext, RunTraces}
 
 -- the settings of a service of that region
@@ -74,9 +74,9 @@ is_end Line = true
 is_end NoRequest = false
 is_end Memory = false
 
-abbrev pub is_failed_end : Option Status → Bool
-is_failed_end None = false
-is_failed_end (Some status) = is_line (Plain status)
+abbrev pub is_failed_session : Option Status → Bool
+is_failed_session None = false
+is_failed_session (Some status) = is_failed_run (Plain status)
 
 abbrev pub IsEnd : Option Status → Type 0
 IsEnd None = Unit {0}
@@ -87,14 +87,14 @@ pub record LineServesNext (result : Option Status) (old new : LineModel) : Type 
   pub ends : IsEnd result
   pub falls : result ≡ None → 2 ^ 63 - new.spent < 2 ^ 63 - old.spent
   pub faults : old.faults ≤ new.faults
-  pub next_faults : RisesIf (is_failed_end result) old.next_faults new.next_faults
+  pub next_faults : RisesIf (is_failed_session result) old.next_faults new.next_faults
   pub done : IsTrue old.observable → result ≡ Some Done → new.transcript.waiting ≡ []
   pub unmarked : IsTrue old.observable → (Rose old.faults new.faults → ⊥) → Unmarked old.transcript new.transcript
 
 -- the connections were, until there was none
 pub record LineServesAll (status : Status) (old new : LineModel) : Type 0 where
   pub ends : is_end status ≡ true
-  pub next_faults : RisesIf (is_line (Plain status)) old.next_faults new.next_faults
+  pub next_faults : RisesIf (is_failed_run (Plain status)) old.next_faults new.next_faults
   pub done : IsTrue old.observable → status ≡ Done → new.transcript.waiting ≡ []
   pub unmarked : IsTrue old.observable → (Rose old.faults new.faults → ⊥) → Unmarked old.transcript new.transcript
 
@@ -110,12 +110,12 @@ pub record LineServed (serving : Serving) (failed done : Bool) (old new : LineMo
 pub record RunServes (serving : Serving) (keys : List ℕ) (ended : RunOutcome) (old : World) (new : Known → World) : Type 0 where
   pub plain : is_plain ended ≡ true
   pub known : Known
-  pub line : LineServed serving (is_line ended) (is_done ended) old.line (new known).line
+  pub line : LineServed serving (is_failed_run ended) (is_done ended) old.line (new known).line
   pub serves : ServesOver serving.settings (RunTraces (service_of serving keys)) old (new known)
 
 -- the first request was signed, or could not be; where the key is there, by its secret
 pub record RunSigns (id region keys : List ℕ) (ended : RunOutcome) (old new : LineModel) : Type 0 where
   pub other : ended ≢ Plain Done
-  pub line : SignsOn (is_line ended) old new
+  pub line : SignsOn (is_failed_run ended) old new
   pub effect : (secret : List ℕ) → are_keys (keys_of keys) ≡ true → secret_of id (keys_of keys) ≡ Some secret → IsTrue old.observable → ended ≢ Plain Memory
       → (signing : Signing) × AnswersFirst secret region old.transcript.waiting signing × (ended ≡ end_of signing)

@@ -7,7 +7,7 @@ ghost use Rattle.sign_cmd.specs.declared.first.Signing.{Signing};
 ghost use Rattle.gateway.specs.World.{world, Continues};
 ghost use Rattle.gateway_cli.specs.Words.{command_of};
 ghost use Rattle.gateway_cli.specs.declared.command.Command.TheVariants as commands;
-ghost use Rattle.gateway_cmd.specs.Report.{Admits, asked_for, is_admitted, is_line, is_possible, task_of, to_sign, end_of};
+ghost use Rattle.gateway_cmd.specs.Report.{Admits, asked_for, is_admitted, is_failed_run, is_possible, task_of, to_sign, end_of};
 ghost use Rattle.gateway_cmd.specs.declared.status.RunOutcome.TheVariants as ended;
 ghost use Rattle.gateway_cmd.specs.declared.status.Status.TheVariants as status;
 ghost use Rattle.gateway_cmd.specs.Session.{RunServes, RunSigns, Serving, serving_of};
@@ -99,7 +99,7 @@ fn sign<N: Line<W>, W: Swift>(
     ensures usage { result ≡ ended.Plain status.Usage → secret_of id.now keys.now ≡ None }
     ensures refused { secret_of id.now keys.now ≡ None → (result ≡ ended.Plain status.Usage) × (line.new ≡ line.old) }
     ensures other { result ≢ ended.Plain status.Done }
-    ensures line { SignsOn (is_line result) (N.model line.old) (N.model line.new) }
+    ensures line { SignsOn (is_failed_run result) (N.model line.old) (N.model line.new) }
     ensures effect { (secret : List ℕ) → secret_of id.now keys.now ≡ Some secret → IsTrue (N.model line.old).observable
         → (signing : Signing) × AnswersFirst secret region.now (N.model line.old).transcript.waiting signing × (result ≡ end_of signing) }
 {

@@ -47,10 +47,10 @@ OnRequest (Ok (Refused kind place head)) P = ⊤
 OnRequest (Err fault) P = ⊤
 
 -- whether the line failed
-abbrev pub is_failed : {A : Type 0} → Result A ReadFault → Bool
-is_failed (Ok a) = false
-is_failed (Err Failed) = true
-is_failed (Err Memory) = false
+abbrev pub is_failed_read : {A : Type 0} → Result A ReadFault → Bool
+is_failed_read (Ok a) = false
+is_failed_read (Err Failed) = true
+is_failed_read (Err Memory) = false
 
 -- what is left to do over a line: it falls at each request, so that a loop over requests ends. One read brings fewer bytes than the factor
 abbrev pub weight : ℕ → List ℕ → ℕ

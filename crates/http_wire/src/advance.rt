@@ -1,7 +1,7 @@
 ghost use Rattle.std.specs.Prelude.{◌≡◌, ◌≤◌, ◌<◌, ◌++◌, ◌==◌, ℕ, List, [], false, length, take, IsTrue, IfOk, IfSome, MatchOption};
 ghost use Rattle.gate_base.specs.Line.{OnlyReads};
 ghost use Rattle.httparse.specs.Grammar.{HasNoRequest};
-ghost use Rattle.http_wire.specs.Gives.{is_failed, weight};
+ghost use Rattle.http_wire.specs.Gives.{is_failed_read, weight};
 ghost use Rattle.http_wire.specs.Seen.{AtEnd, IsFound, IsOpen, end_of, window};
 
 use crate::ReadFault;
@@ -55,7 +55,7 @@ pub(crate) fn advance<N: Line<C>, C: Counted>(
 ) -> Result<Found, ReadFault>
     requires open { IsTrue (N.model line.old).is_open }
     requires room { 8192 ≤ length headers.old }
-    ensures reads { OnlyReads (is_failed result) (N.model line.old) (N.model line.new) }
+    ensures reads { OnlyReads (is_failed_read result) (N.model line.old) (N.model line.new) }
     ensures weight { weight (N.model line.new).spent pending.new.items ≤ weight (N.model line.old).spent pending.old.items }
     ensures kept { IsTrue (N.model line.old).observable → pending.new.items ++ (N.model line.new).transcript.rest ≡ pending.old.items ++ (N.model line.old).transcript.rest }
     ensures found { IfOk result (IsFound pending.new.items headers.new) }

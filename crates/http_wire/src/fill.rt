@@ -2,7 +2,7 @@
 ghost use Rattle.std.specs.Prelude.{◌≡◌, ◌≤◌, ◌<◌, ◌+◌, ◌++◌, [], length, take, IsTrue, IfOk, OnErr};
 ghost use Rattle.gate_base.specs.Causes.{Spends};
 ghost use Rattle.gate_base.specs.Line.{OnlyReads};
-ghost use Rattle.http_wire.specs.Gives.{is_failed, weight};
+ghost use Rattle.http_wire.specs.Gives.{is_failed_read, weight};
 
 use crate::ReadFault;
 use gate_base::{Counted, Line};
@@ -17,7 +17,7 @@ pub(crate) fn fill<N: Line<C>, C: Counted>(
     store: &C,
 ) -> Result<usize, ReadFault>
     requires { IsTrue (N.model line.old).is_open }
-    ensures reads { OnlyReads (is_failed result) (N.model line.old) (N.model line.new) }
+    ensures reads { OnlyReads (is_failed_read result) (N.model line.old) (N.model line.new) }
     ensures weight { weight (N.model line.new).spent pending.new.items ≤ weight (N.model line.old).spent pending.old.items }
     ensures falls { IfOk result (λ count. 0 < count
         → weight (N.model line.new).spent pending.new.items < weight (N.model line.old).spent pending.old.items) }
@@ -50,7 +50,7 @@ pub(crate) fn read_room<N: Line<C>, C: Counted>(
 ) -> Result<usize, ReadFault>
     requires open { IsTrue (N.model line.old).is_open }
     requires room { came < length bytes.old.items }
-    ensures reads { OnlyReads (is_failed result) (N.model line.old) (N.model line.new) }
+    ensures reads { OnlyReads (is_failed_read result) (N.model line.old) (N.model line.new) }
     ensures spends { IfOk result (λ count. 0 < count → Spends (N.model line.old).spent (N.model line.new).spent) }
     ensures length { length bytes.new.items ≡ length bytes.old.items }
     ensures within { IfOk result (λ count. came + count ≤ length bytes.old.items) }

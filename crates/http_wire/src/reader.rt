@@ -1,6 +1,6 @@
 ghost use Rattle.std.specs.Prelude.{◌≡◌, ◌≤◌, ◌<◌, ◌++◌, [], true, false, length, drop, IsTrue, IfOk, OnErr};
 ghost use Rattle.gate_base.specs.Line.{OnlyReads};
-ghost use Rattle.http_wire.specs.Gives.{Gives, OnRequest, ends, is_failed, weight};
+ghost use Rattle.http_wire.specs.Gives.{Gives, OnRequest, ends, is_failed_read, weight};
 
 use crate::advance::{Found, HEAD_LIMIT, advance};
 use crate::fill::READ_SIZE;
@@ -66,7 +66,7 @@ impl Reader {
         store: &C,
     ) -> Result<Got, ReadFault>
         requires { IsTrue (N.model line.old).is_open }
-        ensures reads { OnlyReads (is_failed result) (N.model line.old) (N.model line.new) }
+        ensures reads { OnlyReads (is_failed_read result) (N.model line.old) (N.model line.new) }
 
         // A loop over requests ends.
         ensures falls { OnRequest result

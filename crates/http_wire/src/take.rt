@@ -6,7 +6,7 @@ ghost use Rattle.httparse.specs.Spans.{IsRequestAt, IsRequestWithin};
 ghost use Rattle.http_wire.specs.FirstMessage.{is_head};
 ghost use Rattle.http_wire.specs.Seen.{window};
 ghost use Rattle.http_wire.specs.Taken.{BodyFrom, OnWhole, TakenFrom};
-ghost use Rattle.http_wire.specs.Gives.{is_failed};
+ghost use Rattle.http_wire.specs.Gives.{is_failed_read};
 
 use crate::advance::window;
 use crate::fill::read_room;
@@ -44,7 +44,7 @@ pub(crate) fn take_message<N: Line<C>, C: Counted>(
     requires open { IsTrue (N.model line.old).is_open }
     requires within { IsRequestWithin (window pending.old.items) lines.now spans.now }
     requires none { partial.old.items ≡ [] }
-    ensures reads { OnlyReads (is_failed result) (N.model line.old) (N.model line.new) }
+    ensures reads { OnlyReads (is_failed_read result) (N.model line.old) (N.model line.new) }
     ensures none { IfOk result (OnWhole (partial.new.items ≡ [])) }
     ensures fewer { IfOk result (OnWhole (length pending.new.items + spans.now.len ≤ length pending.old.items)) }
     ensures effect { IsTrue (N.model line.old).observable → IfOk result (λ taken. (h : RequestHead) → IsRequestAt (window pending.old.items) lines.now spans.now h
@@ -95,7 +95,7 @@ fn take_body<N: Line<C>, C: Counted>(
     requires open { IsTrue (N.model line.old).is_open }
     requires within { start ≤ length pending.old.items }
     requires none { body.old.items ≡ [] }
-    ensures reads { OnlyReads (is_failed result) (N.model line.old) (N.model line.new) }
+    ensures reads { OnlyReads (is_failed_read result) (N.model line.old) (N.model line.new) }
     ensures fewer { IfOk result (λ whole. IsTrue whole → length pending.new.items + start ≤ length pending.old.items) }
     ensures effect { IsTrue (N.model line.old).observable → IfOk result (λ whole.
         BodyFrom (pending.old.items ++ (N.model line.old).transcript.rest) start size whole body.new.items pending.new.items (N.model line.new).transcript.rest) }
@@ -142,7 +142,7 @@ fn finish_body<N: Line<C>, C: Counted>(
 ) -> Result<bool, ReadFault>
     requires open { IsTrue (N.model line.old).is_open }
     requires short { length body.old.items ≤ size }
-    ensures reads { OnlyReads (is_failed result) (N.model line.old) (N.model line.new) }
+    ensures reads { OnlyReads (is_failed_read result) (N.model line.old) (N.model line.new) }
     ensures kept { IsTrue (N.model line.old).observable → body.new.items ++ (N.model line.new).transcript.rest ≡ body.old.items ++ (N.model line.old).transcript.rest }
     ensures whole { IfOk result (λ whole. IsTrue whole → length body.new.items ≡ size) }
     ensures short { IsTrue (N.model line.old).observable → IfOk result (λ whole. whole ≡ false → (length body.new.items < size) × ((N.model line.new).transcript.rest ≡ [])) }

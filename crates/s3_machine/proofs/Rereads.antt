@@ -5,8 +5,8 @@ use Rattle.std.specs.Option.{option_map}
 use Rattle.std.specs.FinMap.{get}
 use Rattle.gate_base.specs.Maps.{adjust}
 use Rattle.gate_base.proofs.lemmas.Maps.{by_name, at_adjust, at_insert, at_remove}
-use Rattle.gate_base.specs.declared.page.Caller.{Caller}
-use Rattle.gate_base.specs.declared.page.Caller.TheVariants.{Owner}
+use Rattle.gate_base.specs.declared.caller.Caller.{Caller}
+use Rattle.gate_base.specs.declared.caller.Caller.TheVariants.{Owner}
 use Rattle.gate_base.specs.declared.page.Pair.{Pair}
 use Rattle.s3_names.specs.declared.acl.Acl.{Acl}
 use Rattle.s3_machine.specs.declared.code.Code.TheVariants.{NoSuchKey, NotImplemented}

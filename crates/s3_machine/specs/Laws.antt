@@ -1,6 +1,6 @@
 -- Laws of the service, apart from any code.
 use Rattle.std.specs.Prelude.{◌≡◌, ℕ, List, Option}
-use Rattle.gate_base.specs.declared.page.Caller.TheVariants.{Owner}
+use Rattle.gate_base.specs.declared.caller.Caller.TheVariants.{Owner}
 use Rattle.gate_base.specs.declared.page.Pair.{Pair}
 use Rattle.s3_names.specs.declared.acl.Acl.{Acl}
 use Rattle.s3_machine.specs.declared.operation.Label.{Label}

@@ -2,8 +2,8 @@
 -- the order given, and a refused step leaves the state. Source: Amazon S3 API Reference and this profile.
 use Rattle.std.specs.Prelude.{◌≡◌, ◌<◌, ◌≤◌, ℕ, nat_eq, Bool, true, false, not, List, [], length, Option, Some, None}
 use Rattle.std.specs.FinMap.{get, insert, remove, empty, len}
-use Rattle.gate_base.specs.declared.page.Caller.{Caller}
-use Rattle.gate_base.specs.declared.page.Caller.TheVariants.{Owner, Anonymous}
+use Rattle.gate_base.specs.declared.caller.Caller.{Caller}
+use Rattle.gate_base.specs.declared.caller.Caller.TheVariants.{Owner, Anonymous}
 use Rattle.gate_base.specs.declared.page.Pair.{Pair}
 use Rattle.gate_base.specs.Maps.{adjust}
 use Rattle.gate_base.specs.Told.{moment_limit}

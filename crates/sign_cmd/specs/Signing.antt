@@ -78,11 +78,11 @@ AnswersFirst secret region waiting LineFailed = ⊤
 AnswersFirst secret region waiting Memory = ⊤
 
 -- whether the line failed
-abbrev pub has_failed : Signing → Bool
-has_failed (Signed signed) = false
-has_failed NoRequest = false
-has_failed LineFailed = true
-has_failed Memory = false
+abbrev pub is_failed_signing : Signing → Bool
+is_failed_signing (Signed signed) = false
+is_failed_signing NoRequest = false
+is_failed_signing LineFailed = true
+is_failed_signing Memory = false
 
 -- at most one connection began, bytes of it were read, and no piece was sent
 pub record SignsOn (failed : Bool) (old new : LineModel) : Type 0 where

@@ -1,6 +1,6 @@
 ghost use Rattle.std.specs.Prelude.{◌≡◌, false, IsTrue};
 ghost use Rattle.gate_base.specs.Line.{OnlyReads};
-ghost use Rattle.sign_cmd.specs.Signing.{Answers, AnswersFrom, AnswersFirst, SignsOn, has_failed};
+ghost use Rattle.sign_cmd.specs.Signing.{Answers, AnswersFrom, AnswersFirst, SignsOn, is_failed_signing};
 
 use crate::message::sign_message;
 use gate_base::{Counted, Line, Memory};
@@ -32,7 +32,7 @@ pub fn sign_first<N: Line<W>, W: Counted>(
     line: &mut N,
     store: &W,
 ) -> Signing
-    ensures line { SignsOn (has_failed result) (N.model line.old) (N.model line.new) }
+    ensures line { SignsOn (is_failed_signing result) (N.model line.old) (N.model line.new) }
     ensures effect { IsTrue (N.model line.old).observable → AnswersFirst secret.now region.now (N.model line.old).transcript.waiting result }
 {
     match line.next() {
@@ -51,7 +51,7 @@ fn sign_next<N: Line<W>, W: Counted>(
     store: &W,
 ) -> Signing
     requires { IsTrue (N.model line.old).is_open }
-    ensures reads { OnlyReads (has_failed result) (N.model line.old) (N.model line.new) }
+    ensures reads { OnlyReads (is_failed_signing result) (N.model line.old) (N.model line.new) }
     ensures effect { IsTrue (N.model line.old).observable → AnswersFrom secret.now region.now (N.model line.old).transcript.rest result }
 {
     let mut reader = match Reader::new(alloc) {
@@ -70,7 +70,7 @@ fn sign_next<N: Line<W>, W: Counted>(
 
 /// The answer to a request.
 fn answer(alloc: Global, secret: &[u8], region: &[u8], message: &Message) -> Signing
-    ensures heard { has_failed result ≡ false }
+    ensures heard { is_failed_signing result ≡ false }
     ensures effect { Answers secret.now region.now message.now result }
 {
     match sign_message(alloc, secret, region, message) {

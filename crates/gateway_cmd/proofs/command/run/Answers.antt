@@ -6,7 +6,7 @@ use Rattle.sign_cmd.specs.Signing.{SignsOn}
 use Rattle.gateway.specs.World.{world}
 use Rattle.gateway_cmd.specs.declared.status.Status.TheVariants.{Memory}
 use Rattle.gateway_cmd.specs.Report.{Says}
-use Rattle.gateway_cmd.proofs.Exits.{Exits, says_exits, exits_status, exits_usage, exits_request, exits_done, exits_other, exits_signed, exits_is_line, serving_line, serve_command, sign_command, asks_nothing, fits_task, signs_task}
+use Rattle.gateway_cmd.proofs.Exits.{Exits, says_exits, exits_status, exits_usage, exits_request, exits_done, exits_other, exits_signed, exits_failed_run, serving_line, serve_command, sign_command, asks_nothing, fits_task, signs_task}
 use Rattle.gateway_cmd.proofs.Sessions.{run_heard, run_stands, run_told, unsure_met}
 use Rattle.gateway_cmd.proofs.command.run.Goals as goal
 
@@ -33,7 +33,7 @@ pub returns-clause-signing : goal.returns-clause-signing
 returns-clause-signing g c = λ signing.
     let command = sign_command _ signing in
     let exits = says_exits _ _ _ c.tell.ensures.says.1 in
-    subst (λ failed. SignsOn failed (g.N.Line.model c.args.line.now) (g.N.Line.model c.attempt-ended.new.line)) (exits_is_line _ _ exits) (c.attempt-ended.ensures.signs command.0 command.1 command.2).line
+    subst (λ failed. SignsOn failed (g.N.Line.model c.args.line.now) (g.N.Line.model c.attempt-ended.new.line)) (exits_failed_run _ _ exits) (c.attempt-ended.ensures.signs command.0 command.1 command.2).line
 
 pub returns-clause-report : goal.returns-clause-report
 returns-clause-report g c =

@@ -2,7 +2,7 @@ use Rattle.std.proofs.Common.{◌∙◌, [], subst, refl, arith}
 use Rattle.gate_base.specs.Causes.{RisesIf}
 use Rattle.gateway.specs.World.{World, world}
 use Rattle.gateway.proofs.Worlds.{serves_none, serves_trans}
-use Rattle.gateway_cmd.specs.Report.{is_line}
+use Rattle.gateway_cmd.specs.Report.{is_failed_run}
 use Rattle.gateway_cmd.specs.Run.{none, run_cursor_of}
 use Rattle.gateway_cmd.specs.declared.status.RunOutcome.TheVariants.{Plain}
 use Rattle.gateway_cmd.proofs.Marks.{unmarked_none, unmarked_next, done_next}
@@ -23,7 +23,7 @@ returns-in-Some-clause-line g c =
     let s = c.in-Some.ensures.line in
     record {
       ends = s.ends;
-      next_faults = subst (λ n. RisesIf (is_line (Plain c.in-Some.status)) n (g.N.Line.model c.serve_another.new.line).next_faults) i.next_faults s.next_faults;
+      next_faults = subst (λ n. RisesIf (is_failed_run (Plain c.in-Some.status)) n (g.N.Line.model c.serve_another.new.line).next_faults) i.next_faults s.next_faults;
       done = λ observable is. done_next s (i.serves.on.line observable) is;
       unmarked = unmarked_next (g.N.Line.model c.args.line.now) (g.N.Line.model c.connections.line) (g.N.Line.model c.serve_another.new.line) i.serves.on.line i.faults i.unmarked s;
     }
