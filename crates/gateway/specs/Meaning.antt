@@ -3,6 +3,7 @@
 use Rattle.std.specs.Prelude.{◌≡◌, Bool, false, not, ◌&&◌, nat_lt, if◌then◌else◌, List, [], ◌∷◌, length, Option, Some, None}
 use Rattle.gate_base.specs.declared.caller.Caller.{Caller}
 use Rattle.gate_base.specs.declared.caller.Caller.TheVariants.{Owner, Anonymous}
+use Rattle.s3_names.specs.declared.key.TheConstants.{MOST_KEY_BYTES}
 use Rattle.s3_names.specs.declared.acl.Acl.TheVariants.{Private}
 use Rattle.s3_names.specs.declared.target.Target.{Target}
 use Rattle.s3_names.specs.Bucket.{is_bucket}
@@ -42,9 +43,9 @@ first_refusal (reason ∷ reasons) rest = if reason.holds then Refused reason.co
 abbrev pub has_bad_bucket : Target → Bool
 has_bad_bucket target = not (is_same_level (level_of target.bucket target.key) Service) && not (is_bucket target.bucket)
 
--- a key above 1024 bytes
+-- a key that is too long
 abbrev pub has_long_key : Target → Bool
-has_long_key target = nat_lt 1024 (length target.key)
+has_long_key target = nat_lt MOST_KEY_BYTES (length target.key)
 
 -- a key that is none although it isn't long, as no target has one that was read
 abbrev pub has_bad_key : Target → Bool

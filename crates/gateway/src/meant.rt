@@ -20,12 +20,9 @@ use crate::rows::{Level, Row, is_method, is_same_level, level_of, row_for, shape
 use gate_base::{Bytes, Caller, Copying, Memory};
 use http_wire::Message;
 use s3_machine::{Code, Op, Settings, is_content_type, is_proper_meta};
-use s3_names::{Acl, Meta, Target, is_bucket, is_key};
+use s3_names::{Acl, MOST_KEY_BYTES, Meta, Target, is_bucket, is_key};
 use std::alloc::Global;
 use std::mem;
-
-/// The most bytes of a key (Amazon S3 User Guide, "Naming Amazon S3 objects").
-const MOST_KEY_BYTES: usize = 1024;
 
 /// What a request means.
 #[derive(Debug, Drop)]

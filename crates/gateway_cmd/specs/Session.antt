@@ -17,6 +17,7 @@ use Rattle.gateway.specs.Exchange.{ReplyRelation, Span}
 use Rattle.gateway.specs.World.{World, ServesOver}
 use Rattle.gateway_cli.specs.declared.command.Command.{Command}
 use Rattle.gateway_cli.specs.declared.command.Command.TheVariants.{Session, Sign}
+use Rattle.gateway_cmd.specs.declared.service.TheConstants.{LEAST_PART}
 use Rattle.gateway_cmd.specs.declared.status.Status.{Status}
 use Rattle.gateway_cmd.specs.declared.status.Status.TheVariants.{Done, Usage, Line, Request as NoRequest, Memory}
 use Rattle.gateway_cmd.specs.declared.status.RunOutcome.{RunOutcome}
@@ -26,7 +27,7 @@ use Rattle.gateway_cmd.specs.Run.{run_cursor_of, ServesNext, RunTraces}
 
 -- the settings of a service of that region
 abbrev pub settings_of : List ℕ → Settings
-settings_of region = record { region = region; least_part = 5242880 }
+settings_of region = record { region = region; least_part = LEAST_PART }
 
 -- what connections are served by: the settings that the words ask for, and how many connections at most; and the keys of a
 -- key text

@@ -7,6 +7,8 @@ use Rattle.std.specs.Char.{to_ascii_lowercase}
 use Rattle.std.specs.Str.Parse.{digits_value}
 use Rattle.gate_base.specs.Ascii.{is_digit}
 use Rattle.gate_base.specs.declared.page.Pair.{Pair}
+use Rattle.http_wire.specs.declared.judge.TheConstants.{BODY_LIMIT}
+use Rattle.http_wire.specs.declared.advance.TheConstants.{HEAD_LIMIT}
 use Rattle.http_wire.specs.declared.message.Message.{Message}
 use Rattle.http_wire.specs.declared.message.Kind.{Kind}
 use Rattle.http_wire.specs.declared.message.Kind.TheVariants.{BadHead, LongHead, ManyHeaders, NoLength, BadLength, LongBody, Transfer, ShortBody}
@@ -41,7 +43,7 @@ CannotBecomeHead bytes = NeverHasRequest bytes × ¬ (EndsInside bytes)
 
 -- the bytes begin with the head h, of n bytes, no more than 16,384 (this profile)
 abbrev pub HasHead : List ℕ → RequestHead → ℕ → Type 0
-HasHead bytes h n = ReadsRequest bytes h (drop n bytes) × (n ≡ length (print_request h)) × (n ≤ 16384)
+HasHead bytes h n = ReadsRequest bytes h (drop n bytes) × (n ≡ length (print_request h)) × (n ≤ HEAD_LIMIT)
 
 -- the bytes begin with no head of up to 16,384 bytes
 abbrev pub HasNoHead : List ℕ → Type 0
@@ -49,7 +51,7 @@ HasNoHead bytes = (h : RequestHead) (n : ℕ) → ¬ (HasHead bytes h n)
 
 -- one of the prefixes of up to 16,384 bytes is dead
 abbrev pub HasDeadPrefix : List ℕ → Type 0
-HasDeadPrefix bytes = (n : ℕ) × (n ≤ 16384) × CannotBecomeHead (take n bytes)
+HasDeadPrefix bytes = (n : ℕ) × (n ≤ HEAD_LIMIT) × CannotBecomeHead (take n bytes)
 
 -- a header as a message has it: the name in lower case, the value without the white space around it (RFC 9110, sections 5.1 and 5.5)
 abbrev pub header_of : Field → Pair
@@ -66,7 +68,7 @@ is_length value = nat_lt 0 (length value) && (nat_le (length value) 19 && list_a
 -- how many bytes of body a length asks for, at most 16,777,216, or why it is refused (this profile)
 abbrev pub value_judged : List ℕ → Result ℕ Kind
 value_judged value =
-    if is_length value then (if nat_lt 16777216 (digits_value 10 value) then Err LongBody else Ok (digits_value 10 value)) else Err BadLength
+    if is_length value then (if nat_lt BODY_LIMIT (digits_value 10 value) then Err LongBody else Ok (digits_value 10 value)) else Err BadLength
 
 -- the same by all lengths that are given: one at most, and none only where the method isn't PUT (RFC 9112, section 6.3, and this profile)
 abbrev pub length_judged : Bool → List (List ℕ) → Result ℕ Kind
@@ -122,7 +124,7 @@ IsDeadHead bytes head = HasNoHead bytes × HasDeadPrefix bytes × (head ≡ fals
 
 -- no end of a head within 16,384 bytes, though none of their prefixes is dead
 abbrev pub IsLongHead : List ℕ → Bool → Type 0
-IsLongHead bytes head = HasNoHead bytes × ¬ (HasDeadPrefix bytes) × (16384 ≤ length bytes) × (head ≡ false)
+IsLongHead bytes head = HasNoHead bytes × ¬ (HasDeadPrefix bytes) × (HEAD_LIMIT ≤ length bytes) × (head ≡ false)
 
 -- what is refused, by its kind
 abbrev pub IsRefused : List ℕ → Kind → Bool → Type 0
@@ -139,5 +141,5 @@ IsRefused bytes ShortBody head = EndsInBody bytes head
 abbrev pub BeginsWith : List ℕ → FirstMessage → Type 0
 BeginsWith bytes (asks message size) = IsAsked bytes message size
 BeginsWith bytes nothing = bytes ≡ []
-BeginsWith bytes cut_short = (0 < length bytes) × (length bytes < 16384) × HasNoHead bytes × ¬ (HasDeadPrefix bytes)
+BeginsWith bytes cut_short = (0 < length bytes) × (length bytes < HEAD_LIMIT) × HasNoHead bytes × ¬ (HasDeadPrefix bytes)
 BeginsWith bytes (refused kind head) = IsRefused bytes kind head

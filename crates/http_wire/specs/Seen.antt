@@ -3,6 +3,7 @@ use Rattle.std.specs.Prelude.{◌≡◌, ℕ, ◌<◌, ◌≤◌, List, [], ◌�
 use Rattle.httparse.specs.declared.spans.HeaderSpan.{HeaderSpan}
 use Rattle.httparse.specs.Grammar.{HasNoRequest}
 use Rattle.httparse.specs.Spans.{IsRequestOf, IsRequestWithin}
+use Rattle.http_wire.specs.declared.advance.TheConstants.{HEAD_LIMIT}
 use Rattle.http_wire.specs.declared.look.Verdict.{Verdict}
 use Rattle.http_wire.specs.declared.look.Verdict.TheVariants.{Whole, More, Dead}
 use Rattle.http_wire.specs.declared.advance.Found.{Found}
@@ -17,19 +18,19 @@ Sees bytes headers Dead = CannotBecomeHead bytes
 
 -- the bytes among which a head has to end
 abbrev pub window : List ℕ → List ℕ
-window bytes = take 16384 bytes
+window bytes = take HEAD_LIMIT bytes
 
 -- what was found in all bytes that came
 abbrev pub IsFound : List ℕ → List HeaderSpan → Found → Type 0
 IsFound bytes headers (Head spans) = IsRequestOf (window bytes) headers spans × IsRequestWithin (window bytes) headers spans
 IsFound bytes headers Bad = CannotBecomeHead (window bytes)
-IsFound bytes headers Long = HasNoRequest (window bytes) × ¬ (HasDeadPrefix (window bytes)) × (16384 ≤ length bytes)
-IsFound bytes headers Cut = (0 < length bytes) × (length bytes < 16384) × HasNoRequest (window bytes) × ¬ (HasDeadPrefix (window bytes))
+IsFound bytes headers Long = HasNoRequest (window bytes) × ¬ (HasDeadPrefix (window bytes)) × (HEAD_LIMIT ≤ length bytes)
+IsFound bytes headers Cut = (0 < length bytes) × (length bytes < HEAD_LIMIT) × HasNoRequest (window bytes) × ¬ (HasDeadPrefix (window bytes))
 IsFound bytes headers Nothing = bytes ≡ []
 
 -- bytes of which it isn't known yet what stands first in them, fewer than a head may have
 abbrev pub IsOpen : List ℕ → Type 0
-IsOpen bytes = HasNoRequest (window bytes) × ¬ (HasDeadPrefix (window bytes)) × (length bytes < 16384)
+IsOpen bytes = HasNoRequest (window bytes) × ¬ (HasDeadPrefix (window bytes)) × (length bytes < HEAD_LIMIT)
 
 -- at the connection's end no byte of it is left
 abbrev pub AtEnd : Found → List ℕ → Type 0

@@ -40,7 +40,7 @@ pub(crate) enum Found {
 #[tactic(auto, using(std::proofs::lemmas::List::take_min))]
 pub(crate) fn window(bytes: &[u8]) -> &[u8]
     ensures value { result.now ≡ window bytes.now }
-    ensures short { length result.now ≤ 16384 }
+    ensures short { length result.now ≤ HEAD_LIMIT }
 {
     &bytes[..HEAD_LIMIT.min(bytes.len())]
 }

@@ -19,12 +19,12 @@ const HEADERS: usize = 100;
 const DIGITS: usize = 19;
 
 /// The bytes of a body, at most.
-const BODY_LIMIT: usize = 16_777_216;
+pub const BODY_LIMIT: usize = 16_777_216;
 
 /// How many bytes of body follow a head, or why it is refused.
 pub(crate) fn judge(message: &Message) -> Result<usize, Kind>
     ensures value { result ≡ judge message.now }
-    ensures within { IfOk result (λ size. size ≤ 16777216) }
+    ensures within { IfOk result (λ size. size ≤ BODY_LIMIT) }
 {
     let headers = message.headers.as_slice();
     if is_long(headers) {
@@ -51,7 +51,7 @@ fn is_put(method: &[u8]) -> bool
 /// The same by the lengths that are given.
 fn judge_length(put: bool, headers: &[Pair]) -> Result<usize, Kind>
     ensures value { result ≡ length_judged put (values_of (codes "content-length") headers.now) }
-    ensures within { IfOk result (λ size. size ≤ 16777216) }
+    ensures within { IfOk result (λ size. size ≤ BODY_LIMIT) }
 {
     let given = count(headers, LENGTH);
     if given > 1 {
@@ -66,7 +66,7 @@ fn judge_length(put: bool, headers: &[Pair]) -> Result<usize, Kind>
 /// The same by the one length.
 fn judge_value(value: &[u8]) -> Result<usize, Kind>
     ensures value { result ≡ value_judged value.now }
-    ensures within { IfOk result (λ size. size ≤ 16777216) }
+    ensures within { IfOk result (λ size. size ≤ BODY_LIMIT) }
 {
     if !is_length(value) {
         return Err(Kind::BadLength);

@@ -16,7 +16,7 @@ pub use acl::Acl;
 pub use bucket::{BucketName, is_bucket};
 pub use escapes::{decode, encode_all, encode_path};
 pub use fault::NameFault;
-pub use key::{Key, is_key};
+pub use key::{Key, MOST_KEY_BYTES, is_key};
 pub use meta::Meta;
 pub use query::Query;
 pub use target::Target;

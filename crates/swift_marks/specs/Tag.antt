@@ -5,6 +5,7 @@ use Rattle.std.specs.Prelude.{List, [], ◌∷◌, ◌++◌, length, take, drop,
 use Rattle.std.specs.List.{list_all, before_first, after_first, before_last, after_last}
 use Rattle.std.specs.Str.{bytes_eq}
 use Rattle.gate_base.specs.Told.{moment_limit}
+use Rattle.swift_marks.specs.declared.forms.TheConstants.{LONGEST_TYPE, MOST_PARTS}
 use Rattle.swift_marks.specs.Number.{number_of, is_lower_hex, id_text, fits_id, id_of}
 use Rattle.swift_marks.specs.declared.tag.Tag.{Tag}
 use Rattle.swift_marks.specs.declared.fault.MarkFault.{MarkFault}
@@ -21,11 +22,11 @@ is_field most text =
     && not (slice_index text 0 == 32) && not (slice_index text (length text - 1) == 32)
 
 abbrev pub is_content_type : List ℕ → Bool
-is_content_type text = is_field 256 text
+is_content_type text = is_field LONGEST_TYPE text
 
 -- a number of parts: 1 to 10000, without leading zeros
 abbrev pub is_part_count : List ℕ → Bool
-is_part_count text = nat_le 1 (number_of text) && nat_le (number_of text) 10000 && bytes_eq text (decimal (number_of text))
+is_part_count text = nat_le 1 (number_of text) && nat_le (number_of text) MOST_PARTS && bytes_eq text (decimal (number_of text))
 
 -- nothing, or `-` and a number of parts
 abbrev pub is_parts_mark : List ℕ → Bool

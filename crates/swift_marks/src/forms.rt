@@ -8,10 +8,10 @@ use crate::number::{all_lower_hex, number_of};
 use itoa::Buffer;
 
 /// The longest content type, in bytes.
-const LONGEST_TYPE: usize = 256;
+pub(crate) const LONGEST_TYPE: usize = 256;
 
 /// The most parts of an object.
-const MOST_PARTS: u64 = 10_000;
+pub(crate) const MOST_PARTS: u64 = 10_000;
 
 /// 1 to 256 bytes of visible ASCII and spaces, no space at either end.
 pub(crate) fn is_content_type(text: &[u8]) -> bool
