@@ -22,3 +22,5 @@ mod own_store;
 mod runs;
 #[cfg(test)]
 mod runtime;
+#[cfg(test)]
+mod tcp_line;

@@ -1,0 +1,7 @@
+//! The outside world over sockets: connections that a listener accepts, as a line.
+#![tactic(auto)]
+
+mod tcp_line;
+mod watch;
+
+pub use tcp_line::TcpLine;
