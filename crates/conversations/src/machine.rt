@@ -9,7 +9,7 @@ use crate::given::Given;
 use crate::talk::Talk;
 use crate::tally::Tally;
 use case_text::Fault;
-use gate_base::{Bytes, Caller, MOMENT_LIMIT, Piece};
+use gate_base::{Bytes, Caller, Copying, MOMENT_LIMIT, Piece};
 use gateway::{Meant, Service, meaning, print_reply};
 use http_wire::Message;
 use s3_machine::{Label, Native, ObjectHead, Op, Reply, Settings};
@@ -262,7 +262,14 @@ fn printed(
     closing: bool,
 ) -> Result<Bytes, Fault> {
     if is_showable(reply) && label.moment < MOMENT_LIMIT {
-        Ok(print_reply(alloc, reply, label, method, resource, closing)?)
+        Ok(print_reply(
+            alloc,
+            reply.copy()?,
+            label,
+            method,
+            resource,
+            closing,
+        )?)
     } else {
         Err(Fault::Unread("a reply without a page"))
     }

@@ -107,18 +107,18 @@ fn is_named(alloc: Global, code: Code, name: &str) -> Result<bool, Fault> {
 }
 
 /// The page of a reply.
-fn page_of(alloc: Global, reply: &Reply, label: &Label, resource: &[u8]) -> Result<Page, Fault>
-    requires reply { reply.now ≢ Reply.Memory }
-    requires showable { IsShowable reply.now }
+fn page_of(alloc: Global, reply: Reply, label: &Label, resource: &[u8]) -> Result<Page, Fault>
+    requires reply { reply ≢ Reply.Memory }
+    requires showable { IsShowable reply }
     requires moment { label.now.moment < moment_limit }
 {
     Ok(page(alloc, reply, label, resource)?)
 }
 
 /// The page of a reply, told.
-fn shown(alloc: Global, reply: &Reply, label: &Label, resource: &[u8]) -> Result<Bytes, Fault>
-    requires reply { reply.now ≢ Reply.Memory }
-    requires showable { IsShowable reply.now }
+fn shown(alloc: Global, reply: Reply, label: &Label, resource: &[u8]) -> Result<Bytes, Fault>
+    requires reply { reply ≢ Reply.Memory }
+    requires showable { IsShowable reply }
     requires moment { label.now.moment < moment_limit }
 {
     let page = page_of(alloc, reply, label, resource)?;
@@ -138,7 +138,7 @@ fn tell(alloc: Global, page: &Page) -> Result<Bytes, Fault> {
 fn code(alloc: Global, name: &str) -> Result<Bytes, Fault> {
     let code = code_of(alloc, name)?;
     let label = label("0", "0")?;
-    let page = page_of(alloc, &Reply::Refused(code), &label, b"")?;
+    let page = page_of(alloc, Reply::Refused(code), &label, b"")?;
     tell_own(alloc, &page)
 }
 
@@ -169,13 +169,13 @@ fn refused(alloc: Global, text: &str) -> Result<Bytes, Fault> {
     let code = code_of(alloc, name)?;
     let label = label(moment, id)?;
     let resource = unescaped(alloc, resource)?;
-    shown(alloc, &Reply::Refused(code), &label, resource.as_slice())
+    shown(alloc, Reply::Refused(code), &label, resource.as_slice())
 }
 
 fn gone(alloc: Global, text: &str) -> Result<Bytes, Fault> {
     let (moment, id) = cut(text);
     let label = label(moment, id)?;
-    shown(alloc, &Reply::Gone, &label, b"")
+    shown(alloc, Reply::Gone, &label, b"")
 }
 
 fn made(alloc: Global, text: &str) -> Result<Bytes, Fault> {
@@ -184,7 +184,7 @@ fn made(alloc: Global, text: &str) -> Result<Bytes, Fault> {
     let label = label(moment, id)?;
     let bucket = told(alloc, name.as_bytes())?;
     let reply = Reply::Made { bucket };
-    shown(alloc, &reply, &label, b"")
+    shown(alloc, reply, &label, b"")
 }
 
 fn stored(alloc: Global, text: &str) -> Result<Bytes, Fault> {
@@ -193,7 +193,7 @@ fn stored(alloc: Global, text: &str) -> Result<Bytes, Fault> {
     let label = label(moment, id)?;
     let etag = told(alloc, digits.as_bytes())?;
     let reply = Reply::Stored { etag };
-    shown(alloc, &reply, &label, b"")
+    shown(alloc, reply, &label, b"")
 }
 
 /// The numbers of an object's reply, which has a page.
@@ -238,7 +238,7 @@ fn object_of(alloc: Global, label: &Label, fields: &[Pair], body: &str) -> Resul
         partial: numbers.partial,
         body,
     };
-    shown(alloc, &reply, label, b"")
+    shown(alloc, reply, label, b"")
 }
 
 fn numbers_of(fields: &[Pair]) -> Result<Numbers, Fault>
