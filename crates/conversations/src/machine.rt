@@ -262,14 +262,7 @@ fn printed(
     closing: bool,
 ) -> Result<Bytes, Fault> {
     if is_showable(reply) && label.moment < MOMENT_LIMIT {
-        Ok(print_reply(
-            alloc,
-            reply.copy()?,
-            label,
-            method,
-            resource,
-            closing,
-        )?)
+        Ok(print_reply(alloc, reply.copy()?, label, method, resource, closing)?)
     } else {
         Err(Fault::Unread("a reply without a page"))
     }

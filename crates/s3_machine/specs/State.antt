@@ -83,7 +83,7 @@ completion_code = code_by (List ℕ × (List Listed × (List ℕ × ℕ)))
 abbrev pub bucket_code : Coded Bucket
 bucket_code = code_by (ℕ × (Acl × (Names Object × (Names Upload × Names Completion))))
     (coded× coded_ℕ (coded× acl.the_row.coded (coded× (map.code (coded_list coded_ℕ) object_code)
-      (coded× (map.code (coded_list coded_ℕ) upload_code) (map.code (coded_list coded_ℕ) completion_code)))))
+    (coded× (map.code (coded_list coded_ℕ) upload_code) (map.code (coded_list coded_ℕ) completion_code)))))
     (λ b. (b.created, (b.acl, (b.objects, (b.uploads, b.kept)))))
     (λ p. record { created = p.0; acl = p.1.0; objects = p.1.1.0; uploads = p.1.1.1.0; kept = p.1.1.1.1 }) (λ _. refl)
 

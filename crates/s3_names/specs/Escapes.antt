@@ -1,8 +1,28 @@
 -- Percent escapes. Sources: RFC 3986, section 2.1 (an escape) and section 2.3 (unreserved bytes), and Amazon S3 API
 -- Reference, "Authenticating requests: using the Authorization header", `UriEncode`.
 use Rattle.std.specs.Prelude.{
-    ◌≡◌, ℕ, ◌+◌, ◌*◌, ◌/◌, ◌%◌, Bool, true, false, not, ◌&&◌, ◌||◌, ◌==◌, nat_le, nat_lt, if◌then◌else◌, List, [],
-    ◌∷◌, Result, Ok, Err
+  ◌≡◌,
+  ℕ,
+  ◌+◌,
+  ◌*◌,
+  ◌/◌,
+  ◌%◌,
+  Bool,
+  true,
+  false,
+  not,
+  ◌&&◌,
+  ◌||◌,
+  ◌==◌,
+  nat_le,
+  nat_lt,
+  if◌then◌else◌,
+  List,
+  [],
+  ◌∷◌,
+  Result,
+  Ok,
+  Err,
 }
 use Rattle.std.specs.Char.{digit_value}
 use Rattle.std.specs.List.{flat_map}

@@ -18,7 +18,7 @@ pub struct BucketName {
 impl Model for BucketName {
     ghost use Rattle.std.specs.Prelude.{◌≡◌, List, ℕ, true};
     ghost use Rattle.gate_base.specs.Ascii.{is_digit};
-ghost use Rattle.s3_names.specs.Bucket.{is_bucket};
+    ghost use Rattle.s3_names.specs.Bucket.{is_bucket};
 
     ghost Value = { List ℕ };
 

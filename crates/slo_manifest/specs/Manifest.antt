@@ -1,8 +1,26 @@
 -- What reading a manifest's text answers. Source: Object Storage API v1, "Static large objects": a list of at most
 -- 1000 segments; the order of the refusals is this profile.
 use Rattle.std.specs.Prelude.{
-    ◌≡◌, ⊤, ℕ, ◌<◌, ◌≤◌, if◌then◌else◌, List, [], ◌∷◌, ◌++◌, length, map, Option, Some, None, option_map,
-    option_and_then, Result, Ok, Err
+  ◌≡◌,
+  ⊤,
+  ℕ,
+  ◌<◌,
+  ◌≤◌,
+  if◌then◌else◌,
+  List,
+  [],
+  ◌∷◌,
+  ◌++◌,
+  length,
+  map,
+  Option,
+  Some,
+  None,
+  option_map,
+  option_and_then,
+  Result,
+  Ok,
+  Err,
 }
 use Rattle.std.specs.Str.{is_utf8}
 use Rattle.serde_json.specs.Data.{Data, Items, no_items, item}

@@ -12,8 +12,16 @@ use Rattle.swift_calls.specs.declared.account.Container.{Container}
 use Rattle.swift_calls.specs.declared.account.Account.{Account}
 use Rattle.swift_calls.specs.declared.calls.SwiftRequest.{SwiftRequest}
 use Rattle.swift_calls.specs.declared.calls.SwiftRequest.TheVariants.{
-    ListContainers, HeadContainer, PutContainer, PostContainer, DeleteContainer, ListNames, PutObject, HeadObject,
-    GetObject, DeleteObject
+  ListContainers,
+  HeadContainer,
+  PutContainer,
+  PostContainer,
+  DeleteContainer,
+  ListNames,
+  PutObject,
+  HeadObject,
+  GetObject,
+  DeleteObject,
 }
 
 abbrev pub name_of : Container → List ℕ

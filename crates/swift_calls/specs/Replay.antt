@@ -1,7 +1,27 @@
 -- How the calls of a store in memory go, and what they leave. Source: this profile.
 use Rattle.std.specs.Prelude.{
-    ◌≡◌, ℕ, Bool, true, false, ◌&&◌, ◌||◌, if◌then◌else◌, ◌==◌, nat_lt, nat_le, List, [], ◌∷◌, ◌++◌, count_by,
-    Option, None, Some, Result, Ok, Err
+  ◌≡◌,
+  ℕ,
+  Bool,
+  true,
+  false,
+  ◌&&◌,
+  ◌||◌,
+  if◌then◌else◌,
+  ◌==◌,
+  nat_lt,
+  nat_le,
+  List,
+  [],
+  ◌∷◌,
+  ◌++◌,
+  count_by,
+  Option,
+  None,
+  Some,
+  Result,
+  Ok,
+  Err,
 }
 use Rattle.std.specs.List.{list_all, list_any}
 use Rattle.swift_calls.specs.Lists.{served, is_small}

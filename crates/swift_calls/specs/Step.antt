@@ -13,12 +13,31 @@ use Rattle.swift_calls.specs.declared.calls.SwiftRequest.{SwiftRequest}
 use Rattle.swift_calls.specs.declared.account.Content.TheVariants.{Plain}
 use Rattle.swift_calls.specs.declared.heads.StoredHead.{StoredHead}
 use Rattle.swift_calls.specs.declared.calls.SwiftRequest.TheVariants.{
-    ListContainers, HeadContainer, PutContainer, PostContainer, DeleteContainer, ListNames, PutObject, HeadObject,
-    GetObject, DeleteObject
+  ListContainers,
+  HeadContainer,
+  PutContainer,
+  PostContainer,
+  DeleteContainer,
+  ListNames,
+  PutObject,
+  HeadObject,
+  GetObject,
+  DeleteObject,
 }
 use Rattle.swift_calls.specs.declared.calls.SwiftReply.{SwiftReply}
 use Rattle.swift_calls.specs.declared.calls.SwiftReply.TheVariants.{
-    Made, There, Gone, Stored, NotFound, NotEmpty, Unsatisfiable, Containers, Readers, Names, Head, Bytes
+  Made,
+  There,
+  Gone,
+  Stored,
+  NotFound,
+  NotEmpty,
+  Unsatisfiable,
+  Containers,
+  Readers,
+  Names,
+  Head,
+  Bytes,
 }
 
 -- a container's name: 1 to 256 bytes of UTF-8, none of them 0

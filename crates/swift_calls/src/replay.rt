@@ -176,9 +176,9 @@ impl Swift for MemSwift {
     ghost counted = { λ m. refl };
 
     ghost is_history = { λ m. record {
-        last = λ observable left. ap failures (take-length m.log.items);
-        rise = λ observable j k order within.
-            subst (λ entries. failures entries ≤ faults_after m k) (take-take j k m.log.items order) (sum_by-take-le _ (take k m.log.items) j);
+      last = λ observable left. ap failures (take-length m.log.items);
+      rise = λ observable j k order within.
+          subst (λ entries. failures entries ≤ faults_after m k) (take-take j k m.log.items order) (sum_by-take-le _ (take k m.log.items) j);
     } };
 
     fn call(&mut self, request: &SwiftRequest) -> Result<SwiftReply, SwiftFault>

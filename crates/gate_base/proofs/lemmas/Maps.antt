@@ -130,8 +130,11 @@ module _ {K X : Type 0} {R : K → K → Ordering} (o : IsKeyOrder R) where
 
   -- maps that agree at a key and apart from it are equal
   pub same_at_and_off : (m n : FinMap R X) (k : K) → get m k ≡ get n k → ((q : K) → eq_by_cmp R q k ≡ false → get m q ≡ get n q) → m ≡ n
-  same_at_and_off m n k at off = same_map o.total o.antisymmetric m n (λ q. elim (same_key o q k) [ inl e ↦ ap (get m) e ∙ at
-      ∙ ap (get n) (sym e) | inr a ↦ off q a ])
+  same_at_and_off m n k at off = same_map o.total o.antisymmetric m n (λ q. elim (same_key o q k) [
+    | inl e ↦ ap (get m) e ∙ at
+        ∙ ap (get n) (sym e)
+    | inr a ↦ off q a
+  ])
 
   -- two maps that agree at a key, and apart from it are as a third one, are equal
   pub same_change : (m n p : FinMap R X) (k : K) → get n k ≡ get p k → ((q : K) → eq_by_cmp R q k ≡ false → get n q ≡ get m q)
@@ -173,7 +176,7 @@ module _ {K X : Type 0} {R : K → K → Ordering} (o : IsKeyOrder R) where
   adjust_again k f g m =
       let twice = each_value (λ v. option_map f (option_map g v) ≡ option_map (λ x. f (g x)) v) (get m k) refl (λ x is. refl) in
       same_change o m _ _ k (at_adjust o k f _ ∙ ap (option_map f) (at_adjust o k g m) ∙ twice ∙ sym (at_adjust o k _ m)) (λ q a. off_adjust o k f _ q a
-          ∙ off_adjust o k g m q a) (off_adjust o k _ m)
+      ∙ off_adjust o k g m q a) (off_adjust o k _ m)
 
   -- changes that agree on the value there are the same
   pub adjust_same : (k : K) (f g : X → X) (m : FinMap R X) → ((x : X) → get m k ≡ Some x → f x ≡ g x) → adjust k f m ≡ adjust k g m
@@ -200,7 +203,7 @@ module _ {K X : Type 0} {R : K → K → Ordering} (o : IsKeyOrder R) where
   pub commute_insert : (m : FinMap R X) (k j : K) (x y : X) → eq_by_cmp R k j ≡ false → insert (insert m k x) j y ≡ insert (insert m j y) k x
   commute_insert m k j x y a =
       let off = λ (q : K) (b : eq_by_cmp R q k ≡ false). get-insert o.total _ j y q ∙ ap (cond (eq_by_cmp R q j) (Some y)) (off_insert o m k x q b)
-          ∙ sym (get-insert o.total m j y q) in
+      ∙ sym (get-insert o.total m j y q) in
       same_change o (insert m j y) _ _ k (off_insert o _ j y k a ∙ at_insert o m k x ∙ sym (at_insert o _ k x)) off (off_insert o _ k x)
 
 -- ---- what a function takes over
@@ -243,7 +246,7 @@ module _ {K X Y : Type 0} {R : K → K → Ordering} (o : IsKeyOrder R) where
             let tied = (Equal-is (R q e.0)).0 (ap (λ k. eq_by_cmp R q k) (sym is) ∙ key_itself o q) in
             let none = rest ∙ ap (option_and_then (f q)) (none_past o.total q e.0 tied es parts.0) in
             found_first R q e.0 tied (f e.0 e.1) _ none ∙ ap (λ k. f k e.1) (sym is)
-                ∙ ap (λ r. option_and_then (f q) (cond (is_eq r) (Some e.1) (find R q es))) (sym tied)
+            ∙ ap (λ r. option_and_then (f q) (cond (is_eq r) (Some e.1) (find R q es))) (sym tied)
         | inr a ↦ found_later R q e.0 a (f e.0 e.1) _ ∙ rest ∙ ap (option_and_then (f q)) (sym (cond-false _ _ _ a))
       ]
 

@@ -36,10 +36,10 @@ module _ {A : Type 0} (name : A → List ℕ) where
   placed_at a [] = refl
   placed_at a (b ∷ rest) = elim (name_cmp (name a) (name b)) as (λ o. name_cmp (name a) (name b) ≡ o
       → by_order o (a ∷ b ∷ rest) (a ∷ rest) (b ∷ placed name a rest) ≡ over_or_before a (b ∷ rest) (cond (is_gt o) (1 + count_below name (name a) rest) 0)) [
-    | Less ↦ λ e. sym (ap (λ o. cond (is_eq o) (a ∷ rest) (a ∷ b ∷ rest)) e)
-    | Equal ↦ λ e. sym (ap (λ o. cond (is_eq o) (a ∷ rest) (a ∷ b ∷ rest)) e)
-    | Greater ↦ λ e. ap (λ l. b ∷ l) (placed_at a rest) ∙ cons_cond b _ _ _ ∙ ap (over_or_before a (b ∷ rest)) (sym (next _))
-  ] refl
+        | Less ↦ λ e. sym (ap (λ o. cond (is_eq o) (a ∷ rest) (a ∷ b ∷ rest)) e)
+        | Equal ↦ λ e. sym (ap (λ o. cond (is_eq o) (a ∷ rest) (a ∷ b ∷ rest)) e)
+        | Greater ↦ λ e. ap (λ l. b ∷ l) (placed_at a rest) ∙ cons_cond b _ _ _ ∙ ap (over_or_before a (b ∷ rest)) (sym (next _))
+      ] refl
 
   -- the thing of the name is written over
   pub placed_over : (a : A) (things : List A) → one_has_name name (name a) (slice_get things (count_below name (name a) things)) ≡ true
@@ -125,12 +125,12 @@ module _ {A : Type 0} (name : A → List ℕ) where
   ascends_placed a [] h = refl
   ascends_placed a (b ∷ rest) h = elim (name_cmp (name a) (name b)) as (λ o. name_cmp (name a) (name b) ≡ o
       → ascends (map name (by_order o (a ∷ b ∷ rest) (a ∷ rest) (b ∷ placed name a rest))) ≡ true) [
-    | Less ↦ λ e. both _ _ (ap is_lt e) h
-    | Equal ↦ λ e. subst (λ k. (is_below_next k (map name rest) && ascends (map name rest)) ≡ true) (sym (name_antisymmetric _ _ e)) h
-    | Greater ↦ λ e. both _ _
-        (below_placed (name b) a rest (ap is_lt (name_total.antisymm (name b) (name a) ∙ ap ordering_reverse e)) (first_of_two _ _ h))
-        (ascends_placed a rest (second_of_two _ _ h))
-  ] refl
+        | Less ↦ λ e. both _ _ (ap is_lt e) h
+        | Equal ↦ λ e. subst (λ k. (is_below_next k (map name rest) && ascends (map name rest)) ≡ true) (sym (name_antisymmetric _ _ e)) h
+        | Greater ↦ λ e. both _ _
+            (below_placed (name b) a rest (ap is_lt (name_total.antisymm (name b) (name a) ∙ ap ordering_reverse e)) (first_of_two _ _ h))
+            (ascends_placed a rest (second_of_two _ _ h))
+      ] refl
 
   -- a thing changed, but for its name, leaves the names as they are
   pub names_changed : (n : List ℕ) (f : A → A) → ((a : A) → name (f a) ≡ name a) → (things : List A) → map name (changed name n f things) ≡ map name things
@@ -181,7 +181,7 @@ module _ {A X : Type 0} (name : A → List ℕ) (value : A → X) where
   map_placed a (b ∷ rest) =
       let M = map_of name value rest in
       elim (name_cmp (name a) (name b)) as (λ o. name_cmp (name a) (name b) ≡ o
-          → map_of name value (by_order o (a ∷ b ∷ rest) (a ∷ rest) (b ∷ placed name a rest)) ≡ insert (insert M (name b) (value b)) (name a) (value a)) [
+      → map_of name value (by_order o (a ∷ b ∷ rest) (a ∷ rest) (b ∷ placed name a rest)) ≡ insert (insert M (name b) (value b)) (name a) (value a)) [
         | Less ↦ λ e. refl
         | Equal ↦ λ e. sym (insert_again by_name M (name a) (value b) (value a))
             ∙ ap (λ k. insert (insert M k (value b)) (name a) (value a)) (name_antisymmetric _ _ e)
@@ -192,7 +192,7 @@ module _ {A X : Type 0} (name : A → List ℕ) (value : A → X) where
   adjust_insert n k g x m apart = same_at_and_off by_name _ _ n
       (at_adjust by_name n g _ ∙ ap (option_map g) (off_insert by_name m k x n apart) ∙ sym (at_adjust by_name n g m) ∙ sym (off_insert by_name _ k x n apart))
       (λ q off. off_adjust by_name n g _ q off ∙ get-insert name_total m k x q
-          ∙ ap (cond (eq_by_cmp name_cmp q k) (Some x)) (sym (off_adjust by_name n g m q off)) ∙ sym (get-insert name_total _ k x q))
+      ∙ ap (cond (eq_by_cmp name_cmp q k) (Some x)) (sym (off_adjust by_name n g m q off)) ∙ sym (get-insert name_total _ k x q))
 
   -- to change a thing, but for its name, is to adjust
   pub map_changed : (n : List ℕ) (f : A → A) (g : X → X) → ((a : A) → name (f a) ≡ name a) → ((a : A) → value (f a) ≡ g (value a)) → (things : List A)
@@ -202,7 +202,7 @@ module _ {A X : Type 0} (name : A → List ℕ) (value : A → X) where
   map_changed n f g keeps goes (a ∷ rest) =
       let m = map_of name value rest in
       elim (has_name name n a) as (λ b. has_name name n a ≡ b
-          → map_of name value (cond b (f a ∷ rest) (a ∷ changed name n f rest)) ≡ adjust n g (insert m (name a) (value a))) [
+      → map_of name value (cond b (f a ∷ rest) (a ∷ changed name n f rest)) ≡ adjust n g (insert m (name a) (value a))) [
         | true ↦ λ e.
             let is : n ≡ name a = same_name n (name a) e in
             (λ i. insert m (keeps a i) (goes a i))
