@@ -1,3 +1,4 @@
 pub mod Dates
 pub mod Escapes
 pub mod Headers
+pub mod Locations

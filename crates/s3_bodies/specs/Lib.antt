@@ -1,5 +1,6 @@
 pub mod Codes
 pub mod Date
+pub mod Location
 pub mod Pages
 pub mod Texts
 pub mod Xml

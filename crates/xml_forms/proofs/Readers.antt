@@ -1,0 +1,87 @@
+-- Readers made of readers.
+use Rattle.std.proofs.Common.{◌≡◌, ℕ, ◌≤◌, ◌⊎◌, inl, inr, List, [], ◌∷◌, ◌++◌, length, min, refl, sym, ◌∙◌, ap, subst, false, Result, Ok, Err, Bor, None, arith}
+use Rattle.std.proofs.Math.Nat.{min-eq_left, min-eq_right}
+use Rattle.std.proofs.lemmas.Bool.{cases_lt}
+use Rattle.std.proofs.lemmas.List.{append-nil}
+use Rattle.xml_forms.specs.Forms.{Begins, Stops, Reads, Either, Then, Word, Exactly, RunThen, Unique, Apart, Opens, nearer}
+use Rattle.xml_forms.specs.Readers.{read_by, rest_read}
+use Rattle.xml_forms.specs.Runs.{has, IsRun, Sized, Spaced}
+use Rattle.xml_forms.specs.declared.class.Class.{Class}
+use Rattle.xml_forms.specs.declared.class.Class.TheVariants.{Space}
+use Rattle.xml_forms.proofs.Sequence.{then_begins, then_stops}
+use Rattle.xml_forms.proofs.Runs.{ran_begins, ran_stops}
+use Rattle.xml_forms.proofs.Choices.{begins_left, begins_right, either_stops_first, either_stops_second, Heads}
+use Rattle.xml_forms.proofs.Elements.{closed_run}
+
+least_of : (l m : ℕ) → ((l ≤ m) × (min l m ≡ l)) ⊎ ((m ≤ l) × (min l m ≡ m))
+least_of l m = elim (cases_lt l m) [ inl h ↦ let le : l ≤ m = omega arith in inl (le, min-eq_left le) | inr h ↦ inr (h, min-eq_right h) ]
+
+module _ {A : Type 0} (F G : A → List ℕ → Type 0) (bytes : List ℕ) where
+  both_stop : (l m : ℕ) → ((l ≤ m) × (min l m ≡ l)) ⊎ ((m ≤ l) × (min l m ≡ m)) → Stops F bytes l → Stops G bytes m → Stops (Either F G) bytes (min l m)
+  both_stop l m (inl h) p q = subst (λ n. Stops (Either F G) bytes n) (sym h.1) (either_stops_first F G bytes l m h.0 p q)
+  both_stop l m (inr h) p q = subst (λ n. Stops (Either F G) bytes n) (sym h.1) (either_stops_second F G bytes l m h.0 p q)
+
+  pub either_reads : (r s : Result (A × List ℕ) ℕ) → Reads F bytes r → Reads G bytes s → Reads (Either F G) bytes (nearer r s)
+  either_reads (Ok x) s p q = begins_left F G bytes x.1 x.0 p
+  either_reads (Err l) (Ok y) p q = begins_right F G bytes y.1 y.0 q
+  either_reads (Err l) (Err m) p q = both_stop l m (least_of l m) p q
+
+nearer_read : {X A : Type 0} (value : X → A) (r s : Result (X × Bor (List ℕ)) ℕ) → nearer (read_by value r) (read_by value s) ≡ read_by value (nearer r s)
+nearer_read value (Ok x) s = refl
+nearer_read value (Err l) (Ok y) = refl
+nearer_read value (Err l) (Err m) = refl
+
+-- two attempts, of which the nearer one is taken
+pub nearer_by : {X A : Type 0} (value : X → A) (F G : A → List ℕ → Type 0) (bytes : List ℕ) (r s n : Result (X × Bor (List ℕ)) ℕ) → n ≡ nearer r s
+    → Reads F bytes (read_by value r) → Reads G bytes (read_by value s) → Reads (Either F G) bytes (read_by value n)
+nearer_by value F G bytes r s n e p q =
+    subst (λ x. Reads (Either F G) bytes x) (nearer_read value r s ∙ ap (read_by value) (sym e)) (either_reads F G bytes (read_by value r) (read_by value s) p q)
+
+nearer_rest_read : (r s : Result (Bor (List ℕ)) ℕ) → nearer (rest_read r) (rest_read s) ≡ rest_read (nearer r s)
+nearer_rest_read (Ok x) s = refl
+nearer_rest_read (Err l) (Ok y) = refl
+nearer_rest_read (Err l) (Err m) = refl
+
+pub nearer_rest : (F G : Unit {0} → List ℕ → Type 0) (bytes : List ℕ) (r s n : Result (Bor (List ℕ)) ℕ) → n ≡ nearer r s
+    → Reads F bytes (rest_read r) → Reads G bytes (rest_read s) → Reads (Either F G) bytes (rest_read n)
+nearer_rest F G bytes r s n e p q =
+    subst (λ x. Reads (Either F G) bytes x) (nearer_rest_read r s ∙ ap rest_read (sym e)) (either_reads F G bytes (rest_read r) (rest_read s) p q)
+
+pub any_run : (run : List ℕ) → Sized false None run
+any_run run = record { is_filled = tt; is_short = tt }
+
+-- a form behind another
+pub then_reads : {A B : Type 0} (F : A → List ℕ → Type 0) (G : A → B → List ℕ → Type 0) → Unique F → (bytes rest : List ℕ) (a : A) → Begins F bytes a rest
+    → (r : Result (B × List ℕ) ℕ) → Reads (G a) rest r → Reads (Then F G) bytes r
+then_reads F G unique bytes rest a p (Ok x) q = then_begins F G bytes rest x.1 a x.0 p q
+then_reads F G unique bytes rest a p (Err left) s = then_stops F G unique bytes rest a left p s
+
+-- a form behind the longest run of a class
+pub run_reads : {B : Type 0} (class : Class) (G : List ℕ → B → List ℕ → Type 0) → ((run : List ℕ) → Opens (has class) (G run)) → (bytes run rest : List ℕ)
+    → IsRun class (length bytes) bytes run rest → (r : Result (B × List ℕ) ℕ) → Reads (G run) rest r → Reads (RunThen (has class) (Sized false None) G) bytes r
+run_reads class G opens bytes run rest is (Ok x) p = ran_begins (has class) (Sized false None) G opens bytes run rest x.1 x.0 is.at is.passes (any_run run) p
+run_reads class G opens bytes run rest is (Err left) s =
+    ran_stops (has class) (Sized false None) G opens bytes run rest left is.at is.passes (any_run run) (closed_run class false None bytes run rest is) s
+
+-- white space before a form
+pub spaced_reads : {B : Type 0} (F : B → List ℕ → Type 0) → Opens (has Space) F → (bytes run rest : List ℕ) → IsRun Space (length bytes) bytes run rest
+    → (r : Result (B × List ℕ) ℕ) → Reads F rest r → Reads (Spaced F) bytes r
+spaced_reads F opens = run_reads Space (λ _. F) (λ _. opens)
+
+-- ---- how spellings begin
+
+pub word_heads : (w : List ℕ) → Heads (Word w) w
+word_heads w = record { at = λ a word f. ([], f ∙ sym (append-nil w)) }
+
+pub exactly_heads : {A : Type 0} (v : A) (w : List ℕ) → Heads (Exactly v w) w
+exactly_heads v w = record { at = λ a word f. ([], f.1 ∙ sym (append-nil w)) }
+
+-- a form whose spellings begin with `<` may stand behind white space
+pub opens_heads : {B : Type 0} (F : B → List ℕ → Type 0) (t : List ℕ) → Heads F (60 ∷ t) → Opens (has Space) F
+opens_heads F t h = record { at = λ b word f. let i = h.at b word f in (60, t ++ i.0, i.1, refl) }
+
+pub either_opens : {B : Type 0} (F G : B → List ℕ → Type 0) → Opens (has Space) F → Opens (has Space) G → Opens (has Space) (Either F G)
+either_opens F G f g = record { at = λ b word p. elim p [ inl x ↦ f.at b word x | inr y ↦ g.at b word y ] }
+
+pub apart_either : {A : Type 0} (F : A → List ℕ → Type 0) (G H : A → List ℕ → Type 0) → Apart F G → Apart F H → Apart F (Either G H)
+apart_either F G H g h = record { none = λ a b x y u v p q e. elim q [ inl s ↦ g.none a b x y u v p s e | inr s ↦ h.none a b x y u v p s e ] }

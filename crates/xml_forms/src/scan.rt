@@ -1,0 +1,91 @@
+//! Reading at the front of bytes. What can't be read there is answered by how many bytes were left where it stopped.
+ghost use Rattle.std.specs.Prelude.{◌≡◌, ◌≤◌, ◌<◌, ℕ, List, ◌∷◌, length, take, slice_index, true, false};
+ghost use Rattle.std.specs.List.{list_all};
+ghost use Rattle.xml_forms.specs.Bodies.{Ends};
+ghost use Rattle.xml_forms.specs.Forms.{Word, nearer};
+ghost use Rattle.xml_forms.specs.Runs.{has, Element, IsRun, IsPositive};
+ghost use Rattle.xml_forms.specs.Readers.{ReadsRest, ReadsText};
+
+use crate::Class;
+
+/// The bytes behind a word.
+pub fn word<'a>(bytes: &'a [u8], word: &[u8]) -> Result<&'a [u8], usize>
+    ensures { ReadsRest (Word word.now) bytes.now result }
+{
+    'bytes: for (i, expected) in word.iter().enumerate() {
+        if i >= bytes.len() {
+            return Err(0);
+        }
+        if bytes[i] != *expected {
+            return Err(bytes.len() - i);
+        }
+    }
+    Ok(&bytes[word.len()..])
+}
+
+/// The longest run of bytes of a class, of at most so many, and the bytes behind it.
+pub fn run(bytes: &[u8], class: Class, most: usize) -> (&[u8], &[u8])
+    ensures { IsRun class most bytes.now result.0.now result.1.now }
+{
+    let end = run_end(bytes, class, most);
+    bytes.split_at(end)
+}
+
+// Where such a run ends.
+fn run_end(bytes: &[u8], class: Class, most: usize) -> usize
+    ensures within { result ≤ length bytes.now }
+    ensures short { result ≤ most }
+    ensures passes { list_all (has class) (take result bytes.now) ≡ true }
+    ensures closed { result < length bytes.now → has class (slice_index bytes.now result) ≡ true → most ≤ result }
+{
+    let mut end = 0;
+    'bytes: while end < bytes.len() && end < most && class.has(bytes[end]) {
+        end += 1;
+    }
+    end
+}
+
+/// The text between two tags: bytes of a class, at least one where it must be filled, and at most so many.
+pub fn element<'a>(
+    bytes: &'a [u8],
+    start: &[u8],
+    class: Class,
+    filled: bool,
+    most: Option<usize>,
+    end: &[u8],
+) -> Result<(&'a [u8], &'a [u8]), usize>
+    requires positive { IsPositive most }
+    requires ends { (c : ℕ) × (cs : List ℕ) × (end.now ≡ c ∷ cs) × (has class c ≡ false) }
+    ensures { ReadsText (Element start.now class filled most end.now) bytes.now result }
+{
+    let rest = word(bytes, start)?;
+    let (text, last) = run(rest, class, most.unwrap_or(rest.len()));
+    if filled && text.is_empty() {
+        return Err(last.len());
+    }
+    let after = word(last, end)?;
+    Ok((text, after))
+}
+
+/// Whether nothing but white space is left.
+pub fn only_space(bytes: &[u8]) -> Result<(), usize>
+    ensures { Ends bytes.now result }
+{
+    let (_, rest) = run(bytes, Class::Space, bytes.len());
+    if rest.is_empty() {
+        Ok(())
+    } else {
+        Err(rest.len())
+    }
+}
+
+/// Of two attempts the first that succeeds, or else what the one that got further answers.
+pub fn nearer<T: Drop>(first: Result<T, usize>, second: Result<T, usize>) -> Result<T, usize>
+    ensures { result ≡ nearer first second }
+{
+    match (first, second) {
+        (Ok(found), _) => Ok(found),
+        (Err(_), Ok(found)) => Ok(found),
+        (Err(left), Err(other)) => Err(left.min(other)),
+    }
+}
