@@ -1,4 +1,9 @@
+pub mod Checksums
+pub mod CompletionLemmas
 pub mod Dates
+pub mod Digits
+pub mod ElementLemmas
 pub mod Escapes
 pub mod Headers
 pub mod Locations
+pub mod PartLemmas

@@ -1,5 +1,5 @@
 -- The body of a CreateBucket, part by part.
-use Rattle.std.proofs.Common.{◌≡◌, ◌==◌, ℕ, ◌≤◌, ◌-◌, true, inl, inr, List, [], ◌++◌, length, take, refl, sym, ◌∙◌, ap, false, None, Result, Ok, Err, Bor, arith, codes}
+use Rattle.std.proofs.Common.{◌≡◌, ◌==◌, ℕ, true, inl, inr, List, [], ◌++◌, length, take, refl, sym, ◌∙◌, ap, false, None, Result, Ok, Err, Bor, arith, codes}
 use Rattle.std.proofs.lemmas.List.{length-append, length-take}
 use Rattle.xml_forms.specs.Bodies.{Ends, NotABody, OfSome, Whole}
 use Rattle.xml_forms.specs.Forms.{Begins, Stops, Reads, Either, Exactly, Word, RunThen, Unique, Possible, Opens, nearer}
@@ -13,7 +13,7 @@ use Rattle.xml_forms.proofs.Openings.{document_breaks, document_reads, document_
 use Rattle.xml_forms.proofs.Readers.{any_run, either_opens, exactly_heads, nearer_by, opens_heads, spaced_reads, then_reads, word_heads}
 use Rattle.xml_forms.proofs.Runs.{ran_unique}
 use Rattle.xml_forms.proofs.Sequence.{then_stops_first, then_unique}
-use Rattle.xml_forms.proofs.Wholes.{left_within, whole, whole_ends, whole_stops}
+use Rattle.xml_forms.proofs.Wholes.{Stuck, stuck_behind, stuck_within, whole}
 use Rattle.s3_bodies.specs.Location.{Constraint, IsLocation, Location, LocationInside, Region, location_end, location_start}
 
 abbrev closed : List ℕ → List ℕ → List ℕ → Type 0
@@ -75,21 +75,11 @@ location_reads bytes rest attribute p r q = document_reads location_start 67 (co
 location_unique : Unique Location
 location_unique = document_unique location_start 67 (codes "reateBucketConfiguration") refl (λ h. omega (arith, h)) LocationInside inside_unique
 
--- where the document stops, and where other bytes stand behind it
-abbrev Stuck : List ℕ → ℕ → Type 0
-Stuck bytes left = (left ≤ length bytes) × NotABody (OfSome (Whole Location)) bytes (length bytes - left)
+pub location_stops : (bytes : List ℕ) (left : ℕ) → Stops Location bytes left → Stuck Location bytes left
+location_stops bytes left s = stuck_within Location bytes left s
 
-pub location_stops : (bytes : List ℕ) (left : ℕ) → Stops Location bytes left → Stuck bytes left
-location_stops bytes left s = (left_within Location bytes left s, whole_stops Location bytes left s)
-
-ends_within : (bytes rest : List ℕ) (text : List ℕ) (left : ℕ) → Begins Location bytes text rest → Ends rest (Err left) → left ≤ length bytes
-ends_within bytes rest text left p e =
-    let d = ap length p.at in
-    let f = ap length e.2.at in
-    omega (arith, d, f, length-append p.word rest, length-append e.0 e.1, e.3)
-
-pub location_ends : (bytes rest : List ℕ) (text : List ℕ) (left : ℕ) → Begins Location bytes text rest → Ends rest (Err left) → Stuck bytes left
-location_ends bytes rest text left p e = (ends_within bytes rest text left p e, whole_ends Location location_unique bytes rest text left p e)
+pub location_ends : (bytes rest : List ℕ) (text : List ℕ) (left : ℕ) → Begins Location bytes text rest → Ends rest (Err left) → Stuck Location bytes left
+location_ends bytes rest text left p e = stuck_behind Location bytes location_unique rest text left p e
 
 pub location_whole : (bytes rest text : List ℕ) → Begins Location bytes text rest → Ends rest (Ok tt) → Whole Location text bytes
 location_whole bytes rest text p e = whole Location bytes rest text p e

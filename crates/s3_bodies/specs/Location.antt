@@ -1,5 +1,6 @@
 -- The body of a CreateBucket (Amazon S3 API Reference, CreateBucket: CreateBucketConfiguration). Which XML is read is this profile's.
-use Rattle.std.specs.Prelude.{◌≡◌, ◌⊎◌, List, ℕ, [], false, None, Result, Ok, Err, codes}
+use Rattle.std.specs.Prelude.{◌≡◌, ◌≤◌, ◌-◌, ◌⊎◌, List, ℕ, length, [], false, None, Result, Ok, Err, codes}
+use Rattle.std.specs.Borrow.{Bor}
 use Rattle.xml_forms.specs.Bodies.{NotABody, OfSome, Whole}
 use Rattle.xml_forms.specs.Forms.{Either, Exactly, Then}
 use Rattle.xml_forms.specs.Openings.{Document}
@@ -39,3 +40,8 @@ AnswersLocation bytes (Ok text) = IsLocation text bytes
 AnswersLocation bytes (Err (NotTheBody n)) = NotABody (OfSome IsLocation) bytes n
 AnswersLocation bytes (Err TooMany) = ⊥
 AnswersLocation bytes (Err Memory) = Unit {0}
+
+-- what reading the document alone gives: its text, or how many bytes were left where it stopped
+abbrev pub AnswersDocument : List ℕ → Result (Bor (List ℕ)) ℕ → Type 0
+AnswersDocument bytes (Ok text) = Whole Location text.now bytes
+AnswersDocument bytes (Err left) = (left ≤ length bytes) × NotABody (OfSome (Whole Location)) bytes (length bytes - left)

@@ -2,13 +2,17 @@
 #![tactic(auto)]
 
 mod codes;
+mod completion;
+mod elements;
 mod fault;
 mod location;
 mod object;
 mod pages;
+mod part;
 mod texts;
 mod xml;
 
+pub use completion::{MOST_PARTS, read_completion};
 pub use fault::BodyFault;
 pub use location::read_location;
 pub use pages::page;

@@ -1,16 +1,16 @@
 //! The body of a CreateBucket.
-ghost use Rattle.std.specs.Prelude.{◌≤◌, ◌-◌, List, ℕ, [], length, MatchResult};
-ghost use Rattle.xml_forms.specs.Bodies.{NotABody, OfSome, Whole};
+ghost use Rattle.std.specs.Prelude.{[]};
 ghost use Rattle.xml_forms.specs.Forms.{Exactly};
 ghost use Rattle.xml_forms.specs.Readers.{ReadsText};
-ghost use Rattle.s3_bodies.specs.Location.{AnswersLocation, Constraint, Location, LocationInside, location_end};
+ghost use Rattle.s3_bodies.specs.Location.{AnswersDocument, AnswersLocation, Constraint, LocationInside, location_end};
 
 use crate::BodyFault;
 use gate_base::Bytes;
 use std::alloc::Global;
 use xml_forms::{Class, element, nearer, only_space, opening, run, word};
 
-/// The region that the body of a CreateBucket names; empty where it names none, or where the body is empty (Amazon S3 API Reference, CreateBucket).
+/// The region that the body of a CreateBucket names (Amazon S3 API Reference, CreateBucket): empty where it names none,
+/// or where the body is empty.
 pub fn read_location(alloc: Global, bytes: &[u8]) -> Result<Bytes, BodyFault>
     ensures { AnswersLocation bytes.now result }
 {
@@ -25,7 +25,7 @@ pub fn read_location(alloc: Global, bytes: &[u8]) -> Result<Bytes, BodyFault>
 
 // The text of a document, or how many bytes were left where it stopped.
 fn location_text(bytes: &[u8]) -> Result<&[u8], usize>
-    ensures { MatchResult result (λ text. Whole Location text.now bytes.now) (λ left. (left ≤ length bytes.now) × NotABody (OfSome (Whole Location)) bytes.now (length bytes.now - left)) }
+    ensures { AnswersDocument bytes.now result }
 {
     let (_, inner) = opening(bytes, b"<CreateBucketConfiguration")?;
     let (text, rest) = location_inside(inner)?;

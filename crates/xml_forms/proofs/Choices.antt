@@ -79,7 +79,7 @@ places : (common : List ℕ) (c : ℕ) (s i u : List ℕ) → ((common ++ c ∷ 
 places common c s i u = append_assoc (common ++ c ∷ s) i u ∙ append_assoc common (c ∷ s) (i ++ u)
 
 -- forms whose spellings differ at one place are apart
-pub heads_apart : {A : Type 0} (f g : A → List ℕ → Type 0) (common s t : List ℕ) (c d : ℕ) → Heads f (common ++ c ∷ s) → Heads g (common ++ d ∷ t) → c ≢ d → Apart f g
+pub heads_apart : {A B : Type 0} (f : A → List ℕ → Type 0) (g : B → List ℕ → Type 0) (common s t : List ℕ) (c d : ℕ) → Heads f (common ++ c ∷ s) → Heads g (common ++ d ∷ t) → c ≢ d → Apart f g
 heads_apart f g common s t c d hf hg differ = record {
   none = λ a b x y u v p q e.
       let i = hf.at a x p in

@@ -1,5 +1,6 @@
 -- Elements.
-use Rattle.std.proofs.Common.{◌≡◌, ℕ, ◌≤◌, List, [], ◌∷◌, ◌++◌, length, refl, sym, ◌∙◌, ap, true, false, arith, suc, ◌+◌, Bool, Option, Some, None, unwrap_or, ◌&&◌, subst}
+use Rattle.std.proofs.Common.{◌≡◌, ◌==◌, ℕ, ◌≤◌, List, [], ◌∷◌, ◌++◌, length, refl, sym, ◌∙◌, ap, true, false, arith, suc, ◌+◌, Bool, Option, Some, None, unwrap_or, ◌&&◌, subst}
+use Rattle.std.proofs.lemmas.Bool.Decides.{nat_tests}
 use Rattle.std.proofs.lemmas.List.{length-append}
 use Rattle.xml_forms.specs.Forms.{Begins, Stops, Unique, Possible, Word, Exactly, RunThen, Opens}
 use Rattle.xml_forms.specs.Runs.{has, Sized, IsShort, IsFilled, Element, IsRun, IsPositive}
@@ -72,7 +73,7 @@ one_short None b p = tt
 one_short (Some n) b p = omega arith
 
 -- a run of one byte is of every such length
-one_sized : (filled : Bool) (most : Option ℕ) (b : ℕ) → IsPositive most → Sized filled most (b ∷ [])
+pub one_sized : (filled : Bool) (most : Option ℕ) (b : ℕ) → IsPositive most → Sized filled most (b ∷ [])
 one_sized true most b p = record { is_filled = omega arith; is_short = one_short most b p }
 one_sized false most b p = record { is_filled = tt; is_short = one_short most b p }
 
@@ -124,3 +125,10 @@ filled_by false run h = tt
 pub no_bytes : (run : List ℕ) → length run ≡ 0 → run ≡ []
 no_bytes [] h = refl
 no_bytes (b ∷ run) h = absurd (omega (arith, h))
+
+-- what a test for emptiness says
+pub is_zero : (n : ℕ) → true ≡ (n == 0) → n ≡ 0
+is_zero n h = grind (arith, nat_tests)
+
+pub not_zero : (n : ℕ) → false ≡ (n == 0) → n ≡ 0 → ⊥
+not_zero n h e = let not_so : true ≡ false = ap (λ m. m == 0) (sym e) ∙ sym h in cc not_so

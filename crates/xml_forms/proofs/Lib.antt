@@ -1,5 +1,6 @@
 pub mod Choices
 pub mod Elements
+pub mod Manies
 pub mod Marks
 pub mod Openings
 pub mod Readers

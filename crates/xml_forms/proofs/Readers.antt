@@ -1,15 +1,15 @@
 -- Readers made of readers.
-use Rattle.std.proofs.Common.{◌≡◌, ℕ, ◌≤◌, ◌⊎◌, inl, inr, List, [], ◌∷◌, ◌++◌, length, min, refl, sym, ◌∙◌, ap, subst, false, Result, Ok, Err, Bor, None, arith}
+use Rattle.std.proofs.Common.{◌≡◌, ℕ, ◌≤◌, ◌<◌, ◌⊎◌, inl, inr, List, [], ◌∷◌, ◌++◌, length, min, refl, sym, ◌∙◌, ap, subst, false, Result, Ok, Err, Bor, None, arith}
 use Rattle.std.proofs.Math.Nat.{min-eq_left, min-eq_right}
 use Rattle.std.proofs.lemmas.Bool.{cases_lt}
-use Rattle.std.proofs.lemmas.List.{append-nil}
-use Rattle.xml_forms.specs.Forms.{Begins, Stops, Reads, Either, Then, Word, Exactly, RunThen, Unique, Apart, Opens, nearer}
+use Rattle.std.proofs.lemmas.List.{append-nil, length-append}
+use Rattle.xml_forms.specs.Forms.{Begins, Stops, Reads, Either, Then, Word, Exactly, RunThen, Unique, Apart, Possible, Opens, nearer}
 use Rattle.xml_forms.specs.Readers.{read_by, rest_read}
 use Rattle.xml_forms.specs.Runs.{has, IsRun, Sized, Spaced}
 use Rattle.xml_forms.specs.declared.class.Class.{Class}
 use Rattle.xml_forms.specs.declared.class.Class.TheVariants.{Space}
 use Rattle.xml_forms.proofs.Sequence.{then_begins, then_stops}
-use Rattle.xml_forms.proofs.Runs.{ran_begins, ran_stops}
+use Rattle.xml_forms.proofs.Runs.{ran_begins, ran_stops, ran_unique}
 use Rattle.xml_forms.proofs.Choices.{begins_left, begins_right, either_stops_first, either_stops_second, Heads}
 use Rattle.xml_forms.proofs.Elements.{closed_run}
 
@@ -36,6 +36,11 @@ pub nearer_by : {X A : Type 0} (value : X → A) (F G : A → List ℕ → Type 
     → Reads F bytes (read_by value r) → Reads G bytes (read_by value s) → Reads (Either F G) bytes (read_by value n)
 nearer_by value F G bytes r s n e p q =
     subst (λ x. Reads (Either F G) bytes x) (nearer_read value r s ∙ ap (read_by value) (sym e)) (either_reads F G bytes (read_by value r) (read_by value s) p q)
+
+-- a reader of which an attempt before it got so far
+pub nearer_than : {X A : Type 0} (value : X → A) (F : A → List ℕ → Type 0) (bytes : List ℕ) (left : ℕ) (r n : Result (X × Bor (List ℕ)) ℕ) → n ≡ nearer (Err left) r
+    → Reads F bytes (nearer (Err left) (read_by value r)) → Reads F bytes (read_by value n)
+nearer_than value F bytes left r n e p = subst (λ x. Reads F bytes x) (nearer_read value (Err left) r ∙ ap (read_by value) (sym e)) p
 
 nearer_rest_read : (r s : Result (Bor (List ℕ)) ℕ) → nearer (rest_read r) (rest_read s) ≡ rest_read (nearer r s)
 nearer_rest_read (Ok x) s = refl
@@ -83,5 +88,21 @@ opens_heads F t h = record { at = λ b word f. let i = h.at b word f in (60, t +
 pub either_opens : {B : Type 0} (F G : B → List ℕ → Type 0) → Opens (has Space) F → Opens (has Space) G → Opens (has Space) (Either F G)
 either_opens F G f g = record { at = λ b word p. elim p [ inl x ↦ f.at b word x | inr y ↦ g.at b word y ] }
 
-pub apart_either : {A : Type 0} (F : A → List ℕ → Type 0) (G H : A → List ℕ → Type 0) → Apart F G → Apart F H → Apart F (Either G H)
+pub apart_either : {A B : Type 0} (F : A → List ℕ → Type 0) (G H : B → List ℕ → Type 0) → Apart F G → Apart F H → Apart F (Either G H)
 apart_either F G H g h = record { none = λ a b x y u v p q e. elim q [ inl s ↦ g.none a b x y u v p s e | inr s ↦ h.none a b x y u v p s e ] }
+
+-- a form behind white space takes a byte at least
+pub spaced_shorter : {B : Type 0} (F : B → List ℕ → Type 0) → Opens (has Space) F → (bytes rest : List ℕ) (b : B) → Begins (Spaced F) bytes b rest → length rest < length bytes
+spaced_shorter F opens bytes rest b p =
+    let f = p.spells in
+    let o = opens.at b f.tail f.tails in
+    let at = ap length p.at in
+    let word = ap length f.at in
+    let tail = ap length o.2 in
+    omega (arith, at, word, tail, length-append p.word rest, length-append f.run f.tail)
+
+pub spaced_unique : {B : Type 0} (F : B → List ℕ → Type 0) → Opens (has Space) F → Unique F → Unique (Spaced F)
+spaced_unique F opens unique = ran_unique (has Space) (Sized false None) (λ _. F) (λ _. opens) (λ _. unique)
+
+pub spaced_some : {B : Type 0} (F : B → List ℕ → Type 0) → Possible F → Possible (Spaced F)
+spaced_some F some = record { value = some.value; word = some.word; spells = record { run = []; tail = some.word; passes = refl; is_allowed = any_run []; tails = some.spells; at = refl } }

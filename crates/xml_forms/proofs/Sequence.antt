@@ -24,7 +24,7 @@ module _ {A B : Type 0} (F : A → List ℕ → Type 0) (G : A → B → List �
         s.dead f.value f.head (f.tail ++ after) next f.heads follows (e ∙ ap (λ w. w ++ after) f.at ∙ append_assoc f.head f.tail after);
   }
 
-  pub then_stops : Unique F → (bytes rest : List ℕ) (a : A) (left : ℕ) → Begins F bytes a rest → Stops (G a) rest left → Stops (Then F G) bytes left
+  unfoldable pub then_stops : Unique F → (bytes rest : List ℕ) (a : A) (left : ℕ) → Begins F bytes a rest → Stops (G a) rest left → Stops (Then F G) bytes left
   then_stops unique bytes rest a left p s = record {
     front = p.word ++ s.front;
     rest = s.rest;

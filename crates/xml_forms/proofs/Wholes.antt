@@ -100,6 +100,22 @@ module _ {A : Type 0} (form : A → List ℕ → Type 0) where
   pub whole : (bytes rest : List ℕ) (a : A) → Begins form bytes a rest → Ends rest (Ok tt) → Whole form a bytes
   whole bytes rest a p e = record { word = p.word; tail = rest; spells = p.spells; spaces = e; at = p.at }
 
--- fewer bytes are left than there were
-pub left_within : {A : Type 0} (form : A → List ℕ → Type 0) (bytes : List ℕ) (left : ℕ) → Stops form bytes left → left ≤ length bytes
-left_within form bytes left s = let e = ap length s.at in omega (arith, e, length-append s.front s.rest, s.counts)
+-- where it stops, as a reader answers it: so many bytes are left, of those that were there
+abbrev pub Stuck : {A : Type 0} → (A → List ℕ → Type 0) → List ℕ → ℕ → Type 0
+Stuck form bytes left = (left ≤ length bytes) × NotABody (OfSome (Whole form)) bytes (length bytes - left)
+
+module _ {A : Type 0} (form : A → List ℕ → Type 0) (bytes : List ℕ) where
+  stops_within : (left : ℕ) → Stops form bytes left → left ≤ length bytes
+  stops_within left s = let e = ap length s.at in omega (arith, e, length-append s.front s.rest, s.counts)
+
+  ends_within : (rest : List ℕ) (a : A) (left : ℕ) → Begins form bytes a rest → Ends rest (Err left) → left ≤ length bytes
+  ends_within rest a left p e =
+      let d = ap length p.at in
+      let f = ap length e.2.at in
+      omega (arith, d, f, length-append p.word rest, length-append e.0 e.1, e.3)
+
+  pub stuck_within : (left : ℕ) → Stops form bytes left → Stuck form bytes left
+  stuck_within left s = (stops_within left s, whole_stops form bytes left s)
+
+  pub stuck_behind : Unique form → (rest : List ℕ) (a : A) (left : ℕ) → Begins form bytes a rest → Ends rest (Err left) → Stuck form bytes left
+  stuck_behind unique rest a left p e = (ends_within rest a left p e, whole_ends form unique bytes rest a left p e)

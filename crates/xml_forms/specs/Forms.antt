@@ -34,8 +34,8 @@ pub record Unique {A : Type 0} (form : A → List ℕ → Type 0) : Type 0 where
   pub one : (a b : A) (x y u v : List ℕ) → form a x → form b y → x ++ u ≡ y ++ v → (a ≡ b) × (x ≡ y)
 
 -- no spelling of one begins a spelling of the other
-pub record Apart {A : Type 0} (f g : A → List ℕ → Type 0) : Type 0 where
-  pub none : (a b : A) (x y u v : List ℕ) → f a x → g b y → x ++ u ≡ y ++ v → ⊥
+pub record Apart {A B : Type 0} (f : A → List ℕ → Type 0) (g : B → List ℕ → Type 0) : Type 0 where
+  pub none : (a : A) (b : B) (x y u v : List ℕ) → f a x → g b y → x ++ u ≡ y ++ v → ⊥
 
 -- the form has a spelling
 pub record Possible {A : Type 0} (form : A → List ℕ → Type 0) : Type 0 where
@@ -73,6 +73,33 @@ pub record RunThen {B : Type 0} (test : ℕ → Bool) (allowed : List ℕ → Ty
   pub is_allowed : allowed run
   pub tails : second run b tail
   pub at : bytes ≡ run ++ tail
+
+-- a form whose value is a function of that of another
+pub record Valued {A B : Type 0} (value : A → B) (form : A → List ℕ → Type 0) (b : B) (bytes : List ℕ) : Type 0 where
+  pub of : A
+  pub spells : form of bytes
+  pub is : b ≡ value of
+
+-- spellings of these values, one behind another
+abbrev pub SpellsAll : {A : Type 0} → (A → List ℕ → Type 0) → List A → List ℕ → Type 0
+SpellsAll form [] bytes = bytes ≡ []
+SpellsAll form (a ∷ values) bytes = (head : List ℕ) × (tail : List ℕ) × form a head × SpellsAll form values tail × (bytes ≡ head ++ tail)
+
+-- any number of spellings of a form, and then one of another, which may depend on their values
+pub record Many {A B : Type 0} (item : A → List ℕ → Type 0) (last : List A → B → List ℕ → Type 0) (b : B) (bytes : List ℕ) : Type 0 where
+  pub items : List A
+  pub inner : List ℕ
+  pub tail : List ℕ
+  pub spells : SpellsAll item items inner
+  pub tails : last items b tail
+  pub at : bytes ≡ inner ++ tail
+
+-- all spellings of a form that stand at the front of bytes, and how many bytes are left where no further one can be read
+pub record Skips {A : Type 0} (form : A → List ℕ → Type 0) (bytes : List ℕ) (items : List A) (rest : List ℕ) (left : ℕ) : Type 0 where
+  pub inner : List ℕ
+  pub spells : SpellsAll form items inner
+  pub at : bytes ≡ inner ++ rest
+  pub stops : Stops form rest left
 
 -- each spelling begins with a byte that fails the test
 pub record Opens {B : Type 0} (test : ℕ → Bool) (form : B → List ℕ → Type 0) : Type 0 where

@@ -6,8 +6,8 @@ ghost use Rattle.xml_forms.specs.Openings.{Declared, Marked, Opening, RootEnd, R
 
 use crate::{Class, element, nearer, run, word};
 
-/// How a document begins whose root has this name, which is given with its `<`: a declaration or none, and the root's tag. The value is that
-/// of the root's attribute.
+/// How a document begins whose root has this name, which is given with its `<`: a declaration or none, and the root's tag.
+/// The value is that of the root's attribute.
 pub fn opening<'a>(bytes: &'a [u8], name: &[u8]) -> Result<(&'a [u8], &'a [u8]), usize>
     requires { (c : ℕ) × (t : List ℕ) × (name.now ≡ 60 ∷ c ∷ t) × (c ≢ 63) }
     ensures { ReadsText (Opening name.now) bytes.now result }

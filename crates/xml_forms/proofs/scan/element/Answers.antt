@@ -1,15 +1,8 @@
-use Rattle.std.proofs.Common.{◌≡◌, ◌==◌, ℕ, true, false, Bool, length, sym, ◌∙◌, ap, arith}
+use Rattle.std.proofs.Common.{◌≡◌, true, false, Bool, length, sym, ◌∙◌}
 use Rattle.std.proofs.lemmas.Result.{err_from_is_err_and}
-use Rattle.std.proofs.lemmas.Bool.Decides.{nat_tests}
-use Rattle.xml_forms.proofs.Elements.{element_breaks, element_empty, element_stops, element_begins, filled_by, no_bytes}
+use Rattle.xml_forms.proofs.Elements.{element_breaks, element_empty, element_stops, element_begins, filled_by, is_zero, no_bytes, not_zero}
 use Rattle.xml_forms.proofs.scan.element.Goals.{else-filled-via-then-filled+else-is_empty, else-filled-via-else-filled}
 use Rattle.xml_forms.proofs.scan.element.Goals as goal
-
-is_zero : (n : ℕ) → (n == 0) ≡ true → n ≡ 0
-is_zero n h = grind (arith, nat_tests)
-
-not_empty : (b : Bool) (n : ℕ) → b ≡ (n == 0) → b ≡ false → n ≡ 0 → ⊥
-not_empty b n h g e = let no : true ≡ false = ap (λ m. m == 0) (sym e) ∙ sym h ∙ g in cc no
 
 not_both : (b : Bool) → b ≡ true → b ≡ false → ⊥
 not_both b h g = let no : true ≡ false = sym h ∙ g in cc no
@@ -21,13 +14,13 @@ returns-in_err-rest c = let p = err_from_is_err_and c.from_residual.result c.fro
 pub returns-then-is_empty : goal.returns-then-is_empty
 returns-then-is_empty c =
     element_empty c.args.class c.args.filled c.args.most c.requires.positive c.args.end.now c.requires.ends c.args.start.now c.args.bytes.now _ c.run.result.0.now c.run.result.1.now c.if-filled.true c.in_ok-rest.ensures
-    (rw c.unwrap_or.ensures at c.run.ensures) (no_bytes c.run.result.0.now (is_zero (length c.run.result.0.now) (sym c.is_empty.ensures ∙ c.if-is_empty.true)))
+    (rw c.unwrap_or.ensures at c.run.ensures) (no_bytes c.run.result.0.now (is_zero (length c.run.result.0.now) c.if-is_empty.ensures))
 
 pub returns-in_err-after : goal.returns-in_err-after
 returns-in_err-after c = let p = err_from_is_err_and c.from_residual-in_err-after.result c.from_residual-in_err-after.ensures.1 in
     rw (p.1, p.2) (element_stops c.args.class c.args.filled c.args.most c.requires.positive c.args.end.now c.requires.ends c.args.start.now c.args.bytes.now _ c.run.result.0.now c.run.result.1.now _
     (filled_by c.args.filled c.run.result.0.now (elim c.else-filled.branch [
-      | else-filled-via-then-filled+else-is_empty w ↦ λ h e. not_empty w.is_empty.result (length c.run.result.0.now) w.is_empty.ensures w.if-is_empty.false e
+      | else-filled-via-then-filled+else-is_empty w ↦ λ h e. not_zero (length c.run.result.0.now) w.if-is_empty.ensures e
       | else-filled-via-else-filled w ↦ λ h e. not_both c.args.filled h w.if-filled.false
     ]))
     c.in_ok-rest.ensures (rw c.unwrap_or.ensures at c.run.ensures) c.in_err-after.ensures)
@@ -36,7 +29,7 @@ pub returns : goal.returns
 returns c =
     element_begins c.args.class c.args.filled c.args.most c.requires.positive c.args.end.now c.requires.ends c.args.start.now c.args.bytes.now _ c.run.result.0.now c.run.result.1.now _
     (filled_by c.args.filled c.run.result.0.now (elim c.else-filled.branch [
-      | else-filled-via-then-filled+else-is_empty w ↦ λ h e. not_empty w.is_empty.result (length c.run.result.0.now) w.is_empty.ensures w.if-is_empty.false e
+      | else-filled-via-then-filled+else-is_empty w ↦ λ h e. not_zero (length c.run.result.0.now) w.if-is_empty.ensures e
       | else-filled-via-else-filled w ↦ λ h e. not_both c.args.filled h w.if-filled.false
     ]))
     c.in_ok-rest.ensures (rw c.unwrap_or.ensures at c.run.ensures) c.in_ok-after.ensures

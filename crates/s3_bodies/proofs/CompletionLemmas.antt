@@ -1,0 +1,146 @@
+-- The body of a CompleteMultipartUpload, part by part.
+use Rattle.std.proofs.Common.{◌≡◌, ◌==◌, ◌↔◌, IsTrue, ℕ, inl, inr, List, [], ◌∷◌, ◌++◌, length, map, refl, sym, ◌∙◌, ap, subst, append_assoc, true, false, Bool, arith, Result, Ok, Err, Bor, codes, suc}
+use Rattle.std.proofs.lemmas.Bool.Decides.{nat_tests}
+use Rattle.std.proofs.lemmas.List.{map-append}
+use Rattle.xml_forms.specs.Forms.{Begins, Stops, Reads, Exactly, Many, Skips, SpellsAll, Word, Unique, Apart, Possible, Opens, nearer}
+use Rattle.xml_forms.specs.Openings.{Opening}
+use Rattle.xml_forms.specs.Runs.{has, IsRun, Spaced}
+use Rattle.xml_forms.specs.declared.class.Class.TheVariants.{Space}
+use Rattle.xml_forms.proofs.Elements.{exactly_unique, is_zero}
+use Rattle.xml_forms.proofs.Manies.{many_reads, many_some, many_unique}
+use Rattle.xml_forms.proofs.Openings.{document_breaks, document_reads, document_unique}
+use Rattle.xml_forms.proofs.Readers.{exactly_heads, opens_heads, spaced_reads, spaced_some, spaced_unique, then_reads, word_heads}
+use Rattle.xml_forms.proofs.Sequence.{then_stops_first, then_unique}
+use Rattle.xml_forms.proofs.Wholes.{Stuck, stuck_behind, stuck_within, whole}
+use Rattle.s3_bodies.specs.Completion.{Completion, IsCompletion, Part, Parts, PartsEnd, completion_end, completion_start, listed_of}
+use Rattle.s3_bodies.specs.PartReaders.{ClosesParts, EndsParts, part_of}
+use Rattle.s3_bodies.proofs.PartLemmas.{part_apart, part_some, part_unique, then_some}
+
+abbrev P : Type 0
+P = ℕ × List ℕ
+
+-- ---- the root's end
+
+end_opens : (parts : List P) → Opens (has Space) (Exactly parts completion_end)
+end_opens parts = opens_heads (Exactly parts completion_end) (codes "/CompleteMultipartUpload>") (exactly_heads parts completion_end)
+
+end_apart : (parts : List P) → Apart Part (PartsEnd parts)
+end_apart parts = part_apart (Exactly parts completion_end) (codes "CompleteMultipartUpload>") 47 (exactly_heads parts completion_end) (λ h. omega (arith, h))
+
+end_some : (parts : List P) → Possible (PartsEnd parts)
+end_some parts = spaced_some (Exactly parts completion_end) (record { value = parts; word = completion_end; spells = (refl, refl) })
+
+end_unique : (parts : List P) → Unique (PartsEnd parts)
+end_unique parts = spaced_unique (Exactly parts completion_end) (end_opens parts) (exactly_unique parts completion_end)
+
+pub root_end_reads : (bytes run rest : List ℕ) → IsRun Space (length bytes) bytes run rest → (r : Result (Unit {0} × List ℕ) ℕ) → Reads (Word completion_end) rest r → Reads (Spaced (Word completion_end)) bytes r
+root_end_reads = spaced_reads (Word completion_end) (opens_heads (Word completion_end) (codes "/CompleteMultipartUpload>") (word_heads completion_end))
+
+-- with the parts as its value
+with_parts : List P → Result (Unit {0} × List ℕ) ℕ → Result (List P × List ℕ) ℕ
+with_parts parts (Ok x) = Ok (parts, x.1)
+with_parts parts (Err left) = Err left
+
+end_reads : (parts : List P) (bytes : List ℕ) (r : Result (Unit {0} × List ℕ) ℕ) → Reads (Spaced (Word completion_end)) bytes r → Reads (PartsEnd parts) bytes (with_parts parts r)
+unfolding with_parts
+end_reads parts bytes (Ok x) p = record {
+  word = p.word;
+  at = p.at;
+  spells = record { run = p.spells.run; tail = p.spells.tail; passes = p.spells.passes; is_allowed = p.spells.is_allowed; tails = (refl, p.spells.tails); at = p.spells.at };
+}
+end_reads parts bytes (Err left) s = record {
+  front = s.front;
+  rest = s.rest;
+  at = s.at;
+  counts = s.counts;
+  value = parts;
+  more = s.more;
+  lives = record { run = s.lives.run; tail = s.lives.tail; passes = s.lives.passes; is_allowed = s.lives.is_allowed; tails = (refl, s.lives.tails); at = s.lives.at };
+  dead = λ a word after next f follows e.
+      s.dead tt word after next (record { run = f.run; tail = f.tail; passes = f.passes; is_allowed = f.is_allowed; tails = f.tails.1; at = f.at }) follows e;
+}
+
+nearer_parts : (parts : List P) (left : ℕ) (r : Result (Unit {0} × List ℕ) ℕ) → nearer (Err left) (with_parts parts r) ≡ with_parts parts (nearer (Err left) r)
+unfolding with_parts
+nearer_parts parts left (Ok x) = refl
+nearer_parts parts left (Err l) = refl
+
+-- ---- the parts
+
+abbrev rest_of : P → List P → List P → List ℕ → Type 0
+rest_of first parts = PartsEnd (first ∷ parts)
+
+parts_some : (first : P) → Possible (Many Part (rest_of first))
+parts_some first = many_some Part (rest_of first) (end_some (first ∷ []))
+
+parts_unique : Unique Parts
+parts_unique = then_unique Part (λ first. Many Part (rest_of first)) part_unique
+    (λ first. many_unique Part part_unique (rest_of first) (λ l. end_apart (first ∷ l)) (λ l. end_unique (first ∷ l)))
+
+all_some : Possible Parts
+all_some = then_some Part (λ first. Many Part (rest_of first)) part_some parts_some
+
+parts_read_at : (none : Bool) (items : List P) (bytes inner rest : List ℕ) (left : ℕ) → none ≡ (length items == 0) → SpellsAll Part items inner → bytes ≡ inner ++ rest → Stops Part rest left
+    → (r : Result (Unit {0} × List ℕ) ℕ) → EndsParts none rest left r → Reads Parts bytes (with_parts items r)
+unfolding with_parts
+parts_read_at true [] bytes inner rest left is s at stops r e =
+    let same : bytes ≡ rest = at ∙ ap (λ i. i ++ rest) s in
+    subst (λ x. Reads Parts bytes (with_parts [] x)) (sym e) (subst (λ w. Stops Parts w left) (sym same) (then_stops_first Part (λ first. Many Part (rest_of first)) parts_some rest left stops))
+parts_read_at false [] bytes inner rest left is s at stops r e = let not_so : false ≡ true = is in cc not_so
+parts_read_at true (first ∷ items) bytes inner rest left is s at stops r e = let none : suc (length items) ≡ 0 = is_zero (suc (length items)) is in absurd (omega (arith, none))
+parts_read_at false (first ∷ items) bytes inner rest left is s at stops r e =
+    subst (λ x. Reads Parts bytes x) (nearer_parts (first ∷ items) left e.0 ∙ ap (with_parts (first ∷ items)) (sym e.2))
+    (then_reads Part (λ f. Many Part (rest_of f)) part_unique bytes (s.1 ++ rest) first (record { word = s.0; spells = s.2; at = at ∙ ap (λ i. i ++ rest) s.4 ∙ append_assoc s.0 s.1 rest })
+    (nearer (Err left) (with_parts (first ∷ items) e.0))
+    (many_reads Part part_unique (rest_of first) (λ l. end_apart (first ∷ l)) (λ l. end_some (first ∷ l)) (s.1 ++ rest) items rest left (record { inner = s.1; spells = s.3; at = refl; stops = stops })
+    (with_parts (first ∷ items) e.0) (end_reads (first ∷ items) rest e.0 e.1)))
+
+parts_read : (none : Bool) (items : List P) (bytes rest : List ℕ) (left : ℕ) → none ≡ (length items == 0) → Skips Part bytes items rest left
+    → (r : Result (Unit {0} × List ℕ) ℕ) → EndsParts none rest left r → Reads Parts bytes (with_parts items r)
+parts_read none items bytes rest left is s r e = parts_read_at none items bytes s.inner rest left is s.spells s.at s.stops r e
+
+-- ---- a completion
+
+pub completion_breaks : (bytes : List ℕ) (left : ℕ) → Stops (Opening completion_start) bytes left → Stuck Completion bytes left
+completion_breaks bytes left s =
+    stuck_within Completion bytes left (document_breaks completion_start 67 (codes "ompleteMultipartUpload") refl (λ h. omega (arith, h)) Parts all_some bytes left s)
+
+completion_reads : (bytes inner attribute : List ℕ) → Begins (Opening completion_start) bytes attribute inner → (r : Result (List P × List ℕ) ℕ) → Reads Parts inner r → Reads Completion bytes r
+completion_reads = document_reads completion_start 67 (codes "ompleteMultipartUpload") refl (λ h. omega (arith, h)) Parts
+
+completion_unique : Unique Completion
+completion_unique = document_unique completion_start 67 (codes "ompleteMultipartUpload") refl (λ h. omega (arith, h)) Parts parts_unique
+
+module _ (bytes inner attribute : List ℕ) (opens : Begins (Opening completion_start) bytes attribute inner) (none : Bool) (items : List P) (rest : List ℕ) (left : ℕ) (is : none ≡ (length items == 0)) (skips : Skips Part inner items rest left) where
+  read_by_end : (r : Result (Unit {0} × List ℕ) ℕ) → EndsParts none rest left r → Reads Completion bytes (with_parts items r)
+  read_by_end r e = completion_reads bytes inner attribute opens (with_parts items r) (parts_read none items inner rest left is skips r e)
+
+  pub completed : ClosesParts none rest left (Ok tt) → IsCompletion items bytes
+  unfolding with_parts
+  completed c = whole Completion bytes c.0 items (read_by_end (Ok (tt, c.0)) c.1) c.2
+
+  pub closed_at : (stop : ℕ) → ClosesParts none rest left (Err stop) → Stuck Completion bytes stop
+  unfolding with_parts
+  closed_at stop (inl e) = stuck_within Completion bytes stop (read_by_end (Err stop) e)
+  closed_at stop (inr e) = stuck_behind Completion bytes completion_unique e.0 items stop (read_by_end (Ok (tt, e.0)) e.1) e.2
+
+-- ---- the loops, and tests
+
+pub none_is : {X Y : Type 0} (f : X → Y) (xs : List X) (b : Bool) → (IsTrue b ↔ (xs ≡ [])) → b ≡ (length (map f xs) == 0)
+none_is f [] true h = refl
+none_is f [] false h = let not_so : false ≡ true = h.1 refl in cc not_so
+none_is f (x ∷ xs) true h = let not_so : x ∷ xs ≡ [] = h.0 refl in cc not_so
+none_is f (x ∷ xs) false h = some (length (map f xs))
+  where
+    some : (n : ℕ) → false ≡ (suc n == 0)
+    some n = grind (arith, nat_tests)
+
+-- a part more
+pub grown : (bytes rest last : List ℕ) (have : List (ℕ × Bor (List ℕ))) (part : ℕ × Bor (List ℕ)) (more : List P) (left : ℕ)
+    → Skips Part bytes (map part_of have ++ part_of part ∷ more) last left → Skips Part bytes (map part_of (have ++ part ∷ []) ++ more) last left
+grown bytes rest last have part more left s =
+    subst (λ l. Skips Part bytes l last left) (sym (append_assoc (map part_of have) (part_of part ∷ []) more) ∙ ap (λ l. l ++ more) (sym (map-append part_of have (part ∷ [])))) s
+
+pub listed_all : (parts : List (ℕ × Bor (List ℕ))) → map (λ part. listed_of (part_of part)) parts ≡ map listed_of (map part_of parts)
+listed_all [] = refl
+listed_all (part ∷ parts) = ap (λ l. listed_of (part_of part) ∷ l) (listed_all parts)

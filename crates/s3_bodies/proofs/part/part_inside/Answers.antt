@@ -1,0 +1,10 @@
+use Rattle.xml_forms.proofs.Readers.{nearer_by, nearer_than}
+use Rattle.s3_bodies.specs.Completion.{EtagFirst, NumberFirst, PartInside}
+use Rattle.s3_bodies.specs.PartReaders.{part_of}
+use Rattle.s3_bodies.proofs.PartLemmas.{inside_reads}
+use Rattle.s3_bodies.proofs.part.part_inside.Goals as goal
+
+pub returns : goal.returns
+returns c =
+    nearer_than part_of PartInside c.args.bytes.now _ _ _ c.nearer.ensures
+    (inside_reads c.args.bytes.now _ _ c.checksums-left.ensures _ (nearer_by part_of NumberFirst EtagFirst _ _ _ _ c.nearer-either.ensures c.number_first.ensures c.etag_first.ensures))

@@ -1,0 +1,105 @@
+//! The body of a CompleteMultipartUpload.
+ghost use Rattle.std.specs.Prelude.{◌≡◌, ◌≤◌, ◌-◌, length, map, IfOk};
+ghost use Rattle.xml_forms.specs.Forms.{Skips, Word};
+ghost use Rattle.xml_forms.specs.Readers.{ReadsRest, rest_read};
+ghost use Rattle.xml_forms.specs.Runs.{Spaced};
+ghost use Rattle.s3_bodies.specs.Completion.{AnswersCompletion, Part, completion_end, listed_of};
+ghost use Rattle.s3_bodies.specs.PartReaders.{AnswersParts, ClosesParts, EndsParts, part_of};
+ghost use Rattle.s3_bodies.specs.declared.fault.BodyFault.{BodyFault};
+
+use crate::BodyFault;
+use crate::part::part;
+use gate_base::{Bytes, List, Memory};
+use s3_machine::Listed;
+use std::alloc::Global;
+use xml_forms::{Class, nearer, only_space, opening, run, word};
+
+/// The most parts that a completion may list (this profile; S3 has more).
+pub const MOST_PARTS: usize = 1000;
+
+/// The parts that the body of a CompleteMultipartUpload lists (Amazon S3 API Reference, CompleteMultipartUpload).
+pub fn read_completion(alloc: Global, bytes: &[u8]) -> Result<List<Listed>, BodyFault>
+    ensures { AnswersCompletion bytes.now result }
+{
+    let parts = completion_parts(alloc, bytes)?;
+    if parts.len() > MOST_PARTS {
+        return Err(BodyFault::TooMany);
+    }
+    Ok(listed(alloc, parts.as_slice())?)
+}
+
+fn completion_parts(alloc: Global, bytes: &[u8]) -> Result<List<(u32, &[u8])>, BodyFault>
+    ensures { AnswersParts bytes.now result }
+{
+    let inner = match opening(bytes, b"<CompleteMultipartUpload") {
+        Ok((_, inner)) => inner,
+        Err(left) => return Err(not_the_body(bytes, left)),
+    };
+    let (parts, rest, left) = parts(alloc, inner)?;
+    match closing(rest, left, parts.is_empty()) {
+        Ok(()) => Ok(parts),
+        Err(left) => Err(not_the_body(bytes, left)),
+    }
+}
+
+fn not_the_body(bytes: &[u8], left: usize) -> BodyFault
+    requires { left ≤ length bytes.now }
+    ensures { result ≡ BodyFault.NotTheBody (length bytes.now - left) }
+{
+    BodyFault::NotTheBody((bytes.len() - left) as u64)
+}
+
+// All parts that can be read, the bytes behind them, and how many were left where no further one could be read.
+fn parts(alloc: Global, bytes: &[u8]) -> Result<(List<(u32, &[u8])>, &[u8], usize), Memory>
+    ensures { IfOk result (λ found. Skips Part bytes.now (map part_of found.0) found.1.now found.2) }
+{
+    let mut parts = List::new(alloc);
+    let mut rest = bytes;
+    'parts: loop {
+        match part(rest) {
+            Ok((part, after)) => {
+                parts.push(part)?;
+                rest = after;
+            }
+            Err(left) => return Ok((parts, rest, left)),
+        }
+    }
+}
+
+// The root's end, and nothing but white space behind it.
+fn closing(bytes: &[u8], left: usize, none: bool) -> Result<(), usize>
+    ensures { ClosesParts none bytes.now left result }
+{
+    let rest = parts_end(bytes, left, none)?;
+    only_space(rest)
+}
+
+fn parts_end(bytes: &[u8], left: usize, none: bool) -> Result<&[u8], usize>
+    ensures { EndsParts none bytes.now left (rest_read result) }
+{
+    if none {
+        return Err(left);
+    }
+    nearer(Err(left), root_end(bytes))
+}
+
+fn root_end(bytes: &[u8]) -> Result<&[u8], usize>
+    ensures { ReadsRest (Spaced (Word completion_end)) bytes.now result }
+{
+    let (_, rest) = run(bytes, Class::Space, bytes.len());
+    word(rest, b"</CompleteMultipartUpload>")
+}
+
+fn listed(alloc: Global, parts: &[(u32, &[u8])]) -> Result<List<Listed>, Memory>
+    ensures { IfOk result (λ list. list ≡ map (λ part. listed_of (part_of part)) parts.now) }
+{
+    let mut list = List::new(alloc);
+    'parts: for part in parts {
+        let etag = Bytes::from_slice(alloc, part.1)?;
+        list.push(Listed {
+            number: part.0,
+            etag,
+        })?;
+    }
+    Ok(list)
+}

@@ -1,0 +1,125 @@
+//! The elements of a part, in the body of a CompleteMultipartUpload.
+ghost use Rattle.std.specs.Prelude.{◌≡◌, ◌≤◌, ℕ, true, length};
+ghost use Rattle.std.specs.List.{list_all};
+ghost use Rattle.std.specs.Str.Parse.{digits_value};
+ghost use Rattle.gate_base.specs.Ascii.{is_digit};
+ghost use Rattle.xml_forms.specs.Forms.{Reads};
+ghost use Rattle.xml_forms.specs.Readers.{ReadsRest, ReadsText, read_by};
+ghost use Rattle.xml_forms.specs.Runs.{Spaced};
+ghost use Rattle.s3_bodies.specs.Completion.{Bare, Checksum, ChecksumEnd, ChecksumName, ChecksumText, Etag, EtagText, Number, Quote, Quoted, QuotedEnd};
+
+use xml_forms::{Class, element, nearer, run, word};
+
+/// A PartNumber behind white space.
+pub(crate) fn number(bytes: &[u8]) -> Result<(u32, &[u8]), usize>
+    ensures { Reads (Spaced Number) bytes.now (read_by (λ n. n) result) }
+{
+    let (_, rest) = run(bytes, Class::Space, bytes.len());
+    bare_number(rest)
+}
+
+fn bare_number(bytes: &[u8]) -> Result<(u32, &[u8]), usize>
+    ensures { Reads Number bytes.now (read_by (λ n. n) result) }
+{
+    let (digits, rest) = element(
+        bytes,
+        b"<PartNumber>",
+        Class::Digit,
+        true,
+        Some(9),
+        b"</PartNumber>",
+    )?;
+    Ok((value_of(digits), rest))
+}
+
+fn value_of(digits: &[u8]) -> u32
+    requires short { length digits.now ≤ 9 }
+    requires digits { list_all is_digit digits.now ≡ true }
+    ensures { result ≡ digits_value 10 digits.now }
+{
+    let mut number = 0u32;
+    for digit in digits {
+        number = number * 10 + u32::from(*digit - b'0');
+    }
+    number
+}
+
+/// An ETag behind white space.
+pub(crate) fn etag(bytes: &[u8]) -> Result<(&[u8], &[u8]), usize>
+    ensures { ReadsText (Spaced Etag) bytes.now result }
+{
+    let (_, rest) = run(bytes, Class::Space, bytes.len());
+    etag_element(rest)
+}
+
+fn etag_element(bytes: &[u8]) -> Result<(&[u8], &[u8]), usize>
+    ensures { ReadsText Etag bytes.now result }
+{
+    let rest = word(bytes, b"<ETag>")?;
+    let bare = element(rest, b"", Class::Dashed, true, Some(64), b"</ETag>");
+    nearer(bare, quoted(rest))
+}
+
+fn quoted(bytes: &[u8]) -> Result<(&[u8], &[u8]), usize>
+    ensures { ReadsText Quoted bytes.now result }
+{
+    let rest = quote(bytes)?;
+    quoted_text(rest)
+}
+
+fn quoted_text(bytes: &[u8]) -> Result<(&[u8], &[u8]), usize>
+    ensures { ReadsText (EtagText QuotedEnd) bytes.now result }
+{
+    let (text, rest) = run(bytes, Class::Dashed, 64);
+    if text.is_empty() {
+        return Err(rest.len());
+    }
+    let last = quote(rest)?;
+    let after = word(last, b"</ETag>")?;
+    Ok((text, after))
+}
+
+fn quote(bytes: &[u8]) -> Result<&[u8], usize>
+    ensures { ReadsRest Quote bytes.now result }
+{
+    let escaped = nearer(word(bytes, b"&quot;"), word(bytes, b"&#34;"));
+    nearer(word(bytes, b"\""), escaped)
+}
+
+/// A checksum behind white space.
+pub(crate) fn checksum(bytes: &[u8]) -> Result<&[u8], usize>
+    ensures { ReadsRest (Spaced Checksum) bytes.now result }
+{
+    let (_, rest) = run(bytes, Class::Space, bytes.len());
+    checksum_element(rest)
+}
+
+fn checksum_element(bytes: &[u8]) -> Result<&[u8], usize>
+    ensures { ReadsRest Checksum bytes.now result }
+{
+    let rest = word(bytes, b"<Checksum")?;
+    checksum_name(rest)
+}
+
+fn checksum_name(bytes: &[u8]) -> Result<&[u8], usize>
+    ensures { ReadsRest ChecksumName bytes.now result }
+{
+    let (name, rest) = run(bytes, Class::LetterOrDigit, bytes.len());
+    let rest = word(rest, b">")?;
+    checksum_text(rest, name)
+}
+
+fn checksum_text<'a>(bytes: &'a [u8], name: &[u8]) -> Result<&'a [u8], usize>
+    ensures { ReadsRest (ChecksumText name.now) bytes.now result }
+{
+    let (_, rest) = run(bytes, Class::Text, bytes.len());
+    checksum_end(rest, name)
+}
+
+fn checksum_end<'a>(bytes: &'a [u8], name: &[u8]) -> Result<&'a [u8], usize>
+    ensures { ReadsRest (ChecksumEnd name.now) bytes.now result }
+{
+    let rest = word(bytes, b"</Checksum")?;
+    let rest = word(rest, name)?;
+    word(rest, b">")
+}
