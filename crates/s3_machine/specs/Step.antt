@@ -1,7 +1,7 @@
 -- One step of the S3 service: what an operation is answered, and the state after it. The refusals are tried in
 -- the order given, and a refused step leaves the state. Source: Amazon S3 API Reference and this profile.
-use Rattle.std.specs.Prelude.{◌≡◌, ◌<◌, ◌≤◌, ℕ, nat_eq, Bool, true, false, not, List, [], length, Option, Some, None}
-use Rattle.std.specs.FinMap.{get, insert, remove, empty, len}
+use Rattle.std.specs.Prelude.{◌≡◌, ◌<◌, ◌≤◌, ℕ, nat_eq, Bool, true, false, not, List, [], map, length, Option, Some, None}
+use Rattle.std.specs.FinMap.{entries, get, insert, remove, empty, len}
 use Rattle.gate_base.specs.declared.caller.Caller.{Caller}
 use Rattle.gate_base.specs.declared.caller.Caller.TheVariants.{Owner, Anonymous}
 use Rattle.gate_base.specs.declared.page.Pair.{Pair}
@@ -12,11 +12,15 @@ use Rattle.s3_names.specs.declared.acl.Acl.TheVariants.{Private, PublicRead}
 use Rattle.s3_names.specs.Bucket.{is_bucket}
 use Rattle.s3_names.specs.Key.{is_key}
 use Rattle.s3_machine.specs.declared.code.Code.{Code}
-use Rattle.s3_machine.specs.declared.code.Code.TheVariants.{AccessDenied, BucketAlreadyOwnedByYou, NoSuchBucket, NoSuchKey, NotImplemented}
+use Rattle.s3_machine.specs.declared.code.Code.TheVariants.{AccessDenied, BucketAlreadyOwnedByYou, BucketNotEmpty, NoSuchBucket, NoSuchKey, NotImplemented}
+use Rattle.s3_machine.specs.declared.items.BucketItem.{BucketItem}
 use Rattle.s3_machine.specs.declared.operation.Label.{Label}
 use Rattle.s3_machine.specs.declared.operation.Settings.{Settings}
 use Rattle.s3_machine.specs.declared.operation.Op.{Op}
-use Rattle.s3_machine.specs.declared.operation.Op.TheVariants.{CreateBucket, PutObject, GetObject, HeadObject, DeleteObject}
+use Rattle.s3_machine.specs.declared.operation.Op.TheVariants.{
+    ListBuckets, CreateBucket, DeleteBucket, HeadBucket, GetLocation, GetBucketAcl, PutBucketAcl, PutObject, GetObject, HeadObject,
+    DeleteObject, GetObjectAcl
+}
 use Rattle.s3_machine.specs.declared.operation.ObjectHead.{ObjectHead}
 use Rattle.s3_machine.specs.declared.operation.Reply.{Reply}
 use Rattle.s3_machine.specs.declared.operation.Reply.TheVariants as reply
@@ -82,6 +86,37 @@ abbrev pub creates : Option Bucket → State → List ℕ → Acl → ℕ → Ou
 creates (Some b) old name acl moment = refuses BucketAlreadyOwnedByYou old
 creates None old name acl moment = gives (reply.Made name) (insert old name (new_bucket moment acl))
 
+-- ListBuckets: each bucket with the moment at which it was made, by name in the order of the bytes
+abbrev pub bucket_item : List ℕ × Bucket → BucketItem
+bucket_item entry = record { name = entry.0; created = entry.1.created }
+
+abbrev pub bucket_items : State → List BucketItem
+bucket_items state = map bucket_item (entries state)
+
+-- DeleteBucket in a bucket: open uploads and kept completions go with it
+abbrev pub drops : State → List ℕ → Bucket → Outcome
+drops old name b = unless (not (is_bare b)) BucketNotEmpty old (gives reply.Gone (remove old name))
+
+-- HeadBucket in a bucket, for one who asks to read it
+abbrev pub shows : State → Caller → Bucket → Outcome
+shows old caller b = unless (not (may_read caller b.acl)) AccessDenied old (gives reply.Done old)
+
+-- GetLocation in a bucket: the region of the service
+abbrev pub locates : Settings → State → Bucket → Outcome
+locates settings old b = gives (reply.Location settings.region) old
+
+-- GetBucketAcl in a bucket
+abbrev pub shows_acl : State → Bucket → Outcome
+shows_acl old b = gives (reply.AclOf b.acl) old
+
+-- PutBucketAcl in a bucket
+abbrev pub sets_acl : State → List ℕ → Acl → Bucket → Outcome
+sets_acl old name acl b = gives reply.Done (adjust name (with_acl acl) old)
+
+-- GetObjectAcl in a bucket, whose list governs its objects too
+abbrev pub shows_object_acl : State → List ℕ → Bucket → Outcome
+shows_object_acl old key b = in_object_by (get b.objects key) old (λ o. gives (reply.AclOf b.acl) old)
+
 -- ---- objects
 
 -- an object as it is put
@@ -128,20 +163,34 @@ deletes old bucket key b = gives reply.Gone (adjust bucket (drop_object key) old
 
 -- the step of each operation, with the id that a new upload gets
 abbrev pub step : Settings → State → Op → Label → ℕ → Outcome
+step settings old ListBuckets label id = gives (reply.Buckets (bucket_items old)) old
 step settings old (CreateBucket bucket acl) label id = creates (get old bucket) old bucket acl label.moment
+step settings old (DeleteBucket bucket) label id = in_bucket old bucket (drops old bucket)
+step settings old (HeadBucket bucket) label id = in_bucket old bucket (shows old label.caller)
+step settings old (GetLocation bucket) label id = in_bucket old bucket (locates settings old)
+step settings old (GetBucketAcl bucket) label id = in_bucket old bucket (shows_acl old)
+step settings old (PutBucketAcl bucket acl) label id = in_bucket old bucket (sets_acl old bucket acl)
 step settings old (PutObject bucket key acl content_type meta body) label id =
     in_bucket old bucket (puts old bucket key acl (new_object label.moment content_type meta body))
 step settings old (GetObject bucket key) label id = in_bucket old bucket (in_readable old label.caller key (reads old whole))
 step settings old (HeadObject bucket key) label id = in_bucket old bucket (in_readable old label.caller key (reads old headed))
 step settings old (DeleteObject bucket key) label id = in_bucket old bucket (deletes old bucket key)
+step settings old (GetObjectAcl bucket key) label id = in_bucket old bucket (shows_object_acl old key)
 
 -- the id that the operation may give to a new upload
 abbrev pub IsFree : State → Op → ℕ → Type 0
+IsFree old ListBuckets id = Unit {0}
 IsFree old (CreateBucket bucket acl) id = Unit {0}
+IsFree old (DeleteBucket bucket) id = Unit {0}
+IsFree old (HeadBucket bucket) id = Unit {0}
+IsFree old (GetLocation bucket) id = Unit {0}
+IsFree old (GetBucketAcl bucket) id = Unit {0}
+IsFree old (PutBucketAcl bucket acl) id = Unit {0}
 IsFree old (PutObject bucket key acl content_type meta body) id = Unit {0}
 IsFree old (GetObject bucket key) id = Unit {0}
 IsFree old (HeadObject bucket key) id = Unit {0}
 IsFree old (DeleteObject bucket key) id = Unit {0}
+IsFree old (GetObjectAcl bucket key) id = Unit {0}
 
 -- the service goes by this operation from the old state to the new one, and answers this
 pub record S3Step (settings : Settings) (old : State) (op : Op) (label : Label) (reply : Reply) (new : State) : Type 0 where
@@ -165,11 +214,18 @@ pub record IsProperContent (content_type : List ℕ) (meta : List Pair) (body : 
 
 -- an operation that keeps the limits of this profile, at a moment that a clock can give
 abbrev pub IsProperOp : Op → Type 0
+IsProperOp ListBuckets = Unit {0}
 IsProperOp (CreateBucket bucket acl) = is_bucket bucket ≡ true
+IsProperOp (DeleteBucket bucket) = is_bucket bucket ≡ true
+IsProperOp (HeadBucket bucket) = is_bucket bucket ≡ true
+IsProperOp (GetLocation bucket) = is_bucket bucket ≡ true
+IsProperOp (GetBucketAcl bucket) = is_bucket bucket ≡ true
+IsProperOp (PutBucketAcl bucket acl) = is_bucket bucket ≡ true
 IsProperOp (PutObject bucket key acl content_type meta body) = IsPlace bucket key × IsProperContent content_type meta body
 IsProperOp (GetObject bucket key) = IsPlace bucket key
 IsProperOp (HeadObject bucket key) = IsPlace bucket key
 IsProperOp (DeleteObject bucket key) = IsPlace bucket key
+IsProperOp (GetObjectAcl bucket key) = IsPlace bucket key
 
 abbrev pub IsProper : Op → Label → Type 0
 IsProper op label = IsProperOp op × (label.moment < moment_limit)

@@ -4,6 +4,7 @@
 
 mod code;
 mod etag;
+mod items;
 mod laws;
 mod limits;
 mod native;
@@ -12,6 +13,7 @@ mod table;
 
 pub use code::Code;
 pub use etag::body_etag;
+pub use items::{Asked, BucketItem, Item, ItemHead, PartItem, UploadItem};
 pub use laws::{law_get_after_delete, law_get_after_put};
 pub use limits::{MOST_BODY_BYTES, is_content_type, is_meta_name, is_meta_value, is_proper_meta};
 pub use native::{Native, is_other_acl, may_read};

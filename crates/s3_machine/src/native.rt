@@ -1,12 +1,14 @@
 //! The machine's running form: plain and slow, for tests.
 ghost use Rattle.std.specs.Prelude.{◌≡◌, IfOk, OnErr};
 ghost use Rattle.std.specs.FinMap.{empty};
-ghost use Rattle.s3_machine.specs.declared.operation.Op.TheVariants.{CreateBucket, PutObject, GetObject, HeadObject, DeleteObject};
+ghost use Rattle.s3_machine.specs.declared.operation.Op.TheVariants.{
+    ListBuckets, CreateBucket, DeleteBucket, HeadBucket, GetLocation, GetBucketAcl, PutBucketAcl, PutObject, GetObject, HeadObject, DeleteObject, GetObjectAcl
+};
 ghost use Rattle.s3_machine.specs.Step.{IsProper, S3Step, may_read, is_other_acl};
 
 use crate::table::Table;
-use crate::{Code, Label, ObjectHead, Op, Reply, Settings, body_etag};
-use gate_base::{Bytes, Caller, Copying, Memory};
+use crate::{BucketItem, Code, Label, ObjectHead, Op, Reply, Settings, body_etag};
+use gate_base::{Bytes, Caller, Copying, List, Memory};
 use s3_names::{Acl, Meta};
 use std::alloc::Global;
 use std::marker::Model;
@@ -119,7 +121,7 @@ impl Model for NativeBucket {
 impl NativeBucket {
     ghost use Rattle.std.specs.Prelude.{OnOk, option_copied};
     ghost use Rattle.std.specs.FinMap.{get};
-    ghost use Rattle.s3_machine.specs.Step.{drop_object, new_bucket, put_object};
+    ghost use Rattle.s3_machine.specs.Step.{drop_object, is_bare, new_bucket, put_object, with_acl};
 
     fn new(alloc: Global, moment: u64, acl: Acl) -> NativeBucket
         ensures { result ≡ new_bucket moment acl }
@@ -129,6 +131,30 @@ impl NativeBucket {
             acl,
             objects: Table::new(alloc),
         }
+    }
+
+    fn created(&self) -> u64
+        ensures { result ≡ self.now.created }
+    {
+        self.created
+    }
+
+    fn acl(&self) -> Acl
+        ensures { result ≡ self.now.acl }
+    {
+        self.acl
+    }
+
+    fn set_acl(&mut self, acl: Acl)
+        ensures { self.new ≡ with_acl acl self.old }
+    {
+        self.acl = acl;
+    }
+
+    fn is_bare(&self) -> bool
+        ensures { result ≡ is_bare self.now }
+    {
+        self.objects.is_empty()
     }
 
     fn may_be_read(&self, caller: Caller) -> bool
@@ -166,7 +192,30 @@ impl NativeBucket {
 impl Table<NativeBucket> {
     ghost use Rattle.std.specs.Prelude.{OnOk};
     ghost use Rattle.gate_base.specs.Maps.{adjust};
-    ghost use Rattle.s3_machine.specs.Step.{drop_object, put_object};
+    ghost use Rattle.s3_machine.specs.Step.{bucket_items, drop_object, put_object, with_acl};
+
+    /// Each bucket with the moment at which it was made, in the order of the names.
+    fn items(&self, alloc: Global) -> Result<List<BucketItem>, Memory>
+        ensures { IfOk result (λ items. items ≡ bucket_items self.now) }
+    {
+        let mut items = List::new(alloc);
+        for (name, bucket) in &self.entries {
+            items.push(BucketItem {
+                name: Bytes::from_slice(alloc, name)?,
+                created: bucket.created(),
+            })?;
+        }
+        Ok(items)
+    }
+
+    /// Replaces the access control list of a bucket, if it is there.
+    fn set_acl(&mut self, bucket: &[u8], acl: Acl)
+        ensures { self.new ≡ adjust bucket.now (with_acl acl) self.old }
+    {
+        if let Some(found) = self.entries.get_mut(bucket) {
+            found.set_acl(acl);
+        }
+    }
 
     /// Puts an object into a bucket, in place of what stands under its key. Where memory runs out, all is as before.
     fn put_object(&mut self, bucket: &[u8], key: &[u8], object: NativeObject) -> Result<(), Memory>
@@ -231,7 +280,13 @@ impl Native {
         ensures err { OnErr result (self.new.state ≡ self.old.state) }
     {
         match op {
+            Op::ListBuckets => self.list_buckets(label),
             Op::CreateBucket { bucket, acl } => self.create_bucket(bucket, *acl, label),
+            Op::DeleteBucket { bucket } => Ok(self.delete_bucket(bucket, label)),
+            Op::HeadBucket { bucket } => Ok(self.head_bucket(bucket, label)),
+            Op::GetLocation { bucket } => self.get_location(bucket, label),
+            Op::GetBucketAcl { bucket } => Ok(self.get_bucket_acl(bucket, label)),
+            Op::PutBucketAcl { bucket, acl } => Ok(self.put_bucket_acl(bucket, *acl, label)),
             Op::PutObject {
                 bucket,
                 key,
@@ -243,7 +298,14 @@ impl Native {
             Op::GetObject { bucket, key } => self.get_object(bucket, key, label),
             Op::HeadObject { bucket, key } => self.head_object(bucket, key, label),
             Op::DeleteObject { bucket, key } => self.delete_object(bucket, key, label),
+            Op::GetObjectAcl { bucket, key } => Ok(self.get_object_acl(bucket, key, label)),
         }
+    }
+
+    fn list_buckets(&self, label: &Label) -> Result<Reply, Memory>
+        ensures { IfOk result (λ reply. S3Step self.now.settings self.now.state ListBuckets label.now reply self.now.state) }
+    {
+        Ok(Reply::Buckets(self.buckets.items(self.alloc)?))
     }
 
     /// Where memory runs out, the state is as before.
@@ -261,6 +323,75 @@ impl Native {
         let made = NativeBucket::new(self.alloc, label.moment, acl);
         self.buckets.put(bucket.as_slice(), made)?;
         Ok(reply)
+    }
+
+    fn delete_bucket(&mut self, bucket: &Bytes, label: &Label) -> Reply
+        ensures settings { self.new.settings ≡ self.old.settings }
+        ensures step { S3Step self.old.settings self.old.state (DeleteBucket bucket.now) label.now result self.new.state }
+    {
+        let Some(found) = self.buckets.get(bucket.as_slice()) else {
+            return Reply::Refused(Code::NoSuchBucket);
+        };
+        if !found.is_bare() {
+            return Reply::Refused(Code::BucketNotEmpty);
+        }
+        self.buckets.drop_at(bucket.as_slice());
+        Reply::Gone
+    }
+
+    fn head_bucket(&self, bucket: &Bytes, label: &Label) -> Reply
+        ensures { S3Step self.now.settings self.now.state (HeadBucket bucket.now) label.now result self.now.state }
+    {
+        let Some(found) = self.buckets.get(bucket.as_slice()) else {
+            return Reply::Refused(Code::NoSuchBucket);
+        };
+        if !found.may_be_read(label.caller) {
+            return Reply::Refused(Code::AccessDenied);
+        }
+        Reply::Done
+    }
+
+    fn get_location(&self, bucket: &Bytes, label: &Label) -> Result<Reply, Memory>
+        ensures { IfOk result (λ reply. S3Step self.now.settings self.now.state (GetLocation bucket.now) label.now reply self.now.state) }
+    {
+        if self.buckets.get(bucket.as_slice()).is_none() {
+            return Ok(Reply::Refused(Code::NoSuchBucket));
+        }
+        Ok(Reply::Location {
+            region: self.settings.region.copy()?,
+        })
+    }
+
+    fn get_bucket_acl(&self, bucket: &Bytes, label: &Label) -> Reply
+        ensures { S3Step self.now.settings self.now.state (GetBucketAcl bucket.now) label.now result self.now.state }
+    {
+        match self.buckets.get(bucket.as_slice()) {
+            Some(found) => Reply::AclOf(found.acl()),
+            None => Reply::Refused(Code::NoSuchBucket),
+        }
+    }
+
+    fn put_bucket_acl(&mut self, bucket: &Bytes, acl: Acl, label: &Label) -> Reply
+        ensures settings { self.new.settings ≡ self.old.settings }
+        ensures step { S3Step self.old.settings self.old.state (PutBucketAcl bucket.now acl) label.now result self.new.state }
+    {
+        if self.buckets.get(bucket.as_slice()).is_none() {
+            return Reply::Refused(Code::NoSuchBucket);
+        }
+        self.buckets.set_acl(bucket.as_slice(), acl);
+        Reply::Done
+    }
+
+    fn get_object_acl(&self, bucket: &Bytes, key: &Bytes, label: &Label) -> Reply
+        ensures { S3Step self.now.settings self.now.state (GetObjectAcl bucket.now key.now) label.now result self.now.state }
+    {
+        let Some(found) = self.buckets.get(bucket.as_slice()) else {
+            return Reply::Refused(Code::NoSuchBucket);
+        };
+        if found.object(key.as_slice()).is_none() {
+            return Reply::Refused(Code::NoSuchKey);
+        }
+        Reply::AclOf(found.acl())
     }
 
     /// Where memory runs out, the state is as before.

@@ -1,5 +1,6 @@
 use crate::Code;
-use gate_base::{Bytes, Caller, Copying, Memory};
+use crate::items::{Asked, BucketItem, Item, PartItem, UploadItem};
+use gate_base::{Bytes, Caller, Copying, List, Memory};
 use s3_names::{Acl, Meta};
 
 /// What holds for a whole run: the region's name, and the least size in bytes of a part that isn't the last.
@@ -53,7 +54,24 @@ impl Copying for Listed {
 /// The operations of Amazon S3 that are built. An access control list that isn't given is the bucket's.
 #[derive(Debug, Drop)]
 pub enum Op {
+    ListBuckets,
     CreateBucket {
+        bucket: Bytes,
+        acl: Acl,
+    },
+    DeleteBucket {
+        bucket: Bytes,
+    },
+    HeadBucket {
+        bucket: Bytes,
+    },
+    GetLocation {
+        bucket: Bytes,
+    },
+    GetBucketAcl {
+        bucket: Bytes,
+    },
+    PutBucketAcl {
         bucket: Bytes,
         acl: Acl,
     },
@@ -77,12 +95,33 @@ pub enum Op {
         bucket: Bytes,
         key: Bytes,
     },
+    GetObjectAcl {
+        bucket: Bytes,
+        key: Bytes,
+    },
 }
 
 impl Copying for Op {
     fn copy(&self) -> Result<Op, Memory> {
         match self {
+            Op::ListBuckets => Ok(Op::ListBuckets),
             Op::CreateBucket { bucket, acl } => Ok(Op::CreateBucket {
+                bucket: bucket.copy()?,
+                acl: *acl,
+            }),
+            Op::DeleteBucket { bucket } => Ok(Op::DeleteBucket {
+                bucket: bucket.copy()?,
+            }),
+            Op::HeadBucket { bucket } => Ok(Op::HeadBucket {
+                bucket: bucket.copy()?,
+            }),
+            Op::GetLocation { bucket } => Ok(Op::GetLocation {
+                bucket: bucket.copy()?,
+            }),
+            Op::GetBucketAcl { bucket } => Ok(Op::GetBucketAcl {
+                bucket: bucket.copy()?,
+            }),
+            Op::PutBucketAcl { bucket, acl } => Ok(Op::PutBucketAcl {
                 bucket: bucket.copy()?,
                 acl: *acl,
             }),
@@ -110,6 +149,10 @@ impl Copying for Op {
                 key: key.copy()?,
             }),
             Op::DeleteObject { bucket, key } => Ok(Op::DeleteObject {
+                bucket: bucket.copy()?,
+                key: key.copy()?,
+            }),
+            Op::GetObjectAcl { bucket, key } => Ok(Op::GetObjectAcl {
                 bucket: bucket.copy()?,
                 key: key.copy()?,
             }),
@@ -142,14 +185,36 @@ impl Copying for ObjectHead {
 
 /// What an operation is answered. `Memory` says that memory ran out; the machine itself never gives it. An
 /// `Object` has `length` bytes from the byte `from` on, all of them in `body` or, in the reply to a HEAD, none; it is
-/// `partial` where a range was asked for. ETags stand without quotes.
+/// `partial` where a range was asked for. A listing is `truncated` where items are left over. ETags stand without quotes.
 #[derive(Debug, Drop)]
 pub enum Reply {
     Refused(Code),
     Memory,
+    Done,
     Gone,
+    NotModified(ObjectHead),
+    Buckets(List<BucketItem>),
     Made {
         bucket: Bytes,
+    },
+    Location {
+        region: Bytes,
+    },
+    AclOf(Acl),
+    Objects {
+        bucket: Bytes,
+        asked: Asked,
+        items: List<Item>,
+        truncated: bool,
+    },
+    Uploads {
+        bucket: Bytes,
+        prefix: Bytes,
+        key_marker: Bytes,
+        id_marker: Bytes,
+        max: u32,
+        items: List<UploadItem>,
+        truncated: bool,
     },
     Stored {
         etag: Bytes,
@@ -161,6 +226,25 @@ pub enum Reply {
         partial: bool,
         body: Bytes,
     },
+    Started {
+        bucket: Bytes,
+        key: Bytes,
+        id: u128,
+    },
+    Parts {
+        bucket: Bytes,
+        key: Bytes,
+        id: u128,
+        marker: u32,
+        max: u32,
+        items: List<PartItem>,
+        truncated: bool,
+    },
+    Completed {
+        bucket: Bytes,
+        key: Bytes,
+        etag: Bytes,
+    },
 }
 
 impl Copying for Reply {
@@ -168,9 +252,44 @@ impl Copying for Reply {
         match self {
             Reply::Refused(code) => Ok(Reply::Refused(*code)),
             Reply::Memory => Ok(Reply::Memory),
+            Reply::Done => Ok(Reply::Done),
             Reply::Gone => Ok(Reply::Gone),
+            Reply::NotModified(head) => Ok(Reply::NotModified(head.copy()?)),
+            Reply::Buckets(items) => Ok(Reply::Buckets(items.copy()?)),
             Reply::Made { bucket } => Ok(Reply::Made {
                 bucket: bucket.copy()?,
+            }),
+            Reply::Location { region } => Ok(Reply::Location {
+                region: region.copy()?,
+            }),
+            Reply::AclOf(acl) => Ok(Reply::AclOf(*acl)),
+            Reply::Objects {
+                bucket,
+                asked,
+                items,
+                truncated,
+            } => Ok(Reply::Objects {
+                bucket: bucket.copy()?,
+                asked: asked.copy()?,
+                items: items.copy()?,
+                truncated: *truncated,
+            }),
+            Reply::Uploads {
+                bucket,
+                prefix,
+                key_marker,
+                id_marker,
+                max,
+                items,
+                truncated,
+            } => Ok(Reply::Uploads {
+                bucket: bucket.copy()?,
+                prefix: prefix.copy()?,
+                key_marker: key_marker.copy()?,
+                id_marker: id_marker.copy()?,
+                max: *max,
+                items: items.copy()?,
+                truncated: *truncated,
             }),
             Reply::Stored { etag } => Ok(Reply::Stored { etag: etag.copy()? }),
             Reply::Object {
@@ -185,6 +304,33 @@ impl Copying for Reply {
                 length: *length,
                 partial: *partial,
                 body: body.copy()?,
+            }),
+            Reply::Started { bucket, key, id } => Ok(Reply::Started {
+                bucket: bucket.copy()?,
+                key: key.copy()?,
+                id: *id,
+            }),
+            Reply::Parts {
+                bucket,
+                key,
+                id,
+                marker,
+                max,
+                items,
+                truncated,
+            } => Ok(Reply::Parts {
+                bucket: bucket.copy()?,
+                key: key.copy()?,
+                id: *id,
+                marker: *marker,
+                max: *max,
+                items: items.copy()?,
+                truncated: *truncated,
+            }),
+            Reply::Completed { bucket, key, etag } => Ok(Reply::Completed {
+                bucket: bucket.copy()?,
+                key: key.copy()?,
+                etag: etag.copy()?,
             }),
         }
     }

@@ -1,6 +1,6 @@
 //! What stands under names.
-ghost use Rattle.std.specs.Prelude.{◌≡◌, option_copied, OnOk, OnErr};
-ghost use Rattle.std.specs.FinMap.{empty, get, insert, remove};
+ghost use Rattle.std.specs.Prelude.{◌≡◌, nat_eq, option_copied, OnOk, OnErr};
+ghost use Rattle.std.specs.FinMap.{empty, get, insert, len, remove};
 
 use gate_base::Memory;
 use std::alloc::Global;
@@ -43,6 +43,12 @@ impl<V> Table<V> {
         ensures { option_copied result ≡ get self.now name.now }
     {
         self.entries.get(name)
+    }
+
+    pub(crate) fn is_empty(&self) -> bool
+        ensures { result ≡ nat_eq (len self.now) 0 }
+    {
+        self.entries.is_empty()
     }
 }
 
