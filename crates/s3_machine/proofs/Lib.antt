@@ -1,5 +1,6 @@
 pub mod Budget
 pub mod Entries
+pub mod Ordered
 pub mod Rereads
 pub mod Tables
 pub mod lemmas

@@ -2,21 +2,29 @@
 -- the replies that the machine never gives.
 use Rattle.std.specs.Prelude.{◌≡◌, ◌≢◌, ℕ, Bool, true, false, not, List, Option, Some, None, is_some}
 use Rattle.std.proofs.Common.{refl, sym, ap, ◌∙◌, true≢false}
-use Rattle.std.specs.FinMap.{get, insert}
+use Rattle.std.specs.FinMap.{get, insert, remove}
 use Rattle.gate_base.specs.Maps.{adjust}
 use Rattle.gate_base.specs.declared.page.Pair.{Pair}
 use Rattle.s3_names.specs.declared.acl.Acl.{Acl}
 use Rattle.s3_machine.specs.declared.code.Code.{Code}
-use Rattle.s3_machine.specs.declared.code.Code.TheVariants.{AccessDenied, BucketAlreadyOwnedByYou, InconsistentStore, NoSuchBucket, NoSuchKey, NotImplemented, ServiceUnavailable}
+use Rattle.s3_machine.specs.declared.code.Code.TheVariants.{
+    AccessDenied, BucketAlreadyOwnedByYou, BucketNotEmpty, InconsistentStore, NoSuchBucket, NoSuchKey, NotImplemented, ServiceUnavailable
+}
+use Rattle.s3_machine.specs.declared.items.BucketItem.{BucketItem}
 use Rattle.s3_machine.specs.declared.operation.Label.{Label}
 use Rattle.s3_machine.specs.declared.operation.Settings.{Settings}
 use Rattle.s3_machine.specs.declared.operation.Op.{Op}
-use Rattle.s3_machine.specs.declared.operation.Op.TheVariants.{CreateBucket, PutObject, GetObject, HeadObject, DeleteObject}
+use Rattle.s3_machine.specs.declared.operation.Op.TheVariants.{
+    ListBuckets, CreateBucket, DeleteBucket, HeadBucket, GetLocation, GetBucketAcl, PutBucketAcl, PutObject, GetObject, HeadObject, DeleteObject, GetObjectAcl
+}
 use Rattle.s3_machine.specs.declared.operation.Reply.{Reply}
-use Rattle.s3_machine.specs.declared.operation.Reply.TheVariants.{Refused, Made, Memory, Stored, Gone}
+use Rattle.s3_machine.specs.declared.operation.Reply.TheVariants.{Refused, Done, Made, Memory, Stored, Gone, Buckets, Location, AclOf}
 use Rattle.s3_machine.specs.ETag.{body_etag}
 use Rattle.s3_machine.specs.State.{Object, Bucket, State}
-use Rattle.s3_machine.specs.Step.{Outcome, S3Step, step, IsFree, creates, gives, refuses, unless, in_bucket_by, in_object_by, in_readable, may_read, is_other_acl, puts, deletes, reads, whole, headed, new_bucket, new_object, put_object, drop_object}
+use Rattle.s3_machine.specs.Step.{
+    Outcome, S3Step, step, IsFree, creates, gives, refuses, unless, in_bucket_by, in_object_by, in_readable, may_read, is_other_acl, puts, deletes, reads, whole,
+    headed, new_bucket, new_object, put_object, drop_object, bucket_items, is_bare, with_acl, drops, shows, locates, shows_acl, sets_acl, shows_object_acl
+}
 
 -- a step by what it comes to
 steps : {settings : Settings} {old : State} {op : Op} {label : Label} (reply : Reply) (new : State) (id : ℕ) → IsFree old op id
@@ -43,13 +51,78 @@ pub step_owned : (settings : Settings) (old : State) (bucket : List ℕ) (acl : 
     → S3Step settings old (CreateBucket bucket acl) label (Refused BucketAlreadyOwnedByYou) old
 step_owned settings old bucket acl label e = steps _ _ 0 tt (creates_there old bucket acl label.moment (get old bucket) e)
 
--- ---- the operations on objects
+-- ---- what an outcome comes to
 
 unless_true : (t : Bool) (code : Code) (old : State) (rest : Outcome) → t ≡ true → unless t code old rest ≡ refuses code old
 unless_true t code old rest e = ap (λ t. unless t code old rest) e
 
 unless_false : (t : Bool) (code : Code) (old : State) (rest : Outcome) → t ≡ false → unless t code old rest ≡ rest
 unless_false t code old rest e = ap (λ t. unless t code old rest) e
+
+in_missing : (old : State) (bucket : List ℕ) → get old bucket ≡ None → (f : Bucket → Outcome) → in_bucket_by (get old bucket) old f ≡ refuses NoSuchBucket old
+in_missing old bucket none f = ap (λ v. in_bucket_by v old f) none
+
+in_found : (old : State) (bucket : List ℕ) (b : Bucket) → get old bucket ≡ Some b → (f : Bucket → Outcome) → in_bucket_by (get old bucket) old f ≡ f b
+in_found old bucket b found f = ap (λ v. in_bucket_by v old f) found
+
+-- ---- the operations on buckets
+
+pub step_listed : (settings : Settings) (old : State) (label : Label) → S3Step settings old ListBuckets label (Buckets (bucket_items old)) old
+step_listed settings old label = steps _ _ 0 tt refl
+
+module _ (settings : Settings) (old : State) (bucket : List ℕ) (label : Label) where
+  -- the bucket is missing
+  module _ (none : get old bucket ≡ None) where
+    pub drop_without_bucket : S3Step settings old (DeleteBucket bucket) label (Refused NoSuchBucket) old
+    drop_without_bucket = steps _ _ 0 tt (in_missing old bucket none (drops old bucket))
+
+    pub show_without_bucket : S3Step settings old (HeadBucket bucket) label (Refused NoSuchBucket) old
+    show_without_bucket = steps _ _ 0 tt (in_missing old bucket none (shows old label.caller))
+
+    pub locate_without_bucket : S3Step settings old (GetLocation bucket) label (Refused NoSuchBucket) old
+    locate_without_bucket = steps _ _ 0 tt (in_missing old bucket none (locates settings old))
+
+    pub acl_without_bucket : S3Step settings old (GetBucketAcl bucket) label (Refused NoSuchBucket) old
+    acl_without_bucket = steps _ _ 0 tt (in_missing old bucket none (shows_acl old))
+
+    pub set_without_bucket : (acl : Acl) → S3Step settings old (PutBucketAcl bucket acl) label (Refused NoSuchBucket) old
+    set_without_bucket acl = steps _ _ 0 tt (in_missing old bucket none (sets_acl old bucket acl))
+
+    pub object_acl_without_bucket : (key : List ℕ) → S3Step settings old (GetObjectAcl bucket key) label (Refused NoSuchBucket) old
+    object_acl_without_bucket key = steps _ _ 0 tt (in_missing old bucket none (shows_object_acl old key))
+
+  -- it is there
+  module _ (b : Bucket) (found : get old bucket ≡ Some b) where
+    pub step_full : is_bare b ≡ false → S3Step settings old (DeleteBucket bucket) label (Refused BucketNotEmpty) old
+    step_full e = steps _ _ 0 tt (in_found old bucket b found (drops old bucket) ∙ unless_true _ _ _ _ (ap not e))
+
+    pub step_dropped : is_bare b ≡ true → S3Step settings old (DeleteBucket bucket) label Gone (remove old bucket)
+    step_dropped e = steps _ _ 0 tt (in_found old bucket b found (drops old bucket) ∙ unless_false _ _ _ _ (ap not e))
+
+    pub show_denied : may_read label.caller b.acl ≡ false → S3Step settings old (HeadBucket bucket) label (Refused AccessDenied) old
+    show_denied e = steps _ _ 0 tt (in_found old bucket b found (shows old label.caller) ∙ unless_true _ _ _ _ (ap not e))
+
+    pub step_shown : may_read label.caller b.acl ≡ true → S3Step settings old (HeadBucket bucket) label Done old
+    step_shown e = steps _ _ 0 tt (in_found old bucket b found (shows old label.caller) ∙ unless_false _ _ _ _ (ap not e))
+
+    pub step_located : S3Step settings old (GetLocation bucket) label (Location settings.region) old
+    step_located = steps _ _ 0 tt (in_found old bucket b found (locates settings old))
+
+    pub step_acl_of : S3Step settings old (GetBucketAcl bucket) label (AclOf b.acl) old
+    step_acl_of = steps _ _ 0 tt (in_found old bucket b found (shows_acl old))
+
+    pub step_acl_set : (acl : Acl) → S3Step settings old (PutBucketAcl bucket acl) label Done (adjust bucket (with_acl acl) old)
+    step_acl_set acl = steps _ _ 0 tt (in_found old bucket b found (sets_acl old bucket acl))
+
+    pub object_acl_without_key : (key : List ℕ) → get b.objects key ≡ None → S3Step settings old (GetObjectAcl bucket key) label (Refused NoSuchKey) old
+    object_acl_without_key key none = steps _ _ 0 tt (in_found old bucket b found (shows_object_acl old key)
+        ∙ ap (λ o. in_object_by o old (λ x. gives (AclOf b.acl) old)) none)
+
+    pub step_object_acl : (key : List ℕ) (o : Object) → get b.objects key ≡ Some o → S3Step settings old (GetObjectAcl bucket key) label (AclOf b.acl) old
+    step_object_acl key o there = steps _ _ 0 tt (in_found old bucket b found (shows_object_acl old key)
+        ∙ ap (λ o. in_object_by o old (λ x. gives (AclOf b.acl) old)) there)
+
+-- ---- the operations on objects
 
 module _ (old : State) (label : Label) (key : List ℕ) (f : Object → Outcome) (b : Bucket) where
   readable_denied : may_read label.caller b.acl ≡ false → in_readable old label.caller key f b ≡ refuses AccessDenied old
@@ -65,7 +138,7 @@ module _ (settings : Settings) (old : State) (bucket key : List ℕ) (label : La
   -- in no bucket
   module _ (none : get old bucket ≡ None) where
     missing : (f : Bucket → Outcome) → in_bucket_by (get old bucket) old f ≡ refuses NoSuchBucket old
-    missing f = ap (λ v. in_bucket_by v old f) none
+    missing = in_missing old bucket none
 
     pub put_without_bucket : (acl : Option Acl) (content_type : List ℕ) (meta : List Pair) (body : List ℕ)
         → S3Step settings old (PutObject bucket key acl content_type meta body) label (Refused NoSuchBucket) old
@@ -83,7 +156,7 @@ module _ (settings : Settings) (old : State) (bucket key : List ℕ) (label : La
   -- in a bucket that is there
   module _ (b : Bucket) (found : get old bucket ≡ Some b) where
     there : (f : Bucket → Outcome) → in_bucket_by (get old bucket) old f ≡ f b
-    there f = ap (λ v. in_bucket_by v old f) found
+    there = in_found old bucket b found
 
     pub put_with_another_acl : (acl : Option Acl) (content_type : List ℕ) (meta : List Pair) (body : List ℕ) → is_other_acl acl b.acl ≡ true
         → S3Step settings old (PutObject bucket key acl content_type meta body) label (Refused NotImplemented) old
@@ -129,10 +202,51 @@ module _ (settings : Settings) (old : State) (bucket key : List ℕ) (label : La
 abbrev IsMachineReply : Reply → Type 0
 IsMachineReply reply = (reply ≢ Memory) × (reply ≢ Refused ServiceUnavailable) × (reply ≢ Refused InconsistentStore)
 
+listed_reply : (items : List BucketItem) (reply : Reply) → reply ≡ Buckets items → IsMachineReply reply
+listed_reply items reply e = ((λ f. cc), (λ f. cc), (λ f. cc))
+
 creates_reply : (v : Option Bucket) (old : State) (name : List ℕ) (acl : Acl) (moment : ℕ) (reply : Reply)
     → reply ≡ (creates v old name acl moment).reply → IsMachineReply reply
 creates_reply None old name acl moment reply e = ((λ f. cc), (λ f. cc), (λ f. cc))
 creates_reply (Some b) old name acl moment reply e = ((λ f. cc), (λ f. cc), (λ f. cc))
+
+-- the replies of the operations on buckets
+module _ (old : State) (reply : Reply) where
+  drops_reply : (t : Bool) (new : State) → reply ≡ (unless t BucketNotEmpty old (gives Gone new)).reply → IsMachineReply reply
+  drops_reply true new e = ((λ f. cc), (λ f. cc), (λ f. cc))
+  drops_reply false new e = ((λ f. cc), (λ f. cc), (λ f. cc))
+
+  drop_reply : (v : Option Bucket) (bucket : List ℕ) → reply ≡ (in_bucket_by v old (drops old bucket)).reply → IsMachineReply reply
+  drop_reply None bucket e = ((λ f. cc), (λ f. cc), (λ f. cc))
+  drop_reply (Some b) bucket e = drops_reply (not (is_bare b)) _ e
+
+  shows_reply : (t : Bool) → reply ≡ (unless t AccessDenied old (gives Done old)).reply → IsMachineReply reply
+  shows_reply true e = ((λ f. cc), (λ f. cc), (λ f. cc))
+  shows_reply false e = ((λ f. cc), (λ f. cc), (λ f. cc))
+
+  show_reply : (v : Option Bucket) (label : Label) → reply ≡ (in_bucket_by v old (shows old label.caller)).reply → IsMachineReply reply
+  show_reply None label e = ((λ f. cc), (λ f. cc), (λ f. cc))
+  show_reply (Some b) label e = shows_reply (not (may_read label.caller b.acl)) e
+
+  locate_reply : (v : Option Bucket) (settings : Settings) → reply ≡ (in_bucket_by v old (locates settings old)).reply → IsMachineReply reply
+  locate_reply None settings e = ((λ f. cc), (λ f. cc), (λ f. cc))
+  locate_reply (Some b) settings e = ((λ f. cc), (λ f. cc), (λ f. cc))
+
+  acl_reply : (v : Option Bucket) → reply ≡ (in_bucket_by v old (shows_acl old)).reply → IsMachineReply reply
+  acl_reply None e = ((λ f. cc), (λ f. cc), (λ f. cc))
+  acl_reply (Some b) e = ((λ f. cc), (λ f. cc), (λ f. cc))
+
+  set_reply : (v : Option Bucket) (bucket : List ℕ) (acl : Acl) → reply ≡ (in_bucket_by v old (sets_acl old bucket acl)).reply → IsMachineReply reply
+  set_reply None bucket acl e = ((λ f. cc), (λ f. cc), (λ f. cc))
+  set_reply (Some b) bucket acl e = ((λ f. cc), (λ f. cc), (λ f. cc))
+
+  object_acl_by : (v : Option Object) (acl : Acl) → reply ≡ (in_object_by v old (λ x. gives (AclOf acl) old)).reply → IsMachineReply reply
+  object_acl_by None acl e = ((λ f. cc), (λ f. cc), (λ f. cc))
+  object_acl_by (Some o) acl e = ((λ f. cc), (λ f. cc), (λ f. cc))
+
+  object_acl_reply : (v : Option Bucket) (key : List ℕ) → reply ≡ (in_bucket_by v old (shows_object_acl old key)).reply → IsMachineReply reply
+  object_acl_reply None key e = ((λ f. cc), (λ f. cc), (λ f. cc))
+  object_acl_reply (Some b) key e = object_acl_by (get b.objects key) b.acl e
 
 -- the replies of the operations on objects
 module _ (old : State) (reply : Reply) where
@@ -176,6 +290,13 @@ module _ (old : State) (reply : Reply) where
 pub machine_reply : (settings : Settings) (old : State) (op : Op) (label : Label) (reply : Reply) (new : State) → S3Step settings old op label reply new
     → (reply ≢ Memory) × (reply ≢ Refused ServiceUnavailable) × (reply ≢ Refused InconsistentStore)
 machine_reply settings old (CreateBucket bucket acl) label reply new s = creates_reply (get old bucket) old bucket acl label.moment reply s.replies
+machine_reply settings old ListBuckets label reply new s = listed_reply (bucket_items old) reply s.replies
+machine_reply settings old (DeleteBucket bucket) label reply new s = drop_reply old reply (get old bucket) bucket s.replies
+machine_reply settings old (HeadBucket bucket) label reply new s = show_reply old reply (get old bucket) label s.replies
+machine_reply settings old (GetLocation bucket) label reply new s = locate_reply old reply (get old bucket) settings s.replies
+machine_reply settings old (GetBucketAcl bucket) label reply new s = acl_reply old reply (get old bucket) s.replies
+machine_reply settings old (PutBucketAcl bucket acl) label reply new s = set_reply old reply (get old bucket) bucket acl s.replies
+machine_reply settings old (GetObjectAcl bucket key) label reply new s = object_acl_reply old reply (get old bucket) key s.replies
 machine_reply settings old (PutObject bucket key acl content_type meta body) label reply new s = put_reply old reply (get old bucket) bucket key acl (new_object label.moment content_type meta body) s.replies
 machine_reply settings old (GetObject bucket key) label reply new s = get_reply old reply (get old bucket) label key s.replies
 machine_reply settings old (HeadObject bucket key) label reply new s = head_reply old reply (get old bucket) label key s.replies
