@@ -77,7 +77,7 @@ module _ (days hour min sec moment : ℕ) (h : hour < 24) (m : min < 60) (s : se
   second_is : moment % 60 ≡ sec
   second_is = omega arith
 
-parts_are : (d : HttpDate) (moment : ℕ) → unix_secs d ≡ moment → parts_at moment ≡ d.parts
+pub parts_are : (d : HttpDate) (moment : ℕ) → unix_secs d ≡ moment → parts_at moment ≡ d.parts
 unfolding parts_at
 parts_are d moment e =
     let p = d.parts in

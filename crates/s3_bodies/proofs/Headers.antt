@@ -3,7 +3,8 @@ use Rattle.std.proofs.Common.{◌≡◌, ℕ, Bool, true, false, List, [], ◌�
 use Rattle.gate_base.specs.declared.page.Pair.{Pair}
 use Rattle.s3_machine.specs.declared.operation.ObjectHead.{ObjectHead}
 use Rattle.s3_bodies.specs.Date.{http_date}
-use Rattle.s3_bodies.specs.Pages.{header, head_headers, quoted, range_headers, range_text}
+use Rattle.s3_bodies.specs.Texts.{quoted}
+use Rattle.s3_bodies.specs.Pages.{header, head_headers, range_headers, range_text}
 
 pub range_added : (b : Bool) (from length size : ℕ) (old new : List Pair) (text : List ℕ) → b ≡ true → text ≡ range_text from length size
     → new ≡ old ++ header (codes "Content-Range") text ∷ [] → new ≡ old ++ range_headers b from length size

@@ -5,5 +5,7 @@ pub mod Digits
 pub mod ElementLemmas
 pub mod Escapes
 pub mod Headers
+pub mod Iso
 pub mod Locations
 pub mod PartLemmas
+pub mod Pieces

@@ -6,11 +6,14 @@ use Rattle.s3_machine.specs.declared.code.Code.{Code}
 use Rattle.s3_machine.specs.declared.operation.Label.{Label}
 use Rattle.s3_machine.specs.declared.operation.ObjectHead.{ObjectHead}
 use Rattle.s3_machine.specs.declared.operation.Reply.{Reply}
-use Rattle.s3_machine.specs.declared.operation.Reply.TheVariants.{Refused, Memory, Gone, Made, Stored, Object}
+use Rattle.s3_machine.specs.declared.operation.Reply.TheVariants.{
+    Refused, Memory, Done, Gone, NotModified, Buckets, Made, Location, AclOf, Objects, Uploads, Stored, Object, Started, Parts, Completed
+}
 use Rattle.s3_machine.specs.Limits.{is_own_name}
 use Rattle.s3_bodies.specs.Codes.{status_of}
 use Rattle.s3_bodies.specs.Date.{http_date}
-use Rattle.s3_bodies.specs.Texts.{id_text}
+use Rattle.s3_bodies.specs.Bodies.{acl_body, buckets_body, completed_body, location_body, objects_body, parts_body, started_body, uploads_body}
+use Rattle.s3_bodies.specs.Texts.{id_text, quoted}
 use Rattle.s3_bodies.specs.Xml.{error_body}
 
 abbrev pub header : List ℕ → List ℕ → Pair
@@ -24,12 +27,15 @@ common_headers label = header (codes "Date") (http_date label.moment) ∷ header
 abbrev pub xml_type : Pair
 xml_type = header (codes "Content-Type") (codes "application/xml")
 
+-- a page whose body is XML
+abbrev pub xml_page : ℕ → List ℕ → Label → Page
+xml_page status body label = record { status = status; headers = common_headers label ++ xml_type ∷ []; body = body }
+
 abbrev pub refused_page : Code → Label → List ℕ → Page
-refused_page code label resource = record {
-  status = status_of code;
-  headers = common_headers label ++ xml_type ∷ [];
-  body = error_body code resource label.request_id;
-}
+refused_page code label resource = xml_page (status_of code) (error_body code resource label.request_id) label
+
+abbrev pub done_page : Label → Page
+done_page label = record { status = 200; headers = common_headers label; body = [] }
 
 abbrev pub gone_page : Label → Page
 gone_page label = record { status = 204; headers = common_headers label; body = [] }
@@ -37,15 +43,19 @@ gone_page label = record { status = 204; headers = common_headers label; body = 
 abbrev pub made_page : List ℕ → Label → Page
 made_page bucket label = record { status = 200; headers = common_headers label ++ header (codes "Location") (codes "/" ++ bucket) ∷ []; body = [] }
 
--- an ETag as a header has it (RFC 9110, section 8.8.3)
-abbrev pub quoted : List ℕ → List ℕ
-quoted etag = codes "\"" ++ etag ++ codes "\""
-
 abbrev pub etag_header : List ℕ → Pair
 etag_header etag = header (codes "ETag") (quoted etag)
 
 abbrev pub stored_page : List ℕ → Label → Page
 stored_page etag label = record { status = 200; headers = common_headers label ++ etag_header etag ∷ []; body = [] }
+
+-- an object that a condition left where it is
+abbrev pub not_modified_page : ObjectHead → Label → Page
+not_modified_page head label = record {
+  status = 304;
+  headers = common_headers label ++ etag_header head.etag ∷ header (codes "Last-Modified") (http_date head.modified) ∷ [];
+  body = [];
+}
 
 -- ---- an object
 
@@ -93,7 +103,18 @@ object_page head from length partial body label =
 abbrev pub page_of : Reply → Label → List ℕ → Page
 page_of (Refused code) label resource = refused_page code label resource
 page_of Memory label resource = record { status = 500; headers = []; body = [] }
+page_of Done label resource = done_page label
 page_of Gone label resource = gone_page label
+page_of (NotModified head) label resource = not_modified_page head label
+page_of (Buckets items) label resource = xml_page 200 (buckets_body items) label
 page_of (Made bucket) label resource = made_page bucket label
+page_of (Location region) label resource = xml_page 200 (location_body region) label
+page_of (AclOf acl) label resource = xml_page 200 (acl_body acl) label
+page_of (Objects bucket asked items truncated) label resource = xml_page 200 (objects_body bucket asked items truncated) label
+page_of (Uploads bucket prefix key_marker id_marker max items truncated) label resource =
+    xml_page 200 (uploads_body bucket prefix key_marker id_marker max items truncated) label
 page_of (Stored etag) label resource = stored_page etag label
 page_of (Object head from length partial body) label resource = object_page head from length partial body label
+page_of (Started bucket key id) label resource = xml_page 200 (started_body bucket key id) label
+page_of (Parts bucket key id marker max items truncated) label resource = xml_page 200 (parts_body bucket key id marker max items truncated) label
+page_of (Completed bucket key etag) label resource = xml_page 200 (completed_body bucket key etag) label

@@ -27,6 +27,13 @@ escaped text = flat_map escape_of text
 unfoldable pub element : List ℕ → List ℕ → List ℕ
 element name text = codes "<" ++ name ++ codes ">" ++ escaped text ++ codes "</" ++ name ++ codes ">"
 
+-- the first tag of a document's root, and the last tag of an element
+unfoldable pub root : List ℕ → List ℕ
+root name = codes "<" ++ name ++ codes " xmlns=\"http://s3.amazonaws.com/doc/2006-03-01/\">"
+
+unfoldable pub end_of : List ℕ → List ℕ
+end_of name = codes "</" ++ name ++ codes ">"
+
 -- the body of a refusal: its code, its message, the path that was asked for, and the id of the request
 unfoldable pub error_body : Code → List ℕ → ℕ → List ℕ
 error_body code resource id =

@@ -1,14 +1,17 @@
 ghost use Rattle.std.specs.Prelude.{◌≡◌, ◌≢◌, ◌<◌, [], ◌∷◌, ◌++◌, IfOk, OnOk};
 ghost use Rattle.gate_base.specs.Told.{moment_limit};
 ghost use Rattle.s3_machine.specs.Shown.{IsShowable};
-ghost use Rattle.s3_bodies.specs.Pages.{page_of, common_headers, gone_page, header, made_page, refused_page, stored_page};
+ghost use Rattle.s3_bodies.specs.Pages.{page_of, common_headers, done_page, gone_page, header, made_page, not_modified_page, refused_page, stored_page, xml_type};
 ghost use Rattle.s3_bodies.specs.Xml.{error_body};
 
+use crate::buckets::{acl, buckets, location};
+use crate::listing::objects;
 use crate::object::object;
+use crate::uploads::{completed, parts, started, uploads};
 use crate::xml::Xml;
 use crate::{codes, texts};
 use gate_base::{Bytes, List, Memory, Page, Pair};
-use s3_machine::{Code, Label, Reply};
+use s3_machine::{Code, Label, ObjectHead, Reply};
 use std::alloc::Global;
 
 /// The page of a reply: its status, its headers in their order, and its body (Amazon S3 API Reference; what that
@@ -27,8 +30,45 @@ pub fn page(alloc: Global, reply: Reply, label: &Label, resource: &[u8]) -> Resu
     match reply {
         Reply::Refused(code) => refused(alloc, code, label, resource),
         Reply::Memory => unreachable!(),
+        Reply::Done => done(alloc, label),
         Reply::Gone => gone(alloc, label),
+        Reply::NotModified(head) => not_modified(alloc, &head, label),
+        Reply::Buckets(items) => buckets(alloc, items.as_slice(), label),
         Reply::Made { bucket } => made(alloc, bucket.as_slice(), label),
+        Reply::Location { region } => location(alloc, region.as_slice(), label),
+        Reply::AclOf(list) => acl(alloc, list, label),
+        Reply::Objects {
+            bucket,
+            asked,
+            items,
+            truncated,
+        } => objects(
+            alloc,
+            bucket.as_slice(),
+            &asked,
+            items.as_slice(),
+            truncated,
+            label,
+        ),
+        Reply::Uploads {
+            bucket,
+            prefix,
+            key_marker,
+            id_marker,
+            max,
+            items,
+            truncated,
+        } => uploads(
+            alloc,
+            bucket.as_slice(),
+            prefix.as_slice(),
+            key_marker.as_slice(),
+            id_marker.as_slice(),
+            max,
+            items.as_slice(),
+            truncated,
+            label,
+        ),
         Reply::Stored { etag } => stored(alloc, etag.as_slice(), label),
         Reply::Object {
             head,
@@ -37,6 +77,35 @@ pub fn page(alloc: Global, reply: Reply, label: &Label, resource: &[u8]) -> Resu
             partial,
             body,
         } => object(alloc, &head, from, length, partial, body, label),
+        Reply::Started { bucket, key, id } => {
+            started(alloc, bucket.as_slice(), key.as_slice(), id, label)
+        }
+        Reply::Parts {
+            bucket,
+            key,
+            id,
+            marker,
+            max,
+            items,
+            truncated,
+        } => parts(
+            alloc,
+            bucket.as_slice(),
+            key.as_slice(),
+            id,
+            marker,
+            max,
+            items.as_slice(),
+            truncated,
+            label,
+        ),
+        Reply::Completed { bucket, key, etag } => completed(
+            alloc,
+            bucket.as_slice(),
+            key.as_slice(),
+            etag.as_slice(),
+            label,
+        ),
     }
 }
 
@@ -44,12 +113,38 @@ fn refused(alloc: Global, code: Code, label: &Label, resource: &[u8]) -> Result<
     requires { label.now.moment < moment_limit }
     ensures { IfOk result (λ page. page ≡ refused_page code label.now resource.now) }
 {
-    let mut headers = common(alloc, label)?;
-    add_header(alloc, &mut headers, b"Content-Type", b"application/xml")?;
     Ok(Page {
         status: codes::status(code),
-        headers,
+        headers: xml_headers(alloc, label)?,
         body: error(alloc, code, resource, label.request_id)?,
+    })
+}
+
+fn done(alloc: Global, label: &Label) -> Result<Page, Memory>
+    requires { label.now.moment < moment_limit }
+    ensures { IfOk result (λ page. page ≡ done_page label.now) }
+{
+    Ok(Page {
+        status: 200,
+        headers: common(alloc, label)?,
+        body: Bytes::new(alloc),
+    })
+}
+
+fn not_modified(alloc: Global, head: &ObjectHead, label: &Label) -> Result<Page, Memory>
+    requires dated { head.now.modified < moment_limit }
+    requires moment { label.now.moment < moment_limit }
+    ensures { IfOk result (λ page. page ≡ not_modified_page head.now label.now) }
+{
+    let date = texts::date_bytes(head.modified);
+    let etag = texts::quoted(alloc, head.etag.as_slice())?;
+    let mut headers = common(alloc, label)?;
+    add_header(alloc, &mut headers, b"ETag", etag.as_slice())?;
+    add_header(alloc, &mut headers, b"Last-Modified", &date)?;
+    Ok(Page {
+        status: 304,
+        headers,
+        body: Bytes::new(alloc),
     })
 }
 
@@ -103,6 +198,16 @@ pub(crate) fn common(alloc: Global, label: &Label) -> Result<List<Pair>, Memory>
     let mut headers = List::new(alloc);
     add_header(alloc, &mut headers, b"Date", &date)?;
     add_header(alloc, &mut headers, b"x-amz-request-id", &id)?;
+    Ok(headers)
+}
+
+/// The headers of a page whose body is XML.
+pub(crate) fn xml_headers(alloc: Global, label: &Label) -> Result<List<Pair>, Memory>
+    requires { label.now.moment < moment_limit }
+    ensures { IfOk result (λ headers. headers ≡ common_headers label.now ++ xml_type ∷ []) }
+{
+    let mut headers = common(alloc, label)?;
+    add_header(alloc, &mut headers, b"Content-Type", b"application/xml")?;
     Ok(headers)
 }
 

@@ -1,5 +1,5 @@
 use Rattle.std.proofs.Common.{ap, ◌∙◌}
-use Rattle.s3_bodies.specs.Pages.{quoted}
+use Rattle.s3_bodies.specs.Texts.{quoted}
 use Rattle.s3_bodies.proofs.Headers.{head_added}
 use Rattle.s3_bodies.proofs.object.add_head.Goals as goal
 
