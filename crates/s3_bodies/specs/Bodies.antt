@@ -1,7 +1,27 @@
 -- The bodies of the replies, but for a refusal's. Source: Amazon S3 API Reference; who owns all, and where an object is, is
 -- this profile's.
 use Rattle.std.specs.Prelude.{
-    ℕ, ◌-◌, Bool, true, false, not, ◌&&◌, ◌||◌, nat_eq, List, [], ◌++◌, length, slice_get, codes, bytes_eq, decimal, if◌then◌else◌, Option, None, Some
+  ℕ,
+  ◌-◌,
+  Bool,
+  true,
+  false,
+  not,
+  ◌&&◌,
+  ◌||◌,
+  nat_eq,
+  List,
+  [],
+  ◌++◌,
+  length,
+  slice_get,
+  codes,
+  bytes_eq,
+  decimal,
+  if◌then◌else◌,
+  Option,
+  None,
+  Some,
 }
 use Rattle.std.specs.List.{flat_map}
 use Rattle.std.specs.Option.{option_map_or}

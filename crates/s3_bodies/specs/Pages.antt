@@ -7,7 +7,22 @@ use Rattle.s3_machine.specs.declared.operation.Label.{Label}
 use Rattle.s3_machine.specs.declared.operation.ObjectHead.{ObjectHead}
 use Rattle.s3_machine.specs.declared.operation.Reply.{Reply}
 use Rattle.s3_machine.specs.declared.operation.Reply.TheVariants.{
-    Refused, Memory, Done, Gone, NotModified, Buckets, Made, Location, AclOf, Objects, Uploads, Stored, Object, Started, Parts, Completed
+  Refused,
+  Memory,
+  Done,
+  Gone,
+  NotModified,
+  Buckets,
+  Made,
+  Location,
+  AclOf,
+  Objects,
+  Uploads,
+  Stored,
+  Object,
+  Started,
+  Parts,
+  Completed,
 }
 use Rattle.s3_machine.specs.Limits.{is_own_name}
 use Rattle.s3_bodies.specs.Codes.{status_of}

@@ -108,8 +108,12 @@ impl Xml {
     fn owner_grant(&mut self) -> Result<(), Memory>
         ensures { OnOk result (self.new.text ≡ self.old.text ++ owner_grant) }
     {
-        self.tags(b"<Grant><Grantee xmlns:xsi=\"http://www.w3.org/2001/XMLSchema-instance\" xsi:type=\"CanonicalUser\">")?;
-        self.tags(b"<ID>s3gate</ID><DisplayName>s3gate</DisplayName></Grantee><Permission>FULL_CONTROL</Permission></Grant>")
+        self.tags(
+            b"<Grant><Grantee xmlns:xsi=\"http://www.w3.org/2001/XMLSchema-instance\" xsi:type=\"CanonicalUser\">",
+        )?;
+        self.tags(
+            b"<ID>s3gate</ID><DisplayName>s3gate</DisplayName></Grantee><Permission>FULL_CONTROL</Permission></Grant>",
+        )
     }
 
     fn public_grant(&mut self, list: Acl) -> Result<(), Memory>
@@ -124,8 +128,12 @@ impl Xml {
     fn reader_grant(&mut self) -> Result<(), Memory>
         ensures { OnOk result (self.new.text ≡ self.old.text ++ reader_grant) }
     {
-        self.tags(b"<Grant><Grantee xmlns:xsi=\"http://www.w3.org/2001/XMLSchema-instance\" xsi:type=\"Group\">")?;
-        self.tags(b"<URI>http://acs.amazonaws.com/groups/global/AllUsers</URI></Grantee><Permission>READ</Permission></Grant>")
+        self.tags(
+            b"<Grant><Grantee xmlns:xsi=\"http://www.w3.org/2001/XMLSchema-instance\" xsi:type=\"Group\">",
+        )?;
+        self.tags(
+            b"<URI>http://acs.amazonaws.com/groups/global/AllUsers</URI></Grantee><Permission>READ</Permission></Grant>",
+        )
     }
 
     fn buckets(&mut self, items: &[BucketItem]) -> Result<(), Memory>

@@ -5,8 +5,22 @@ ghost use Rattle.gate_base.specs.Told.{moment_limit};
 ghost use Rattle.s3_machine.specs.Shown.{IsShownItem, IsShownItemHead};
 ghost use Rattle.hex.specs.Hex.{encode_lower};
 ghost use Rattle.s3_bodies.specs.Bodies.{
-    by_version, common_prefix, contents, contents_of, first_version, is_filled, is_second, limits, next_text, objects_body, prefix_of,
-    second_version, tells_owner, text_element, token_by, where_true
+  by_version,
+  common_prefix,
+  contents,
+  contents_of,
+  first_version,
+  is_filled,
+  is_second,
+  limits,
+  next_text,
+  objects_body,
+  prefix_of,
+  second_version,
+  tells_owner,
+  text_element,
+  token_by,
+  where_true,
 };
 ghost use Rattle.s3_bodies.specs.Pages.{xml_page};
 ghost use Rattle.s3_bodies.specs.Xml.{element};
@@ -100,7 +114,12 @@ impl Xml {
     }
 
     #[tactic(auto, unfolding(crate::specs::Bodies::first_version))]
-    fn first_version(&mut self, asked: &Asked, items: &[Item], truncated: bool) -> Result<(), Memory>
+    fn first_version(
+        &mut self,
+        asked: &Asked,
+        items: &[Item],
+        truncated: bool,
+    ) -> Result<(), Memory>
         ensures { OnOk result (self.new.text ≡ self.old.text ++ first_version asked.now items.now truncated) }
     {
         self.shown(b"Prefix", asked.url, asked.prefix.as_slice())?;
@@ -115,7 +134,12 @@ impl Xml {
     }
 
     #[tactic(auto, unfolding(crate::specs::Bodies::second_version))]
-    fn second_version(&mut self, asked: &Asked, items: &[Item], truncated: bool) -> Result<(), Memory>
+    fn second_version(
+        &mut self,
+        asked: &Asked,
+        items: &[Item],
+        truncated: bool,
+    ) -> Result<(), Memory>
         ensures { OnOk result (self.new.text ≡ self.old.text ++ second_version asked.now items.now truncated) }
     {
         self.shown(b"Prefix", asked.url, asked.prefix.as_slice())?;

@@ -4,8 +4,20 @@ ghost use Rattle.std.specs.List.{All, flat_map};
 ghost use Rattle.gate_base.specs.Told.{moment_limit};
 ghost use Rattle.s3_machine.specs.Shown.{IsShownPart, IsShownUpload};
 ghost use Rattle.s3_bodies.specs.Bodies.{
-    completed_body, next_part, next_upload, number_element, part_element, parts_asked, parts_body, place_text, started_body, upload_element, upload_place,
-    uploads_asked, uploads_body, where_true
+  completed_body,
+  next_part,
+  next_upload,
+  number_element,
+  part_element,
+  parts_asked,
+  parts_body,
+  place_text,
+  started_body,
+  upload_element,
+  upload_place,
+  uploads_asked,
+  uploads_body,
+  where_true,
 };
 ghost use Rattle.s3_bodies.specs.Pages.{xml_page};
 
@@ -163,12 +175,7 @@ pub(crate) fn completed(
 }
 
 #[tactic(auto, unfolding(crate::specs::Bodies::completed_body))]
-fn completed_body(
-    alloc: Global,
-    bucket: &[u8],
-    key: &[u8],
-    etag: &[u8],
-) -> Result<Bytes, Memory>
+fn completed_body(alloc: Global, bucket: &[u8], key: &[u8], etag: &[u8]) -> Result<Bytes, Memory>
     ensures { IfOk result (λ body. body ≡ completed_body bucket.now key.now etag.now) }
 {
     let place = place(alloc, bucket, key)?;

@@ -2,7 +2,15 @@
 ghost use Rattle.std.specs.Prelude.{◌≡◌, ◌<◌, ◌++◌, IfOk, OnOk};
 ghost use Rattle.gate_base.specs.Told.{moment_limit};
 ghost use Rattle.s3_bodies.specs.Bodies.{
-    etag_element, initiator, number_element, owner, storage_class, text_element, time_element, truth_element, where_true
+  etag_element,
+  initiator,
+  number_element,
+  owner,
+  storage_class,
+  text_element,
+  time_element,
+  truth_element,
+  where_true,
 };
 ghost use Rattle.hex.specs.Hex.{encode_lower};
 ghost use Rattle.s3_bodies.specs.Texts.{id_text};

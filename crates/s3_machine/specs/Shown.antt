@@ -10,7 +10,22 @@ use Rattle.s3_machine.specs.declared.items.UploadItem.{UploadItem}
 use Rattle.s3_machine.specs.declared.operation.ObjectHead.{ObjectHead}
 use Rattle.s3_machine.specs.declared.operation.Reply.{Reply}
 use Rattle.s3_machine.specs.declared.operation.Reply.TheVariants.{
-    Refused, Memory, Done, Gone, NotModified, Buckets, Made, Location, AclOf, Objects, Uploads, Stored, Object, Started, Parts, Completed
+  Refused,
+  Memory,
+  Done,
+  Gone,
+  NotModified,
+  Buckets,
+  Made,
+  Location,
+  AclOf,
+  Objects,
+  Uploads,
+  Stored,
+  Object,
+  Started,
+  Parts,
+  Completed,
 }
 
 -- a moment that has a date

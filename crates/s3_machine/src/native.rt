@@ -2,7 +2,18 @@
 ghost use Rattle.std.specs.Prelude.{◌≡◌, IfOk, OnErr};
 ghost use Rattle.std.specs.FinMap.{empty};
 ghost use Rattle.s3_machine.specs.declared.operation.Op.TheVariants.{
-    ListBuckets, CreateBucket, DeleteBucket, HeadBucket, GetLocation, GetBucketAcl, PutBucketAcl, PutObject, GetObject, HeadObject, DeleteObject, GetObjectAcl
+  ListBuckets,
+  CreateBucket,
+  DeleteBucket,
+  HeadBucket,
+  GetLocation,
+  GetBucketAcl,
+  PutBucketAcl,
+  PutObject,
+  GetObject,
+  HeadObject,
+  DeleteObject,
+  GetObjectAcl,
 };
 ghost use Rattle.s3_machine.specs.Step.{IsProper, S3Step, may_read, is_other_acl};
 

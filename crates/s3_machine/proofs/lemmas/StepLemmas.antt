@@ -8,22 +8,69 @@ use Rattle.gate_base.specs.declared.page.Pair.{Pair}
 use Rattle.s3_names.specs.declared.acl.Acl.{Acl}
 use Rattle.s3_machine.specs.declared.code.Code.{Code}
 use Rattle.s3_machine.specs.declared.code.Code.TheVariants.{
-    AccessDenied, BucketAlreadyOwnedByYou, BucketNotEmpty, InconsistentStore, NoSuchBucket, NoSuchKey, NotImplemented, ServiceUnavailable
+  AccessDenied,
+  BucketAlreadyOwnedByYou,
+  BucketNotEmpty,
+  InconsistentStore,
+  NoSuchBucket,
+  NoSuchKey,
+  NotImplemented,
+  ServiceUnavailable,
 }
 use Rattle.s3_machine.specs.declared.items.BucketItem.{BucketItem}
 use Rattle.s3_machine.specs.declared.operation.Label.{Label}
 use Rattle.s3_machine.specs.declared.operation.Settings.{Settings}
 use Rattle.s3_machine.specs.declared.operation.Op.{Op}
 use Rattle.s3_machine.specs.declared.operation.Op.TheVariants.{
-    ListBuckets, CreateBucket, DeleteBucket, HeadBucket, GetLocation, GetBucketAcl, PutBucketAcl, PutObject, GetObject, HeadObject, DeleteObject, GetObjectAcl
+  ListBuckets,
+  CreateBucket,
+  DeleteBucket,
+  HeadBucket,
+  GetLocation,
+  GetBucketAcl,
+  PutBucketAcl,
+  PutObject,
+  GetObject,
+  HeadObject,
+  DeleteObject,
+  GetObjectAcl,
 }
 use Rattle.s3_machine.specs.declared.operation.Reply.{Reply}
 use Rattle.s3_machine.specs.declared.operation.Reply.TheVariants.{Refused, Done, Made, Memory, Stored, Gone, Buckets, Location, AclOf}
 use Rattle.s3_machine.specs.ETag.{body_etag}
 use Rattle.s3_machine.specs.State.{Object, Bucket, State}
 use Rattle.s3_machine.specs.Step.{
-    Outcome, S3Step, step, IsFree, creates, gives, refuses, unless, in_bucket_by, in_object_by, in_readable, may_read, is_other_acl, puts, deletes, reads, whole,
-    headed, new_bucket, new_object, put_object, drop_object, bucket_items, is_bare, with_acl, drops, shows, locates, shows_acl, sets_acl, shows_object_acl
+  Outcome,
+  S3Step,
+  step,
+  IsFree,
+  creates,
+  gives,
+  refuses,
+  unless,
+  in_bucket_by,
+  in_object_by,
+  in_readable,
+  may_read,
+  is_other_acl,
+  puts,
+  deletes,
+  reads,
+  whole,
+  headed,
+  new_bucket,
+  new_object,
+  put_object,
+  drop_object,
+  bucket_items,
+  is_bare,
+  with_acl,
+  drops,
+  shows,
+  locates,
+  shows_acl,
+  sets_acl,
+  shows_object_acl,
 }
 
 -- a step by what it comes to

@@ -8,5 +8,5 @@ unfolding common_prefix
 returns c =
     on_ok c.tags-2.result
     (λ e. three_pieces c.args.self.now.text (codes "<CommonPrefixes>") (text_element c.args.asked.now.url (codes "Prefix") c.args.text.now) (codes "</CommonPrefixes>") _ _ _
-      c.in_ok-tags.ensures c.in_ok-shown.ensures e)
+    c.in_ok-tags.ensures c.in_ok-shown.ensures e)
     c.tags-2.ensures

@@ -9,5 +9,5 @@ returns c =
     let next = where_true c.args.truncated (number_element (codes "NextPartNumberMarker") (next_part c.args.items.now)) in
     on_ok c.truth.result
     (λ e. four_pieces c.args.self.now.text (number_element (codes "PartNumberMarker") c.args.marker) next (number_element (codes "MaxParts") c.args.max)
-      (truth_element (codes "IsTruncated") c.args.truncated) _ _ _ _ c.in_ok-count.ensures c.in_ok-next_part.ensures c.in_ok-count-2.ensures e)
+    (truth_element (codes "IsTruncated") c.args.truncated) _ _ _ _ c.in_ok-count.ensures c.in_ok-next_part.ensures c.in_ok-count-2.ensures e)
     c.truth.ensures
