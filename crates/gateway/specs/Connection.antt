@@ -54,7 +54,7 @@ pub record LabelGiven (moments draws moments' draws' : List ℕ) (from : Caller)
   pub id : GivesDraw draws label.request_id between
   pub draw : GivesDraw between label.draw draws'
 
--- a label with another caller
+-- the label with this caller
 abbrev pub sent_by : Caller → Label → Label
 sent_by caller label = record label { caller = caller }
 
@@ -95,7 +95,7 @@ pub record Breaks (service : Service) (R : ReplyRelation) (connection : ℕ) (ol
   pub labels : Labels old.progress new request.caller label
   pub exchange : CutExchange R connection old.progress.mark span new.mark request label old.progress.sent new.sent
 
--- nothing but pieces came between
+-- of the progress only the pieces sent may differ
 pub record OnlySent (old new : Progress) : Type 0 where
   pub mark : new.mark ≡ old.mark
   pub moments : new.moments ≡ old.moments

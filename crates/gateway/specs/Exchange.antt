@@ -40,7 +40,7 @@ pub record Mark : Type 0 where
 abbrev pub mark : History → Known → Mark
 mark h known = record { number = h.called; faults = h.faults; known = known }
 
--- what is known of the account there is so
+-- what a mark says is known holds of the account at its number
 abbrev pub IsKnownOf : History → Mark → Type 0
 IsKnownOf h m = IsKnown m.known (h.tree_at m.number)
 
@@ -57,7 +57,7 @@ asked_by (meant.Refused code) label = None
 asked_by meant.Memory label = None
 
 -- the span of one request: how many calls the store had counted before it, as its operation began on a store that was
--- settled by then, at its commit point, and after it; its operation, none where it has a code of its own; and how many of
+-- settled by then, at its commit point, and after it; its operation, none where the request is refused with a code; and how many of
 -- its operation's steps the account took
 pub record Span : Type 0 where
   pub from : ℕ
@@ -98,7 +98,7 @@ pub record NotSettledBy (h : History) (was : Known) (from to : ℕ) (reply : Rep
   pub within : to ≤ from + amount (most_settling (h.tree_at from))
   pub says : ((reply ≡ Refused ServiceUnavailable) × LastFailed h from to) ⊎ (reply ≡ Memory)
 
--- the replies of a store that failed, or of a service that ran out of memory
+-- the replies of a store that failed or is inconsistent, or of a service that ran out of memory
 abbrev pub IsFault : Reply → Type 0
 IsFault reply = (reply ≡ Refused ServiceUnavailable) ⊎ ((reply ≡ Refused InconsistentStore) ⊎ (reply ≡ Memory))
 
@@ -107,7 +107,8 @@ abbrev pub LeavesUnsure : Op → Mark → Mark → Reply → Type 0
 LeavesUnsure op old new reply = ⊥
 
 -- the causes of a reply to an operation, over every store: ServiceUnavailable comes only where the store's own count of faults
--- rose; and the store isn't known to be settled afterwards only where it wasn't before and could not be, or the operation leaves it so
+-- rose; and the store isn't known to be settled afterwards only where it wasn't before and the reply is one of a fault, or
+-- where the operation leaves it so
 pub record IsCaused (old new : Mark) (op : Op) (reply : Reply) : Type 0 where
   pub unavailable : reply ≡ Refused ServiceUnavailable → Rose old.faults new.faults
   pub unsure : new.known ≡ known.Unsure → ((old.known ≡ known.Unsure) × IsFault reply) ⊎ LeavesUnsure op old new reply
@@ -143,7 +144,7 @@ pub record FaultFreeReplies (R : ReplyRelation) (old : Mark) (span : Span) (new 
   pub replies : R old span new request label reply
   pub available : reply ≢ Refused ServiceUnavailable
 
--- what is asked for it
+-- P is a premise of what is said over an observable store (true), and not of what is said over every store (false)
 abbrev pub Where : Bool → Type 0 → Type 0
 Where true P = P
 Where false P = Unit {0}
@@ -172,7 +173,7 @@ pub record Sends (connection t q : ℕ) (bytes : List ℕ) (old new : List Piece
   pub each : All (IsPiece connection t q) (first ++ last ∷ [])
   pub ends : last.at ≡ q
 
--- the first of the bytes were sent
+-- first bytes of them were sent: some, none or all
 pub record SendsPart (connection t q : ℕ) (bytes : List ℕ) (old new : List Piece) : Type 0 where
   pub pieces : List Piece
   pub unsent : List ℕ
@@ -180,7 +181,7 @@ pub record SendsPart (connection t q : ℕ) (bytes : List ℕ) (old new : List P
   pub part : joined pieces ++ unsent ≡ bytes
   pub each : All (IsPiece connection t q) pieces
 
--- a request was answered in whole; R says of its reply what is said of it
+-- a request was answered, and the bytes of its reply were all sent; R is what is said of the reply
 pub record Exchange (R : ReplyRelation) (connection : ℕ) (old : Mark) (span : Span) (new : Mark) (request : Request) (label : Label)
     (end : Option Ended) (sent sent' : List Piece) : Type 0 where
   pub reply : Reply

@@ -15,12 +15,13 @@ abbrev pub is_failed_reply : Handled → Bool
 is_failed_reply (Served ended) = false
 is_failed_reply Broken = true
 
--- a request that was answered ends the connection as was said, or because memory ran out
+-- where a request was answered in whole, the connection ends as `end` says, or because memory ran out; of a broken one
+-- nothing is said
 abbrev pub EndsWith : Option Ended → Handled → Type 0
 EndsWith end (Served ended) = (ended ≡ end) ⊎ (ended ≡ Some Memory)
 EndsWith end Broken = Unit {0}
 
--- a request that was answered in whole doesn't end the connection as a failed line does
+-- where a request was answered in whole, its end isn't that of a failed line; of a broken one nothing is said
 abbrev pub IsServed : Handled → Type 0
 IsServed (Served ended) = is_failed_step ended ≡ false
 IsServed Broken = Unit {0}

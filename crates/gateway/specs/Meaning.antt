@@ -47,11 +47,11 @@ has_bad_bucket target = not (is_same_level (level_of target.bucket target.key) S
 abbrev pub has_long_key : Target → Bool
 has_long_key target = nat_lt MOST_KEY_BYTES (length target.key)
 
--- a key that is none although it isn't long, as no target has one that was read
+-- a key that is refused for another reason than its length. `Target::read` gives no such key
 abbrev pub has_bad_key : Target → Bool
 has_bad_key target = is_same_level (level_of target.bucket target.key) Key && not (is_key target.key)
 
--- an operation that not everybody may ask for, of an anonymous caller
+-- an anonymous caller asks for an operation that isn't open to all
 abbrev pub is_denied : Row → Caller → Bool
 is_denied row Owner = false
 is_denied row Anonymous = not (shape_of row).is_open
@@ -104,7 +104,7 @@ reasons row message target caller =
 abbrev pub row_of : Message → Target → Option Row
 row_of message target = row_for message.method (level_of target.bucket target.key) target.query
 
--- the operation that a row asks for
+-- the operation that a row asks for; NotImplemented where it isn't built
 abbrev pub op_of : Row → Message → Target → Meant
 op_of CreateBucket message target = Op (op.CreateBucket target.bucket Private)
 op_of PutObject message target =
@@ -123,6 +123,6 @@ judged (Some row) message target caller = first_refusal (reasons row message tar
 abbrev pub KeepsFront : Message → Message → Type 0
 KeepsFront old new = (new.method ≡ old.method) × (new.target ≡ old.target)
 
--- what a request means whose target was read
+-- what a request means once its target was read
 unfoldable pub meaning_of : Settings → Message → Target → Caller → Meant
 meaning_of settings message target caller = first_refusal (target_reasons message target) (judged (row_of message target) message target caller)

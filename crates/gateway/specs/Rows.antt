@@ -12,7 +12,7 @@ use Rattle.gateway.specs.declared.rows.Row.TheVariants.{GetBucketAcl, ListObject
 use Rattle.gateway.specs.declared.rows.Row.TheVariants.{HeadObject, DeleteObject, GetObjectAcl, CreateMultipartUpload, UploadPart, ListParts}
 use Rattle.gateway.specs.declared.rows.Row.TheVariants.{CompleteMultipartUpload, AbortMultipartUpload}
 
--- what is asked of a row: its method, its level, the selectors that the query has, and the further names that it may have;
+-- what the table says in a row: its method, its level, the selectors that the query has, and the further names that it may have;
 -- whether the operation is built, whether anybody may ask for it, whether it takes a content type and metadata, and whether a
 -- body may come with it
 pub record Shape : Type 0 where

@@ -17,14 +17,15 @@ Follows p [] q = p ≡ q
 Follows p (span ∷ spans) q = (span.from ≡ p) × (span.from ≤ span.begins) × (span.begins ≤ span.committed) × (span.committed ≤ span.to) × Follows span.to spans q
 
 -- a request with an operation: the account is consistent, and its state stays until the operation begins, and then goes
--- through the steps that are taken; it makes no more calls than to settle the store and for its operation it may
+-- through the steps that are taken; no more calls are made than settling (`most_settling`) and the operation (`most_calls`) may
+-- make
 pub record OpPasses (settings : Settings) (h : History) (span : Span) (asked : Asked) : Type 0 where
   pub settles : Stutters h span.from span.begins
   pub passes : Passes settings h span.begins span.committed span.to asked.op asked.label span.takes
   pub settling : span.begins ≤ span.from + amount (most_settling (h.tree_at span.from))
   pub calls : span.to ≤ span.begins + amount (most_calls asked.op (h.tree_at span.begins))
 
--- one without an operation makes no call
+-- one without an operation: no call, no step, and the account is consistent
 pub record NonePasses (h : History) (span : Span) : Type 0 where
   pub none : span.to ≡ span.from
   pub takes : span.takes ≡ 0
@@ -62,6 +63,6 @@ pub record Stood (settings : Settings) (was now : Known) (old new : History) : T
   pub passes : AllPass settings new spans
   pub known : IsKnown now (present new)
 
--- where the store told, and its account was consistent and as known
+-- `Stood`, where the store was observable, its account consistent, and what was known of it so
 abbrev pub Stands : Settings → Known → Known → History → History → Type 0
 Stands settings known known' old new = Met (IsKnown known) old → Stood settings known known' old new

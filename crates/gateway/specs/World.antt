@@ -37,7 +37,7 @@ progress_of w = progress (mark w.store w.known) w.clock.values w.draws.values w.
 abbrev pub start_of : World → ConnectionCursor
 start_of w = cursor w.line.transcript.rest 0 (progress_of w)
 
--- a connection between two requests, of which a reader has read so much
+-- a connection between two requests: the bytes that the reader holds, and behind them those left on the line
 abbrev pub cursor_of : Pending → World → ConnectionCursor
 cursor_of reader w = cursor (reader.bytes ++ w.line.transcript.rest) reader.place (progress_of w)
 
@@ -48,10 +48,9 @@ pub record Continues (old new : World) : Type 0 where
   pub clock : IsTrue old.clock.observable → IsTrue new.clock.observable
   pub draws : IsTrue old.draws.observable → IsTrue new.draws.observable
 
--- any number of requests were served, or none. Where the store told, and its account was consistent and as known, the account
--- went through their steps, whatever the line tells of them. Where line, clock and draws told, T says what became of them, by
--- what is said of replies: over every store, and also, where this one told and its account was consistent and as known, over
--- such a store
+-- any number of requests were served, or none. `stands`: where the store was observable, its account consistent, and what was
+-- known of it so, the account went through their steps, whatever the line tells. `effect`: where line, clock and draws were
+-- observable, T holds of both worlds: with `RepliesAny` over every store, and with `Replies` too over a store as in `stands`
 pub record ServesOver (settings : Settings) (T : ReplyRelation → World → World → Type 0) (old new : World) : Type 0 where
   pub on : Continues old new
   pub stands : Stands settings old.known new.known old.store new.store

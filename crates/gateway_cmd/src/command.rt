@@ -45,7 +45,7 @@ pub fn run<N: Line<W>, R: Sink, W: Swift, C: Clock, D: Draws>(
     clock: &mut C,
     draws: &mut D,
 ) -> u8
-    // The causes of the status. Running out of memory, 5, is free.
+    // The causes of the status. 5, out of memory, may come at any time: no clause gives its cause.
     ensures status { IsStatus result }
     ensures usage { result ≡ 2 → is_admitted words.now keys.now ≡ false }
     ensures refused { is_admitted words.now keys.now ≡ false → (result ≡ 5 → ⊥) → result ≡ 2 }
@@ -54,12 +54,12 @@ pub fn run<N: Line<W>, R: Sink, W: Swift, C: Clock, D: Draws>(
     // Words and keys that are refused touch nothing but the report.
     ensures idle { is_admitted words.now keys.now ≡ false → (line.new ≡ line.old) × (store.new ≡ store.old) × (clock.new ≡ clock.old) × (draws.new ≡ draws.old) }
 
-    // To serve, and what it does to the line: 3 comes only where the line failed to give a connection, and 0 only where all
+    // A run that serves, and what it does to the line: 3 comes only where the line failed to give a connection, and 0 only where all
     // connections were served, or as many as were asked for. Where the line's count of faults did not rise, none failed.
     ensures serving { (serving : Serving) → serving_of (command_of words.now) ≡ Some serving
         → LineServed serving (result == 3) (result == 0) (N.model line.old) (N.model line.new) }
 
-    // To sign touches nothing but the line and the report, and writes nothing to the line, of which at most one connection
+    // A run that signs touches nothing but the line and the report, and writes nothing to the line, of which at most one connection
     // begins: 3 comes only where the line failed.
     ensures apart { asked_for words.now ≡ to_sign → (store.new ≡ store.old) × (clock.new ≡ clock.old) × (draws.new ≡ draws.old) }
     ensures signing { asked_for words.now ≡ to_sign → SignsOn (result == 3) (N.model line.old) (N.model line.new) }
@@ -72,7 +72,7 @@ pub fn run<N: Line<W>, R: Sink, W: Swift, C: Clock, D: Draws>(
     ensures reported { asked_for words.now ≡ to_sign → result ≡ 0 → (R.model report.new).faults ≡ (R.model report.old).faults }
 
     // What was observable still is, and what the store told of its calls before the run stays. Where its count of faults
-    // did not rise and calls are left, no call failed.
+    // did not rise and calls are left, no call failed. `Continues` reads nothing of `Unsure`, which fills a place.
     ensures on { Continues
         (world (N.model line.old) (W.history store.old) Unsure (C.model clock.old) (D.model draws.old))
         (world (N.model line.new) (W.history store.new) Unsure (C.model clock.new) (D.model draws.new)) }
@@ -95,7 +95,7 @@ pub fn run<N: Line<W>, R: Sink, W: Swift, C: Clock, D: Draws>(
     ensures stands { (serving : Serving) → serving_of (command_of words.now) ≡ Some serving → Met Anything (W.history store.old)
         → RunStands serving.settings (W.history store.new) (W.history store.old).called (W.history store.new).called }
 
-    // Where all of these hold, the replies are the machine's too, each after its step.
+    // Under the premises of both, the replies are the machine's too, each after its step.
     ensures effect { (serving : Serving) → serving_of (command_of words.now) ≡ Some serving
         → IsObservable (world (N.model line.old) (W.history store.old) Unsure (C.model clock.old) (D.model draws.old)) → Met Anything (W.history store.old)
         → RunTold (service_of serving keys.now) (W.history store.new)
