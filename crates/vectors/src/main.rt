@@ -7,6 +7,7 @@
 #![tactic(auto)]
 
 mod answers;
+mod bodies;
 mod cases;
 mod first;
 mod machine;

@@ -5,11 +5,13 @@
 //! MOMENT ID`. What an object's reply bears stands in the lines of its case, `name: value`, with `meta: NAME VALUE` for an
 //! entry of its metadata, and its body behind an empty line. The answer is the page: its status, its headers, an empty line,
 //! its body. `code CODE` answers with the status of a refusal and the elements of its body that are the code's own.
+//! `location` and `completion` are in `bodies`.
 ghost use Rattle.std.specs.Prelude.{◌≡◌, ◌≢◌, ◌<◌, ◌≤◌, ◌+◌, ◌^◌, IfOk, IsTrue};
 ghost use Rattle.gate_base.specs.Told.{moment_limit};
 ghost use Rattle.s3_machine.specs.Shown.{IsShowable};
 
 use crate::answers::{NO_VERB, cut, number, text as told};
+use crate::bodies;
 use crate::messages::{add_headers, cut_body, show_headers};
 use case_text::{Fault, unescaped};
 use gate_base::{Bytes, Caller, List, MOMENT_LIMIT, Page, Pair};
@@ -64,6 +66,8 @@ const BEHIND: &[u8] =
 pub(crate) fn answer(alloc: Global, verb: &str, text: &str, given: &[u8]) -> Result<Bytes, Fault> {
     match verb {
         "code" => code(alloc, text),
+        "location" => bodies::location(alloc, text, given),
+        "completion" => bodies::completion(alloc, text, given),
         "refused" => refused(alloc, text),
         "gone" => gone(alloc, text),
         "made" => made(alloc, text),
