@@ -12,7 +12,7 @@ use crate::part::part;
 use gate_base::{Bytes, List, Memory};
 use s3_machine::Listed;
 use std::alloc::Global;
-use xml_forms::{Class, nearer, only_space, opening, run, word};
+use xml_forms::{nearer, only_space, opening, skip_space, word};
 
 /// The most parts that a completion may list (this profile; S3 has more).
 pub const MOST_PARTS: usize = 1000;
@@ -86,8 +86,7 @@ fn parts_end(bytes: &[u8], left: usize, none: bool) -> Result<&[u8], usize>
 fn root_end(bytes: &[u8]) -> Result<&[u8], usize>
     ensures { ReadsRest (Spaced (Word completion_end)) bytes.now result }
 {
-    let (_, rest) = run(bytes, Class::Space, bytes.len());
-    word(rest, b"</CompleteMultipartUpload>")
+    word(skip_space(bytes), b"</CompleteMultipartUpload>")
 }
 
 fn listed(alloc: Global, parts: &[(u32, &[u8])]) -> Result<List<Listed>, Memory>

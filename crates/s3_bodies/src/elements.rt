@@ -8,27 +8,19 @@ ghost use Rattle.xml_forms.specs.Readers.{ReadsRest, ReadsText, read_by};
 ghost use Rattle.xml_forms.specs.Runs.{Spaced};
 ghost use Rattle.s3_bodies.specs.Completion.{Bare, Checksum, ChecksumEnd, ChecksumName, ChecksumText, Etag, EtagText, Number, Quote, Quoted, QuotedEnd};
 
-use xml_forms::{Class, element, nearer, run, word};
+use xml_forms::{Class, nearer, run, short_element, skip_space, word};
 
 /// A PartNumber behind white space.
 pub(crate) fn number(bytes: &[u8]) -> Result<(u32, &[u8]), usize>
     ensures { Reads (Spaced Number) bytes.now (read_by (λ n. n) result) }
 {
-    let (_, rest) = run(bytes, Class::Space, bytes.len());
-    bare_number(rest)
+    bare_number(skip_space(bytes))
 }
 
 fn bare_number(bytes: &[u8]) -> Result<(u32, &[u8]), usize>
     ensures { Reads Number bytes.now (read_by (λ n. n) result) }
 {
-    let (digits, rest) = element(
-        bytes,
-        b"<PartNumber>",
-        Class::Digit,
-        true,
-        Some(9),
-        b"</PartNumber>",
-    )?;
+    let (digits, rest) = short_element(bytes, b"<PartNumber>", Class::Digit, 9, b"</PartNumber>")?;
     Ok((value_of(digits), rest))
 }
 
@@ -48,15 +40,14 @@ fn value_of(digits: &[u8]) -> u32
 pub(crate) fn etag(bytes: &[u8]) -> Result<(&[u8], &[u8]), usize>
     ensures { ReadsText (Spaced Etag) bytes.now result }
 {
-    let (_, rest) = run(bytes, Class::Space, bytes.len());
-    etag_element(rest)
+    etag_element(skip_space(bytes))
 }
 
 fn etag_element(bytes: &[u8]) -> Result<(&[u8], &[u8]), usize>
     ensures { ReadsText Etag bytes.now result }
 {
     let rest = word(bytes, b"<ETag>")?;
-    let bare = element(rest, b"", Class::Dashed, true, Some(64), b"</ETag>");
+    let bare = short_element(rest, b"", Class::Dashed, 64, b"</ETag>");
     nearer(bare, quoted(rest))
 }
 
@@ -90,8 +81,7 @@ fn quote(bytes: &[u8]) -> Result<&[u8], usize>
 pub(crate) fn checksum(bytes: &[u8]) -> Result<&[u8], usize>
     ensures { ReadsRest (Spaced Checksum) bytes.now result }
 {
-    let (_, rest) = run(bytes, Class::Space, bytes.len());
-    checksum_element(rest)
+    checksum_element(skip_space(bytes))
 }
 
 fn checksum_element(bytes: &[u8]) -> Result<&[u8], usize>

@@ -7,7 +7,7 @@ ghost use Rattle.s3_bodies.specs.Location.{AnswersDocument, AnswersLocation, Con
 use crate::BodyFault;
 use gate_base::Bytes;
 use std::alloc::Global;
-use xml_forms::{Class, element, nearer, only_space, opening, run, word};
+use xml_forms::{Class, element, nearer, only_space, opening, skip_space, word};
 
 /// The region that the body of a CreateBucket names (Amazon S3 API Reference, CreateBucket): empty where it names none,
 /// or where the body is empty.
@@ -36,7 +36,7 @@ fn location_text(bytes: &[u8]) -> Result<&[u8], usize>
 fn location_inside(bytes: &[u8]) -> Result<(&[u8], &[u8]), usize>
     ensures { ReadsText LocationInside bytes.now result }
 {
-    let (_, rest) = run(bytes, Class::Space, bytes.len());
+    let rest = skip_space(bytes);
     nearer(no_constraint(rest), constraint(rest))
 }
 
@@ -54,11 +54,8 @@ fn constraint(bytes: &[u8]) -> Result<(&[u8], &[u8]), usize>
         bytes,
         b"<LocationConstraint>",
         Class::Dashed,
-        false,
-        None,
         b"</LocationConstraint>",
     )?;
-    let (_, rest) = run(rest, Class::Space, rest.len());
-    let rest = word(rest, b"</CreateBucketConfiguration>")?;
+    let rest = word(skip_space(rest), b"</CreateBucketConfiguration>")?;
     Ok((text, rest))
 }

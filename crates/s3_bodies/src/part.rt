@@ -7,7 +7,7 @@ ghost use Rattle.s3_bodies.specs.Completion.{Checksums, EtagFirst, EtagThen, Num
 ghost use Rattle.s3_bodies.specs.PartReaders.{ReadsPart, SkipsChecksums};
 
 use crate::elements::{checksum, etag, number};
-use xml_forms::{Class, nearer, run, word};
+use xml_forms::{nearer, skip_space, word};
 
 /// A part behind white space: its number and its ETag.
 pub(crate) fn part(bytes: &[u8]) -> Result<((u32, &[u8]), &[u8]), usize>
@@ -20,8 +20,7 @@ pub(crate) fn part(bytes: &[u8]) -> Result<((u32, &[u8]), &[u8]), usize>
 fn part_start(bytes: &[u8]) -> Result<&[u8], usize>
     ensures { ReadsRest (Spaced (Word (codes "<Part>"))) bytes.now result }
 {
-    let (_, rest) = run(bytes, Class::Space, bytes.len());
-    word(rest, b"<Part>")
+    word(skip_space(bytes), b"<Part>")
 }
 
 fn part_inside(bytes: &[u8]) -> Result<((u32, &[u8]), &[u8]), usize>
@@ -92,8 +91,7 @@ fn part_end<'a>(
 ) -> Result<((u32, &'a [u8]), &'a [u8]), usize>
     ensures { ReadsPart (PartEnd (number, etag.now)) bytes.now result }
 {
-    let (_, rest) = run(bytes, Class::Space, bytes.len());
-    let rest = word(rest, b"</Part>")?;
+    let rest = word(skip_space(bytes), b"</Part>")?;
     Ok(((number, etag), rest))
 }
 

@@ -23,6 +23,10 @@ pub record IsRun (class : Class) (most : ℕ) (bytes run rest : List ℕ) : Type
   pub within : length run ≤ most
   pub closed : (c : ℕ) (us : List ℕ) → has class c ≡ true → rest ≡ c ∷ us → most ≤ length run
 
+-- all white space at the front of bytes, and the bytes behind it
+abbrev pub SkipsSpace : List ℕ → List ℕ → Type 0
+SkipsSpace bytes rest = (space : List ℕ) × IsRun Space (length bytes) bytes space rest
+
 -- a run of at least one byte, where it must be filled
 abbrev pub IsFilled : Bool → List ℕ → Type 0
 IsFilled true run = 0 < length run

@@ -4,7 +4,7 @@ ghost use Rattle.xml_forms.specs.Forms.{Exactly};
 ghost use Rattle.xml_forms.specs.Readers.{ReadsText};
 ghost use Rattle.xml_forms.specs.Openings.{Declared, Marked, Opening, RootEnd, RootTag};
 
-use crate::{Class, element, nearer, run, word};
+use crate::{Class, element, nearer, skip_space, word};
 
 /// How a document begins whose root has this name, which is given with its `<`: a declaration or none, and the root's tag.
 /// The value is that of the root's attribute.
@@ -29,8 +29,7 @@ fn root_tag<'a>(bytes: &'a [u8], name: &[u8]) -> Result<(&'a [u8], &'a [u8]), us
     requires { (t : List ℕ) × (name.now ≡ 60 ∷ t) }
     ensures { ReadsText (RootTag name.now) bytes.now result }
 {
-    let (_, rest) = run(bytes, Class::Space, bytes.len());
-    let rest = word(rest, name)?;
+    let rest = word(skip_space(bytes), name)?;
     root_end(rest)
 }
 
@@ -38,8 +37,8 @@ fn root_end(bytes: &[u8]) -> Result<(&[u8], &[u8]), usize>
     ensures { ReadsText RootEnd bytes.now result }
 {
     let quoted = nearer(
-        element(bytes, b" xmlns=\"", Class::InDouble, false, None, b"\">"),
-        element(bytes, b" xmlns='", Class::InSingle, false, None, b"'>"),
+        element(bytes, b" xmlns=\"", Class::InDouble, b"\">"),
+        element(bytes, b" xmlns='", Class::InSingle, b"'>"),
     );
     nearer(plain_end(bytes), quoted)
 }

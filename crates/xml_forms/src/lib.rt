@@ -7,4 +7,4 @@ mod scan;
 
 pub use class::Class;
 pub use document::opening;
-pub use scan::{element, nearer, only_space, run, word};
+pub use scan::{element, nearer, only_space, run, short_element, skip_space, word};

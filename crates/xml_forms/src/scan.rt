@@ -1,9 +1,9 @@
 //! Reading at the front of bytes. What can't be read there is answered by how many bytes were left where it stopped.
-ghost use Rattle.std.specs.Prelude.{◌≡◌, ◌≤◌, ◌<◌, ℕ, List, ◌∷◌, length, take, slice_index, true, false};
+ghost use Rattle.std.specs.Prelude.{◌≡◌, ◌≤◌, ◌<◌, ℕ, List, ◌∷◌, length, take, slice_index, true, false, Some, None};
 ghost use Rattle.std.specs.List.{list_all};
 ghost use Rattle.xml_forms.specs.Bodies.{Ends};
 ghost use Rattle.xml_forms.specs.Forms.{Word, nearer};
-ghost use Rattle.xml_forms.specs.Runs.{has, Element, IsRun, IsPositive};
+ghost use Rattle.xml_forms.specs.Runs.{has, Element, IsRun, IsPositive, SkipsSpace};
 ghost use Rattle.xml_forms.specs.Readers.{ReadsRest, ReadsText};
 
 use crate::Class;
@@ -45,8 +45,43 @@ fn run_end(bytes: &[u8], class: Class, most: usize) -> usize
     end
 }
 
-/// The text between two tags: bytes of a class, at least one where it must be filled, and at most so many.
+/// The bytes behind all white space.
+pub fn skip_space(bytes: &[u8]) -> &[u8]
+    ensures { SkipsSpace bytes.now result.now }
+{
+    let (_, rest) = run(bytes, Class::Space, bytes.len());
+    rest
+}
+
+/// The text between two tags, of any length.
 pub fn element<'a>(
+    bytes: &'a [u8],
+    start: &[u8],
+    class: Class,
+    end: &[u8],
+) -> Result<(&'a [u8], &'a [u8]), usize>
+    requires ends { (c : ℕ) × (cs : List ℕ) × (end.now ≡ c ∷ cs) × (has class c ≡ false) }
+    ensures { ReadsText (Element start.now class false None end.now) bytes.now result }
+{
+    sized_element(bytes, start, class, false, None, end)
+}
+
+/// The text between two tags, of one byte at least and at most so many.
+pub fn short_element<'a>(
+    bytes: &'a [u8],
+    start: &[u8],
+    class: Class,
+    most: usize,
+    end: &[u8],
+) -> Result<(&'a [u8], &'a [u8]), usize>
+    requires positive { 0 < most }
+    requires ends { (c : ℕ) × (cs : List ℕ) × (end.now ≡ c ∷ cs) × (has class c ≡ false) }
+    ensures { ReadsText (Element start.now class true (Some most) end.now) bytes.now result }
+{
+    sized_element(bytes, start, class, true, Some(most), end)
+}
+
+fn sized_element<'a>(
     bytes: &'a [u8],
     start: &[u8],
     class: Class,
@@ -71,7 +106,7 @@ pub fn element<'a>(
 pub fn only_space(bytes: &[u8]) -> Result<(), usize>
     ensures { Ends bytes.now result }
 {
-    let (_, rest) = run(bytes, Class::Space, bytes.len());
+    let rest = skip_space(bytes);
     if rest.is_empty() {
         Ok(())
     } else {

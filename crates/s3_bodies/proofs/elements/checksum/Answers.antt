@@ -4,4 +4,4 @@ use Rattle.s3_bodies.proofs.Checksums.{checksum_opens}
 use Rattle.s3_bodies.proofs.elements.checksum.Goals as goal
 
 pub returns : goal.returns
-returns c = spaced_reads Checksum checksum_opens c.args.bytes.now _ _ c.run.ensures _ c.checksum_element.ensures
+returns c = spaced_reads Checksum checksum_opens c.args.bytes.now _ _ c.skip_space.ensures.1 _ c.checksum_element.ensures

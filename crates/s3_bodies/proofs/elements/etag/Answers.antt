@@ -4,4 +4,4 @@ use Rattle.s3_bodies.proofs.ElementLemmas.{etag_opens}
 use Rattle.s3_bodies.proofs.elements.etag.Goals as goal
 
 pub returns : goal.returns
-returns c = spaced_reads Etag etag_opens c.args.bytes.now _ _ c.run.ensures _ c.etag_element.ensures
+returns c = spaced_reads Etag etag_opens c.args.bytes.now _ _ c.skip_space.ensures.1 _ c.etag_element.ensures

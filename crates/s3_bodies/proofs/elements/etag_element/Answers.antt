@@ -7,4 +7,4 @@ returns-in_err-rest c = let p = err_from_is_err_and c.from_residual.result c.fro
     rw (p.1, p.2) (etag_breaks c.args.bytes.now _ c.in_err-rest.ensures)
 
 pub returns : goal.returns
-returns c = etag_reads c.args.bytes.now _ c.in_ok-rest.ensures _ _ _ c.nearer.ensures c.element-bare.ensures c.quoted.ensures
+returns c = etag_reads c.args.bytes.now _ c.in_ok-rest.ensures _ _ _ c.nearer.ensures c.short_element-bare.ensures c.quoted.ensures

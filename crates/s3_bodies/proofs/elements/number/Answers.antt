@@ -4,4 +4,4 @@ use Rattle.s3_bodies.proofs.ElementLemmas.{number_opens}
 use Rattle.s3_bodies.proofs.elements.number.Goals as goal
 
 pub returns : goal.returns
-returns c = spaced_reads Number number_opens c.args.bytes.now _ _ c.run.ensures _ c.bare_number.ensures
+returns c = spaced_reads Number number_opens c.args.bytes.now _ _ c.skip_space.ensures.1 _ c.bare_number.ensures

@@ -8,7 +8,7 @@ returns-in_err-text c = let p = err_from_is_err_and c.from_residual.result c.fro
 
 pub returns-in_err-rest : goal.returns-in_err-rest
 returns-in_err-rest c = let p = err_from_is_err_and c.from_residual-in_err-rest.result c.from_residual-in_err-rest.ensures.1 in
-    rw (p.1, p.2) (constraint_stops c.args.bytes.now _ _ _ _ _ c.in_ok-text.ensures c.run.ensures c.in_err-rest.ensures)
+    rw (p.1, p.2) (constraint_stops c.args.bytes.now _ _ _ _ _ c.in_ok-text.ensures c.skip_space.ensures.1 c.in_err-rest.ensures)
 
 pub returns : goal.returns
-returns c = constraint_begins c.args.bytes.now _ _ _ _ _ c.in_ok-text.ensures c.run.ensures c.in_ok-rest.ensures
+returns c = constraint_begins c.args.bytes.now _ _ _ _ _ c.in_ok-text.ensures c.skip_space.ensures.1 c.in_ok-rest.ensures
