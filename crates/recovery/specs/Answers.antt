@@ -1,11 +1,15 @@
 -- What the calls of one operation may amount to. It stands between two numbers of calls, over an account that is
 -- consistent at the first. Source: this profile.
-use Rattle.std.specs.Prelude.{◌≡◌, ◌<◌, ◌≤◌, ◌⊎◌, ℕ, Bool, true}
+use Rattle.std.specs.Prelude.{◌≡◌, ◌<◌, ◌≤◌, ◌⊎◌, ℕ, ◌+◌, ◌/◌, Bool, true}
+use Rattle.std.specs.FinMap.{len}
 use Rattle.s3_machine.specs.declared.code.Code.TheVariants.{ServiceUnavailable}
 use Rattle.s3_machine.specs.declared.operation.Label.{Label}
 use Rattle.s3_machine.specs.declared.operation.Settings.{Settings}
 use Rattle.s3_machine.specs.declared.operation.Op.{Op}
-use Rattle.s3_machine.specs.declared.operation.Op.TheVariants.{CreateBucket, PutObject, GetObject, HeadObject, DeleteObject}
+use Rattle.s3_machine.specs.declared.operation.Op.TheVariants.{
+    ListBuckets, CreateBucket, DeleteBucket, HeadBucket, GetLocation, GetBucketAcl, PutBucketAcl, PutObject, GetObject, HeadObject,
+    DeleteObject, GetObjectAcl
+}
 use Rattle.s3_machine.specs.declared.operation.Reply.{Reply}
 use Rattle.s3_machine.specs.declared.operation.Reply.TheVariants.{Refused, Memory}
 use Rattle.s3_machine.specs.State.{State}
@@ -14,7 +18,7 @@ use Rattle.swift_calls.specs.Account.{SwiftAccount}
 use Rattle.swift_calls.specs.History.{History, budget, FaultFree}
 use Rattle.upload_records.specs.Native.{s3_state}
 use Rattle.upload_records.specs.Consistent.{IsConsistent}
-use Rattle.recovery.specs.Calls.{Bound, always}
+use Rattle.recovery.specs.Calls.{Bound, always, by_account}
 use Rattle.recovery.specs.Stutters.{OldBefore, calm, LastFailed}
 
 -- ---- the steps of an operation
@@ -93,13 +97,24 @@ NeverUnavailable = (settings : Settings) (h : History) (p q : ℕ) (op : Op) (la
 
 -- ---- how many calls it makes
 
+-- the pages of 1000 names that list so many names: the last of them is shorter
+abbrev pub pages : ℕ → ℕ
+pages names = names / 1000 + 1
+
 -- the greatest number of calls of an operation, by the account as it began
 abbrev pub most_calls : Op → SwiftAccount → Bound
+most_calls ListBuckets tree = by_account (pages (len tree) + len (s3_state tree))
 most_calls (CreateBucket bucket acl) tree = always 2
+most_calls (DeleteBucket bucket) tree = always 1
+most_calls (HeadBucket bucket) tree = always 1
+most_calls (GetLocation bucket) tree = always 1
+most_calls (GetBucketAcl bucket) tree = always 1
+most_calls (PutBucketAcl bucket acl) tree = always 1
 most_calls (PutObject bucket key acl content_type meta body) tree = always 2
 most_calls (GetObject bucket key) tree = always 3
 most_calls (HeadObject bucket key) tree = always 2
 most_calls (DeleteObject bucket key) tree = always 2
+most_calls (GetObjectAcl bucket key) tree = always 2
 
 -- whether no call follows the one that commits, so that none fails under a reply of the service
 abbrev pub ends_by_commit : Op → Bool
