@@ -13,7 +13,7 @@ use Rattle.clap.specs.declared.parser.matches.Found.{Found}
 use Rattle.clap.proofs.OnLiterals.{clap_on_literals}
 use Rattle.clap.proofs.WalkLemmas.{first_value-rows}
 use Rattle.gateway_cli.specs.Description.{gate_app}
-use Rattle.gateway_cli.specs.Words.{FaultOf, Parses, ReadsWords, command_in, met_in, session_with, sign_with}
+use Rattle.gateway_cli.specs.Words.{FaultOf, Parses, ReadsWords, command_in, met_in, serve_with, session_with, sign_with}
 use Rattle.gateway_cli.specs.declared.command.Command.{Command}
 use Rattle.gateway_cli.specs.declared.command.WordsFault.{WordsFault}
 use Rattle.gateway_cli.specs.declared.command.WordsFault.TheVariants.{Refused, Memory}
@@ -38,15 +38,26 @@ named_session name found region named region_is =
     choice_where (bytes_eq name (codes "session")) _ _ named
     ∙ ap session_with (sym (region_is ∙ first_value-rows found (codes "region")))
 
-pub named_sign : (name : Text) (found : Found) (key region : Option (List ℕ)) → bytes_eq name (codes "session") ≡ false
+pub named_serve : (name : Text) (found : Found) (region connections : Option (List ℕ)) → bytes_eq name (codes "session") ≡ false
+    → bytes_eq name (codes "serve") ≡ true
+    → region ≡ first_value found (codes "region") → connections ≡ first_value found (codes "connections")
+    → command_in name (rows_of found) ≡ serve_with region connections
+named_serve name found region connections other named region_is connections_is =
+    choice_unless (bytes_eq name (codes "session")) _ _ other
+    ∙ (choice_where (bytes_eq name (codes "serve")) _ _ named
+    ∙ (ap (λ r. serve_with r (first_of (codes "connections") (rows_of found))) (sym (region_is ∙ first_value-rows found (codes "region")))
+    ∙ ap (serve_with region) (sym (connections_is ∙ first_value-rows found (codes "connections")))))
+
+pub named_sign : (name : Text) (found : Found) (key region : Option (List ℕ)) → bytes_eq name (codes "session") ≡ false → bytes_eq name (codes "serve") ≡ false
     → bytes_eq name (codes "sign") ≡ true
     → key ≡ first_value found (codes "key") → region ≡ first_value found (codes "region")
     → command_in name (rows_of found) ≡ sign_with key region
-named_sign name found key region other named key_is region_is =
+named_sign name found key region other unserved named key_is region_is =
     choice_unless (bytes_eq name (codes "session")) _ _ other
+    ∙ (choice_unless (bytes_eq name (codes "serve")) _ _ unserved
     ∙ (choice_where (bytes_eq name (codes "sign")) _ _ named
     ∙ (ap (λ k. sign_with k (first_of (codes "region") (rows_of found))) (sym (key_is ∙ first_value-rows found (codes "key")))
-    ∙ ap (sign_with key) (sym (region_is ∙ first_value-rows found (codes "region")))))
+    ∙ ap (sign_with key) (sym (region_is ∙ first_value-rows found (codes "region"))))))
 
 -- ---- what `clap` answers
 

@@ -16,6 +16,14 @@ key_rule = record (new_rule (codes "key")) { long = Some (codes "key"); action =
 abbrev pub session_app : App
 session_app = with_rule (new_app (codes "session")) region_rule
 
+-- the option `--connections N`
+abbrev pub connections_rule : Rule
+connections_rule = record (new_rule (codes "connections")) { long = Some (codes "connections"); action = Some Set }
+
+-- `serve`, with a region and a number of connections
+abbrev pub serve_app : App
+serve_app = with_rule (with_rule (new_app (codes "serve")) region_rule) connections_rule
+
 -- `sign`, with a key and a region
 abbrev pub sign_app : App
 sign_app = with_rule (with_rule (new_app (codes "sign")) key_rule) region_rule
@@ -25,4 +33,4 @@ abbrev pub with_settings : Shape → Shape
 with_settings s = record s { no_binary_name = true; subcommand_required = true }
 
 unfoldable pub gate_app : App
-gate_app = with_subcommand (with_subcommand (on_top with_settings (new_app (codes "s3gate"))) session_app.top) sign_app.top
+gate_app = with_subcommand (with_subcommand (with_subcommand (on_top with_settings (new_app (codes "s3gate"))) session_app.top) serve_app.top) sign_app.top

@@ -1,7 +1,8 @@
 -- What the words that follow the program's name ask for (this profile).
 use Rattle.std.specs.Prelude.{◌≡◌, ◌≢◌, ℕ, Bool, ◌&&◌, ◌||◌, ◌==◌, nat_le, if◌then◌else◌, List, length, map, codes, bytes_eq, Option, Some, None}
-use Rattle.std.specs.Prelude.{option_and_then, unwrap_or, Result, Ok, Err, String, string_bytes}
+use Rattle.std.specs.Prelude.{option_and_then, option_map, unwrap_or, Result, Ok, Err, String, string_bytes}
 use Rattle.std.specs.List.{list_all}
+use Rattle.std.specs.Str.Parse.{digits_value}
 use Rattle.std.specs.declared.alloc.Global.{Global}
 use Rattle.clap.specs.Walk.{Row, Text, first_of, is_empty}
 use Rattle.clap.specs.Simple.{subcommand_of, subcommand_rows_of}
@@ -9,10 +10,10 @@ use Rattle.clap.specs.Faults.{fault_of}
 use Rattle.clap.specs.declared.error.kind.ErrorKind.{ErrorKind}
 use Rattle.clap.specs.declared.error.kind.ErrorKind.TheVariants.{OutOfMemory}
 use Rattle.clap.specs.declared.parser.matches.ArgMatches.{ArgMatches}
-use Rattle.gate_base.specs.Ascii.{is_letter_or_digit}
+use Rattle.gate_base.specs.Ascii.{is_digit, is_letter_or_digit}
 use Rattle.gateway_cli.specs.Description.{gate_app}
 use Rattle.gateway_cli.specs.declared.command.Command.{Command}
-use Rattle.gateway_cli.specs.declared.command.Command.TheVariants.{Session, Sign}
+use Rattle.gateway_cli.specs.declared.command.Command.TheVariants.{Session, Serve, Sign}
 use Rattle.gateway_cli.specs.declared.command.WordsFault.{WordsFault}
 use Rattle.gateway_cli.specs.declared.command.WordsFault.TheVariants.{Refused, Memory}
 
@@ -28,6 +29,19 @@ is_region text = nat_le 1 (length text) && nat_le (length text) 32 && list_all i
 abbrev pub is_key_id : List ℕ → Bool
 is_key_id text = nat_le 1 (length text) && nat_le (length text) 128 && list_all is_letter_or_digit text
 
+-- 1 to 20 decimal digits
+abbrev pub is_number : List ℕ → Bool
+is_number text = nat_le 1 (length text) && nat_le (length text) 20 && list_all is_digit text
+
+-- 1 to 1000000000
+abbrev pub is_count : ℕ → Bool
+is_count n = nat_le 1 n && nat_le n 1000000000
+
+-- the number of connections that is given, or the usual one; none where what is given isn't such a number
+abbrev pub count_of : Option (List ℕ) → Option ℕ
+count_of None = Some 1000
+count_of (Some text) = if is_number text && is_count (digits_value 10 text) then Some (digits_value 10 text) else None
+
 -- the region that is given, or the usual one
 abbrev pub region_of : Option (List ℕ) → List ℕ
 region_of given = unwrap_or given (codes "us-east-1")
@@ -35,6 +49,10 @@ region_of given = unwrap_or given (codes "us-east-1")
 -- `session`, with the region that is given
 abbrev pub session_with : Option (List ℕ) → Option Command
 session_with given = if is_region (region_of given) then Some (Session (region_of given)) else None
+
+-- `serve`, with the region and the number of connections that are given
+abbrev pub serve_with : Option (List ℕ) → Option (List ℕ) → Option Command
+serve_with given connections = if is_region (region_of given) then option_map (Serve (region_of given)) (count_of connections) else None
 
 -- `sign`, with the key and the region that are given
 abbrev pub sign_with : Option (List ℕ) → Option (List ℕ) → Option Command
@@ -44,8 +62,9 @@ sign_with (Some key) given = if is_key_id key && is_region (region_of given) the
 -- the command of a name, with what `clap` found for it
 abbrev pub command_in : Text → List Row → Option Command
 command_in name rows = if bytes_eq name (codes "session") then session_with (first_of (codes "region") rows)
+    else (if bytes_eq name (codes "serve") then serve_with (first_of (codes "region") rows) (first_of (codes "connections") rows)
     else (if bytes_eq name (codes "sign") then sign_with (first_of (codes "key") rows) (first_of (codes "region") rows)
-    else None)
+    else None))
 
 -- what `clap` finds in the words, where it takes them: the name of the command and what was found for it
 unfoldable pub met_in : List Text → Option (Text × List Row)

@@ -3,11 +3,12 @@ ghost use Rattle.std.specs.Prelude.{◌≡◌};
 use gate_base::{Bytes, Copying, Memory};
 use std::alloc::AllocError;
 
-/// What the words ask for. `Session`: to serve one connection as this region. `Sign`: to sign a request with the
-/// key of this id, for this region.
+/// What the words ask for. `Session`: to serve the connections of the line as this region. `Serve`: the same, but at
+/// most so many connections. `Sign`: to sign a request with the key of this id, for this region.
 #[derive(Debug, Drop)]
 pub enum Command {
     Session { region: Bytes },
+    Serve { region: Bytes, connections: u64 },
     Sign { key: Bytes, region: Bytes },
 }
 
@@ -16,6 +17,13 @@ impl Copying for Command {
         match self {
             Command::Session { region } => Ok(Command::Session {
                 region: region.copy()?,
+            }),
+            Command::Serve {
+                region,
+                connections,
+            } => Ok(Command::Serve {
+                region: region.copy()?,
+                connections: *connections,
             }),
             Command::Sign { key, region } => Ok(Command::Sign {
                 key: key.copy()?,

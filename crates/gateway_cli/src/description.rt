@@ -1,7 +1,7 @@
 ghost use Rattle.std.specs.Prelude.{◌≡◌, false, IfOk};
 ghost use Rattle.clap.specs.Words.{app_of};
 ghost use Rattle.clap.specs.declared.builder.command.Command.TheViews.{out-Command as fields_of};
-ghost use Rattle.gateway_cli.specs.Description.{gate_app, session_app, sign_app};
+ghost use Rattle.gateway_cli.specs.Description.{gate_app, serve_app, session_app, sign_app};
 
 use clap::{Arg, ArgAction, Command};
 use std::alloc::{AllocError, Global};
@@ -11,11 +11,13 @@ pub(crate) fn gate<'a>(alloc: Global) -> Result<Command<'a>, AllocError>
     ensures { IfOk result (λ command. app_of command ≡ gate_app) }
 {
     let session = session(alloc)?;
+    let serve = serve(alloc)?;
     let sign = sign(alloc)?;
     Command::new(alloc, "s3gate")
         .no_binary_name(true)
         .subcommand_required(true)
         .subcommand(session)?
+        .subcommand(serve)?
         .subcommand(sign)
 }
 
@@ -27,6 +29,19 @@ fn session<'a>(alloc: Global) -> Result<Command<'a>, AllocError>
         .long("region")
         .action(ArgAction::Set);
     Command::new(alloc, "session").arg(region)
+}
+
+fn serve<'a>(alloc: Global) -> Result<Command<'a>, AllocError>
+    ensures app { IfOk result (λ command. app_of command ≡ serve_app) }
+    ensures local { IfOk result (λ command. (fields_of command).has_globals ≡ false) }
+{
+    let region = Arg::new(alloc, "region")
+        .long("region")
+        .action(ArgAction::Set);
+    let connections = Arg::new(alloc, "connections")
+        .long("connections")
+        .action(ArgAction::Set);
+    Command::new(alloc, "serve").arg(region)?.arg(connections)
 }
 
 fn sign<'a>(alloc: Global) -> Result<Command<'a>, AllocError>

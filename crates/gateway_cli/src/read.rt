@@ -1,9 +1,9 @@
 ghost use Rattle.std.specs.Prelude.{◌≡◌, map, option_and_then, option_map, string_bytes};
 ghost use Rattle.clap.specs.Words.{found_of, kind_of, rows_of, subcommand_rows_of};
-ghost use Rattle.gateway_cli.specs.Words.{FaultOf, Parses, ReadsWords, command_in, command_of, region_of, session_with, sign_with};
+ghost use Rattle.gateway_cli.specs.Words.{FaultOf, Parses, ReadsWords, command_in, command_of, count_of, region_of, serve_with, session_with, sign_with};
 
 use crate::description::gate;
-use crate::text::{is_key_id, is_region};
+use crate::text::{count_in, is_key_id, is_region};
 use crate::{Command, WordsFault};
 use clap::error::ErrorKind;
 use clap::{ArgMatches, Error};
@@ -13,9 +13,12 @@ use std::alloc::Global;
 /// The region where the words give none.
 const USUAL_REGION: &str = "us-east-1";
 
+/// How many connections are served where the words don't say.
+const USUAL_CONNECTIONS: u64 = 1000;
+
 /// The command that the words name. The words are those behind the program's name. They are refused where `clap`
-/// refuses them or answers with a help text, where a region isn't 1 to 32 bytes of `a-z 0-9 -`, and where the id of a
-/// key isn't 1 to 128 letters and digits.
+/// refuses them or answers with a help text, where a region isn't 1 to 32 bytes of `a-z 0-9 -`, where a number of
+/// connections isn't 1 to 1000000000 in at most 20 digits, and where the id of a key isn't 1 to 128 letters and digits.
 pub fn read_words(alloc: Global, words: &[String]) -> Result<Command, WordsFault>
     ensures { ReadsWords (command_of words.now) result }
 {
@@ -56,6 +59,8 @@ fn command_named(alloc: Global, name: &str, found: &ArgMatches) -> Result<Comman
 {
     if name == "session" {
         session_with(alloc, found.get_str("region"))
+    } else if name == "serve" {
+        serve_with(alloc, found.get_str("region"), found.get_str("connections"))
     } else if name == "sign" {
         sign_with(alloc, found.get_str("key"), found.get_str("region"))
     } else {
@@ -72,6 +77,26 @@ fn session_with(alloc: Global, region: Option<&str>) -> Result<Command, WordsFau
     }
     Ok(Command::Session {
         region: Bytes::from_slice(alloc, region)?,
+    })
+}
+
+fn serve_with(
+    alloc: Global,
+    region: Option<&str>,
+    connections: Option<&str>,
+) -> Result<Command, WordsFault>
+    ensures { ReadsWords (serve_with (option_map (λ text. text.now) region.entry) (option_map (λ text. text.now) connections.entry)) result }
+{
+    let region = region_of(region);
+    if !is_region(region) {
+        return Err(WordsFault::Refused);
+    }
+    let Some(connections) = count_of(connections) else {
+        return Err(WordsFault::Refused);
+    };
+    Ok(Command::Serve {
+        region: Bytes::from_slice(alloc, region)?,
+        connections,
     })
 }
 
@@ -98,5 +123,14 @@ fn region_of<'a>(given: Option<&'a str>) -> &'a [u8]
     match given {
         Some(region) => region.as_bytes(),
         None => USUAL_REGION.as_bytes(),
+    }
+}
+
+fn count_of(given: Option<&str>) -> Option<u64>
+    ensures { result ≡ count_of (option_map (λ text. text.now) given.entry) }
+{
+    match given {
+        Some(text) => count_in(text),
+        None => Some(USUAL_CONNECTIONS),
     }
 }

@@ -1,7 +1,7 @@
 use Rattle.std.proofs.Common.{◌≡◌, ◌∙◌, ap, ap₂, true, codes}
 use Rattle.std.proofs.lemmas.Result.{IfOk-weaker}
 use Rattle.clap.specs.Simple.{App, Shape, app_of, app_of_fields, new_app, on_top, with_subcommand}
-use Rattle.gateway_cli.specs.Description.{gate_app, session_app, with_settings}
+use Rattle.gateway_cli.specs.Description.{gate_app, serve_app, session_app, with_settings}
 use Rattle.gateway_cli.proofs.description.gate.Goals as goal
 
 abbrev top_of : App → Shape
@@ -19,6 +19,8 @@ returns c =
     ap app_of_fields c.subcommand_required.ensures ∙ ap (on_top (λ s. record s { subcommand_required = true })) named in
     let one : app_of c.in_ok-subcommand.field-0 ≡ with_subcommand settings session_app.top =
     c.in_ok-subcommand.ensures.shape c.in_ok-session.ensures.local ∙ ap₂ with_subcommand set (ap top_of c.in_ok-session.ensures.app) in
-    IfOk-weaker c.subcommand-2.result _ _
-    (λ command adds. adds.shape c.in_ok-sign.ensures.local ∙ ap₂ with_subcommand one (ap top_of c.in_ok-sign.ensures.app))
-    c.subcommand-2.ensures
+    let two : app_of c.in_ok-subcommand-2.field-0 ≡ with_subcommand (with_subcommand settings session_app.top) serve_app.top =
+    c.in_ok-subcommand-2.ensures.shape c.in_ok-serve.ensures.local ∙ ap₂ with_subcommand one (ap top_of c.in_ok-serve.ensures.app) in
+    IfOk-weaker c.subcommand-3.result _ _
+    (λ command adds. adds.shape c.in_ok-sign.ensures.local ∙ ap₂ with_subcommand two (ap top_of c.in_ok-sign.ensures.app))
+    c.subcommand-3.ensures

@@ -1,6 +1,6 @@
 use Rattle.std.proofs.Common.{◌∙◌, sym}
 use Rattle.clap.specs.Matches.{found_of}
-use Rattle.gateway_cli.proofs.WordsLemmas.{reads_where, named_session, named_sign}
+use Rattle.gateway_cli.proofs.WordsLemmas.{reads_where, named_session, named_serve, named_sign}
 use Rattle.gateway_cli.proofs.read.command_named.Goals as goal
 
 pub returns-then-eq : goal.returns-then-eq
@@ -9,6 +9,11 @@ returns-then-eq c = reads_where _ _ c.session_with.result
     c.session_with.ensures
 
 pub returns-then-eq-2 : goal.returns-then-eq-2
-returns-then-eq-2 c = reads_where _ _ c.sign_with.result
-    (named_sign c.args.name.now (found_of c.args.found.now) _ _ (sym c.eq.ensures ∙ c.if-eq.false) (sym c.eq-else-eq.ensures ∙ c.if-eq-2.true) c.get_str-then-eq-2.ensures c.get_str-then-eq-2-2.ensures)
+returns-then-eq-2 c = reads_where _ _ c.serve_with.result
+    (named_serve c.args.name.now (found_of c.args.found.now) _ _ (sym c.eq.ensures ∙ c.if-eq.false) (sym c.eq-else-eq.ensures ∙ c.if-eq-2.true) c.get_str-then-eq-2.ensures c.get_str-then-eq-2-2.ensures)
+    c.serve_with.ensures
+
+pub returns-then-eq-3 : goal.returns-then-eq-3
+returns-then-eq-3 c = reads_where _ _ c.sign_with.result
+    (named_sign c.args.name.now (found_of c.args.found.now) _ _ (sym c.eq.ensures ∙ c.if-eq.false) (sym c.eq-else-eq.ensures ∙ c.if-eq-2.false) (sym c.eq-else-eq-2.ensures ∙ c.if-eq-3.true) c.get_str-then-eq-3.ensures c.get_str-then-eq-3-2.ensures)
     c.sign_with.ensures
