@@ -1,7 +1,8 @@
 //! The same requests through the S3 service as one machine: what it answers is what was written.
 ghost use Rattle.std.specs.Prelude.{◌≡◌, ◌<◌, IsTrue, IfOk};
+ghost use Rattle.std.specs.List.{All};
 ghost use Rattle.gate_base.specs.Told.{moment_limit};
-ghost use Rattle.s3_machine.specs.Shown.{IsShowable, IsShown};
+ghost use Rattle.s3_machine.specs.Shown.{IsShowable, IsShown, IsShownBucket};
 ghost use Rattle.s3_machine.specs.Step.{IsProper, IsProperOp};
 
 use crate::entry::Case;
@@ -12,7 +13,7 @@ use case_text::Fault;
 use gate_base::{Bytes, Caller, Copying, MOMENT_LIMIT, Piece};
 use gateway::{Meant, Service, meaning, print_reply};
 use http_wire::Message;
-use s3_machine::{Label, Native, ObjectHead, Op, Reply, Settings};
+use s3_machine::{BucketItem, Label, Native, ObjectHead, Op, Reply, Settings};
 use s3_names::Target;
 use sigv4::{Keys, verify};
 use std::alloc::Global;
@@ -278,7 +279,9 @@ fn is_showable(reply: &Reply) -> bool
     ensures { IsTrue result → IsShowable reply.now }
 {
     match reply {
-        Reply::Refused(_) | Reply::Made { .. } | Reply::Stored { .. } | Reply::Gone => true,
+        Reply::Refused(_) | Reply::Done | Reply::Gone | Reply::AclOf(_) => true,
+        Reply::Made { .. } | Reply::Location { .. } | Reply::Stored { .. } => true,
+        Reply::Buckets(items) => are_dated(items.as_slice()),
         Reply::Object {
             head,
             from,
@@ -286,6 +289,12 @@ fn is_showable(reply: &Reply) -> bool
             partial,
             ..
         } => shows(head, *from, *length, *partial),
-        Reply::Memory => false,
+        _ => false,
     }
+}
+
+fn are_dated(items: &[BucketItem]) -> bool
+    ensures { IsTrue result → All IsShownBucket items.now }
+{
+    items.iter().all(|item| item.created < MOMENT_LIMIT)
 }

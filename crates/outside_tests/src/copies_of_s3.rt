@@ -44,15 +44,30 @@ fn names_are_copied(rt: HostRuntime) -> Result<(), Fail> {
     Ok(())
 }
 
-fn op(alloc: Global, number: u8) -> Op {
+fn bucket_op(alloc: Global, number: u8) -> Op {
     let bucket = Bytes::new(alloc);
-    let key = Bytes::new(alloc);
     match number {
-        0 => Op::CreateBucket {
+        0 => Op::ListBuckets,
+        1 => Op::CreateBucket {
             bucket,
             acl: Acl::Private,
         },
-        1 => Op::PutObject {
+        2 => Op::DeleteBucket { bucket },
+        3 => Op::HeadBucket { bucket },
+        4 => Op::GetLocation { bucket },
+        5 => Op::GetBucketAcl { bucket },
+        _ => Op::PutBucketAcl {
+            bucket,
+            acl: Acl::PublicRead,
+        },
+    }
+}
+
+fn key_op(alloc: Global, number: u8) -> Op {
+    let bucket = Bytes::new(alloc);
+    let key = Bytes::new(alloc);
+    match number {
+        0 => Op::PutObject {
             bucket,
             key,
             acl: Some(Acl::PublicRead),
@@ -60,14 +75,19 @@ fn op(alloc: Global, number: u8) -> Op {
             meta: Meta::new(alloc),
             body: Bytes::new(alloc),
         },
-        2 => Op::GetObject { bucket, key },
-        3 => Op::HeadObject { bucket, key },
-        _ => Op::DeleteObject { bucket, key },
+        1 => Op::GetObject { bucket, key },
+        2 => Op::HeadObject { bucket, key },
+        3 => Op::DeleteObject { bucket, key },
+        _ => Op::GetObjectAcl { bucket, key },
     }
 }
 
-fn is_op_copied(alloc: Global, number: u8) -> Result<bool, Fail> {
-    is_copied(alloc, &op(alloc, number))
+fn is_bucket_op_copied(alloc: Global, number: u8) -> Result<bool, Fail> {
+    is_copied(alloc, &bucket_op(alloc, number))
+}
+
+fn is_key_op_copied(alloc: Global, number: u8) -> Result<bool, Fail> {
+    is_copied(alloc, &key_op(alloc, number))
 }
 
 fn head(alloc: Global) -> ObjectHead {
@@ -81,22 +101,36 @@ fn head(alloc: Global) -> ObjectHead {
 }
 
 fn reply(alloc: Global, number: u8) -> Reply {
+    let etag = Bytes::new(alloc);
+    let bucket = Bytes::new(alloc);
     match number {
         0 => Reply::Refused(Code::NoSuchKey),
         1 => Reply::Memory,
-        2 => Reply::Gone,
-        3 => Reply::Made {
-            bucket: Bytes::new(alloc),
+        2 => Reply::Done,
+        3 => Reply::Gone,
+        4 => Reply::NotModified(head(alloc)),
+        5 => Reply::Made { bucket },
+        6 => Reply::Location {
+            region: Bytes::new(alloc),
         },
-        4 => Reply::Stored {
-            etag: Bytes::new(alloc),
-        },
-        _ => Reply::Object {
+        7 => Reply::AclOf(Acl::PublicRead),
+        8 => Reply::Stored { etag },
+        9 => Reply::Object {
             head: head(alloc),
             from: 3,
             length: 4,
             partial: true,
             body: Bytes::new(alloc),
+        },
+        10 => Reply::Started {
+            bucket,
+            key: Bytes::new(alloc),
+            id: 5,
+        },
+        _ => Reply::Completed {
+            bucket,
+            key: Bytes::new(alloc),
+            etag,
         },
     }
 }
@@ -108,10 +142,13 @@ fn is_reply_copied(alloc: Global, number: u8) -> Result<bool, Fail> {
 #[test]
 fn operations_and_replies_are_copied(rt: HostRuntime) -> Result<(), Fail> {
     let alloc = rt.alloc();
-    for number in 0..5 {
-        assert!(rt; is_op_copied(alloc, number)?, "{number}");
+    for number in 0..7 {
+        assert!(rt; is_bucket_op_copied(alloc, number)?, "{number}");
     }
-    for number in 0..6 {
+    for number in 0..5 {
+        assert!(rt; is_key_op_copied(alloc, number)?, "{number}");
+    }
+    for number in 0..12 {
         assert!(rt; is_reply_copied(alloc, number)?, "{number}");
     }
     assert!(rt; is_copied(alloc, &Code::NoSuchBucket)?);

@@ -7,6 +7,8 @@ mod adapters;
 #[cfg(test)]
 mod copies;
 #[cfg(test)]
+mod copies_of_lists;
+#[cfg(test)]
 mod copies_of_s3;
 #[cfg(test)]
 mod copies_of_swift;

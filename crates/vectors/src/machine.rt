@@ -1,9 +1,13 @@
 //! Cases of `s3_machine`. Pairs of metadata stand as `NAME:VALUE;`.
 //!
 //! The lines of `acts` are acts on one service, which is empty before, and the answer has a line for the reply to each:
-//! `VERB CALLER BUCKET KEY ACL BODY`, the verb `make`, `put`, `get`, `head` or `delete`, the caller `owner` or `anyone`,
-//! the list `private`, `public` or `-` for none. An act is done a second behind the one before it, the first at the moment
-//! 1369353600. An object is put as `text/plain` with the metadata `cache-control:no-cache;-note:BODY;`.
+//! `VERB CALLER BUCKET KEY ACL BODY`, the caller `owner` or `anyone`, the list `private`, `public` or `-` for none. What an
+//! act doesn't take is any word. An act is done a second behind the one before it, the first at the moment 1369353600. An
+//! object is put as `text/plain` with the metadata `cache-control:no-cache;-note:BODY;`.
+//!
+//! The verbs are `list` for ListBuckets; `make`, `drop`, `look`, `where`, `acl` and `set` for CreateBucket, DeleteBucket,
+//! HeadBucket, GetBucketLocation, GetBucketAcl and PutBucketAcl; `put`, `get`, `head`, `delete` and `object-acl` for
+//! PutObject, GetObject, HeadObject, DeleteObject and GetObjectAcl.
 ghost use Rattle.std.specs.Prelude.{◌≡◌, IsTrue};
 ghost use Rattle.s3_machine.specs.Step.{IsPlace, IsProperContent, IsProperOp};
 
@@ -14,7 +18,7 @@ use crate::answers::{
 use case_text::Fault;
 use gate_base::{Bytes, Caller, Copying, MOMENT_LIMIT, Memory};
 use s3_machine::{
-    Code, Label, MOST_BODY_BYTES, Native, ObjectHead, Op, Reply, Settings, body_etag,
+    BucketItem, Code, Label, MOST_BODY_BYTES, Native, ObjectHead, Op, Reply, Settings, body_etag,
     is_content_type, is_meta_name, is_meta_value, is_other_acl, is_proper_meta, may_read,
 };
 use s3_names::{Acl, Meta, is_bucket, is_key};
@@ -194,23 +198,46 @@ fn do_act(
 
 fn operation(alloc: Global, act: &Act<'_>) -> Result<Op, Fault> {
     match act.verb {
-        "make" => create(alloc, act),
+        "list" => Ok(Op::ListBuckets),
+        "make" | "set" => with_acl(alloc, act),
+        "drop" | "look" | "where" | "acl" => of_bucket(alloc, act),
         "put" => put(alloc, act),
-        "get" => get(alloc, act),
-        "head" => head(alloc, act),
-        "delete" => delete(alloc, act),
-        _ => Err(NO_ACT),
+        _ => of_object(alloc, act),
     }
 }
 
-fn create(alloc: Global, act: &Act<'_>) -> Result<Op, Fault> {
+fn with_acl(alloc: Global, act: &Act<'_>) -> Result<Op, Fault> {
     let Some(acl) = act.acl else {
         return Err(NO_ACT);
     };
-    Ok(Op::CreateBucket {
-        bucket: text_of(alloc, act.bucket.as_bytes())?,
-        acl,
-    })
+    let bucket = text_of(alloc, act.bucket.as_bytes())?;
+    if act.verb == "make" {
+        Ok(Op::CreateBucket { bucket, acl })
+    } else {
+        Ok(Op::PutBucketAcl { bucket, acl })
+    }
+}
+
+fn of_bucket(alloc: Global, act: &Act<'_>) -> Result<Op, Fault> {
+    let bucket = text_of(alloc, act.bucket.as_bytes())?;
+    match act.verb {
+        "drop" => Ok(Op::DeleteBucket { bucket }),
+        "look" => Ok(Op::HeadBucket { bucket }),
+        "where" => Ok(Op::GetLocation { bucket }),
+        _ => Ok(Op::GetBucketAcl { bucket }),
+    }
+}
+
+fn of_object(alloc: Global, act: &Act<'_>) -> Result<Op, Fault> {
+    let bucket = text_of(alloc, act.bucket.as_bytes())?;
+    let key = text_of(alloc, act.key.as_bytes())?;
+    match act.verb {
+        "get" => Ok(Op::GetObject { bucket, key }),
+        "head" => Ok(Op::HeadObject { bucket, key }),
+        "delete" => Ok(Op::DeleteObject { bucket, key }),
+        "object-acl" => Ok(Op::GetObjectAcl { bucket, key }),
+        _ => Err(NO_ACT),
+    }
 }
 
 fn put(alloc: Global, act: &Act<'_>) -> Result<Op, Fault> {
@@ -237,27 +264,6 @@ fn describe(body: &str, meta: &mut Meta) -> Result<(), Fault> {
     Ok(())
 }
 
-fn get(alloc: Global, act: &Act<'_>) -> Result<Op, Fault> {
-    Ok(Op::GetObject {
-        bucket: text_of(alloc, act.bucket.as_bytes())?,
-        key: text_of(alloc, act.key.as_bytes())?,
-    })
-}
-
-fn head(alloc: Global, act: &Act<'_>) -> Result<Op, Fault> {
-    Ok(Op::HeadObject {
-        bucket: text_of(alloc, act.bucket.as_bytes())?,
-        key: text_of(alloc, act.key.as_bytes())?,
-    })
-}
-
-fn delete(alloc: Global, act: &Act<'_>) -> Result<Op, Fault> {
-    Ok(Op::DeleteObject {
-        bucket: text_of(alloc, act.bucket.as_bytes())?,
-        key: text_of(alloc, act.key.as_bytes())?,
-    })
-}
-
 fn is_place(bucket: &[u8], key: &[u8]) -> bool
     ensures { IsTrue result → IsPlace bucket.now key.now }
 {
@@ -274,7 +280,13 @@ fn is_proper(op: &Op) -> bool
     ensures { IsTrue result → IsProperOp op.now }
 {
     match op {
+        Op::ListBuckets => true,
         Op::CreateBucket { bucket, .. } => is_bucket(bucket.as_slice()),
+        Op::DeleteBucket { bucket } => is_bucket(bucket.as_slice()),
+        Op::HeadBucket { bucket } => is_bucket(bucket.as_slice()),
+        Op::GetLocation { bucket } => is_bucket(bucket.as_slice()),
+        Op::GetBucketAcl { bucket } => is_bucket(bucket.as_slice()),
+        Op::PutBucketAcl { bucket, .. } => is_bucket(bucket.as_slice()),
         Op::PutObject {
             bucket,
             key,
@@ -289,6 +301,7 @@ fn is_proper(op: &Op) -> bool
         Op::GetObject { bucket, key } => is_place(bucket.as_slice(), key.as_slice()),
         Op::HeadObject { bucket, key } => is_place(bucket.as_slice(), key.as_slice()),
         Op::DeleteObject { bucket, key } => is_place(bucket.as_slice(), key.as_slice()),
+        Op::GetObjectAcl { bucket, key } => is_place(bucket.as_slice(), key.as_slice()),
     }
 }
 
@@ -322,9 +335,12 @@ fn append_reply(alloc: Global, reply: &Reply, to: &mut Bytes) -> Result<(), Faul
 fn append_words(alloc: Global, reply: &Reply, to: &mut Bytes) -> Result<(), Fault> {
     match reply {
         Reply::Refused(code) => append_code(alloc, *code, to),
-        Reply::Memory => append_all(to, &[b"memory"]),
+        Reply::Done => append_all(to, &[b"done"]),
         Reply::Gone => append_all(to, &[b"gone"]),
+        Reply::Buckets(items) => append_buckets(alloc, items.as_slice(), to),
         Reply::Made { bucket } => append_all(to, &[b"made ", bucket.as_slice()]),
+        Reply::Location { region } => append_all(to, &[b"in ", region.as_slice()]),
+        Reply::AclOf(acl) => append_all(to, &[b"acl ", acl_name(*acl)]),
         Reply::Stored { etag } => append_all(to, &[b"stored ", etag.as_slice()]),
         Reply::Object {
             head,
@@ -337,7 +353,30 @@ fn append_words(alloc: Global, reply: &Reply, to: &mut Bytes) -> Result<(), Faul
             append_range(alloc, [*from, *length], *partial, to)?;
             append_body(body.as_slice(), to)
         }
+        _ => Err(Fault::Unread("a reply that no act has")),
     }
+}
+
+fn acl_name(acl: Acl) -> &'static [u8] {
+    match acl {
+        Acl::Private => b"private",
+        Acl::PublicRead => b"public",
+    }
+}
+
+/// `buckets`, and of each ` NAME CREATED`.
+fn append_buckets(alloc: Global, items: &[BucketItem], to: &mut Bytes) -> Result<(), Fault> {
+    append_all(to, &[b"buckets"])?;
+    for item in items {
+        append_bucket(alloc, item, to)?;
+    }
+    Ok(())
+}
+
+fn append_bucket(alloc: Global, item: &BucketItem, to: &mut Bytes) -> Result<(), Fault> {
+    let created = item.created;
+    let created = format!(in alloc; " {created}")?;
+    append_all(to, &[b" ", item.name.as_slice(), created.as_bytes()])
 }
 
 fn append_code(alloc: Global, code: Code, to: &mut Bytes) -> Result<(), Fault> {

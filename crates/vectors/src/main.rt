@@ -10,6 +10,7 @@ mod answers;
 mod bodies;
 mod cases;
 mod first;
+mod lists;
 mod machine;
 mod manifests;
 mod marks;

@@ -5,7 +5,7 @@ use gate_base::{Bytes, Caller, List, Memory, Pair};
 use gateway::{Meant, meaning};
 use http_wire::Message;
 use s3_machine::{Op, Settings};
-use s3_names::{Meta, NameFault, Target};
+use s3_names::{Acl, Meta, NameFault, Target};
 use std::alloc::Global;
 
 /// What is told of a request.
@@ -233,26 +233,54 @@ fn describe(alloc: Global, op: &Op) -> Result<Bytes, Fault> {
     Ok(told)
 }
 
-/// The operation's name, its bucket and its key with `/` between them; of a PUT of an object also its content type, the
-/// entries of its metadata, and its body in brackets.
+/// The operation's name, its bucket and its key with `/` between them, and last the access control list where one is given;
+/// of a PUT of an object before that also its content type, the entries of its metadata, and its body in brackets.
 fn tell_operation(op: &Op, told: &mut Bytes) -> Result<(), Memory> {
     match op {
-        Op::CreateBucket { bucket, .. } => tell_name(b"CreateBucket ", bucket, told),
+        Op::ListBuckets => told.append(b"ListBuckets"),
+        Op::CreateBucket { bucket, acl } => {
+            tell_name(b"CreateBucket ", bucket, told)?;
+            tell_acl(*acl, told)
+        }
+        Op::DeleteBucket { bucket } => tell_name(b"DeleteBucket ", bucket, told),
+        Op::HeadBucket { bucket } => tell_name(b"HeadBucket ", bucket, told),
+        Op::GetLocation { bucket } => tell_name(b"GetLocation ", bucket, told),
+        Op::GetBucketAcl { bucket } => tell_name(b"GetBucketAcl ", bucket, told),
+        Op::PutBucketAcl { bucket, acl } => {
+            tell_name(b"PutBucketAcl ", bucket, told)?;
+            tell_acl(*acl, told)
+        }
+        Op::GetObjectAcl { bucket, key } => tell_names(b"GetObjectAcl ", bucket, key, told),
         Op::GetObject { bucket, key } => tell_names(b"GetObject ", bucket, key, told),
         Op::HeadObject { bucket, key } => tell_names(b"HeadObject ", bucket, key, told),
         Op::DeleteObject { bucket, key } => tell_names(b"DeleteObject ", bucket, key, told),
         Op::PutObject {
             bucket,
             key,
+            acl,
             content_type,
             meta,
             body,
-            ..
         } => {
             tell_names(b"PutObject ", bucket, key, told)?;
             tell_name(b" ", content_type, told)?;
-            tell_content(meta, body, told)
+            tell_content(meta, body, told)?;
+            tell_given(*acl, told)
         }
+    }
+}
+
+fn tell_given(acl: Option<Acl>, told: &mut Bytes) -> Result<(), Memory> {
+    match acl {
+        Some(acl) => tell_acl(acl, told),
+        None => Ok(()),
+    }
+}
+
+fn tell_acl(acl: Acl, told: &mut Bytes) -> Result<(), Memory> {
+    match acl {
+        Acl::Private => told.append(b" private"),
+        Acl::PublicRead => told.append(b" public-read"),
     }
 }
 

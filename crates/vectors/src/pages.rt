@@ -5,19 +5,22 @@
 //! MOMENT ID`. What an object's reply bears stands in the lines of its case, `name: value`, with `meta: NAME VALUE` for an
 //! entry of its metadata, and its body behind an empty line. The answer is the page: its status, its headers, an empty line,
 //! its body. `code CODE` answers with the status of a refusal and the elements of its body that are the code's own.
-//! `location` and `completion` are in `bodies`.
+//! `not-modified MOMENT ID` has the lines of `object`, without a body. `done MOMENT ID`, `region MOMENT ID REGION`, `acl
+//! MOMENT ID private` or `public-read`, `started MOMENT ID UPLOAD BUCKET KEY` and `completed MOMENT ID ETAG BUCKET KEY` are
+//! further replies; UPLOAD is the id in decimal, and names have the escapes of texts. `location` and `completion` are in
+//! `bodies`, and the replies that list in `lists`.
 ghost use Rattle.std.specs.Prelude.{◌≡◌, ◌≢◌, ◌<◌, ◌≤◌, ◌+◌, ◌^◌, IfOk, IsTrue};
 ghost use Rattle.gate_base.specs.Told.{moment_limit};
 ghost use Rattle.s3_machine.specs.Shown.{IsShowable};
 
-use crate::answers::{NO_VERB, cut, number, text as told};
-use crate::bodies;
+use crate::answers::{cut, number, text as told};
 use crate::messages::{add_headers, cut_body, show_headers};
+use crate::{bodies, lists};
 use case_text::{Fault, unescaped};
 use gate_base::{Bytes, Caller, List, MOMENT_LIMIT, Page, Pair};
 use s3_bodies::page;
 use s3_machine::{Code, Label, ObjectHead, Reply};
-use s3_names::Meta;
+use s3_names::{Acl, Meta};
 use std::alloc::Global;
 use std::fmt::Write;
 
@@ -63,6 +66,9 @@ const BEFORE: &[u8] = b"<?xml version=\"1.0\" encoding=\"UTF-8\"?>\n<Error>";
 const BEHIND: &[u8] =
     b"<Resource></Resource><RequestId>00000000000000000000000000000000</RequestId></Error>";
 
+/// Why a reply can't be tried that has no page.
+pub(crate) const NO_PAGE: Fault = Fault::Unread("a reply without a page");
+
 pub(crate) fn answer(alloc: Global, verb: &str, text: &str, given: &[u8]) -> Result<Bytes, Fault> {
     match verb {
         "code" => code(alloc, text),
@@ -73,18 +79,22 @@ pub(crate) fn answer(alloc: Global, verb: &str, text: &str, given: &[u8]) -> Res
         "made" => made(alloc, text),
         "stored" => stored(alloc, text),
         "object" => object(alloc, text, given),
-        _ => Err(NO_VERB),
+        "done" => done(alloc, text),
+        "region" => region(alloc, text),
+        "acl" => acl(alloc, text),
+        "started" => started(alloc, text),
+        "completed" => completed(alloc, text),
+        "not-modified" => not_modified(alloc, text, given),
+        _ => lists::answer(alloc, verb, text, given),
     }
 }
 
 /// A label by its moment and the number of its request.
-fn label(moment: &str, id: &str) -> Result<Label, Fault>
+pub(crate) fn label(moment: &str, id: &str) -> Result<Label, Fault>
     ensures { IfOk result (λ label. label.moment < moment_limit) }
 {
     let moment = number(moment)?;
-    let Ok(request_id) = id.parse::<u128>() else {
-        return Err(Fault::Unread("no number of a request"));
-    };
+    let request_id = id_of(id)?;
     if moment >= MOMENT_LIMIT {
         return Err(Fault::Unread("a moment behind the year 9999"));
     }
@@ -94,6 +104,14 @@ fn label(moment: &str, id: &str) -> Result<Label, Fault>
         request_id,
         draw: 7,
     })
+}
+
+/// The number of a request or of an upload.
+pub(crate) fn id_of(text: &str) -> Result<u128, Fault> {
+    match text.parse::<u128>() {
+        Ok(id) => Ok(id),
+        Err(_) => Err(Fault::Unread("no number of a request")),
+    }
 }
 
 fn code_of(alloc: Global, name: &str) -> Result<Code, Fault> {
@@ -120,7 +138,12 @@ fn page_of(alloc: Global, reply: Reply, label: &Label, resource: &[u8]) -> Resul
 }
 
 /// The page of a reply, told.
-fn shown(alloc: Global, reply: Reply, label: &Label, resource: &[u8]) -> Result<Bytes, Fault>
+pub(crate) fn shown(
+    alloc: Global,
+    reply: Reply,
+    label: &Label,
+    resource: &[u8],
+) -> Result<Bytes, Fault>
     requires reply { reply ≢ Reply.Memory }
     requires showable { IsShowable reply }
     requires moment { label.now.moment < moment_limit }
@@ -200,6 +223,58 @@ fn stored(alloc: Global, text: &str) -> Result<Bytes, Fault> {
     shown(alloc, reply, &label, b"")
 }
 
+fn done(alloc: Global, text: &str) -> Result<Bytes, Fault> {
+    let (moment, id) = cut(text);
+    let label = label(moment, id)?;
+    shown(alloc, Reply::Done, &label, b"")
+}
+
+fn region(alloc: Global, text: &str) -> Result<Bytes, Fault> {
+    let (moment, rest) = cut(text);
+    let (id, name) = cut(rest);
+    let label = label(moment, id)?;
+    let region = told(alloc, name.as_bytes())?;
+    let reply = Reply::Location { region };
+    shown(alloc, reply, &label, b"")
+}
+
+fn acl(alloc: Global, text: &str) -> Result<Bytes, Fault> {
+    let (moment, rest) = cut(text);
+    let (id, name) = cut(rest);
+    let label = label(moment, id)?;
+    let acl = match name {
+        "private" => Acl::Private,
+        "public-read" => Acl::PublicRead,
+        _ => return Err(Fault::Unread("no access control list")),
+    };
+    shown(alloc, Reply::AclOf(acl), &label, b"")
+}
+
+fn started(alloc: Global, text: &str) -> Result<Bytes, Fault> {
+    let (moment, rest) = cut(text);
+    let (number, rest) = cut(rest);
+    let (upload, rest) = cut(rest);
+    let (bucket, key) = cut(rest);
+    let (label, id) = (label(moment, number)?, id_of(upload)?);
+    let bucket = told(alloc, bucket.as_bytes())?;
+    let key = unescaped(alloc, key)?;
+    let reply = Reply::Started { bucket, key, id };
+    shown(alloc, reply, &label, b"")
+}
+
+fn completed(alloc: Global, text: &str) -> Result<Bytes, Fault> {
+    let (moment, rest) = cut(text);
+    let (id, rest) = cut(rest);
+    let (etag, rest) = cut(rest);
+    let (bucket, key) = cut(rest);
+    let label = label(moment, id)?;
+    let etag = told(alloc, etag.as_bytes())?;
+    let bucket = told(alloc, bucket.as_bytes())?;
+    let key = unescaped(alloc, key)?;
+    let reply = Reply::Completed { bucket, key, etag };
+    shown(alloc, reply, &label, b"")
+}
+
 /// The numbers of an object's reply, which has a page.
 #[derive(Clone, Copy)]
 struct Numbers {
@@ -219,22 +294,45 @@ fn object(alloc: Global, text: &str, given: &[u8]) -> Result<Bytes, Fault> {
     object_of(alloc, &label, fields.as_slice(), body)
 }
 
-fn object_of(alloc: Global, label: &Label, fields: &[Pair], body: &str) -> Result<Bytes, Fault>
+fn not_modified(alloc: Global, text: &str, given: &[u8]) -> Result<Bytes, Fault> {
+    let (moment, id) = cut(text);
+    let label = label(moment, id)?;
+    let (lines, _) = cut_body(given)?;
+    let mut fields = List::new(alloc);
+    add_headers(alloc, lines, &mut fields)?;
+    unchanged(alloc, &label, fields.as_slice())
+}
+
+fn unchanged(alloc: Global, label: &Label, fields: &[Pair]) -> Result<Bytes, Fault>
     requires { label.now.moment < moment_limit }
 {
     let numbers = numbers_of(fields)?;
+    let head = head_of(alloc, &numbers, fields)?;
+    shown(alloc, Reply::NotModified(head), label, b"")
+}
+
+fn head_of(alloc: Global, numbers: &Numbers, fields: &[Pair]) -> Result<ObjectHead, Fault>
+    ensures { IfOk result (λ head. head.modified ≡ numbers.now.modified) }
+{
     let etag = told(alloc, field(fields, b"etag")?)?;
     let content_type = told(alloc, field(fields, b"type")?)?;
-    let body = told(alloc, body.as_bytes())?;
     let mut meta = Meta::new(alloc);
     add_meta(fields, &mut meta)?;
-    let head = ObjectHead {
+    Ok(ObjectHead {
         etag,
         modified: numbers.modified,
         size: numbers.size,
         content_type,
         meta,
-    };
+    })
+}
+
+fn object_of(alloc: Global, label: &Label, fields: &[Pair], body: &str) -> Result<Bytes, Fault>
+    requires { label.now.moment < moment_limit }
+{
+    let numbers = numbers_of(fields)?;
+    let head = head_of(alloc, &numbers, fields)?;
+    let body = told(alloc, body.as_bytes())?;
     let reply = Reply::Object {
         head,
         from: numbers.from,
@@ -255,7 +353,7 @@ fn numbers_of(fields: &[Pair]) -> Result<Numbers, Fault>
     let size = number_field(fields, b"size")?;
     let partial = field(fields, b"partial")? == b"yes".as_slice();
     if modified >= MOMENT_LIMIT || (partial && length == 0) {
-        return Err(Fault::Unread("an object without a page"));
+        return Err(NO_PAGE);
     }
     Ok(Numbers {
         modified,
@@ -272,19 +370,19 @@ fn range_of(fields: &[Pair]) -> Result<(u64, u64), Fault>
     let from = number_field(fields, b"from")?;
     let length = number_field(fields, b"length")?;
     if from > 1 << 63 || length > (1 << 63) - from {
-        return Err(Fault::Unread("an object without a page"));
+        return Err(NO_PAGE);
     }
     Ok((from, length))
 }
 
-fn number_field(fields: &[Pair], name: &[u8]) -> Result<u64, Fault> {
+pub(crate) fn number_field(fields: &[Pair], name: &[u8]) -> Result<u64, Fault> {
     let Ok(text) = str::from_utf8(field(fields, name)?) else {
         return Err(Fault::Unread("no number"));
     };
     number(text)
 }
 
-fn field<'a>(fields: &'a [Pair], name: &[u8]) -> Result<&'a [u8], Fault> {
+pub(crate) fn field<'a>(fields: &'a [Pair], name: &[u8]) -> Result<&'a [u8], Fault> {
     for field in fields {
         if field.name.as_slice() == name {
             return Ok(field.value.as_slice());
