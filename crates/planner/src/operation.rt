@@ -23,7 +23,7 @@ pub fn answer<W: Swift>(alloc: Global, state: &mut Settled<'_, W>, op: Op, label
     requires { IsProper op label.now }
     ensures stays { Stays state.old state.new }
 
-    // The calls amount to the operation, with one turn of the account from the old state to the new one.
+    // The calls amount to the operation, with at most one commit.
     ensures answered { Answered (most_calls op (present (W.history state.old.store.now))) (W.history state.old.store.now) (W.history state.new.store.now)
         state.old.settings.now op label.now known.Settled result }
 {

@@ -30,6 +30,7 @@ as_plan (Err fault) = Err (settle_fault fault)
 abbrev pub Anything : SwiftAccount → Type 0
 Anything tree = Unit {0}
 
+-- what settling tells: no completion is sealed on the account after it
 abbrev pub SettlesIt : SwiftAccount → SwiftAccount → Unit {0} → Type 0
 SettlesIt old new done = IsSettled new
 

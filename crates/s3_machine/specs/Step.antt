@@ -162,6 +162,7 @@ whole o = reply.Object (head_of o) 0 (length o.bytes) false o.bytes
 abbrev pub headed : Object → Reply
 headed o = reply.Object (head_of o) 0 (length o.bytes) false []
 
+-- GetObject and HeadObject: this answer, and the state stays
 abbrev pub reads : State → (Object → Reply) → Object → Outcome
 reads old answer o = gives (answer o) old
 

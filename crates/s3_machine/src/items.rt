@@ -19,8 +19,9 @@ impl Copying for BucketItem {
     }
 }
 
-/// What ListObjects asks for, in version 1 or 2 of it. The marker is version 1's, and the token and what is to start
-/// after are version 2's. `url` asks for escaped texts, and `owner` for the owner of each object.
+/// What ListObjects asks for, in version 1 or 2 of it. The marker is version 1's. The token, as the text that it stands
+/// for, and what is to start after are version 2's. `url` asks for escaped texts, and `owner` for the owner of each
+/// object.
 #[derive(Debug, Drop)]
 pub struct Asked {
     pub version: u8,
