@@ -1,4 +1,7 @@
+pub mod Ask
+pub mod Ascending
 pub mod Calm
+pub mod Created
 pub mod Dates
 pub mod Drop
 pub mod Etags
@@ -6,8 +9,13 @@ pub mod FaultFree
 pub mod Files
 pub mod Fits
 pub mod Head
+pub mod Listed
+pub mod Made
+pub mod Marks
 pub mod Names
 pub mod One
+pub mod Pages
 pub mod Put
 pub mod Settling
+pub mod Walk
 pub mod lemmas

@@ -39,10 +39,10 @@ pub grows_one : {old new : History} {request : SwiftRequest} {result : Result Sw
 grows_one {old = old} {new = new} {result = result} given calls = record { on = goes_one calls; calls = (counts_near old.called new.called result calls.counts).1 }
 
 -- the account at the number before the call is the one that it found
-found : {old new : History} {request : SwiftRequest} {result : Result SwiftReply SwiftFault} → Calls old new request result → IsTrue old.observable → new.tree_at old.called ≡ present old
+pub found : {old new : History} {request : SwiftRequest} {result : Result SwiftReply SwiftFault} → Calls old new request result → IsTrue old.observable → new.tree_at old.called ≡ present old
 found {old = old} calls observable = (calls.kept observable).accounts old.called (omega arith)
 
-fault_cause : (T : Type 0) (before now : ℕ) (fault : SwiftFault) → CountsFaults before now (Err fault) → CausesFault {T = T} before now (Err (plan_fault fault))
+pub fault_cause : (T : Type 0) (before now : ℕ) (fault : SwiftFault) → CountsFaults before now (Err fault) → CausesFault {T = T} before now (Err (plan_fault fault))
 fault_cause T before now Failed counts = counts
 fault_cause T before now Memory counts = counts
 
@@ -77,10 +77,10 @@ stays_settled {old = old} {new = new} {request = request} {result = result} leav
 
 -- ---- a call that failed
 
-lost_last : {h : History} {p q : ℕ} {request : SwiftRequest} → Lost h p q request → LastFailed h p q
+pub lost_last : {h : History} {p q : ℕ} {request : SwiftRequest} → Lost h p q request → LastFailed h p q
 lost_last {p = p} c = was_lost p (omega arith) c.next refl c.rose
 
-spent_last : {h : History} {p q : ℕ} → budget ≤ p → q ≡ p → LastFailed h p q
+pub spent_last : {h : History} {p q : ℕ} → budget ≤ p → q ≡ p → LastFailed h p q
 spent_last {h = h} spent same = had_none (omega arith) (ap h.faults_at same) (ap (λ k. s3_state (h.tree_at k)) same)
 
 -- ---- a call that tells of the state

@@ -1,0 +1,9 @@
+use Rattle.recovery.proofs.Ask.{asked_of, asked_of_in_vain}
+use Rattle.recovery.proofs.Pages.{page_reads}
+use Rattle.recovery.proofs.listing.page.Goals as goal
+
+pub returns-in_err-reply-clause-asks : goal.returns-in_err-reply-clause-asks
+returns-in_err-reply-clause-asks g c = asked_of_in_vain (page_reads c.in_ok-copy.ensures) c.in_err-reply.ensures _ c.from_residual-in_err-reply.ensures.1
+
+pub returns-clause-asks : goal.returns-clause-asks
+returns-clause-asks g c = asked_of (page_reads c.in_ok-copy.ensures) c.in_ok-reply.ensures _ c.names_in.ensures.due c.names_in.ensures.own
