@@ -122,6 +122,10 @@ IsWider (always n) (by_account most) = n ≤ most
 IsWider (by_account n) (always most) = ⊥
 IsWider (by_account n) (by_account most) = n ≤ most
 
+pub as_wide : (n : Bound) → IsWider n n
+as_wide (always n) = omega arith
+as_wide (by_account n) = omega arith
+
 -- a call, and then what the second bound allows
 abbrev pub IsOneMore : Bound → Bound → Type 0
 IsOneMore (always n) (always most) = 1 + n ≤ most
@@ -205,10 +209,10 @@ module _ {settings : Settings} {given : State → Type 0} {op : Op} {label : Lab
     knows = λ observable settled is. settled;
   })
 
-  module _ {T : Type 0} {P : State → T → Type 0} {a b : History} (within : IsWider (always 1) most) where
-    -- the call told nothing, and its fault is handed on
-    pub told_nothing : {fault : PlanFault} → Asks (always 1) a b IsSettled (Tells P) (Err fault) → (end : Result Reply PlanFault) → IsErrAnd end (λ e. e ≡ fault) → Plans most a b settings (Given given) op label Settled end
-    told_nothing {fault = fault} asks end is = subst (Plans most a b settings (Given given) op label Settled) (sym (err_is end fault is)) (record {
+  module _ {T : Type 0} {P : State → T → Type 0} {a b : History} (m : Bound) (within : IsWider m most) where
+    -- the calls told nothing, and their fault is handed on
+    pub calls_in_vain : {fault : PlanFault} → Asks m a b IsSettled (Tells P) (Err fault) → (end : Result Reply PlanFault) → IsErrAnd end (λ e. e ≡ fault) → Plans most a b settings (Given given) op label Settled end
+    calls_in_vain {fault = fault} asks end is = subst (Plans most a b settings (Given given) op label Settled) (sym (err_is end fault is)) (record {
       grows = grows_more within met_settled asks.grows;
       cause = cause_of (ends_by_commit op) a.faults b.faults (Err fault) (cause_same fault asks.cause);
       own = tt;
@@ -221,10 +225,10 @@ module _ {settings : Settings} {given : State → Type 0} {op : Op} {label : Lab
         cause_same Memory cause = cause
         cause_same Inconsistent cause = cause
 
-    -- by what the call told the plan ends
-    pub ends_by : {value : T} (told : T) → value ≡ told → (end : Result Reply PlanFault) → Asks (always 1) a b IsSettled (Tells P) (Ok value) → IfOk end IsOwnReply → end ≢ Err Failed
+    -- by what they told the plan ends
+    pub calls_end : {value : T} (told : T) → value ≡ told → (end : Result Reply PlanFault) → Asks m a b IsSettled (Tells P) (Ok value) → IfOk end IsOwnReply → end ≢ Err Failed
         → ((state : State) → given state → P state told → (reply : Reply) × (end ≡ Ok reply) × S3Step settings state op label reply state) → Plans most a b settings (Given given) op label Settled end
-    ends_by told is end asks own no_failure step = record {
+    calls_end told is end asks own no_failure step = record {
       grows = grows_more within met_settled asks.grows;
       cause = cause_of (ends_by_commit op) a.faults b.faults end (due_cause a.faults b.faults end asks.cause no_failure);
       own = own;
@@ -235,6 +239,15 @@ module _ {settings : Settings} {given : State → Type 0} {op : Op} {label : Lab
           subst (Ends settings b a.called b.called op label) (sym does.1) (quiet_step settings b a.called b.called op label does.0 reads.0 does.2);
       knows = λ observable settled is. asks.settled observable settled;
     }
+
+  -- the same of one call
+  module _ {T : Type 0} {P : State → T → Type 0} {a b : History} (within : IsWider (always 1) most) where
+    pub told_nothing : {fault : PlanFault} → Asks (always 1) a b IsSettled (Tells P) (Err fault) → (end : Result Reply PlanFault) → IsErrAnd end (λ e. e ≡ fault) → Plans most a b settings (Given given) op label Settled end
+    told_nothing asks end is = calls_in_vain (always 1) within asks end is
+
+    pub ends_by : {value : T} (told : T) → value ≡ told → (end : Result Reply PlanFault) → Asks (always 1) a b IsSettled (Tells P) (Ok value) → IfOk end IsOwnReply → end ≢ Err Failed
+        → ((state : State) → given state → P state told → (reply : Reply) × (end ≡ Ok reply) × S3Step settings state op label reply state) → Plans most a b settings (Given given) op label Settled end
+    ends_by told is end asks own no_failure step = calls_end (always 1) within told is end asks own no_failure step
 
     -- what it told is answered
     pub answers : {value : T} (told : T) → value ≡ told → (reply : Reply) → Asks (always 1) a b IsSettled (Tells P) (Ok value) → IsOwnReply reply

@@ -1,3 +1,4 @@
+pub mod BucketSteps
 pub mod CreateBucket
 pub mod Ends
 pub mod Replies

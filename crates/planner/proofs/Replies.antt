@@ -4,11 +4,16 @@ use Rattle.std.proofs.Common.{refl}
 use Rattle.gate_base.specs.Causes.{Rose}
 use Rattle.s3_machine.specs.declared.code.Code.TheVariants.{BucketAlreadyOwnedByYou, InconsistentStore, ServiceUnavailable}
 use Rattle.s3_machine.specs.declared.operation.Reply.{Reply}
-use Rattle.s3_machine.specs.declared.operation.Reply.TheVariants.{Refused, Made}
+use Rattle.s3_machine.specs.declared.operation.Reply.TheVariants.{Refused, Made, Buckets}
 use Rattle.recovery.specs.Fault.{CausesFault}
 use Rattle.recovery.specs.declared.fault.PlanFault.{PlanFault}
 use Rattle.recovery.specs.declared.fault.PlanFault.TheVariants.{Failed, Memory, Inconsistent}
-use Rattle.s3_machine.specs.Shown.{IsShowable}
+use Rattle.std.specs.List.{All}
+use Rattle.s3_machine.specs.declared.items.BucketItem.{BucketItem}
+use Rattle.s3_machine.specs.Shown.{IsShowable, IsShownBucket}
+use Rattle.recovery.specs.declared.bucket.Dropped.{Dropped}
+use Rattle.recovery.specs.declared.bucket.Dropped.TheVariants.{Gone, Full, Missing}
+use Rattle.planner.specs.Buckets.{dropped_reply, set_reply}
 use Rattle.planner.specs.Plan.{reply_of, IsOwnReply, CausesEnd}
 
 -- the replies of CreateBucket that are its own
@@ -47,3 +52,16 @@ showable_of (Ok reply) own = own.showable
 showable_of (Err Failed) own = tt
 showable_of (Err Memory) own = tt
 showable_of (Err Inconsistent) own = tt
+
+-- the replies of DeleteBucket and PutBucketAcl are their own
+pub dropped_is_own : (told : Dropped) → IsOwnReply (dropped_reply told)
+dropped_is_own Gone = record { showable = tt; no_memory = λ e. cc; no_failure = λ e. cc; no_inconsistency = λ e. cc }
+dropped_is_own Full = record { showable = tt; no_memory = λ e. cc; no_failure = λ e. cc; no_inconsistency = λ e. cc }
+dropped_is_own Missing = record { showable = tt; no_memory = λ e. cc; no_failure = λ e. cc; no_inconsistency = λ e. cc }
+
+pub set_is_own : (told : Bool) → IsOwnReply (set_reply told)
+set_is_own true = record { showable = tt; no_memory = λ e. cc; no_failure = λ e. cc; no_inconsistency = λ e. cc }
+set_is_own false = record { showable = tt; no_memory = λ e. cc; no_failure = λ e. cc; no_inconsistency = λ e. cc }
+
+pub buckets_is_own : (items : List BucketItem) → All IsShownBucket items → IsOwnReply (Buckets items)
+buckets_is_own items dated = record { showable = dated; no_memory = λ e. cc; no_failure = λ e. cc; no_inconsistency = λ e. cc }

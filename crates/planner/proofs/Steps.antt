@@ -24,15 +24,15 @@ use Rattle.planner.specs.Objects.{TellsReadable, headed_reply, whole_end}
 use Rattle.planner.proofs.CreateBucket.{missing_of}
 
 -- a bucket that is there, with the list that it has
-bucket_by : (o : Option Bucket) (acl : Acl) → option_map acl_of_bucket o ≡ Some acl → (b : Bucket) × (o ≡ Some b) × (b.acl ≡ acl)
+pub bucket_by : (o : Option Bucket) (acl : Acl) → option_map acl_of_bucket o ≡ Some acl → (b : Bucket) × (o ≡ Some b) × (b.acl ≡ acl)
 bucket_by None acl e = cc
 bucket_by (Some b) acl e = (b, refl, cc)
 
-no_object : (o : Option Object) → option_map head_of o ≡ None → o ≡ None
+pub no_object : (o : Option Object) → option_map head_of o ≡ None → o ≡ None
 no_object None e = refl
 no_object (Some x) e = cc
 
-object_by_head : (o : Option Object) (head : ObjectHead) → option_map head_of o ≡ Some head → (x : Object) × (o ≡ Some x) × (head_of x ≡ head)
+pub object_by_head : (o : Option Object) (head : ObjectHead) → option_map head_of o ≡ Some head → (x : Object) × (o ≡ Some x) × (head_of x ≡ head)
 object_by_head None head e = cc
 object_by_head (Some x) head e = (x, refl, cc)
 

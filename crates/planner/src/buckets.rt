@@ -2,17 +2,22 @@
 ghost use Rattle.std.specs.Prelude.{◌≡◌, ◌<◌, true, None};
 ghost use Rattle.gate_base.specs.Told.{moment_limit};
 ghost use Rattle.s3_names.specs.Bucket.{is_bucket};
-ghost use Rattle.s3_machine.specs.declared.operation.Op.TheVariants.{CreateBucket};
+ghost use Rattle.s3_machine.specs.declared.operation.Label.{Label};
+ghost use Rattle.s3_machine.specs.declared.operation.Op.TheVariants.{CreateBucket, DeleteBucket, GetLocation, HeadBucket, ListBuckets};
+ghost use Rattle.swift_calls.specs.History.{present};
+ghost use Rattle.recovery.specs.Answers.{most_calls};
 ghost use Rattle.recovery.specs.Calls.{always, Any, Given, TellsBucket};
 ghost use Rattle.recovery.specs.Lent.{Stays};
 ghost use Rattle.recovery.specs.declared.state.Known.TheVariants as known;
-ghost use Rattle.planner.specs.Plan.{Plans};
+ghost use Rattle.planner.specs.Buckets.{dropped_reply};
+ghost use Rattle.planner.specs.Plan.{Plans, ended};
 
 use crate::end::reply_after;
 use gate_base::{Bytes, Copying};
-use recovery::{PlanFault, Settled, head_bucket, make_bucket};
-use s3_machine::{Code, Label, Reply};
+use recovery::{Dropped, PlanFault, Settled, drop_bucket, head_bucket, make_bucket};
+use s3_machine::{Code, Label, Reply, may_read};
 use s3_names::Acl;
+use std::alloc::Global;
 use swift_calls::Swift;
 
 /// CreateBucket: HEAD of the container, then its PUT, which commits. At most two calls. The reply is made before
@@ -52,4 +57,80 @@ fn make_missing<W: Swift>(
         bucket: bucket.copy()?,
     };
     reply_after(make_bucket(state, bucket, acl, label.moment), reply)
+}
+
+/// ListBuckets: GET of the account page by page, then HEAD of each bucket's container. At most as many calls as there are
+/// pages and buckets, none of which commits. The faults are those of the calls.
+pub(crate) fn list_buckets<W: Swift>(
+    alloc: Global,
+    state: &mut Settled<'_, W>,
+) -> Result<Reply, PlanFault>
+    ensures stays { Stays state.old state.new }
+    ensures plans { (label : Label) → Plans (most_calls ListBuckets (present (W.history state.old.store.now)))
+        (W.history state.old.store.now) (W.history state.new.store.now) state.old.settings.now (Given Any) ListBuckets label known.Settled result }
+{
+    Ok(Reply::Buckets(recovery::list_buckets(alloc, state)?))
+}
+
+/// DeleteBucket: DELETE of the container, which commits. At most one call. The faults are those of the call.
+pub(crate) fn delete_bucket<W: Swift>(
+    state: &mut Settled<'_, W>,
+    bucket: Bytes,
+) -> Result<Reply, PlanFault>
+    requires { is_bucket bucket ≡ true }
+    ensures stays { Stays state.old state.new }
+    ensures plans { (label : Label) → Plans (always 1) (W.history state.old.store.now) (W.history state.new.store.now) state.old.settings.now
+        (Given Any) (DeleteBucket bucket) label known.Settled result }
+{
+    dropped_end(drop_bucket(state, bucket))
+}
+
+/// The end of DeleteBucket after its call.
+fn dropped_end(end: Result<Dropped, PlanFault>) -> Result<Reply, PlanFault>
+    ensures { result ≡ ended end dropped_reply }
+{
+    match end {
+        Ok(Dropped::Gone) => Ok(Reply::Gone),
+        Ok(Dropped::Full) => Ok(Reply::Refused(Code::BucketNotEmpty)),
+        Ok(Dropped::Missing) => Ok(Reply::Refused(Code::NoSuchBucket)),
+        Err(fault) => Err(fault),
+    }
+}
+
+/// HeadBucket: HEAD of the container. At most one call, which doesn't commit. The faults are those of the call.
+pub(crate) fn show_bucket<W: Swift>(
+    state: &mut Settled<'_, W>,
+    bucket: &Bytes,
+    label: &Label,
+) -> Result<Reply, PlanFault>
+    requires { is_bucket bucket.now ≡ true }
+    ensures stays { Stays state.old state.new }
+    ensures plans { Plans (always 1) (W.history state.old.store.now) (W.history state.new.store.now) state.old.settings.now
+        (Given Any) (HeadBucket bucket.now) label.now known.Settled result }
+{
+    let Some(list) = head_bucket(state, bucket)? else {
+        return Ok(Reply::Refused(Code::NoSuchBucket));
+    };
+    if !may_read(label.caller, list) {
+        return Ok(Reply::Refused(Code::AccessDenied));
+    }
+    Ok(Reply::Done)
+}
+
+/// GetLocation: HEAD of the container. At most one call, which doesn't commit. The text of the region is copied before the
+/// call. The faults are those of the call.
+pub(crate) fn get_location<W: Swift>(
+    state: &mut Settled<'_, W>,
+    bucket: &Bytes,
+) -> Result<Reply, PlanFault>
+    requires { is_bucket bucket.now ≡ true }
+    ensures stays { Stays state.old state.new }
+    ensures plans { (label : Label) → Plans (always 1) (W.history state.old.store.now) (W.history state.new.store.now) state.old.settings.now
+        (Given Any) (GetLocation bucket.now) label known.Settled result }
+{
+    let region = state.settings().region.copy()?;
+    match head_bucket(state, bucket)? {
+        Some(_) => Ok(Reply::Location { region }),
+        None => Ok(Reply::Refused(Code::NoSuchBucket)),
+    }
 }

@@ -2,6 +2,7 @@
 //! which one commits.
 #![tactic(auto)]
 
+mod acls;
 mod buckets;
 mod end;
 mod objects;

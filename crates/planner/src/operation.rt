@@ -8,7 +8,8 @@ ghost use Rattle.recovery.specs.Calls.{Any, Given};
 ghost use Rattle.recovery.specs.Lent.{Stays};
 ghost use Rattle.planner.specs.Plan.{reply_of, Plans, Answered};
 
-use crate::buckets::create_bucket;
+use crate::acls::{get_bucket_acl, get_object_acl, put_bucket_acl};
+use crate::buckets::{create_bucket, delete_bucket, get_location, list_buckets, show_bucket};
 use crate::objects::{delete_object, get_object, head_object, put_object};
 use recovery::{PlanFault, Settled};
 use s3_machine::{Code, Label, Op, Reply};
@@ -43,7 +44,13 @@ fn plan<W: Swift>(
         (Given Any) op label.now known.Settled result }
 {
     match op {
+        Op::ListBuckets => list_buckets(alloc, state),
         Op::CreateBucket { bucket, acl } => create_bucket(state, bucket, acl, label),
+        Op::DeleteBucket { bucket } => delete_bucket(state, bucket),
+        Op::HeadBucket { bucket } => show_bucket(state, &bucket, label),
+        Op::GetLocation { bucket } => get_location(state, &bucket),
+        Op::GetBucketAcl { bucket } => get_bucket_acl(state, &bucket),
+        Op::PutBucketAcl { bucket, acl } => put_bucket_acl(state, bucket, acl),
         Op::PutObject {
             bucket,
             key,
@@ -65,6 +72,7 @@ fn plan<W: Swift>(
         Op::GetObject { bucket, key } => get_object(alloc, state, bucket, key, label),
         Op::HeadObject { bucket, key } => head_object(alloc, state, &bucket, &key, label),
         Op::DeleteObject { bucket, key } => delete_object(state, bucket, key),
+        Op::GetObjectAcl { bucket, key } => get_object_acl(alloc, state, &bucket, &key),
     }
 }
 

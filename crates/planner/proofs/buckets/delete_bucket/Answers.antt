@@ -1,0 +1,11 @@
+use Rattle.std.proofs.Common.{sym, subst, lit≤}
+use Rattle.planner.specs.Plan.{Plans}
+use Rattle.planner.proofs.Ends.{commits}
+use Rattle.planner.proofs.Replies.{dropped_is_own}
+use Rattle.planner.proofs.BucketSteps.{dropped}
+use Rattle.planner.proofs.buckets.delete_bucket.Goals as goal
+
+pub returns-clause-plans : goal.returns-clause-plans
+returns-clause-plans g c = λ label.
+    subst (Plans _ _ _ _ _ _ _ _) (sym c.dropped_end.ensures)
+    (commits _ (lit≤ tt) c.drop_bucket.ensures.changes dropped_is_own (λ state any. tt) (λ state told new any does. dropped _ state _ _ told new does))

@@ -1,0 +1,20 @@
+use Rattle.std.specs.Prelude.{None, Some}
+use Rattle.std.proofs.Common.{◌∙◌, lit≤, rules}
+use Rattle.planner.proofs.Ends.{told_nothing, wants_memory, answers}
+use Rattle.planner.proofs.BucketSteps.{locate_missing, located}
+use Rattle.planner.proofs.buckets.get_location.Goals as goal
+
+pub returns-in_err-region-clause-plans : goal.returns-in_err-region-clause-plans
+returns-in_err-region-clause-plans g c = λ label. wants_memory _ _ c.from_residual.ensures.1
+
+pub returns-in_err-head_bucket-clause-plans : goal.returns-in_err-head_bucket-clause-plans
+returns-in_err-head_bucket-clause-plans g c = λ label. told_nothing (lit≤ tt) c.in_err-head_bucket.ensures.asks _ c.from_residual-in_err-head_bucket.ensures.1
+
+pub returns-in-Some-clause-plans : goal.returns-in-Some-clause-plans
+returns-in-Some-clause-plans g c = λ label.
+    answers (lit≤ tt) (Some c.in-Some.field-0) c.in-Some.is _ c.in_ok-head_bucket.ensures.asks (search rules)
+    (λ state any told. located _ state _ _ _ told _ (c.in_ok-region.ensures ∙ search rules))
+
+pub returns-in-None-clause-plans : goal.returns-in-None-clause-plans
+returns-in-None-clause-plans g c = λ label.
+    answers (lit≤ tt) None c.in-None.is _ c.in_ok-head_bucket.ensures.asks (search rules) (λ state any told. locate_missing _ state _ _ told)

@@ -1,0 +1,97 @@
+//! The plans of the operations on access control lists.
+ghost use Rattle.std.specs.Prelude.{◌≡◌, true, Some};
+ghost use Rattle.s3_names.specs.Bucket.{is_bucket};
+ghost use Rattle.s3_machine.specs.Step.{IsPlace};
+ghost use Rattle.s3_machine.specs.declared.operation.Label.{Label};
+ghost use Rattle.s3_machine.specs.declared.operation.Op.TheVariants.{GetBucketAcl, GetObjectAcl, PutBucketAcl};
+ghost use Rattle.recovery.specs.Calls.{always, Any, Given, TellsBucket};
+ghost use Rattle.recovery.specs.Lent.{Stays};
+ghost use Rattle.recovery.specs.declared.state.Known.TheVariants as known;
+ghost use Rattle.planner.specs.Buckets.{set_reply};
+ghost use Rattle.planner.specs.Plan.{Plans, ended};
+
+use gate_base::Bytes;
+use recovery::{PlanFault, Settled, head_bucket, set_acl};
+use s3_machine::{Code, Reply};
+use s3_names::Acl;
+use std::alloc::Global;
+use swift_calls::Swift;
+
+/// GetBucketAcl: HEAD of the container. At most one call, which doesn't commit. The faults are those of the call.
+pub(crate) fn get_bucket_acl<W: Swift>(
+    state: &mut Settled<'_, W>,
+    bucket: &Bytes,
+) -> Result<Reply, PlanFault>
+    requires { is_bucket bucket.now ≡ true }
+    ensures stays { Stays state.old state.new }
+    ensures plans { (label : Label) → Plans (always 1) (W.history state.old.store.now) (W.history state.new.store.now) state.old.settings.now
+        (Given Any) (GetBucketAcl bucket.now) label known.Settled result }
+{
+    match head_bucket(state, bucket)? {
+        Some(list) => Ok(Reply::AclOf(list)),
+        None => Ok(Reply::Refused(Code::NoSuchBucket)),
+    }
+}
+
+/// PutBucketAcl: POST of the container, which commits. At most one call. The faults are those of the call.
+pub(crate) fn put_bucket_acl<W: Swift>(
+    state: &mut Settled<'_, W>,
+    bucket: Bytes,
+    acl: Acl,
+) -> Result<Reply, PlanFault>
+    requires { is_bucket bucket ≡ true }
+    ensures stays { Stays state.old state.new }
+    ensures plans { (label : Label) → Plans (always 1) (W.history state.old.store.now) (W.history state.new.store.now) state.old.settings.now
+        (Given Any) (PutBucketAcl bucket acl) label known.Settled result }
+{
+    set_end(set_acl(state, bucket, acl))
+}
+
+/// The end of PutBucketAcl after its call.
+fn set_end(end: Result<bool, PlanFault>) -> Result<Reply, PlanFault>
+    ensures { result ≡ ended end set_reply }
+{
+    match end {
+        Ok(true) => Ok(Reply::Done),
+        Ok(false) => Ok(Reply::Refused(Code::NoSuchBucket)),
+        Err(fault) => Err(fault),
+    }
+}
+
+/// GetObjectAcl: HEAD of the bucket's container, then HEAD of the object's file. At most two calls, none of which commits.
+/// The list is the bucket's. The faults are those of the calls.
+pub(crate) fn get_object_acl<W: Swift>(
+    alloc: Global,
+    state: &mut Settled<'_, W>,
+    bucket: &Bytes,
+    key: &Bytes,
+) -> Result<Reply, PlanFault>
+    requires place { IsPlace bucket.now key.now }
+    ensures stays { Stays state.old state.new }
+    ensures plans { (label : Label) → Plans (always 2) (W.history state.old.store.now) (W.history state.new.store.now) state.old.settings.now
+        (Given Any) (GetObjectAcl bucket.now key.now) label known.Settled result }
+{
+    let Some(list) = head_bucket(state, bucket)? else {
+        return Ok(Reply::Refused(Code::NoSuchBucket));
+    };
+    acl_within(alloc, state, bucket, key, list)
+}
+
+/// The rest of GetObjectAcl, in a bucket that has this access control list.
+fn acl_within<W: Swift>(
+    alloc: Global,
+    state: &mut Settled<'_, W>,
+    bucket: &Bytes,
+    key: &Bytes,
+    list: Acl,
+) -> Result<Reply, PlanFault>
+    requires place { IsPlace bucket.now key.now }
+    ensures stays { Stays state.old state.new }
+    ensures plans { (label : Label) → Plans (always 1) (W.history state.old.store.now) (W.history state.new.store.now) state.old.settings.now
+        (Given (λ s. TellsBucket bucket.now s (Some list))) (GetObjectAcl bucket.now key.now) label known.Settled result }
+{
+    let Some(_) = recovery::head_object(alloc, state, bucket, key)? else {
+        return Ok(Reply::Refused(Code::NoSuchKey));
+    };
+    Ok(Reply::AclOf(list))
+}
