@@ -1,14 +1,14 @@
 -- A part: one number and one ETag, with checksums around them.
 use Rattle.std.proofs.lemmas.List.{length-append}
 use Rattle.std.proofs.Common.{◌≢◌, ◌<◌, ap, append_assoc, ◌∙◌, ℕ, inl, List, [], ◌∷◌, ◌++◌, length, refl, arith, Result, Ok, Err, codes}
-use Rattle.xml_forms.specs.Forms.{Begins, Stops, Reads, Either, Exactly, Then, Word, Unique, Apart, Possible, Opens, nearer}
+use Rattle.xml_forms.specs.Forms.{Begins, Stops, Reads, Either, Exactly, Word, Unique, Apart, Possible, Opens, nearer}
 use Rattle.xml_forms.specs.Runs.{has, IsRun, Spaced}
 use Rattle.xml_forms.specs.declared.class.Class.TheVariants.{Space}
 use Rattle.xml_forms.proofs.Choices.{Heads, either_unique, heads_apart}
 use Rattle.xml_forms.proofs.Elements.{exactly_begins, exactly_stops, exactly_unique}
 use Rattle.xml_forms.proofs.Manies.{apart_sym, apart_then, many_reads, many_some, many_unique, skips_more, skips_none, spaced_apart}
 use Rattle.xml_forms.proofs.Readers.{apart_either, exactly_heads, opens_heads, spaced_reads, spaced_shorter, spaced_some, spaced_unique, then_reads, word_heads}
-use Rattle.xml_forms.proofs.Sequence.{then_stops_first, then_unique, word_unique}
+use Rattle.xml_forms.proofs.Sequence.{then_some, then_stops_first, then_unique, word_unique}
 use Rattle.s3_bodies.specs.Completion.{Checksum, Checksums, Etag, EtagFirst, EtagThen, Number, NumberFirst, NumberThen, Part, PartEnd, PartInside, PartLast}
 use Rattle.s3_bodies.specs.PartReaders.{SkipsChecksums}
 use Rattle.s3_bodies.proofs.Checksums.{checksum_heads, checksum_opens, checksum_unique}
@@ -93,10 +93,6 @@ spaced_number = spaced_unique Number number_opens number_unique
 
 spaced_etag : Unique (Spaced Etag)
 spaced_etag = spaced_unique Etag etag_opens etag_unique
-
-module _ {A B : Type 0} (F : A → List ℕ → Type 0) (G : A → B → List ℕ → Type 0) where
-  pub then_some : Possible F → ((a : A) → Possible (G a)) → Possible (Then F G)
-  then_some f g = let i = g f.value in record { value = i.value; word = f.word ++ i.word; spells = record { value = f.value; head = f.word; tail = i.word; heads = f.spells; tails = i.spells; at = refl } }
 
 pub etag_then_breaks : (number : ℕ) (bytes : List ℕ) (left : ℕ) → Stops (Spaced Etag) bytes left → Stops (EtagThen number) bytes left
 etag_then_breaks number bytes left s = then_stops_first (Spaced Etag) (λ etag. PartLast (number, etag)) (λ etag. last_some (number, etag)) bytes left s

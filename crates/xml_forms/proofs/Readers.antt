@@ -106,3 +106,31 @@ spaced_unique F opens unique = ran_unique (has Space) (Sized false None) (λ _. 
 
 pub spaced_some : {B : Type 0} (F : B → List ℕ → Type 0) → Possible F → Possible (Spaced F)
 spaced_some F some = record { value = some.value; word = some.word; spells = record { run = []; tail = some.word; passes = refl; is_allowed = any_run []; tails = some.spells; at = refl } }
+
+-- ---- a word that stands for a value
+
+abbrev pub with_value : {A : Type 0} → A → Result (Unit {0} × List ℕ) ℕ → Result (A × List ℕ) ℕ
+with_value v (Ok x) = Ok (v, x.1)
+with_value v (Err left) = Err left
+
+pub spaced_exactly : {A : Type 0} (v : A) (w bytes : List ℕ) (r : Result (Unit {0} × List ℕ) ℕ) → Reads (Spaced (Word w)) bytes r → Reads (Spaced (Exactly v w)) bytes (with_value v r)
+spaced_exactly v w bytes (Ok x) p = record {
+  word = p.word;
+  at = p.at;
+  spells = record { run = p.spells.run; tail = p.spells.tail; passes = p.spells.passes; is_allowed = p.spells.is_allowed; tails = (refl, p.spells.tails); at = p.spells.at };
+}
+spaced_exactly v w bytes (Err left) s = record {
+  front = s.front;
+  rest = s.rest;
+  at = s.at;
+  counts = s.counts;
+  value = v;
+  more = s.more;
+  lives = record { run = s.lives.run; tail = s.lives.tail; passes = s.lives.passes; is_allowed = s.lives.is_allowed; tails = (refl, s.lives.tails); at = s.lives.at };
+  dead = λ a word after next f follows e.
+      s.dead tt word after next (record { run = f.run; tail = f.tail; passes = f.passes; is_allowed = f.is_allowed; tails = f.tails.1; at = f.at }) follows e;
+}
+
+pub nearer_value : {A : Type 0} (v : A) (left : ℕ) (r : Result (Unit {0} × List ℕ) ℕ) → nearer (Err left) (with_value v r) ≡ with_value v (nearer (Err left) r)
+nearer_value v left (Ok x) = refl
+nearer_value v left (Err l) = refl

@@ -50,6 +50,9 @@ module _ {A B : Type 0} (F : A → List ℕ → Type 0) (G : A → B → List �
         (t.0, p.at ∙ ap (λ w. w ++ p.tail) h.1 ∙ ap (λ w. q.head ++ w) t.1 ∙ sym q.at);
   }
 
+  pub then_some : Possible F → ((a : A) → Possible (G a)) → Possible (Then F G)
+  then_some f g = let i = g f.value in record { value = i.value; word = f.word ++ i.word; spells = record { value = f.value; head = f.word; tail = i.word; heads = f.spells; tails = i.spells; at = refl } }
+
 pub word_unique : (w : List ℕ) → Unique (Word w)
 word_unique w = record { one = λ a b x y u v p q e. (refl, p ∙ sym q) }
 
