@@ -1,8 +1,9 @@
 -- A request means an operation that keeps the limits, or a code that is none for a store that failed.
-use Rattle.std.proofs.Common.{◌≡◌, ◌≢◌, ◌≤◌, ℕ, Bool, true, false, not, ◌&&◌, cond, nat_lt, List, [], ◌∷◌, length, Option, Some, None, find, refl, ap, subst, arith}
+use Rattle.std.proofs.Common.{◌≡◌, ◌≢◌, ◌≤◌, ℕ, Bool, true, false, not, ◌&&◌, cond, nat_lt, List, [], ◌∷◌, length, Option, Some, None, find, refl, ap, ◌∙◌, subst, arith}
 use Rattle.std.proofs.lemmas.Bool.{and_parts, not-false}
 use Rattle.std.proofs.lemmas.Bool.Decides.{nat_tests}
 use Rattle.gate_base.specs.declared.caller.Caller.{Caller}
+use Rattle.s3_names.specs.declared.acl.Acl.{Acl}
 use Rattle.s3_names.specs.declared.target.Target.{Target}
 use Rattle.s3_names.specs.Bucket.{is_bucket}
 use Rattle.s3_names.specs.Key.{is_key}
@@ -17,11 +18,13 @@ use Rattle.gateway.specs.declared.meant.Meant.TheVariants.{Refused, Memory}
 use Rattle.gateway.specs.declared.rows.Level.{Level}
 use Rattle.gateway.specs.declared.rows.Level.TheVariants.{Service, Bucket, Key}
 use Rattle.gateway.specs.declared.rows.Row.{Row}
-use Rattle.gateway.specs.declared.rows.Row.TheVariants.{CreateBucket, PutObject, GetObject, HeadObject, DeleteObject}
+use Rattle.gateway.specs.declared.rows.Row.TheVariants.{ListBuckets, CreateBucket, PutBucketAcl, DeleteBucket, HeadBucket, GetBucketLocation}
+use Rattle.gateway.specs.declared.rows.Row.TheVariants.{GetBucketAcl, PutObject, GetObject, HeadObject, DeleteObject, GetObjectAcl}
 use Rattle.gateway.specs.Rows.{rows, shape_of, level_of, is_same_level, is_same_set, fits}
+use Rattle.gateway.specs.Headers.{given_acl}
 use Rattle.gateway.specs.ResolvedRequest.{IsProperMeant}
 use Rattle.gateway.specs.Proper.{IsProperCode}
-use Rattle.gateway.specs.Meaning.{Reason, first_refusal, target_reasons, reasons, row_of, judged, op_of, meaning_of}
+use Rattle.gateway.specs.Meaning.{Reason, first_refusal, target_reasons, reasons, row_of, judged, put_acl, op_of, meaning_of}
 
 -- ---- the reasons
 
@@ -55,6 +58,11 @@ refusal_proper [] rest all otherwise = otherwise tt
 refusal_proper (this ∷ others) rest all otherwise =
     chosen_proper this.holds this.code (first_refusal others rest) all.0
     (λ e. refusal_proper others rest all.1 (λ none. otherwise (e, none)))
+
+-- where no reason holds, the rest is meant
+pub none_refuses : (list : List Reason) (rest : Meant) → NoneHolds list → first_refusal list rest ≡ rest
+none_refuses [] rest none = refl
+none_refuses (this ∷ others) rest none = ap (λ b. cond b (Refused this.code) (first_refusal others rest)) none.0 ∙ none_refuses others rest none.1
 
 -- ---- the operations
 
@@ -109,21 +117,36 @@ place_of message target e none = record {
 short : (body : List ℕ) → nat_lt most_body_bytes (length body) ≡ false → length body ≤ most_body_bytes
 short body h = grind (arith, nat_tests)
 
+-- the bucket of a request to a bucket
+bucket_of : (message : Message) (target : Target) → level_of target.bucket target.key ≡ Bucket → NoneHolds (target_reasons message target) → is_bucket target.bucket ≡ true
+bucket_of message target e none = bucket_at _ target.bucket (no_service _ e) none.1.0
+
+put_acl_proper : (bucket : List ℕ) (acl : Option Acl) → is_bucket bucket ≡ true → IsProperMeant (put_acl bucket acl)
+put_acl_proper bucket None named = proper_code NotImplemented refl
+put_acl_proper bucket (Some acl) named = named
+
 op_proper : (row : Row) (message : Message) (target : Target) (caller : Caller) → row_of message target ≡ Some row → NoneHolds (target_reasons message target) → NoneHolds (reasons row message target caller) → IsProperMeant (op_of row message target)
-op_proper CreateBucket message target caller e none also =
-    bucket_at _ target.bucket (no_service _ (at_level message target CreateBucket e)) none.1.0
+op_proper ListBuckets message target caller e none also = tt
+op_proper CreateBucket message target caller e none also = bucket_of message target (at_level message target CreateBucket e) none
+op_proper PutBucketAcl message target caller e none also =
+    put_acl_proper target.bucket (given_acl message.headers) (bucket_of message target (at_level message target PutBucketAcl e) none)
+op_proper DeleteBucket message target caller e none also = bucket_of message target (at_level message target DeleteBucket e) none
+op_proper HeadBucket message target caller e none also = bucket_of message target (at_level message target HeadBucket e) none
+op_proper GetBucketLocation message target caller e none also = bucket_of message target (at_level message target GetBucketLocation e) none
+op_proper GetBucketAcl message target caller e none also = bucket_of message target (at_level message target GetBucketAcl e) none
 op_proper PutObject message target caller e none also =
-    let content = also.1.1.1.1.1.1.1.1.1.1.1.1 in
+    let content = also.1.1.1.1.1.1.1.1.1.1.1.1.1 in
     (place_of message target (at_level message target PutObject e) none, record { typed = is_named _ content.0; described = is_named _ content.1.1.0; sized = short message.body content.1.1.1.0 })
 op_proper GetObject message target caller e none also = place_of message target (at_level message target GetObject e) none
 op_proper HeadObject message target caller e none also = place_of message target (at_level message target HeadObject e) none
 op_proper DeleteObject message target caller e none also = place_of message target (at_level message target DeleteObject e) none
+op_proper GetObjectAcl message target caller e none also = place_of message target (at_level message target GetObjectAcl e) none
 op_proper _ message target caller e none also = proper_code NotImplemented refl
 
 -- ---- the meaning
 
 own : (row : Row) (message : Message) (target : Target) (caller : Caller) → AllProper (reasons row message target caller)
-own row message target caller = (refl, (refl, (refl, (refl, (refl, (refl, (refl, (refl, (refl, (refl, (refl, (refl, (refl, (refl, (refl, (refl, (refl, tt)))))))))))))))))
+own row message target caller = (refl, (refl, (refl, (refl, (refl, (refl, (refl, (refl, (refl, (refl, (refl, (refl, (refl, (refl, (refl, (refl, (refl, (refl, tt))))))))))))))))))
 
 judged_proper : (found : Option Row) (message : Message) (target : Target) (caller : Caller) → row_of message target ≡ found → NoneHolds (target_reasons message target) → IsProperMeant (judged found message target caller)
 judged_proper None message target caller e none = proper_code MethodNotAllowed refl
@@ -145,12 +168,23 @@ refusal_known : (list : List Reason) (rest : Meant) → rest ≢ Memory → firs
 refusal_known [] rest known = known
 refusal_known (this ∷ others) rest known = chosen_known this.holds this.code (first_refusal others rest) (refusal_known others rest known)
 
+put_acl_known : (bucket : List ℕ) (acl : Option Acl) → put_acl bucket acl ≢ Memory
+put_acl_known bucket None e = cc
+put_acl_known bucket (Some acl) e = cc
+
 op_known : (row : Row) (message : Message) (target : Target) → op_of row message target ≢ Memory
+op_known ListBuckets message target e = cc
 op_known CreateBucket message target e = cc
+op_known PutBucketAcl message target e = put_acl_known target.bucket (given_acl message.headers) e
+op_known DeleteBucket message target e = cc
+op_known HeadBucket message target e = cc
+op_known GetBucketLocation message target e = cc
+op_known GetBucketAcl message target e = cc
 op_known PutObject message target e = cc
 op_known GetObject message target e = cc
 op_known HeadObject message target e = cc
 op_known DeleteObject message target e = cc
+op_known GetObjectAcl message target e = cc
 op_known _ message target e = cc
 
 judged_known : (found : Option Row) (message : Message) (target : Target) (caller : Caller) → judged found message target caller ≢ Memory

@@ -4,7 +4,8 @@ use Rattle.s3_machine.specs.declared.code.Code.{Code}
 use Rattle.s3_machine.specs.declared.code.Code.TheVariants.{AccessDenied, AuthorizationHeaderMalformed, BadDigest, BucketAlreadyOwnedByYou, BucketNotEmpty, EntityTooLarge, EntityTooSmall, IncompleteBody, InconsistentStore, InvalidAccessKeyId, InvalidArgument, InvalidBucketName, InvalidDigest, InvalidPart, InvalidPartOrder, InvalidRange, InvalidRequest, InvalidStorageClass, InvalidURI, KeyTooLongError, MalformedXML, MetadataTooLarge, MethodNotAllowed, MissingContentLength, NoSuchBucket, NoSuchKey, NoSuchUpload, NotImplemented, PreconditionFailed, RequestTimeTooSkewed, ServiceUnavailable, SignatureDoesNotMatch, XAmzContentSHA256Mismatch}
 use Rattle.s3_machine.specs.declared.operation.Label.{Label}
 use Rattle.s3_machine.specs.declared.operation.Reply.{Reply}
-use Rattle.s3_machine.specs.declared.operation.Reply.TheVariants.{Refused, Memory, Gone, Made, Stored, Object}
+use Rattle.s3_machine.specs.declared.operation.Reply.TheVariants.{Refused, Memory, Done, Gone, NotModified, Buckets, Made, Location, AclOf, Objects}
+use Rattle.s3_machine.specs.declared.operation.Reply.TheVariants.{Uploads, Stored, Object, Started, Parts, Completed}
 use Rattle.http_wire.specs.Print.{IsReplyStatus}
 use Rattle.s3_bodies.specs.Pages.{page_of, read_status}
 use Rattle.s3_bodies.specs.Codes.{status_of}
@@ -52,7 +53,17 @@ object_status false = refl
 pub reply_status : (reply : Reply) (label : Label) (resource : List ℕ) → IsReplyStatus (page_of reply label resource).status
 reply_status (Refused code) label resource = code_status code
 reply_status Memory label resource = refl
+reply_status Done label resource = refl
 reply_status Gone label resource = refl
+reply_status (NotModified head) label resource = refl
+reply_status (Buckets items) label resource = refl
 reply_status (Made bucket) label resource = refl
+reply_status (Location region) label resource = refl
+reply_status (AclOf acl) label resource = refl
+reply_status (Objects bucket asked items truncated) label resource = refl
+reply_status (Uploads bucket prefix key_marker id_marker max items truncated) label resource = refl
 reply_status (Stored etag) label resource = refl
 reply_status (Object head from length partial body) label resource = object_status partial
+reply_status (Started bucket key id) label resource = refl
+reply_status (Parts bucket key id marker max items truncated) label resource = refl
+reply_status (Completed bucket key etag) label resource = refl

@@ -1,12 +1,15 @@
 -- What the headers of a request say. Sources: RFC 9110, section 5.3 (several headers of one name), and Amazon S3 API
 -- Reference, "Common request headers"; which of them are refused is this profile.
-use Rattle.std.specs.Prelude.{ℕ, Bool, false, not, ◌&&◌, ◌||◌, nat_eq, List, [], ◌∷◌, codes, bytes_eq}
+use Rattle.std.specs.Prelude.{ℕ, Bool, false, not, ◌&&◌, ◌||◌, nat_eq, if◌then◌else◌, List, [], ◌∷◌, Option, Some, None, is_none, codes, bytes_eq}
 use Rattle.std.specs.List.{list_any, starts_with}
 use Rattle.gate_base.specs.declared.page.Pair.{Pair}
+use Rattle.s3_names.specs.declared.acl.Acl.{Acl}
+use Rattle.s3_names.specs.declared.acl.Acl.TheVariants.{Private, PublicRead}
 use Rattle.http_wire.specs.Headers.{has_header, text_of}
 use Rattle.gateway.specs.declared.rows.Level.{Level}
 use Rattle.gateway.specs.declared.rows.Level.TheVariants.{Key}
-use Rattle.gateway.specs.Rows.{is_same_level}
+use Rattle.gateway.specs.declared.rows.Row.{Row}
+use Rattle.gateway.specs.Rows.{shape_of, is_same_level}
 
 -- copies, tags, redirections and the tokens of sessions
 abbrev pub is_unsupported_name : List ℕ → Bool
@@ -53,9 +56,26 @@ is_conditional headers =
 abbrev pub is_conditional_read : List ℕ → Level → List Pair → Bool
 is_conditional_read method level headers = is_read method && is_same_level level Key && is_conditional headers
 
--- an access control list, where it isn't built
+-- the canned access control list of a name, if the profile has it
+abbrev pub acl_named : List ℕ → Option Acl
+acl_named name =
+    if bytes_eq name (codes "private") then Some Private else if bytes_eq name (codes "public-read") then Some PublicRead else None
+
+-- there is a header that names one
 abbrev pub names_acl : List Pair → Bool
 names_acl headers = has_header (codes "x-amz-acl") headers
+
+-- the one that is named, if any is
+abbrev pub given_acl : List Pair → Option Acl
+given_acl headers = acl_named (text_of (codes "x-amz-acl") headers)
+
+-- a name of another list
+abbrev pub has_other_acl : List Pair → Bool
+has_other_acl headers = names_acl headers && is_none (given_acl headers)
+
+-- no list is named where one is put
+abbrev pub lacks_acl : Row → List Pair → Bool
+lacks_acl row headers = (shape_of row).needs_acl && not (names_acl headers)
 
 -- a storage class other than `STANDARD`
 abbrev pub has_other_class : List Pair → Bool

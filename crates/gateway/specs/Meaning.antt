@@ -1,9 +1,10 @@
 -- What a request means: an operation, or the first reason to refuse it. Source: Amazon S3 API Reference, restated by
 -- this profile; the order of the refusals is this profile's, and what isn't built is NotImplemented.
-use Rattle.std.specs.Prelude.{◌≡◌, Bool, false, not, ◌&&◌, nat_lt, if◌then◌else◌, List, [], ◌∷◌, length, Option, Some, None}
+use Rattle.std.specs.Prelude.{◌≡◌, Bool, false, not, ◌&&◌, nat_lt, if◌then◌else◌, ℕ, List, [], ◌∷◌, length, Option, Some, None}
 use Rattle.gate_base.specs.declared.caller.Caller.{Caller}
 use Rattle.gate_base.specs.declared.caller.Caller.TheVariants.{Owner, Anonymous}
 use Rattle.s3_names.specs.declared.key.TheConstants.{MOST_KEY_BYTES}
+use Rattle.s3_names.specs.declared.acl.Acl.{Acl}
 use Rattle.s3_names.specs.declared.acl.Acl.TheVariants.{Private}
 use Rattle.s3_names.specs.declared.target.Target.{Target}
 use Rattle.s3_names.specs.Bucket.{is_bucket}
@@ -20,10 +21,11 @@ use Rattle.gateway.specs.declared.meant.Meant.{Meant}
 use Rattle.gateway.specs.declared.meant.Meant.TheVariants.{Op, Refused}
 use Rattle.gateway.specs.declared.rows.Level.TheVariants.{Service, Key}
 use Rattle.gateway.specs.declared.rows.Row.{Row}
-use Rattle.gateway.specs.declared.rows.Row.TheVariants.{CreateBucket, PutObject, GetObject, HeadObject, DeleteObject}
+use Rattle.gateway.specs.declared.rows.Row.TheVariants.{ListBuckets, CreateBucket, PutBucketAcl, DeleteBucket, HeadBucket, GetBucketLocation}
+use Rattle.gateway.specs.declared.rows.Row.TheVariants.{GetBucketAcl, PutObject, GetObject, HeadObject, DeleteObject, GetObjectAcl}
 use Rattle.gateway.specs.Rows.{shape_of, is_method, level_of, is_same_level, row_for}
 use Rattle.gateway.specs.Query.{has_unknown_name, has_foreign_name, has_name_twice}
-use Rattle.gateway.specs.Headers.{has_unsupported, is_chunked, is_conditional_write, is_conditional_read, names_acl, has_other_class}
+use Rattle.gateway.specs.Headers.{has_unsupported, is_chunked, is_conditional_write, is_conditional_read, given_acl, has_other_acl, lacks_acl, has_other_class}
 use Rattle.gateway.specs.Content.{has_bad_digest, is_other_body, taken_type, taken_meta, has_bad_entry, is_long_body, has_unread_body}
 
 -- a reason to refuse, and whether it holds
@@ -72,13 +74,17 @@ caller_reasons row caller = reason (is_denied row caller) AccessDenied ∷ []
 
 abbrev pub content_reasons : Row → Message → Caller → List Reason
 content_reasons row message caller =
-    reason (has_bad_digest message.headers) InvalidDigest
-    ∷ reason (is_other_body message.headers message.body) BadDigest
-    ∷ reason (not (is_content_type (taken_type row message.headers))) InvalidArgument
+    reason (not (is_content_type (taken_type row message.headers))) InvalidArgument
     ∷ reason (has_bad_entry (taken_meta row message.headers)) InvalidArgument
     ∷ reason (not (is_proper_meta (taken_meta row message.headers))) MetadataTooLarge
     ∷ reason (is_long_body message.body) EntityTooLarge
     ∷ caller_reasons row caller
+
+abbrev pub digest_reasons : Row → Message → Caller → List Reason
+digest_reasons row message caller =
+    reason (has_bad_digest message.headers) InvalidDigest
+    ∷ reason (is_other_body message.headers message.body) BadDigest
+    ∷ content_reasons row message caller
 
 abbrev pub header_reasons : Row → Message → Target → Caller → List Reason
 header_reasons row message target caller =
@@ -86,10 +92,11 @@ header_reasons row message target caller =
     ∷ reason (is_chunked message.headers) NotImplemented
     ∷ reason (is_conditional_write message.method message.headers) NotImplemented
     ∷ reason (is_conditional_read message.method (level_of target.bucket target.key) message.headers) NotImplemented
-    ∷ reason (names_acl message.headers) NotImplemented
+    ∷ reason (has_other_acl message.headers) NotImplemented
+    ∷ reason (lacks_acl row message.headers) NotImplemented
     ∷ reason (has_unread_body row message.body) NotImplemented
     ∷ reason (has_other_class message.headers) InvalidStorageClass
-    ∷ content_reasons row message caller
+    ∷ digest_reasons row message caller
 
 abbrev pub reasons : Row → Message → Target → Caller → List Reason
 reasons row message target caller =
@@ -104,14 +111,38 @@ reasons row message target caller =
 abbrev pub row_of : Message → Target → Option Row
 row_of message target = row_for message.method (level_of target.bucket target.key) target.query
 
+-- a bucket is private where no list is named
+abbrev pub or_private : Option Acl → Acl
+or_private None = Private
+or_private (Some acl) = acl
+
+-- the list of a bucket is put where one is named
+abbrev pub put_acl : List ℕ → Option Acl → Meant
+put_acl bucket None = Refused NotImplemented
+put_acl bucket (Some acl) = Op (op.PutBucketAcl bucket acl)
+
 -- the operation that a row asks for; NotImplemented where it isn't built
 abbrev pub op_of : Row → Message → Target → Meant
-op_of CreateBucket message target = Op (op.CreateBucket target.bucket Private)
+op_of ListBuckets message target = Op op.ListBuckets
+op_of CreateBucket message target = Op (op.CreateBucket target.bucket (or_private (given_acl message.headers)))
+op_of PutBucketAcl message target = put_acl target.bucket (given_acl message.headers)
+op_of DeleteBucket message target = Op (op.DeleteBucket target.bucket)
+op_of HeadBucket message target = Op (op.HeadBucket target.bucket)
+op_of GetBucketLocation message target = Op (op.GetLocation target.bucket)
+op_of GetBucketAcl message target = Op (op.GetBucketAcl target.bucket)
 op_of PutObject message target =
-    Op (op.PutObject target.bucket target.key None (taken_type PutObject message.headers) (taken_meta PutObject message.headers) message.body)
+    Op
+    (op.PutObject
+     target.bucket
+     target.key
+     (given_acl message.headers)
+     (taken_type PutObject message.headers)
+     (taken_meta PutObject message.headers)
+     message.body)
 op_of GetObject message target = Op (op.GetObject target.bucket target.key)
 op_of HeadObject message target = Op (op.HeadObject target.bucket target.key)
 op_of DeleteObject message target = Op (op.DeleteObject target.bucket target.key)
+op_of GetObjectAcl message target = Op (op.GetObjectAcl target.bucket target.key)
 op_of _ message target = Refused NotImplemented
 
 -- a request without a row is refused

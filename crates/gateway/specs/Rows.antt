@@ -13,8 +13,8 @@ use Rattle.gateway.specs.declared.rows.Row.TheVariants.{HeadObject, DeleteObject
 use Rattle.gateway.specs.declared.rows.Row.TheVariants.{CompleteMultipartUpload, AbortMultipartUpload}
 
 -- what the table says in a row: its method, its level, the selectors that the query has, and the further names that it may have;
--- whether the operation is built, whether anybody may ask for it, whether it takes a content type and metadata, and whether a
--- body may come with it
+-- whether the operation is built, whether anybody may ask for it, whether it takes a content type and metadata, whether a
+-- body may come with it, and whether the headers must name an access control list
 pub record Shape : Type 0 where
   pub method : List ℕ
   pub level : Level
@@ -24,6 +24,7 @@ pub record Shape : Type 0 where
   pub is_open : Bool
   pub has_content : Bool
   pub has_body : Bool
+  pub needs_acl : Bool
 
 -- a row that isn't built, for the owner alone
 abbrev pub plain : List ℕ → Level → List (List ℕ) → List (List ℕ) → Shape
@@ -36,6 +37,7 @@ plain method level selectors further = record {
   is_open = false;
   has_content = false;
   has_body = true;
+  needs_acl = false;
 }
 
 -- one that is built
@@ -53,6 +55,10 @@ with_content shape = record shape { has_content = true }
 -- one whose body isn't read yet, so that none may come
 abbrev pub without_body : Shape → Shape
 without_body shape = record shape { has_body = false }
+
+-- one that puts the access control list which its headers name
+abbrev pub with_acl : Shape → Shape
+with_acl shape = record shape { needs_acl = true }
 
 -- the names by which a query chooses a row
 abbrev pub selectors : List (List ℕ)
@@ -75,13 +81,13 @@ parts_names = codes "max-parts" ∷ codes "part-number-marker" ∷ []
 
 -- the table
 abbrev pub shape_of : Row → Shape
-shape_of ListBuckets = plain (codes "GET") Service [] []
+shape_of ListBuckets = built (plain (codes "GET") Service [] [])
 shape_of CreateBucket = without_body (built (plain (codes "PUT") Bucket [] []))
-shape_of PutBucketAcl = plain (codes "PUT") Bucket (codes "acl" ∷ []) []
-shape_of DeleteBucket = plain (codes "DELETE") Bucket [] []
-shape_of HeadBucket = for_all (plain (codes "HEAD") Bucket [] [])
-shape_of GetBucketLocation = plain (codes "GET") Bucket (codes "location" ∷ []) []
-shape_of GetBucketAcl = plain (codes "GET") Bucket (codes "acl" ∷ []) []
+shape_of PutBucketAcl = with_acl (built (plain (codes "PUT") Bucket (codes "acl" ∷ []) []))
+shape_of DeleteBucket = built (plain (codes "DELETE") Bucket [] [])
+shape_of HeadBucket = for_all (built (plain (codes "HEAD") Bucket [] []))
+shape_of GetBucketLocation = built (plain (codes "GET") Bucket (codes "location" ∷ []) [])
+shape_of GetBucketAcl = built (plain (codes "GET") Bucket (codes "acl" ∷ []) [])
 shape_of ListObjects = for_all (plain (codes "GET") Bucket [] objects_names)
 shape_of ListObjectsV2 = for_all (plain (codes "GET") Bucket (codes "list-type" ∷ []) objects_v2_names)
 shape_of ListMultipartUploads = plain (codes "GET") Bucket (codes "uploads" ∷ []) uploads_names
@@ -89,7 +95,7 @@ shape_of PutObject = with_content (built (plain (codes "PUT") Key [] []))
 shape_of GetObject = for_all (built (plain (codes "GET") Key [] []))
 shape_of HeadObject = for_all (built (plain (codes "HEAD") Key [] []))
 shape_of DeleteObject = built (plain (codes "DELETE") Key [] [])
-shape_of GetObjectAcl = plain (codes "GET") Key (codes "acl" ∷ []) []
+shape_of GetObjectAcl = built (plain (codes "GET") Key (codes "acl" ∷ []) [])
 shape_of CreateMultipartUpload = with_content (plain (codes "POST") Key (codes "uploads" ∷ []) [])
 shape_of UploadPart = plain (codes "PUT") Key (codes "partNumber" ∷ codes "uploadId" ∷ []) []
 shape_of ListParts = plain (codes "GET") Key (codes "uploadId" ∷ []) parts_names

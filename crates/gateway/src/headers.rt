@@ -1,15 +1,16 @@
 //! What the headers of a request say, and which of them no row takes.
-ghost use Rattle.std.specs.Prelude.{◌≡◌, ◌&&◌, ◌||◌, not, nat_eq, ◌==◌, [], ◌∷◌, length, codes, bytes_eq, IfOk, take, map, filter};
+ghost use Rattle.std.specs.Prelude.{◌≡◌, ◌&&◌, ◌||◌, not, nat_eq, ◌==◌, [], ◌∷◌, length, codes, bytes_eq, IfOk, is_none, take, map, filter};
 ghost use Rattle.std.specs.List.{list_any, starts_with, join_with_byte};
 ghost use Rattle.http_wire.specs.Headers.{has_header, text_of};
 ghost use Rattle.gateway.specs.declared.rows.Level.{Level};
 ghost use Rattle.gateway.specs.declared.rows.Level.TheVariants.{Key};
-ghost use Rattle.gateway.specs.Rows.{is_same_level};
-ghost use Rattle.gateway.specs.Headers.{is_unsupported_name, is_unsupported_kind, is_unsupported, has_unsupported, has_part, is_chunked, is_read, is_conditional_write, is_conditional, is_conditional_read, names_acl, has_other_class};
+ghost use Rattle.gateway.specs.Rows.{shape_of, is_same_level};
+ghost use Rattle.gateway.specs.Headers.{is_unsupported_name, is_unsupported_kind, is_unsupported, has_unsupported, has_part, is_chunked, is_read, is_conditional_write, is_conditional, is_conditional_read, acl_named, names_acl, given_acl, has_other_acl, lacks_acl, has_other_class};
 
-use crate::rows::{Level, is_same_level};
+use crate::rows::{Level, Row, is_same_level, shape_of};
 use gate_base::{Memory, Pair};
 use http_wire::{has_header, text_of};
+use s3_names::Acl;
 use std::alloc::Global;
 
 fn is_unsupported_name(name: &[u8]) -> bool
@@ -96,11 +97,48 @@ pub fn is_conditional_read(method: &[u8], level: Level, headers: &[Pair]) -> boo
     is_read(method) && is_same_level(level, Level::Key) && is_conditional(headers)
 }
 
-/// Whether an access control list is named, which isn't built.
-pub fn names_acl(headers: &[Pair]) -> bool
+fn names_acl(headers: &[Pair]) -> bool
     ensures { result ≡ names_acl headers.now }
 {
     has_header(headers, b"x-amz-acl")
+}
+
+fn acl_named(name: &[u8]) -> Option<Acl>
+    ensures { result ≡ acl_named name.now }
+{
+    if name == b"private".as_slice() {
+        Some(Acl::Private)
+    } else if name == b"public-read".as_slice() {
+        Some(Acl::PublicRead)
+    } else {
+        None
+    }
+}
+
+/// The canned access control list that the headers name, if they name one that this profile has.
+pub fn given_acl(alloc: Global, headers: &[Pair]) -> Result<Option<Acl>, Memory>
+    ensures { IfOk result (λ acl. acl ≡ given_acl headers.now) }
+{
+    let name = text_of(alloc, headers, b"x-amz-acl")?;
+    Ok(acl_named(name.as_slice()))
+}
+
+/// Whether the headers name an access control list that this profile doesn't have.
+pub fn has_other_acl(alloc: Global, headers: &[Pair]) -> Result<bool, Memory>
+    ensures { IfOk result (λ other. other ≡ has_other_acl headers.now) }
+{
+    if !names_acl(headers) {
+        return Ok(false);
+    }
+    let acl = given_acl(alloc, headers)?;
+    Ok(acl.is_none())
+}
+
+/// Whether the row puts an access control list and the headers name none.
+pub fn lacks_acl(row: Row, headers: &[Pair]) -> bool
+    ensures { result ≡ lacks_acl row headers.now }
+{
+    shape_of(row).needs_acl() && !names_acl(headers)
 }
 
 /// Whether a storage class other than `STANDARD` is asked for.

@@ -1,19 +1,20 @@
 //! What a request means.
 ghost use Rattle.std.specs.Prelude.{◌≡◌, ◌≢◌, ◌&&◌, ◌||◌, not, nat_lt, length, IfOk};
 ghost use Rattle.gateway.specs.ResolvedRequest.{IsProperMeant};
-ghost use Rattle.gateway.specs.Meaning.{first_refusal, target_reasons, judged, reasons, header_reasons, content_reasons, caller_reasons, meaning_of, op_of, KeepsFront, is_denied, has_bad_bucket, row_of};
+ghost use Rattle.gateway.specs.Meaning.{first_refusal, target_reasons, judged, reasons, header_reasons, digest_reasons, content_reasons, caller_reasons, meaning_of, op_of, or_private, put_acl, KeepsFront, is_denied, has_bad_bucket, row_of};
 ghost use Rattle.gateway.specs.declared.meant.Meant.TheVariants as variant;
 ghost use Rattle.gateway.specs.Rows.{shape_of, level_of};
 ghost use Rattle.gateway.specs.Meaning.{has_long_key, has_bad_key};
 ghost use Rattle.gateway.specs.Content.{taken_type, taken_meta};
+ghost use Rattle.gateway.specs.Headers.{given_acl};
 
 use crate::content::{
     has_bad_digest, has_bad_entry, has_unread_body, is_long_body, is_other_body, taken_meta,
     taken_type,
 };
 use crate::headers::{
-    has_other_class, has_unsupported, is_chunked, is_conditional_read, is_conditional_write,
-    names_acl,
+    given_acl, has_other_acl, has_other_class, has_unsupported, is_chunked, is_conditional_read,
+    is_conditional_write, lacks_acl,
 };
 use crate::query::{has_foreign_name, has_name_twice, has_unknown_name};
 use crate::rows::{Level, Row, is_method, is_same_level, level_of, row_for, shape_of};
@@ -146,7 +147,10 @@ fn by_headers(
     if is_conditional_read(method, level_of_target(target), headers) {
         return Ok(Meant::Refused(Code::NotImplemented));
     }
-    if names_acl(headers) {
+    if has_other_acl(alloc, headers)? {
+        return Ok(Meant::Refused(Code::NotImplemented));
+    }
+    if lacks_acl(row, headers) {
         return Ok(Meant::Refused(Code::NotImplemented));
     }
     if has_unread_body(row, message.body.as_slice()) {
@@ -154,6 +158,27 @@ fn by_headers(
     }
     if has_other_class(alloc, headers)? {
         return Ok(Meant::Refused(Code::InvalidStorageClass));
+    }
+    by_digest(alloc, row, message, target, caller)
+}
+
+/// The reasons against the digest of the body, and then those against the content.
+fn by_digest(
+    alloc: Global,
+    row: Row,
+    message: &mut Message,
+    target: &Target,
+    caller: &Caller,
+) -> Result<Meant, Memory>
+    ensures value { IfOk result (λ meant. meant ≡ first_refusal (digest_reasons row message.entry.now caller.now) (op_of row message.entry.now target.now)) }
+    ensures keeps { KeepsFront message.entry.now message.exit.now }
+{
+    let headers = message.headers.as_slice();
+    if has_bad_digest(alloc, headers)? {
+        return Ok(Meant::Refused(Code::InvalidDigest));
+    }
+    if is_other_body(alloc, headers, message.body.as_slice())? {
+        return Ok(Meant::Refused(Code::BadDigest));
     }
     by_content(alloc, row, message, target, caller)
 }
@@ -170,12 +195,7 @@ fn by_content(
     ensures keeps { KeepsFront message.entry.now message.exit.now }
 {
     let headers = message.headers.as_slice();
-    if has_bad_digest(alloc, headers)? {
-        return Ok(Meant::Refused(Code::InvalidDigest));
-    }
-    if is_other_body(alloc, headers, message.body.as_slice())? {
-        return Ok(Meant::Refused(Code::BadDigest));
-    }
+    let acl = given_acl(alloc, headers)?;
     let content_type = taken_type(alloc, row, headers)?;
     if !is_content_type(content_type.as_slice()) {
         return Ok(Meant::Refused(Code::InvalidArgument));
@@ -193,39 +213,41 @@ fn by_content(
     if is_denied(row, *caller) {
         return Ok(Meant::Refused(Code::AccessDenied));
     }
-    op_of(alloc, row, message, target, content_type, meta)
+    op_of(alloc, row, message, target, acl, content_type, meta)
 }
 
-/// The operation of a row, with the content type and the metadata that it takes.
+/// The operation of a row, with the access control list that is named, and the content type and the metadata that it takes.
 fn op_of(
     alloc: Global,
     row: Row,
     message: &mut Message,
     target: &Target,
+    acl: Option<Acl>,
     content_type: Bytes,
     meta: Meta,
 ) -> Result<Meant, Memory>
+    requires acl { acl ≡ given_acl message.now.headers }
     requires content_type { content_type ≡ taken_type row message.now.headers }
     requires meta { meta ≡ taken_meta row message.now.headers }
     ensures value { IfOk result (λ meant. meant ≡ op_of row message.entry.now target.now) }
     ensures keeps { KeepsFront message.entry.now message.exit.now }
 {
     match row {
-        Row::CreateBucket => create_bucket(target),
-        Row::PutObject => put_object(alloc, message, target, content_type, meta),
+        Row::ListBuckets => Ok(Meant::Op(Op::ListBuckets)),
+        Row::CreateBucket => create_bucket(target, or_private(acl)),
+        Row::PutBucketAcl => put_bucket_acl(target, acl),
+        Row::DeleteBucket => delete_bucket(target),
+        Row::HeadBucket => head_bucket(target),
+        Row::GetBucketLocation => get_location(target),
+        Row::GetBucketAcl => get_bucket_acl(target),
+        Row::PutObject => put_object(alloc, message, target, acl, content_type, meta),
         Row::GetObject => get_object(target),
         Row::HeadObject => head_object(target),
         Row::DeleteObject => delete_object(target),
-        Row::ListBuckets
-        | Row::PutBucketAcl
-        | Row::DeleteBucket
-        | Row::HeadBucket
-        | Row::GetBucketLocation
-        | Row::GetBucketAcl
-        | Row::ListObjects
+        Row::GetObjectAcl => get_object_acl(target),
+        Row::ListObjects
         | Row::ListObjectsV2
         | Row::ListMultipartUploads
-        | Row::GetObjectAcl
         | Row::CreateMultipartUpload
         | Row::UploadPart
         | Row::ListParts
@@ -234,31 +256,78 @@ fn op_of(
     }
 }
 
-fn create_bucket(target: &Target) -> Result<Meant, Memory>
-    ensures { IfOk result (λ meant. meant ≡ Meant.Op (Op.CreateBucket target.now.bucket Acl.Private)) }
+fn or_private(acl: Option<Acl>) -> Acl
+    ensures { result ≡ or_private acl }
+{
+    match acl {
+        Some(acl) => acl,
+        None => Acl::Private,
+    }
+}
+
+fn create_bucket(target: &Target, acl: Acl) -> Result<Meant, Memory>
+    ensures { IfOk result (λ meant. meant ≡ Meant.Op (Op.CreateBucket target.now.bucket acl)) }
 {
     let bucket = target.bucket.copy()?;
-    Ok(Meant::Op(Op::CreateBucket {
-        bucket,
-        acl: Acl::Private,
-    }))
+    Ok(Meant::Op(Op::CreateBucket { bucket, acl }))
+}
+
+fn put_bucket_acl(target: &Target, acl: Option<Acl>) -> Result<Meant, Memory>
+    ensures { IfOk result (λ meant. meant ≡ put_acl target.now.bucket acl) }
+{
+    match acl {
+        Some(acl) => {
+            let bucket = target.bucket.copy()?;
+            Ok(Meant::Op(Op::PutBucketAcl { bucket, acl }))
+        }
+        None => Ok(Meant::Refused(Code::NotImplemented)),
+    }
+}
+
+fn delete_bucket(target: &Target) -> Result<Meant, Memory>
+    ensures { IfOk result (λ meant. meant ≡ Meant.Op (Op.DeleteBucket target.now.bucket)) }
+{
+    let bucket = target.bucket.copy()?;
+    Ok(Meant::Op(Op::DeleteBucket { bucket }))
+}
+
+fn head_bucket(target: &Target) -> Result<Meant, Memory>
+    ensures { IfOk result (λ meant. meant ≡ Meant.Op (Op.HeadBucket target.now.bucket)) }
+{
+    let bucket = target.bucket.copy()?;
+    Ok(Meant::Op(Op::HeadBucket { bucket }))
+}
+
+fn get_location(target: &Target) -> Result<Meant, Memory>
+    ensures { IfOk result (λ meant. meant ≡ Meant.Op (Op.GetLocation target.now.bucket)) }
+{
+    let bucket = target.bucket.copy()?;
+    Ok(Meant::Op(Op::GetLocation { bucket }))
+}
+
+fn get_bucket_acl(target: &Target) -> Result<Meant, Memory>
+    ensures { IfOk result (λ meant. meant ≡ Meant.Op (Op.GetBucketAcl target.now.bucket)) }
+{
+    let bucket = target.bucket.copy()?;
+    Ok(Meant::Op(Op::GetBucketAcl { bucket }))
 }
 
 fn put_object(
     alloc: Global,
     message: &mut Message,
     target: &Target,
+    acl: Option<Acl>,
     content_type: Bytes,
     meta: Meta,
 ) -> Result<Meant, Memory>
-    ensures value { IfOk result (λ meant. meant ≡ Meant.Op (Op.PutObject target.now.bucket target.now.key None content_type meta message.entry.now.body)) }
+    ensures value { IfOk result (λ meant. meant ≡ Meant.Op (Op.PutObject target.now.bucket target.now.key acl content_type meta message.entry.now.body)) }
     ensures keeps { KeepsFront message.entry.now message.exit.now }
 {
     let (bucket, key) = place(target)?;
     Ok(Meant::Op(Op::PutObject {
         bucket,
         key,
-        acl: None,
+        acl,
         content_type,
         meta,
         body: mem::replace(&mut message.body, Bytes::new(alloc)),
@@ -296,6 +365,14 @@ fn delete_object(target: &Target) -> Result<Meant, Memory>
     let bucket = target.bucket.copy()?;
     let key = target.key.copy()?;
     Ok(Meant::Op(Op::DeleteObject { bucket, key }))
+}
+
+fn get_object_acl(target: &Target) -> Result<Meant, Memory>
+    ensures { IfOk result (λ meant. meant ≡ Meant.Op (Op.GetObjectAcl target.now.bucket target.now.key)) }
+{
+    let bucket = target.bucket.copy()?;
+    let key = target.key.copy()?;
+    Ok(Meant::Op(Op::GetObjectAcl { bucket, key }))
 }
 
 fn level_of_target(target: &Target) -> Level

@@ -2,7 +2,7 @@
 ghost use Rattle.std.specs.Prelude.{◌≡◌, Bool, true, false, not, ◌&&◌, find, codes, bytes_eq};
 ghost use Rattle.std.specs.List.{list_any};
 ghost use Rattle.std.specs.Option.{option_copied};
-ghost use Rattle.gateway.specs.Rows.{rows, plain, built, for_all, with_content, without_body, shape_of, level_of, is_same_level, is_same, is_asked, is_among, is_name_of, texts, agrees, is_same_set, fits, is_method};
+ghost use Rattle.gateway.specs.Rows.{rows, plain, built, for_all, with_content, without_body, with_acl, shape_of, level_of, is_same_level, is_same, is_asked, is_among, is_name_of, texts, agrees, is_same_set, fits, is_method};
 
 use crate::query::is_asked;
 use gate_base::Pair;
@@ -123,6 +123,8 @@ pub struct Shape {
     has_content: bool,
     /// Whether a body may come with it.
     has_body: bool,
+    /// Whether the headers must name an access control list.
+    needs_acl: bool,
 }
 
 impl Model for Shape {
@@ -130,7 +132,7 @@ impl Model for Shape {
 
     ghost Value = { Seen };
 
-    ghost view = { λ s. record { method = s.method.now; level = s.level; selectors = texts s.selectors.now; further = texts s.further.now; is_built = s.is_built; is_open = s.is_open; has_content = s.has_content; has_body = s.has_body } };
+    ghost view = { λ s. record { method = s.method.now; level = s.level; selectors = texts s.selectors.now; further = texts s.further.now; is_built = s.is_built; is_open = s.is_open; has_content = s.has_content; has_body = s.has_body; needs_acl = s.needs_acl } };
 }
 
 /// What is asked of the row: the table.
@@ -138,15 +140,15 @@ pub fn shape_of(row: Row) -> Shape
     ensures { result ≡ shape_of row }
 {
     match row {
-        Row::ListBuckets => plain(b"GET", Level::Service, &[], &[]),
+        Row::ListBuckets => plain(b"GET", Level::Service, &[], &[]).built(),
         Row::CreateBucket => plain(b"PUT", Level::Bucket, &[], &[])
             .built()
             .without_body(),
-        Row::PutBucketAcl => plain(b"PUT", Level::Bucket, &ACL, &[]),
-        Row::DeleteBucket => plain(b"DELETE", Level::Bucket, &[], &[]),
-        Row::HeadBucket => plain(b"HEAD", Level::Bucket, &[], &[]).for_all(),
-        Row::GetBucketLocation => plain(b"GET", Level::Bucket, &LOCATION, &[]),
-        Row::GetBucketAcl => plain(b"GET", Level::Bucket, &ACL, &[]),
+        Row::PutBucketAcl => plain(b"PUT", Level::Bucket, &ACL, &[]).built().with_acl(),
+        Row::DeleteBucket => plain(b"DELETE", Level::Bucket, &[], &[]).built(),
+        Row::HeadBucket => plain(b"HEAD", Level::Bucket, &[], &[]).built().for_all(),
+        Row::GetBucketLocation => plain(b"GET", Level::Bucket, &LOCATION, &[]).built(),
+        Row::GetBucketAcl => plain(b"GET", Level::Bucket, &ACL, &[]).built(),
         Row::ListObjects => plain(b"GET", Level::Bucket, &[], &OBJECTS_NAMES).for_all(),
         Row::ListObjectsV2 => {
             plain(b"GET", Level::Bucket, &LIST_TYPE, &OBJECTS_V2_NAMES).for_all()
@@ -156,7 +158,7 @@ pub fn shape_of(row: Row) -> Shape
         Row::GetObject => plain(b"GET", Level::Key, &[], &[]).built().for_all(),
         Row::HeadObject => plain(b"HEAD", Level::Key, &[], &[]).built().for_all(),
         Row::DeleteObject => plain(b"DELETE", Level::Key, &[], &[]).built(),
-        Row::GetObjectAcl => plain(b"GET", Level::Key, &ACL, &[]),
+        Row::GetObjectAcl => plain(b"GET", Level::Key, &ACL, &[]).built(),
         Row::CreateMultipartUpload => plain(b"POST", Level::Key, &UPLOADS, &[]).with_content(),
         Row::UploadPart => plain(b"PUT", Level::Key, &PART, &[]),
         Row::ListParts => plain(b"GET", Level::Key, &UPLOAD_ID, &PARTS_NAMES),
@@ -183,6 +185,7 @@ fn plain(
         is_open: false,
         has_content: false,
         has_body: true,
+        needs_acl: false,
     }
 }
 
@@ -224,6 +227,15 @@ impl Shape {
         }
     }
 
+    fn with_acl(self) -> Shape
+        ensures { result ≡ with_acl self }
+    {
+        Shape {
+            needs_acl: true,
+            ..self
+        }
+    }
+
     pub fn is_built(&self) -> bool
         ensures { result ≡ self.now.is_built }
     {
@@ -246,6 +258,12 @@ impl Shape {
         ensures { result ≡ self.now.has_body }
     {
         self.has_body
+    }
+
+    pub fn needs_acl(&self) -> bool
+        ensures { result ≡ self.now.needs_acl }
+    {
+        self.needs_acl
     }
 
     /// Whether a request with the method, at the level, may be one of the row.
