@@ -7,5 +7,6 @@ pub mod Escapes
 pub mod Headers
 pub mod Iso
 pub mod Locations
+pub mod LocationTests
 pub mod PartLemmas
 pub mod Pieces

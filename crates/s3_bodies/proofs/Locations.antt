@@ -72,7 +72,7 @@ location_breaks bytes left s = document_breaks location_start 67 (codes "reateBu
 pub location_reads : (bytes rest attribute : List ℕ) → Begins (Opening location_start) bytes attribute rest → (r : Result (List ℕ × List ℕ) ℕ) → Reads LocationInside rest r → Reads Location bytes r
 location_reads bytes rest attribute p r q = document_reads location_start 67 (codes "reateBucketConfiguration") refl (λ h. omega (arith, h)) LocationInside bytes rest attribute p r q
 
-location_unique : Unique Location
+pub location_unique : Unique Location
 location_unique = document_unique location_start 67 (codes "reateBucketConfiguration") refl (λ h. omega (arith, h)) LocationInside inside_unique
 
 pub location_stops : (bytes : List ℕ) (left : ℕ) → Stops Location bytes left → Stuck Location bytes left

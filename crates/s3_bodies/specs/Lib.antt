@@ -3,6 +3,7 @@ pub mod Codes
 pub mod Completion
 pub mod Date
 pub mod Location
+pub mod LocationTest
 pub mod Pages
 pub mod PartReaders
 pub mod Texts

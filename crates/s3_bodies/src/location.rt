@@ -3,6 +3,7 @@ ghost use Rattle.std.specs.Prelude.{[]};
 ghost use Rattle.xml_forms.specs.Forms.{Exactly};
 ghost use Rattle.xml_forms.specs.Readers.{ReadsText};
 ghost use Rattle.s3_bodies.specs.Location.{AnswersDocument, AnswersLocation, Constraint, LocationInside, location_end};
+ghost use Rattle.s3_bodies.specs.LocationTest.{TellsLocation};
 
 use crate::BodyFault;
 use gate_base::Bytes;
@@ -12,6 +13,13 @@ use xml_forms::{Class, element, nearer, only_space, opening, skip_space, word};
 /// The region that the body of a CreateBucket names (Amazon S3 API Reference, CreateBucket): empty where it names none,
 /// or where the body is empty.
 pub fn read_location(alloc: Global, bytes: &[u8]) -> Result<Bytes, BodyFault>
+    ensures answers { AnswersLocation bytes.now result }
+    ensures tells { TellsLocation bytes.now result }
+{
+    region_of(alloc, bytes)
+}
+
+fn region_of(alloc: Global, bytes: &[u8]) -> Result<Bytes, BodyFault>
     ensures { AnswersLocation bytes.now result }
 {
     if bytes.is_empty() {
