@@ -125,38 +125,38 @@ put_acl_proper : (bucket : List ℕ) (acl : Option Acl) → is_bucket bucket ≡
 put_acl_proper bucket None named = proper_code NotImplemented refl
 put_acl_proper bucket (Some acl) named = named
 
-op_proper : (row : Row) (message : Message) (target : Target) (caller : Caller) → row_of message target ≡ Some row → NoneHolds (target_reasons message target) → NoneHolds (reasons row message target caller) → IsProperMeant (op_of row message target)
-op_proper ListBuckets message target caller e none also = tt
-op_proper CreateBucket message target caller e none also = bucket_of message target (at_level message target CreateBucket e) none
-op_proper PutBucketAcl message target caller e none also =
+op_proper : (settings : Settings) (row : Row) (message : Message) (target : Target) (caller : Caller) → row_of message target ≡ Some row → NoneHolds (target_reasons message target) → NoneHolds (reasons settings row message target caller) → IsProperMeant (op_of row message target)
+op_proper settings ListBuckets message target caller e none also = tt
+op_proper settings CreateBucket message target caller e none also = bucket_of message target (at_level message target CreateBucket e) none
+op_proper settings PutBucketAcl message target caller e none also =
     put_acl_proper target.bucket (given_acl message.headers) (bucket_of message target (at_level message target PutBucketAcl e) none)
-op_proper DeleteBucket message target caller e none also = bucket_of message target (at_level message target DeleteBucket e) none
-op_proper HeadBucket message target caller e none also = bucket_of message target (at_level message target HeadBucket e) none
-op_proper GetBucketLocation message target caller e none also = bucket_of message target (at_level message target GetBucketLocation e) none
-op_proper GetBucketAcl message target caller e none also = bucket_of message target (at_level message target GetBucketAcl e) none
-op_proper PutObject message target caller e none also =
-    let content = also.1.1.1.1.1.1.1.1.1.1.1.1.1 in
+op_proper settings DeleteBucket message target caller e none also = bucket_of message target (at_level message target DeleteBucket e) none
+op_proper settings HeadBucket message target caller e none also = bucket_of message target (at_level message target HeadBucket e) none
+op_proper settings GetBucketLocation message target caller e none also = bucket_of message target (at_level message target GetBucketLocation e) none
+op_proper settings GetBucketAcl message target caller e none also = bucket_of message target (at_level message target GetBucketAcl e) none
+op_proper settings PutObject message target caller e none also =
+    let content = also.1.1.1.1.1.1.1.1.1.1.1.1 in
     (place_of message target (at_level message target PutObject e) none, record { typed = is_named _ content.0; described = is_named _ content.1.1.0; sized = short message.body content.1.1.1.0 })
-op_proper GetObject message target caller e none also = place_of message target (at_level message target GetObject e) none
-op_proper HeadObject message target caller e none also = place_of message target (at_level message target HeadObject e) none
-op_proper DeleteObject message target caller e none also = place_of message target (at_level message target DeleteObject e) none
-op_proper GetObjectAcl message target caller e none also = place_of message target (at_level message target GetObjectAcl e) none
-op_proper _ message target caller e none also = proper_code NotImplemented refl
+op_proper settings GetObject message target caller e none also = place_of message target (at_level message target GetObject e) none
+op_proper settings HeadObject message target caller e none also = place_of message target (at_level message target HeadObject e) none
+op_proper settings DeleteObject message target caller e none also = place_of message target (at_level message target DeleteObject e) none
+op_proper settings GetObjectAcl message target caller e none also = place_of message target (at_level message target GetObjectAcl e) none
+op_proper settings _ message target caller e none also = proper_code NotImplemented refl
 
 -- ---- the meaning
 
-own : (row : Row) (message : Message) (target : Target) (caller : Caller) → AllProper (reasons row message target caller)
-own row message target caller = (refl, (refl, (refl, (refl, (refl, (refl, (refl, (refl, (refl, (refl, (refl, (refl, (refl, (refl, (refl, (refl, (refl, (refl, tt))))))))))))))))))
+own : (settings : Settings) (row : Row) (message : Message) (target : Target) (caller : Caller) → AllProper (reasons settings row message target caller)
+own settings row message target caller = (refl, (refl, (refl, (refl, (refl, (refl, (refl, (refl, (refl, (refl, (refl, (refl, (refl, (refl, (refl, (refl, (refl, (refl, (refl, tt)))))))))))))))))))
 
-judged_proper : (found : Option Row) (message : Message) (target : Target) (caller : Caller) → row_of message target ≡ found → NoneHolds (target_reasons message target) → IsProperMeant (judged found message target caller)
-judged_proper None message target caller e none = proper_code MethodNotAllowed refl
-judged_proper (Some row) message target caller e none =
-    refusal_proper (reasons row message target caller) (op_of row message target) (own row message target caller) (op_proper row message target caller e none)
+judged_proper : (settings : Settings) (found : Option Row) (message : Message) (target : Target) (caller : Caller) → row_of message target ≡ found → NoneHolds (target_reasons message target) → IsProperMeant (judged settings found message target caller)
+judged_proper settings None message target caller e none = proper_code MethodNotAllowed refl
+judged_proper settings (Some row) message target caller e none =
+    refusal_proper (reasons settings row message target caller) (op_of row message target) (own settings row message target caller) (op_proper settings row message target caller e none)
 
 pub meaning_proper : (settings : Settings) (message : Message) (target : Target) (caller : Caller) → IsProperMeant (meaning_of settings message target caller)
 unfolding meaning_of
 meaning_proper settings message target caller =
-    refusal_proper (target_reasons message target) (judged (row_of message target) message target caller) (refl, (refl, (refl, (refl, (refl, tt))))) (judged_proper (row_of message target) message target caller refl)
+    refusal_proper (target_reasons message target) (judged settings (row_of message target) message target caller) (refl, (refl, (refl, (refl, (refl, tt))))) (judged_proper settings (row_of message target) message target caller refl)
 
 -- ---- it always means something
 
@@ -187,11 +187,11 @@ op_known DeleteObject message target e = cc
 op_known GetObjectAcl message target e = cc
 op_known _ message target e = cc
 
-judged_known : (found : Option Row) (message : Message) (target : Target) (caller : Caller) → judged found message target caller ≢ Memory
-judged_known None message target caller = λ e. cc
-judged_known (Some row) message target caller = refusal_known (reasons row message target caller) (op_of row message target) (op_known row message target)
+judged_known : (settings : Settings) (found : Option Row) (message : Message) (target : Target) (caller : Caller) → judged settings found message target caller ≢ Memory
+judged_known settings None message target caller = λ e. cc
+judged_known settings (Some row) message target caller = refusal_known (reasons settings row message target caller) (op_of row message target) (op_known row message target)
 
 pub meaning_known : (settings : Settings) (message : Message) (target : Target) (caller : Caller) → meaning_of settings message target caller ≢ Memory
 unfolding meaning_of
 meaning_known settings message target caller =
-    refusal_known (target_reasons message target) (judged (row_of message target) message target caller) (judged_known (row_of message target) message target caller)
+    refusal_known (target_reasons message target) (judged settings (row_of message target) message target caller) (judged_known settings (row_of message target) message target caller)

@@ -1,5 +1,6 @@
--- What an object is put with. Sources: RFC 1864 (Content-MD5), RFC 4648, section 4 (base64), and Amazon S3 User Guide,
--- "Working with object metadata"; the limits are this profile's.
+-- What an object is put with, and the location that a bucket is made with. Sources: RFC 1864 (Content-MD5), RFC 4648,
+-- section 4 (base64), Amazon S3 User Guide, "Working with object metadata", and Amazon S3 API Reference, CreateBucket; the
+-- limits are this profile's.
 use Rattle.std.specs.Prelude.{ℕ, Bool, false, not, ◌&&◌, ◌||◌, ◌==◌, nat_eq, nat_lt, if◌then◌else◌, List, [], length, drop, fold, codes, bytes_eq}
 use Rattle.std.specs.Prelude.{Result, Ok, Err}
 use Rattle.std.specs.List.{list_any, starts_with}
@@ -9,6 +10,7 @@ use Rattle.base64.specs.declared.decode.DecodeError.{DecodeError}
 use Rattle.md5.specs.Md5.{md5}
 use Rattle.gate_base.specs.declared.page.Pair.{Pair}
 use Rattle.s3_names.specs.Meta.{has_name, with_pair}
+use Rattle.s3_bodies.specs.LocationTest.{is_any, names_location}
 use Rattle.s3_machine.specs.Limits.{is_kept_header, is_proper_pair, most_body_bytes}
 use Rattle.gateway.specs.declared.rows.Row.{Row}
 use Rattle.http_wire.specs.Headers.{has_header, text_of}
@@ -76,6 +78,14 @@ has_bad_entry meta = list_any is_bad_entry meta
 abbrev pub is_long_body : List ℕ → Bool
 is_long_body body = nat_lt most_body_bytes (length body)
 
--- a body that isn't read yet
-abbrev pub has_unread_body : Row → List ℕ → Bool
-has_unread_body row body = not (shape_of row).has_body && not (length body == 0)
+-- the location of a bucket: the region of the service, or none
+abbrev pub is_here : List ℕ → List ℕ → Bool
+is_here region location = length location == 0 || bytes_eq location region
+
+-- a body that names no location although it should
+abbrev pub has_bad_location : Row → List ℕ → Bool
+has_bad_location row body = (shape_of row).has_location && not (names_location is_any body)
+
+-- a body that names another location
+abbrev pub has_other_location : Row → List ℕ → List ℕ → Bool
+has_other_location row region body = (shape_of row).has_location && not (names_location (is_here region) body)

@@ -11,8 +11,8 @@ use Rattle.s3_names.specs.Bucket.{is_bucket}
 use Rattle.s3_names.specs.Key.{is_key}
 use Rattle.s3_machine.specs.declared.code.Code.{Code}
 use Rattle.s3_machine.specs.declared.code.Code.TheVariants.{AccessDenied, BadDigest, EntityTooLarge, InvalidArgument, InvalidBucketName}
-use Rattle.s3_machine.specs.declared.code.Code.TheVariants.{InvalidDigest, InvalidStorageClass, InvalidURI, KeyTooLongError, MetadataTooLarge}
-use Rattle.s3_machine.specs.declared.code.Code.TheVariants.{MethodNotAllowed, NotImplemented}
+use Rattle.s3_machine.specs.declared.code.Code.TheVariants.{InvalidDigest, InvalidStorageClass, InvalidURI, KeyTooLongError, MalformedXML}
+use Rattle.s3_machine.specs.declared.code.Code.TheVariants.{MetadataTooLarge, MethodNotAllowed, NotImplemented}
 use Rattle.s3_machine.specs.declared.operation.Op.TheVariants as op
 use Rattle.s3_machine.specs.declared.operation.Settings.{Settings}
 use Rattle.s3_machine.specs.Limits.{is_content_type, is_proper_meta}
@@ -26,7 +26,7 @@ use Rattle.gateway.specs.declared.rows.Row.TheVariants.{GetBucketAcl, PutObject,
 use Rattle.gateway.specs.Rows.{shape_of, is_method, level_of, is_same_level, row_for}
 use Rattle.gateway.specs.Query.{has_unknown_name, has_foreign_name, has_name_twice}
 use Rattle.gateway.specs.Headers.{has_unsupported, is_chunked, is_conditional_write, is_conditional_read, given_acl, has_other_acl, lacks_acl, has_other_class}
-use Rattle.gateway.specs.Content.{has_bad_digest, is_other_body, taken_type, taken_meta, has_bad_entry, is_long_body, has_unread_body}
+use Rattle.gateway.specs.Content.{has_bad_digest, is_other_body, taken_type, taken_meta, has_bad_entry, is_long_body, has_bad_location, has_other_location}
 
 -- a reason to refuse, and whether it holds
 pub record Reason : Type 0 where
@@ -72,38 +72,39 @@ target_reasons message target =
 abbrev pub caller_reasons : Row → Caller → List Reason
 caller_reasons row caller = reason (is_denied row caller) AccessDenied ∷ []
 
-abbrev pub content_reasons : Row → Message → Caller → List Reason
-content_reasons row message caller =
+abbrev pub content_reasons : Settings → Row → Message → Caller → List Reason
+content_reasons settings row message caller =
     reason (not (is_content_type (taken_type row message.headers))) InvalidArgument
     ∷ reason (has_bad_entry (taken_meta row message.headers)) InvalidArgument
     ∷ reason (not (is_proper_meta (taken_meta row message.headers))) MetadataTooLarge
     ∷ reason (is_long_body message.body) EntityTooLarge
+    ∷ reason (has_bad_location row message.body) MalformedXML
+    ∷ reason (has_other_location row settings.region message.body) InvalidArgument
     ∷ caller_reasons row caller
 
-abbrev pub digest_reasons : Row → Message → Caller → List Reason
-digest_reasons row message caller =
+abbrev pub digest_reasons : Settings → Row → Message → Caller → List Reason
+digest_reasons settings row message caller =
     reason (has_bad_digest message.headers) InvalidDigest
     ∷ reason (is_other_body message.headers message.body) BadDigest
-    ∷ content_reasons row message caller
+    ∷ content_reasons settings row message caller
 
-abbrev pub header_reasons : Row → Message → Target → Caller → List Reason
-header_reasons row message target caller =
+abbrev pub header_reasons : Settings → Row → Message → Target → Caller → List Reason
+header_reasons settings row message target caller =
     reason (has_unsupported message.headers) NotImplemented
     ∷ reason (is_chunked message.headers) NotImplemented
     ∷ reason (is_conditional_write message.method message.headers) NotImplemented
     ∷ reason (is_conditional_read message.method (level_of target.bucket target.key) message.headers) NotImplemented
     ∷ reason (has_other_acl message.headers) NotImplemented
     ∷ reason (lacks_acl row message.headers) NotImplemented
-    ∷ reason (has_unread_body row message.body) NotImplemented
     ∷ reason (has_other_class message.headers) InvalidStorageClass
-    ∷ digest_reasons row message caller
+    ∷ digest_reasons settings row message caller
 
-abbrev pub reasons : Row → Message → Target → Caller → List Reason
-reasons row message target caller =
+abbrev pub reasons : Settings → Row → Message → Target → Caller → List Reason
+reasons settings row message target caller =
     reason (not (shape_of row).is_built) NotImplemented
     ∷ reason (has_foreign_name row target.query) NotImplemented
     ∷ reason (has_name_twice target.query) InvalidArgument
-    ∷ header_reasons row message target caller
+    ∷ header_reasons settings row message target caller
 
 -- ---- the meaning
 
@@ -146,9 +147,9 @@ op_of GetObjectAcl message target = Op (op.GetObjectAcl target.bucket target.key
 op_of _ message target = Refused NotImplemented
 
 -- a request without a row is refused
-abbrev pub judged : Option Row → Message → Target → Caller → Meant
-judged None message target caller = Refused MethodNotAllowed
-judged (Some row) message target caller = first_refusal (reasons row message target caller) (op_of row message target)
+abbrev pub judged : Settings → Option Row → Message → Target → Caller → Meant
+judged settings None message target caller = Refused MethodNotAllowed
+judged settings (Some row) message target caller = first_refusal (reasons settings row message target caller) (op_of row message target)
 
 -- the method and the target of a message stay, which its reply needs. The body may be gone
 abbrev pub KeepsFront : Message → Message → Type 0
@@ -156,4 +157,4 @@ KeepsFront old new = (new.method ≡ old.method) × (new.target ≡ old.target)
 
 -- what a request means once its target was read
 unfoldable pub meaning_of : Settings → Message → Target → Caller → Meant
-meaning_of settings message target caller = first_refusal (target_reasons message target) (judged (row_of message target) message target caller)
+meaning_of settings message target caller = first_refusal (target_reasons message target) (judged settings (row_of message target) message target caller)

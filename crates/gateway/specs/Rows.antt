@@ -13,8 +13,8 @@ use Rattle.gateway.specs.declared.rows.Row.TheVariants.{HeadObject, DeleteObject
 use Rattle.gateway.specs.declared.rows.Row.TheVariants.{CompleteMultipartUpload, AbortMultipartUpload}
 
 -- what the table says in a row: its method, its level, the selectors that the query has, and the further names that it may have;
--- whether the operation is built, whether anybody may ask for it, whether it takes a content type and metadata, whether a
--- body may come with it, and whether the headers must name an access control list
+-- whether the operation is built, whether anybody may ask for it, whether it takes a content type and metadata, whether its
+-- body names a location, and whether the headers must name an access control list
 pub record Shape : Type 0 where
   pub method : List ℕ
   pub level : Level
@@ -23,7 +23,7 @@ pub record Shape : Type 0 where
   pub is_built : Bool
   pub is_open : Bool
   pub has_content : Bool
-  pub has_body : Bool
+  pub has_location : Bool
   pub needs_acl : Bool
 
 -- a row that isn't built, for the owner alone
@@ -36,7 +36,7 @@ plain method level selectors further = record {
   is_built = false;
   is_open = false;
   has_content = false;
-  has_body = true;
+  has_location = false;
   needs_acl = false;
 }
 
@@ -52,9 +52,9 @@ for_all shape = record shape { is_open = true }
 abbrev pub with_content : Shape → Shape
 with_content shape = record shape { has_content = true }
 
--- one whose body isn't read yet, so that none may come
-abbrev pub without_body : Shape → Shape
-without_body shape = record shape { has_body = false }
+-- one whose body names a location, or is none
+abbrev pub with_location : Shape → Shape
+with_location shape = record shape { has_location = true }
 
 -- one that puts the access control list which its headers name
 abbrev pub with_acl : Shape → Shape
@@ -82,7 +82,7 @@ parts_names = codes "max-parts" ∷ codes "part-number-marker" ∷ []
 -- the table
 abbrev pub shape_of : Row → Shape
 shape_of ListBuckets = built (plain (codes "GET") Service [] [])
-shape_of CreateBucket = without_body (built (plain (codes "PUT") Bucket [] []))
+shape_of CreateBucket = with_location (built (plain (codes "PUT") Bucket [] []))
 shape_of PutBucketAcl = with_acl (built (plain (codes "PUT") Bucket (codes "acl" ∷ []) []))
 shape_of DeleteBucket = built (plain (codes "DELETE") Bucket [] [])
 shape_of HeadBucket = for_all (built (plain (codes "HEAD") Bucket [] []))

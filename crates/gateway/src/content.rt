@@ -1,14 +1,16 @@
-//! What an object is put with: the digest of its body, its content type and its user metadata.
+//! What an object is put with, the digest of its body, its content type and its user metadata; and the location that a
+//! bucket is made with.
 ghost use Rattle.std.specs.Prelude.{◌≡◌, ◌&&◌, ◌||◌, not, nat_eq, nat_lt, ◌==◌, [], ◌∷◌, ◌++◌, length, drop, codes, bytes_eq, IfOk, OnOk, Ok, if◌then◌else◌, fold, take, true, false};
 ghost use Rattle.std.specs.List.{list_any, starts_with};
 ghost use Rattle.base64.specs.Engines.{standard};
 ghost use Rattle.base64.specs.GeneralPurpose.{decode_of, encode_of, IsBytes};
 ghost use Rattle.md5.specs.Md5.{md5};
 ghost use Rattle.s3_names.specs.Meta.{with_pair};
+ghost use Rattle.s3_bodies.specs.LocationTest.{is_any, names_location};
 ghost use Rattle.s3_machine.specs.Limits.{is_content_type, is_proper_pair, is_proper_meta, is_kept_header};
 ghost use Rattle.http_wire.specs.Headers.{has_header, text_of};
 ghost use Rattle.gateway.specs.Rows.{shape_of};
-ghost use Rattle.gateway.specs.Content.{is_digest, has_bad_digest, is_other_body, given_type, taken_type, is_own_header, is_entry, entry_name, entered, given_meta, taken_meta, is_bad_entry, has_bad_entry, is_long_body, has_unread_body};
+ghost use Rattle.gateway.specs.Content.{is_digest, has_bad_digest, is_other_body, given_type, taken_type, is_own_header, is_entry, entry_name, entered, given_meta, taken_meta, is_bad_entry, has_bad_entry, is_long_body, is_here, has_bad_location, has_other_location};
 
 use crate::rows::{Row, shape_of};
 use base64::DecodeAllocError;
@@ -16,6 +18,7 @@ use base64::engine::general_purpose::STANDARD;
 use gate_base::{Bytes, Memory, Pair};
 use http_wire::{has_header, text_of};
 use md5::{Digest, Md5};
+use s3_bodies::{BodyFault, read_location};
 use s3_machine::{MOST_BODY_BYTES, is_meta_name, is_meta_value};
 use s3_names::Meta;
 use std::alloc::Global;
@@ -177,9 +180,41 @@ pub fn is_long_body(body: &[u8]) -> bool
     MOST_BODY_BYTES < body.len() as u64
 }
 
-/// Whether there is a body that isn't read yet.
-pub fn has_unread_body(row: Row, body: &[u8]) -> bool
-    ensures { result ≡ has_unread_body row body.now }
+fn is_here(region: &[u8], location: &[u8]) -> bool
+    ensures { result ≡ is_here region.now location.now }
 {
-    !shape_of(row).has_body() && body.len() != 0
+    location.len() == 0 || location == region
+}
+
+/// Whether the body should name a location and isn't of that form.
+pub fn has_bad_location(alloc: Global, row: Row, body: &[u8]) -> Result<bool, Memory>
+    ensures { IfOk result (λ bad. bad ≡ has_bad_location row body.now) }
+{
+    if !shape_of(row).has_location() {
+        return Ok(false);
+    }
+    match read_location(alloc, body) {
+        Ok(_) => Ok(false),
+        Err(BodyFault::NotTheBody(_) | BodyFault::TooMany) => Ok(true),
+        Err(BodyFault::Memory) => Err(Memory),
+    }
+}
+
+/// Whether the body should name a location and names neither the region nor none.
+pub fn has_other_location(
+    alloc: Global,
+    row: Row,
+    region: &[u8],
+    body: &[u8],
+) -> Result<bool, Memory>
+    ensures { IfOk result (λ other. other ≡ has_other_location row region.now body.now) }
+{
+    if !shape_of(row).has_location() {
+        return Ok(false);
+    }
+    match read_location(alloc, body) {
+        Ok(location) => Ok(!is_here(region, location.as_slice())),
+        Err(BodyFault::NotTheBody(_) | BodyFault::TooMany) => Ok(true),
+        Err(BodyFault::Memory) => Err(Memory),
+    }
 }

@@ -9,8 +9,8 @@ ghost use Rattle.gateway.specs.Content.{taken_type, taken_meta};
 ghost use Rattle.gateway.specs.Headers.{given_acl};
 
 use crate::content::{
-    has_bad_digest, has_bad_entry, has_unread_body, is_long_body, is_other_body, taken_meta,
-    taken_type,
+    has_bad_digest, has_bad_entry, has_bad_location, has_other_location, is_long_body,
+    is_other_body, taken_meta, taken_type,
 };
 use crate::headers::{
     given_acl, has_other_acl, has_other_class, has_unsupported, is_chunked, is_conditional_read,
@@ -94,7 +94,7 @@ fn by_target(
         return Ok(Meant::Refused(Code::NotImplemented));
     }
     match row_of(message, target) {
-        Some(row) => by_row(alloc, row, message, target, caller),
+        Some(row) => by_row(alloc, settings, row, message, target, caller),
         None => Ok(Meant::Refused(Code::MethodNotAllowed)),
     }
 }
@@ -102,12 +102,13 @@ fn by_target(
 /// The reasons against the names of the query, and then those against the headers.
 fn by_row(
     alloc: Global,
+    settings: &Settings,
     row: Row,
     message: &mut Message,
     target: &Target,
     caller: &Caller,
 ) -> Result<Meant, Memory>
-    ensures value { IfOk result (λ meant. meant ≡ first_refusal (reasons row message.entry.now target.now caller.now) (op_of row message.entry.now target.now)) }
+    ensures value { IfOk result (λ meant. meant ≡ first_refusal (reasons settings.now row message.entry.now target.now caller.now) (op_of row message.entry.now target.now)) }
     ensures keeps { KeepsFront message.entry.now message.exit.now }
 {
     if !shape_of(row).is_built() {
@@ -119,18 +120,19 @@ fn by_row(
     if has_name_twice(target.query.pairs()) {
         return Ok(Meant::Refused(Code::InvalidArgument));
     }
-    by_headers(alloc, row, message, target, caller)
+    by_headers(alloc, settings, row, message, target, caller)
 }
 
 /// The reasons against the headers, and then those against the content.
 fn by_headers(
     alloc: Global,
+    settings: &Settings,
     row: Row,
     message: &mut Message,
     target: &Target,
     caller: &Caller,
 ) -> Result<Meant, Memory>
-    ensures value { IfOk result (λ meant. meant ≡ first_refusal (header_reasons row message.entry.now target.now caller.now) (op_of row message.entry.now target.now)) }
+    ensures value { IfOk result (λ meant. meant ≡ first_refusal (header_reasons settings.now row message.entry.now target.now caller.now) (op_of row message.entry.now target.now)) }
     ensures keeps { KeepsFront message.entry.now message.exit.now }
 {
     let method = message.method.as_slice();
@@ -153,24 +155,22 @@ fn by_headers(
     if lacks_acl(row, headers) {
         return Ok(Meant::Refused(Code::NotImplemented));
     }
-    if has_unread_body(row, message.body.as_slice()) {
-        return Ok(Meant::Refused(Code::NotImplemented));
-    }
     if has_other_class(alloc, headers)? {
         return Ok(Meant::Refused(Code::InvalidStorageClass));
     }
-    by_digest(alloc, row, message, target, caller)
+    by_digest(alloc, settings, row, message, target, caller)
 }
 
 /// The reasons against the digest of the body, and then those against the content.
 fn by_digest(
     alloc: Global,
+    settings: &Settings,
     row: Row,
     message: &mut Message,
     target: &Target,
     caller: &Caller,
 ) -> Result<Meant, Memory>
-    ensures value { IfOk result (λ meant. meant ≡ first_refusal (digest_reasons row message.entry.now caller.now) (op_of row message.entry.now target.now)) }
+    ensures value { IfOk result (λ meant. meant ≡ first_refusal (digest_reasons settings.now row message.entry.now caller.now) (op_of row message.entry.now target.now)) }
     ensures keeps { KeepsFront message.entry.now message.exit.now }
 {
     let headers = message.headers.as_slice();
@@ -180,18 +180,19 @@ fn by_digest(
     if is_other_body(alloc, headers, message.body.as_slice())? {
         return Ok(Meant::Refused(Code::BadDigest));
     }
-    by_content(alloc, row, message, target, caller)
+    by_content(alloc, settings, row, message, target, caller)
 }
 
 /// The reasons against the content and the caller, and then the operation.
 fn by_content(
     alloc: Global,
+    settings: &Settings,
     row: Row,
     message: &mut Message,
     target: &Target,
     caller: &Caller,
 ) -> Result<Meant, Memory>
-    ensures value { IfOk result (λ meant. meant ≡ first_refusal (content_reasons row message.entry.now caller.now) (op_of row message.entry.now target.now)) }
+    ensures value { IfOk result (λ meant. meant ≡ first_refusal (content_reasons settings.now row message.entry.now caller.now) (op_of row message.entry.now target.now)) }
     ensures keeps { KeepsFront message.entry.now message.exit.now }
 {
     let headers = message.headers.as_slice();
@@ -209,6 +210,13 @@ fn by_content(
     }
     if is_long_body(message.body.as_slice()) {
         return Ok(Meant::Refused(Code::EntityTooLarge));
+    }
+    let body = message.body.as_slice();
+    if has_bad_location(alloc, row, body)? {
+        return Ok(Meant::Refused(Code::MalformedXML));
+    }
+    if has_other_location(alloc, row, settings.region.as_slice(), body)? {
+        return Ok(Meant::Refused(Code::InvalidArgument));
     }
     if is_denied(row, *caller) {
         return Ok(Meant::Refused(Code::AccessDenied));

@@ -2,7 +2,7 @@
 ghost use Rattle.std.specs.Prelude.{◌≡◌, Bool, true, false, not, ◌&&◌, find, codes, bytes_eq};
 ghost use Rattle.std.specs.List.{list_any};
 ghost use Rattle.std.specs.Option.{option_copied};
-ghost use Rattle.gateway.specs.Rows.{rows, plain, built, for_all, with_content, without_body, with_acl, shape_of, level_of, is_same_level, is_same, is_asked, is_among, is_name_of, texts, agrees, is_same_set, fits, is_method};
+ghost use Rattle.gateway.specs.Rows.{rows, plain, built, for_all, with_content, with_location, with_acl, shape_of, level_of, is_same_level, is_same, is_asked, is_among, is_name_of, texts, agrees, is_same_set, fits, is_method};
 
 use crate::query::is_asked;
 use gate_base::Pair;
@@ -121,8 +121,8 @@ pub struct Shape {
     is_open: bool,
     /// Whether it takes a content type and metadata.
     has_content: bool,
-    /// Whether a body may come with it.
-    has_body: bool,
+    /// Whether its body names a location.
+    has_location: bool,
     /// Whether the headers must name an access control list.
     needs_acl: bool,
 }
@@ -132,7 +132,7 @@ impl Model for Shape {
 
     ghost Value = { Seen };
 
-    ghost view = { λ s. record { method = s.method.now; level = s.level; selectors = texts s.selectors.now; further = texts s.further.now; is_built = s.is_built; is_open = s.is_open; has_content = s.has_content; has_body = s.has_body; needs_acl = s.needs_acl } };
+    ghost view = { λ s. record { method = s.method.now; level = s.level; selectors = texts s.selectors.now; further = texts s.further.now; is_built = s.is_built; is_open = s.is_open; has_content = s.has_content; has_location = s.has_location; needs_acl = s.needs_acl } };
 }
 
 /// What is asked of the row: the table.
@@ -143,7 +143,7 @@ pub fn shape_of(row: Row) -> Shape
         Row::ListBuckets => plain(b"GET", Level::Service, &[], &[]).built(),
         Row::CreateBucket => plain(b"PUT", Level::Bucket, &[], &[])
             .built()
-            .without_body(),
+            .with_location(),
         Row::PutBucketAcl => plain(b"PUT", Level::Bucket, &ACL, &[]).built().with_acl(),
         Row::DeleteBucket => plain(b"DELETE", Level::Bucket, &[], &[]).built(),
         Row::HeadBucket => plain(b"HEAD", Level::Bucket, &[], &[]).built().for_all(),
@@ -184,7 +184,7 @@ fn plain(
         is_built: false,
         is_open: false,
         has_content: false,
-        has_body: true,
+        has_location: false,
         needs_acl: false,
     }
 }
@@ -217,12 +217,11 @@ impl Shape {
         }
     }
 
-    /// The body isn't read yet, so none may come.
-    fn without_body(self) -> Shape
-        ensures { result ≡ without_body self }
+    fn with_location(self) -> Shape
+        ensures { result ≡ with_location self }
     {
         Shape {
-            has_body: false,
+            has_location: true,
             ..self
         }
     }
@@ -254,10 +253,10 @@ impl Shape {
         self.has_content
     }
 
-    pub fn has_body(&self) -> bool
-        ensures { result ≡ self.now.has_body }
+    pub fn has_location(&self) -> bool
+        ensures { result ≡ self.now.has_location }
     {
-        self.has_body
+        self.has_location
     }
 
     pub fn needs_acl(&self) -> bool
