@@ -2,7 +2,7 @@
 use Rattle.std.proofs.Common.{◌≡◌, ◌≢◌, ◌⊎◌, ◌==◌, ℕ, true, false, List, Option, None, Some, ◌∙◌, refl, sym, ap, subst, inl, inr, arith}
 use Rattle.gate_base.specs.Line.{LineModel}
 use Rattle.gateway_cli.specs.declared.command.Command.{Command}
-use Rattle.gateway_cli.specs.declared.command.Command.TheVariants.{Session, Sign}
+use Rattle.gateway_cli.specs.declared.command.Command.TheVariants.{Session, Serve, Sign}
 use Rattle.gateway_cmd.specs.declared.status.RunOutcome.{RunOutcome}
 use Rattle.gateway_cmd.specs.declared.status.RunOutcome.TheVariants.{Signed, Plain}
 use Rattle.gateway_cmd.specs.declared.status.Status.{Status}
@@ -117,18 +117,21 @@ exits_other ended status n x other = λ e. other (subst (λ how. Exits how n) e 
 pub serve_command : (command : Option Command) → task_of command ≡ to_serve → (serving : Serving) × (serving_of command ≡ Some serving)
 serve_command None is = absurd (let no : nothing ≡ to_serve = is in cc)
 serve_command (Some (Session region)) is = (_, refl)
+serve_command (Some (Serve region connections)) is = (_, refl)
 serve_command (Some (Sign id region)) is = absurd (let no : to_sign ≡ to_serve = is in cc)
 
 -- and the key that is to sign, where that is
 pub sign_command : (command : Option Command) → task_of command ≡ to_sign → (id region : List ℕ) × (command ≡ Some (Sign id region))
 sign_command None is = absurd (let no : nothing ≡ to_sign = is in cc)
 sign_command (Some (Session region)) is = absurd (let no : to_serve ≡ to_sign = is in cc)
+sign_command (Some (Serve region connections)) is = absurd (let no : to_serve ≡ to_sign = is in cc)
 sign_command (Some (Sign id region)) is = (id, region, refl)
 
 -- words that are refused ask for nothing
 pub asks_nothing : (command : Option Command) (keys : List ℕ) → task_of command ≡ nothing → is_possible command keys ≡ false
 asks_nothing None keys is = refl
 asks_nothing (Some (Session region)) keys is = absurd (let no : to_serve ≡ nothing = is in cc)
+asks_nothing (Some (Serve region connections)) keys is = absurd (let no : to_serve ≡ nothing = is in cc)
 asks_nothing (Some (Sign id region)) keys is = absurd (let no : to_sign ≡ nothing = is in cc)
 
 -- where nothing is asked for, a run ends because memory ran out, or with that report

@@ -1,3 +1,4 @@
+pub mod Counting
 pub mod Exits
 pub mod Marks
 pub mod Refusing

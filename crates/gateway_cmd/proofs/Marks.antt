@@ -66,6 +66,7 @@ line_serves_next {failed = failed} {old = old} {middle = middle} {new = new} nex
       falls = λ is. omega arith;
       faults = omega arith;
       next_faults = serves.next_faults ∙ next.next_faults;
+      begun = λ observable. (serves.transcript (next.observable observable)).begun ∙ (next.effect observable).1;
       done = λ observable not. cc;
       unmarked = λ observable still. one_unmarked failed old middle new same serves.faults (next.effect observable) (serves.transcript (next.observable observable)) still;
     }
@@ -79,6 +80,7 @@ line_serves_none {old = old} {new = new} next =
       falls = λ not. cc;
       faults = omega arith;
       next_faults = next.next_faults;
+      begun = λ observable. ap (λ w. w.begun) (next.effect observable).1;
       done = λ observable is. (let told = next.effect observable in ap (λ w. w.waiting) told.1 ∙ told.0);
       unmarked = λ observable still. unmarked_none _ _ (next.effect observable).1;
     }
@@ -92,6 +94,7 @@ line_serves_failed {old = old} {new = new} next =
       falls = λ not. cc;
       faults = omega arith;
       next_faults = next.next_faults;
+      begun = λ observable. ap (λ w. w.begun) (next.effect_err observable);
       done = λ observable not. cc;
       unmarked = λ observable still. unmarked_none _ _ (next.effect_err observable);
     }

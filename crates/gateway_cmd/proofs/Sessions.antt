@@ -1,5 +1,5 @@
 -- A session, connection by connection, over a history that grows, and the run that it is.
-use Rattle.std.proofs.Common.{◌≡◌, ◌≢◌, ◌++◌, ◌∷◌, ℕ, Bool, true, false, List, [], None, Some, if◌then◌else◌, slice_set, ◌-◌, refl, sym, ap, subst, ◌∙◌, inl, arith}
+use Rattle.std.proofs.Common.{◌≡◌, ◌≢◌, ◌++◌, ◌∷◌, ℕ, Bool, true, false, List, [], Option, None, Some, if◌then◌else◌, slice_set, ◌-◌, refl, sym, ap, subst, ◌∙◌, arith}
 use Rattle.gate_base.specs.Line.{LineModel, TranscriptServes}
 use Rattle.gate_base.specs.Told.{SourceModel}
 use Rattle.gate_base.specs.Transcript.{Begins}
@@ -23,7 +23,6 @@ use Rattle.gateway.specs.World.{World, world, progress_of, start_of, IsObservabl
 use Rattle.gateway.proofs.Standing.{stands_throughout}
 use Rattle.gateway.proofs.Worlds.{serves_none}
 use Rattle.gateway_cli.specs.declared.command.Command.{Command}
-use Rattle.gateway_cli.specs.declared.command.Command.TheVariants.{Session}
 use Rattle.gateway_cmd.specs.declared.status.RunOutcome.{RunOutcome}
 use Rattle.gateway_cmd.specs.declared.status.RunOutcome.TheVariants.{Plain}
 use Rattle.gateway_cmd.specs.declared.status.Status.{Status}
@@ -95,6 +94,7 @@ line_served_none serving true complete line fails ends = cc
 line_served_none serving false complete line fails ends = record {
   next_faults = refl;
   served_out = λ observable all. absurd (let clash : false ≡ true = sym ends ∙ all in cc);
+  within = λ observable n is. omega arith;
   unmarked = λ observable still. unmarked_none _ _ refl;
 }
 
@@ -119,18 +119,21 @@ run_signs_none id region keys ended line fails other never = record {
   effect = λ secret good has observable memory. absurd (never good memory);
 }
 
--- what a session is asked to serve by
-session_serving : List ℕ → Serving
-session_serving region = record { settings = settings_of region; most = None }
+-- what connections are served by as a region, at most so many
+abbrev pub as_region : List ℕ → Option ℕ → Serving
+as_region region most = record { settings = settings_of region; most = most }
 
--- so its connections are served
-serves_asked : {command : Command} {region : List ℕ} (keys : List ℕ) {read : List AccessKey} {service : Service} (serving : Serving) → command ≡ Session region → serving_of (Some command) ≡ Some serving
+-- a command that asks for this asks for nothing else
+one_serving : (command : Command) {one other : Serving} → serving_of (Some command) ≡ Some one → serving_of (Some command) ≡ Some other → one ≡ other
+one_serving command {one = one} {other = other} is asked =
+    let same : Some one ≡ Some other = sym is ∙ asked in
+    cc
+
+-- so the connections are served
+serves_asked : {region : List ℕ} (keys : List ℕ) {read : List AccessKey} {service : Service} (serving : Serving) → settings_of region ≡ serving.settings
     → service ≡ record { settings = settings_of region; keys = read } → read ≡ keys_of keys → service ≡ service_of serving keys
-unfolding session_serving
-serves_asked {region = region} keys serving is asked by read =
-    let own : Some (session_serving region) ≡ Some serving = subst (λ command. serving_of (Some command) ≡ Some serving) is asked in
-    let same : session_serving region ≡ serving = cc in
-    by ∙ ap (λ k. record { settings = settings_of region; keys = k }) read ∙ ap (λ s. service_of s keys) same
+serves_asked {region = region} keys serving same by read =
+    by ∙ ap (λ k. record { settings = settings_of region; keys = k }) read ∙ ap (λ s. record { settings = s; keys = keys_of keys }) same
 
 -- how a session ended, as a run
 done_is : (status : Status) → is_done (Plain status) ≡ true → status ≡ Done
@@ -140,23 +143,27 @@ done_is Line is = absurd (let clash : false ≡ true = is in cc)
 done_is Request is = absurd (let clash : false ≡ true = is in cc)
 done_is Memory is = absurd (let clash : false ≡ true = is in cc)
 
-status_line : (serving : Serving) (status : Status) (old new : LineModel) → LineServesAll status old new → LineServed serving (is_failed_run (Plain status)) (is_done (Plain status)) old new
+status_line : (serving : Serving) (status : Status) (old new : LineModel) → LineServesAll serving.most status old new → LineServed serving (is_failed_run (Plain status)) (is_done (Plain status)) old new
 status_line serving status old new line = record {
   next_faults = line.next_faults;
-  served_out = λ observable ends. inl (line.done observable (done_is status ends));
+  served_out = λ observable ends. line.done observable (done_is status ends);
+  within = line.within;
   unmarked = line.unmarked;
 }
 
--- a run that is a session
-pub run_session : {command : Command} {region : List ℕ} (keys : List ℕ) {read : List AccessKey} {service : Service} {status : Status} {old : World} {new : Known → World} (known : Known) (serving : Serving) → command ≡ Session region → serving_of (Some command) ≡ Some serving
+-- a run that is a session, with such a number of connections
+pub run_session : (command : Command) (region : List ℕ) (most : Option ℕ) (keys : List ℕ) {read : List AccessKey} {service : Service} {status : Status} {old : World} {new : Known → World} (known : Known) (serving : Serving)
+    → serving_of (Some command) ≡ Some (as_region region most) → serving_of (Some command) ≡ Some serving
     → service ≡ record { settings = settings_of region; keys = read } → read ≡ keys_of keys
-    → LineServesAll status old.line (new known).line → ServesOver service.settings (RunTraces service) old (new known) → RunServes serving keys (Plain status) old new
-run_session keys {status = status} {old = old} {new = new} known serving is asked by read line serves = record {
-  plain = refl;
-  known = known;
-  line = status_line serving status old.line (new known).line line;
-  serves = subst (λ (s : Service). ServesOver s.settings (RunTraces s) old (new known)) (serves_asked keys serving is asked by read) serves;
-}
+    → LineServesAll most status old.line (new known).line → ServesOver service.settings (RunTraces service) old (new known) → RunServes serving keys (Plain status) old new
+run_session command region most keys {status = status} {old = old} {new = new} known serving is asked by read line serves =
+    let same : as_region region most ≡ serving = one_serving command is asked in
+    record {
+      plain = refl;
+      known = known;
+      line = status_line serving status old.line (new known).line (subst (λ n. LineServesAll n status old.line (new known).line) (ap (λ s. s.most) same) line);
+      serves = subst (λ (s : Service). ServesOver s.settings (RunTraces s) old (new known)) (serves_asked {region = region} keys serving (ap (λ s. s.settings) same) by read) serves;
+    }
 
 -- ---- what a run promises
 

@@ -10,7 +10,7 @@ use Rattle.sign_cmd.specs.declared.first.Signing.{Signing}
 use Rattle.sign_cmd.specs.declared.first.Signing.TheVariants as signing
 use Rattle.gateway_cli.specs.Words.{command_of}
 use Rattle.gateway_cli.specs.declared.command.Command.{Command}
-use Rattle.gateway_cli.specs.declared.command.Command.TheVariants.{Session, Sign}
+use Rattle.gateway_cli.specs.declared.command.Command.TheVariants.{Session, Serve, Sign}
 use Rattle.gateway_cmd.specs.declared.status.Status.{Status}
 use Rattle.gateway_cmd.specs.declared.status.Status.TheVariants.{Done, Usage, Line, Request, Memory}
 use Rattle.gateway_cmd.specs.declared.status.RunOutcome.{RunOutcome}
@@ -20,6 +20,7 @@ use Rattle.gateway_cmd.specs.declared.status.RunOutcome.TheVariants.{Signed, Pla
 abbrev pub is_possible : Option Command → List ℕ → Bool
 is_possible None keys = false
 is_possible (Some (Session region)) keys = are_keys (keys_of keys)
+is_possible (Some (Serve region connections)) keys = are_keys (keys_of keys)
 is_possible (Some (Sign id region)) keys = are_keys (keys_of keys) && is_some (secret_of id (keys_of keys))
 
 -- the words are taken, and the command can be done by the key text
@@ -35,6 +36,7 @@ pub data Task : Type 0 where
 abbrev pub task_of : Option Command → Task
 task_of None = nothing
 task_of (Some (Session region)) = to_serve
+task_of (Some (Serve region connections)) = to_serve
 task_of (Some (Sign id region)) = to_sign
 
 abbrev pub asked_for : List (String Global) → Task
@@ -50,7 +52,7 @@ code_of Request = 8
 abbrev pub line_feed : List ℕ
 line_feed = 10 ∷ []
 
--- the line that is reported, none where all connections were served
+-- the line that is reported, none where all connections were served that were to be
 unfoldable pub line_of : Status → List ℕ
 line_of Done = []
 line_of Usage = codes "usage: s3gate session|serve|recover|sweep|check|sign|trial" ++ line_feed

@@ -16,7 +16,7 @@ use Rattle.gateway.specs.declared.service.Service.{Service}
 use Rattle.gateway.specs.Exchange.{ReplyRelation, Span}
 use Rattle.gateway.specs.World.{World, ServesOver}
 use Rattle.gateway_cli.specs.declared.command.Command.{Command}
-use Rattle.gateway_cli.specs.declared.command.Command.TheVariants.{Session, Sign}
+use Rattle.gateway_cli.specs.declared.command.Command.TheVariants.{Session, Serve, Sign}
 use Rattle.gateway_cmd.specs.declared.service.TheConstants.{LEAST_PART}
 use Rattle.gateway_cmd.specs.declared.status.Status.{Status}
 use Rattle.gateway_cmd.specs.declared.status.Status.TheVariants.{Done, Usage, Line, Request as NoRequest, Memory}
@@ -42,11 +42,16 @@ service_of serving keys = record { settings = serving.settings; keys = keys_of k
 abbrev pub serving_of : Option Command → Option Serving
 serving_of None = None
 serving_of (Some (Session region)) = Some (record { settings = settings_of region; most = None })
+serving_of (Some (Serve region connections)) = Some (record { settings = settings_of region; most = Some connections })
 serving_of (Some (Sign id region)) = None
 
 -- no connection is left, or as many as were asked for began
-abbrev pub IsServedOut : Serving → Transcript → Transcript → Type 0
-IsServedOut serving old new = (new.waiting ≡ []) ⊎ ((n : ℕ) × (serving.most ≡ Some n) × (new.begun ≡ old.begun + n))
+abbrev pub IsServedOut : Option ℕ → Transcript → Transcript → Type 0
+IsServedOut most old new = (new.waiting ≡ []) ⊎ ((n : ℕ) × (most ≡ Some n) × (new.begun ≡ old.begun + n))
+
+-- no more connections began than were asked for
+abbrev pub BeginsAtMost : Option ℕ → Transcript → Transcript → Type 0
+BeginsAtMost most old new = (n : ℕ) → most ≡ Some n → new.begun ≤ old.begun + n
 
 -- what a key text gives: its keys, each of the form and no id twice; or it is refused; memory may run out for any
 abbrev pub Offers : List ℕ → Result (List AccessKey) KeysFault → Type 0
@@ -67,7 +72,7 @@ pub record Unmarked (old new : Transcript) : Type 0 where
 
 -- ---- what the connections of a run do to the line
 
--- the end of a run that serves: no connection is left, or the line failed to give another
+-- the end of a run that serves: no connection is left to serve, or the line failed to give another
 abbrev pub is_end : Status → Bool
 is_end Done = true
 is_end Usage = false
@@ -83,26 +88,34 @@ abbrev pub IsEnd : Option Status → Type 0
 IsEnd None = Unit {0}
 IsEnd (Some status) = is_end status ≡ true
 
+-- how many connections began, by whether another did
+abbrev pub begun_after : Option Status → ℕ → ℕ
+begun_after None begun = begun + 1
+begun_after (Some status) begun = begun
+
 -- the next connection was served, or there is none
 pub record LineServesNext (result : Option Status) (old new : LineModel) : Type 0 where
   pub ends : IsEnd result
   pub falls : result ≡ None → 2 ^ 63 - new.spent < 2 ^ 63 - old.spent
   pub faults : old.faults ≤ new.faults
   pub next_faults : RisesIf (is_failed_session result) old.next_faults new.next_faults
+  pub begun : IsTrue old.observable → new.transcript.begun ≡ begun_after result old.transcript.begun
   pub done : IsTrue old.observable → result ≡ Some Done → new.transcript.waiting ≡ []
   pub unmarked : IsTrue old.observable → (Rose old.faults new.faults → ⊥) → Unmarked old.transcript new.transcript
 
--- the connections were, until there was none
-pub record LineServesAll (status : Status) (old new : LineModel) : Type 0 where
+-- the connections were, until there was none, or as many as were asked for had begun
+pub record LineServesAll (most : Option ℕ) (status : Status) (old new : LineModel) : Type 0 where
   pub ends : is_end status ≡ true
   pub next_faults : RisesIf (is_failed_run (Plain status)) old.next_faults new.next_faults
-  pub done : IsTrue old.observable → status ≡ Done → new.transcript.waiting ≡ []
+  pub done : IsTrue old.observable → status ≡ Done → IsServedOut most old.transcript new.transcript
+  pub within : IsTrue old.observable → BeginsAtMost most old.transcript new.transcript
   pub unmarked : IsTrue old.observable → (Rose old.faults new.faults → ⊥) → Unmarked old.transcript new.transcript
 
 -- what a run that serves does to the line, by whether the line failed to give a connection, and whether all was done
 pub record LineServed (serving : Serving) (failed done : Bool) (old new : LineModel) : Type 0 where
   pub next_faults : RisesIf failed old.next_faults new.next_faults
-  pub served_out : IsTrue old.observable → done ≡ true → IsServedOut serving old.transcript new.transcript
+  pub served_out : IsTrue old.observable → done ≡ true → IsServedOut serving.most old.transcript new.transcript
+  pub within : IsTrue old.observable → BeginsAtMost serving.most old.transcript new.transcript
   pub unmarked : IsTrue old.observable → (Rose old.faults new.faults → ⊥) → Unmarked old.transcript new.transcript
 
 -- ---- a run but for its report, by what is asked for

@@ -77,7 +77,26 @@ fn perform<N: Line<W>, W: Swift, C: Clock, D: Draws>(
             Command::Session { region } => {
                 let service = service(region, keys);
                 let mut known = Known::Unsure;
-                RunOutcome::Plain(session(alloc, &service, line, store, &mut known, clock, draws))
+                RunOutcome::Plain(session(
+                    alloc, &service, None, line, store, &mut known, clock, draws,
+                ))
+            }
+            Command::Serve {
+                region,
+                connections,
+            } => {
+                let service = service(region, keys);
+                let mut known = Known::Unsure;
+                RunOutcome::Plain(session(
+                    alloc,
+                    &service,
+                    Some(connections),
+                    line,
+                    store,
+                    &mut known,
+                    clock,
+                    draws,
+                ))
             }
             Command::Sign { key, region } => sign(alloc, &keys, &key, &region, line, store),
         },

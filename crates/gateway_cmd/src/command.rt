@@ -25,8 +25,9 @@ use std::alloc::Global;
 use swift_calls::Swift;
 
 /// A whole run of `s3gate` with these words, which follow the program's name, by the keys of a key text (see
-/// [`sigv4::Keys::read`]). `session` serves the connections of the line, and `sign` signs its first request. The answer is
-/// the exit status: 0 where each connection was served, or the signature was reported; 2 where the words are refused (see
+/// [`sigv4::Keys::read`]). `session` serves the connections of the line, `serve` no more of them than the words say, and
+/// `sign` signs its first request. The answer is the exit status: 0 where no connection is left to serve, or the signature
+/// was reported; 2 where the words are refused (see
 /// [`gateway_cli::read_words`]), or the key text, or it hasn't the key that is to sign; 3 where the line failed to give
 /// another connection, or at all while a request was to be signed; 5 where memory ran out; 6 where the report of a
 /// signature failed; 8 where no request stood first on the line, or one that can't be signed.

@@ -1,4 +1,5 @@
-//! The command `session`: the connections of the line, in turn.
+//! The commands `session` and `serve`: the connections of the line, in turn.
+ghost use Rattle.std.specs.Prelude.{◌≡◌, ◌≢◌, ◌-◌, true, false, Some, option_map};
 ghost use Rattle.gateway.specs.World.{world, ServesOver};
 ghost use Rattle.gateway_cmd.specs.Run.{RunTraces};
 ghost use Rattle.gateway_cmd.specs.Session.{LineServesAll, LineServesNext, NextCursor};
@@ -10,26 +11,51 @@ use recovery::Known;
 use std::alloc::Global;
 use swift_calls::Swift;
 
-/// Serves the connections of the line until there is none.
+/// Serves the connections of the line until there is none, or as many as `most` says were served.
 pub fn session<N: Line<W>, W: Swift, C: Clock, D: Draws>(
     alloc: Global,
     service: &Service,
+    most: Option<u64>,
     line: &mut N,
     store: &mut W,
     known: &mut Known,
     clock: &mut C,
     draws: &mut D,
 ) -> Status
-    ensures line { LineServesAll result (N.model line.old) (N.model line.new) }
+    ensures line { LineServesAll most result (N.model line.old) (N.model line.new) }
     ensures serves { ServesOver service.now.settings (RunTraces service.now)
         (world (N.model line.old) (W.history store.old) known.old (C.model clock.old) (D.model draws.old))
         (world (N.model line.new) (W.history store.new) known.new (C.model clock.new) (D.model draws.new)) }
 {
+    let mut left = most;
     'connections: loop {
+        if is_reached(left) {
+            return Status::Done;
+        }
         match serve_another(alloc, service, line, store, known, clock, draws) {
             Some(status) => return status,
-            None => {}
+            None => left = one_less(left),
         }
+    }
+}
+
+/// Whether none is left of the connections that were asked for.
+fn is_reached(left: Option<u64>) -> bool
+    ensures none { result ≡ true → left ≡ Some 0 }
+    ensures some { result ≡ false → left ≢ Some 0 }
+{
+    match left {
+        Some(left) => left == 0,
+        None => false,
+    }
+}
+
+fn one_less(left: Option<u64>) -> Option<u64>
+    ensures { result ≡ option_map (λ n. n - 1) left }
+{
+    match left {
+        Some(left) => Some(left.saturating_sub(1)),
+        None => None,
     }
 }
 

@@ -8,7 +8,7 @@ use std::alloc::Global;
 /// How a run ended that has no signature to report.
 #[derive(Clone, Copy, Debug, PartialEq, Eq)]
 pub enum Status {
-    /// Each connection of the line was served.
+    /// Each connection of the line was served, or as many as were asked for.
     Done,
     /// The words are refused, or the key text.
     Usage,

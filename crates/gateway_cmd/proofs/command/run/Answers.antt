@@ -27,7 +27,7 @@ returns-clause-request g c = λ e. c.attempt-ended.ensures.admits.request (exits
 pub returns-clause-serving : goal.returns-clause-serving
 returns-clause-serving g c = λ serving is.
     let run = c.attempt-ended.ensures.serves serving is in
-    serving_line _ _ run.plain (says_exits _ _ _ c.tell.ensures.says.1) run.line
+    serving_line {old = g.N.Line.model c.args.line.now} {new = g.N.Line.model c.attempt-ended.new.line} _ _ run.plain (says_exits _ _ _ c.tell.ensures.says.1) run.line
 
 pub returns-clause-signing : goal.returns-clause-signing
 returns-clause-signing g c = λ signing.

@@ -1,10 +1,11 @@
-use Rattle.std.proofs.Common.{◌∙◌, [], subst, refl, arith}
+use Rattle.std.proofs.Common.{◌∙◌, [], subst, refl, sym, inl, arith}
 use Rattle.gate_base.specs.Causes.{RisesIf}
 use Rattle.gateway.specs.World.{World, world}
 use Rattle.gateway.proofs.Worlds.{serves_none, serves_trans}
 use Rattle.gateway_cmd.specs.Report.{is_failed_run}
 use Rattle.gateway_cmd.specs.Run.{none, run_cursor_of}
 use Rattle.gateway_cmd.specs.declared.status.RunOutcome.TheVariants.{Plain}
+use Rattle.gateway_cmd.proofs.Counting.{Counts, counts_none, counts_next, counts_same, counts_reached, counts_within}
 use Rattle.gateway_cmd.proofs.Marks.{unmarked_none, unmarked_next, done_next}
 use Rattle.gateway_cmd.proofs.Sessions.{run_traces_more, run_traces_end}
 use Rattle.gateway_cmd.proofs.session.session.Goals as goal
@@ -14,8 +15,25 @@ connections-init g c = record {
   next_faults = refl;
   faults = omega arith;
   unmarked = λ observable still. unmarked_none _ _ refl;
+  counts = λ observable. counts_none c.args.most (g.N.Line.model c.args.line.now).transcript.begun;
   serves = serves_none (λ t. t) (λ told R. ([], none (run_cursor_of (world (g.N.Line.model c.args.line.now) (g.W.Swift.history c.args.store.now) c.args.known.now (g.C.Clock.model c.args.clock.now) (g.D.Draws.model c.args.draws.now)))));
 }
+
+pub returns-then-is_reached-clause-line : goal.returns-then-is_reached-clause-line
+returns-then-is_reached-clause-line g c =
+    let i = c.connections.invariant in
+    let old = (g.N.Line.model c.args.line.now).transcript in
+    let new = (g.N.Line.model c.connections.line).transcript in
+    record {
+      ends = refl;
+      next_faults = i.next_faults;
+      done = λ observable is. counts_reached c.args.most c.connections.left old new (c.is_reached.ensures.none c.if-is_reached.true) (i.counts observable);
+      within = λ observable. counts_within c.args.most c.connections.left old new (i.counts observable);
+      unmarked = i.unmarked;
+    }
+
+pub returns-then-is_reached-clause-serves : goal.returns-then-is_reached-clause-serves
+returns-then-is_reached-clause-serves g c = c.connections.invariant.serves
 
 pub returns-in-Some-clause-line : goal.returns-in-Some-clause-line
 returns-in-Some-clause-line g c =
@@ -24,7 +42,9 @@ returns-in-Some-clause-line g c =
     record {
       ends = s.ends;
       next_faults = subst (λ n. RisesIf (is_failed_run (Plain c.in-Some.status)) n (g.N.Line.model c.serve_another.new.line).next_faults) i.next_faults s.next_faults;
-      done = λ observable is. done_next s (i.serves.on.line observable) is;
+      done = λ observable is. inl (done_next s (i.serves.on.line observable) is);
+      within = λ observable. counts_within c.args.most c.connections.left (g.N.Line.model c.args.line.now).transcript (g.N.Line.model c.serve_another.new.line).transcript
+          (counts_same c.args.most c.connections.left c.in-Some.status _ (g.N.Line.model c.connections.line).transcript.begun _ (i.counts observable) (s.begun (i.serves.on.line observable)));
       unmarked = unmarked_next (g.N.Line.model c.args.line.now) (g.N.Line.model c.connections.line) (g.N.Line.model c.serve_another.new.line) i.serves.on.line i.faults i.unmarked s;
     }
 
@@ -46,5 +66,8 @@ connections-preserved g c =
       next_faults = s.next_faults ∙ i.next_faults;
       faults = (let a = i.faults in let b = s.faults in omega arith);
       unmarked = unmarked_next (g.N.Line.model c.args.line.now) (g.N.Line.model c.connections.line) (g.N.Line.model c.serve_another.new.line) i.serves.on.line i.faults i.unmarked s;
+      counts = λ observable.
+          subst (λ left. Counts c.args.most left (g.N.Line.model c.args.line.now).transcript.begun (g.N.Line.model c.serve_another.new.line).transcript.begun) (sym c.one_less-left.ensures)
+          (counts_next c.args.most c.connections.left _ (g.N.Line.model c.connections.line).transcript.begun _ (c.is_reached.ensures.some c.if-is_reached.false) (i.counts observable) (s.begun (i.serves.on.line observable)));
       serves = serves_trans {old = begin} {middle = present} {new = next} i.serves c.in-None.ensures.serves (λ told all kept traces one. run_traces_more all c.args.service.now begin present next kept traces one);
     }

@@ -3,6 +3,7 @@ use Rattle.gate_base.specs.Causes.{Rose}
 use Rattle.gateway.specs.World.{world, ServesOver}
 use Rattle.gateway_cmd.specs.Run.{RunTraces}
 use Rattle.gateway_cmd.specs.Session.{Unmarked}
+use Rattle.gateway_cmd.proofs.Counting.{Counts}
 use Rattle.gateway_cmd.proofs.session.session.Given as goal
 
 abbrev pub invariant-connections : goal.invariant-connections
@@ -11,6 +12,7 @@ invariant-connections g l = record {
   faults : (g.N.Line.model l.initial.line).faults ≤ (g.N.Line.model l.line).faults;
   unmarked : IsTrue (g.N.Line.model l.initial.line).observable → (Rose (g.N.Line.model l.initial.line).faults (g.N.Line.model l.line).faults → ⊥)
       → Unmarked (g.N.Line.model l.initial.line).transcript (g.N.Line.model l.line).transcript;
+  counts : IsTrue (g.N.Line.model l.initial.line).observable → Counts l.fn.most l.left (g.N.Line.model l.initial.line).transcript.begun (g.N.Line.model l.line).transcript.begun;
   serves : ServesOver l.service.settings (RunTraces l.service)
       (world (g.N.Line.model l.initial.line) (g.W.Swift.history l.initial.store) l.initial.known (g.C.Clock.model l.initial.clock) (g.D.Draws.model l.initial.draws))
       (world (g.N.Line.model l.line) (g.W.Swift.history l.store) l.known (g.C.Clock.model l.clock) (g.D.Draws.model l.draws));
