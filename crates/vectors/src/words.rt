@@ -32,12 +32,22 @@ fn add_words(alloc: Global, text: &str, to: &mut Vec<String>) -> Result<(), Faul
     Ok(())
 }
 
-/// The command's name, its key and its region.
+/// The command's name, its key, its region and its number of connections.
 fn show(alloc: Global, command: &Command) -> Result<Bytes, Fault> {
     match command {
         Command::Session { region } => {
             let mut shown = told(alloc, b"session ")?;
             shown.append(region.as_slice())?;
+            Ok(shown)
+        }
+        Command::Serve {
+            region,
+            connections,
+        } => {
+            let mut shown = told(alloc, b"serve ")?;
+            shown.append(region.as_slice())?;
+            let count = format!(in alloc; " {connections}")?;
+            shown.append(count.as_bytes())?;
             Ok(shown)
         }
         Command::Sign { key, region } => {
