@@ -134,12 +134,12 @@ op_of GetBucketAcl message target = Op (op.GetBucketAcl target.bucket)
 op_of PutObject message target =
     Op
     (op.PutObject
-     target.bucket
-     target.key
-     (given_acl message.headers)
-     (taken_type PutObject message.headers)
-     (taken_meta PutObject message.headers)
-     message.body)
+    target.bucket
+    target.key
+    (given_acl message.headers)
+    (taken_type PutObject message.headers)
+    (taken_meta PutObject message.headers)
+    message.body)
 op_of GetObject message target = Op (op.GetObject target.bucket target.key)
 op_of HeadObject message target = Op (op.HeadObject target.bucket target.key)
 op_of DeleteObject message target = Op (op.DeleteObject target.bucket target.key)

@@ -14,8 +14,22 @@ use Rattle.s3_machine.specs.declared.operation.Reply.TheVariants as reply
 use Rattle.s3_machine.specs.State.{Bucket, State}
 use Rattle.s3_machine.specs.Step.{S3Step, is_bare, may_read}
 use Rattle.s3_machine.proofs.lemmas.StepLemmas.{
-    drop_without_bucket, show_without_bucket, locate_without_bucket, acl_without_bucket, set_without_bucket, object_acl_without_bucket, step_full, step_dropped,
-    show_denied, step_shown, step_located, step_acl_of, step_acl_set, object_acl_without_key, step_object_acl, step_listed
+  drop_without_bucket,
+  show_without_bucket,
+  locate_without_bucket,
+  acl_without_bucket,
+  set_without_bucket,
+  object_acl_without_bucket,
+  step_full,
+  step_dropped,
+  show_denied,
+  step_shown,
+  step_located,
+  step_acl_of,
+  step_acl_set,
+  object_acl_without_key,
+  step_object_acl,
+  step_listed,
 }
 use Rattle.upload_records.specs.Native.{object_at}
 use Rattle.s3_machine.specs.declared.items.BucketItem.{BucketItem}

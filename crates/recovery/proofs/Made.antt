@@ -65,7 +65,7 @@ items_by : (tree : SwiftAccount) (es : List (List ℕ × SwiftContainer)) → Al
 items_by tree [] h = refl
 items_by tree (e ∷ es) h =
     elim (is_bucket e.0) as (λ t. map bucket_item (cons_option (option_map (λ b. (e.0, b)) (cond t (Some (bucket_from (files tree (uploads_name e.0)) (files tree (segments_name e.0)) e.1)) None)) (filter_map (pick_entry (bucket_of tree)) es))
-        ≡ map (item_at tree) (cond t (e.0 ∷ filter is_bucket (map (λ e. e.0) es)) (filter is_bucket (map (λ e. e.0) es)))) [
+    ≡ map (item_at tree) (cond t (e.0 ∷ filter is_bucket (map (λ e. e.0) es)) (filter is_bucket (map (λ e. e.0) es)))) [
       | true ↦ (λ i. record { name = e.0; created = made_by (sym h.0 i) } ∷ items_by tree es h.1 i)
       | false ↦ items_by tree es h.1
     ]
@@ -150,7 +150,7 @@ module _ {a b : History} {names : List (List ℕ)} {i : ℕ} {items : List Bucke
       let calls = asks.grows.calls in
       let before = made.calls in
       let counted : length (done_of names (i + 1)) ≡ length (done_of names i) + heads name =
-          ap length (one_more names i name near is) ∙ length-append (done_of names i) (cond (is_bucket name) (name ∷ []) []) ∙ ap (λ n. length (done_of names i) + n) (length_one (is_bucket name) name) in
+      ap length (one_more names i name near is) ∙ length-append (done_of names i) (cond (is_bucket name) (name ∷ []) []) ∙ ap (λ n. length (done_of names i) + n) (length_one (is_bucket name) name) in
       record {
         on = goes_trans made.on asks.grows.on;
         faults = asks.cause ∙ made.faults;
@@ -178,7 +178,7 @@ module _ {a b : History} {names : List (List ℕ)} {i : ℕ} {items : List Bucke
       let before = made.calls in
       let most = not_more names (i + 1) in
       let counted : length (done_of names (i + 1)) ≡ length (done_of names i) + heads name =
-          ap length (one_more names i name near is) ∙ length-append (done_of names i) (cond (is_bucket name) (name ∷ []) []) ∙ ap (λ n. length (done_of names i) + n) (length_one (is_bucket name) name) in
+      ap length (one_more names i name near is) ∙ length-append (done_of names i) (cond (is_bucket name) (name ∷ []) []) ∙ ap (λ n. length (done_of names i) + n) (length_one (is_bucket name) name) in
       subst (Asks (always (length (filter is_bucket names))) a c (HasNames names) (TellsOf (TellsItems names))) (sym (err_is result f err)) (record {
         grows = record { on = goes_trans made.on asks.grows.on; calls = omega arith };
         cause = cause_after T (List BucketItem) a.faults b.faults c.faults f made.faults asks.cause;
@@ -197,10 +197,13 @@ made_all {a = a} {b = b} {names = names} {i = i} {items = items} made all =
       cause = made.faults;
       effect = λ met.
           let idles = made.idles met in
-          let from : b.tree_at a.called ≡ present a = (made.on.kept met.observable).accounts a.called (omega arith) in
-          (idles.quiet, idles.still, record {
-            of_account = made.are met ∙ ap (λ xs. map (item_at (present a)) (filter is_bucket xs)) (take_all i names all) ∙ ap (λ tree. map (item_at tree) (filter is_bucket names)) (sym from);
-            same = idles.same;
-          });
+          let from : b.tree_at a.called ≡ present a = (made.on.kept met.observable).accounts a.called (omega arith) in (
+            idles.quiet,
+            idles.still,
+            record {
+              of_account = made.are met ∙ ap (λ xs. map (item_at (present a)) (filter is_bucket xs)) (take_all i names all) ∙ ap (λ tree. map (item_at tree) (filter is_bucket names)) (sym from);
+              same = idles.same;
+            },
+          );
       settled = made.settled;
     }

@@ -36,16 +36,18 @@ module _ {X : Type 0} where
 
   all_behind : (e : List ℕ × X) (es xs : List (List ℕ × X)) → T (below_all name_cmp e.0 xs) → AllByRecursion (IsFoundIn es) xs → AllByRecursion (IsFoundIn (e ∷ es)) xs
   all_behind e es [] below found = tt
-  all_behind e es (x ∷ xs) below found =
-      (behind e x es (lt_is (name_cmp e.0 x.0) (front (is_lt (name_cmp e.0 x.0)) (below_all name_cmp e.0 xs) below)) found.0,
-      all_behind e es xs (back (is_lt (name_cmp e.0 x.0)) (below_all name_cmp e.0 xs) below) found.1)
+  all_behind e es (x ∷ xs) below found = (
+    behind e x es (lt_is (name_cmp e.0 x.0) (front (is_lt (name_cmp e.0 x.0)) (below_all name_cmp e.0 xs) below)) found.0,
+    all_behind e es xs (back (is_lt (name_cmp e.0 x.0)) (below_all name_cmp e.0 xs) below) found.1,
+  )
 
   all_found : (es : List (List ℕ × X)) → T (is_sorted name_cmp es) → AllByRecursion (IsFoundIn es) es
   all_found [] sorted = tt
-  all_found (e ∷ es) sorted =
-      (ap (λ r. cond (is_eq r) (Some e.1) (find name_cmp e.0 es)) (tied_itself name_total e.0),
-      all_behind e es es (front (below_all name_cmp e.0 es) (is_sorted name_cmp es) sorted)
-        (all_found es (back (below_all name_cmp e.0 es) (is_sorted name_cmp es) sorted)))
+  all_found (e ∷ es) sorted = (
+    ap (λ r. cond (is_eq r) (Some e.1) (find name_cmp e.0 es)) (tied_itself name_total e.0),
+    all_behind e es es (front (below_all name_cmp e.0 es) (is_sorted name_cmp es) sorted)
+        (all_found es (back (below_all name_cmp e.0 es) (is_sorted name_cmp es) sorted)),
+  )
 
   abbrev pub IsEntry : Names X → List ℕ × X → Type 0
   IsEntry m e = get m e.0 ≡ Some e.1
@@ -86,7 +88,7 @@ text_mark text bytes near = record {
   utf8 = IsUtf8-from_ascii text (IsAscii-from_all text (All-weaker (λ b. is_byte b ≡ true) (λ b. b < 128) byte_small text (AllPass-from_list_all is_byte text bytes)));
   no_zero = λ has.
       let zero_is : false ≡ true = All-contains (λ b. not (b == 0) ≡ true) text 0
-        (All-weaker (λ b. is_byte b ≡ true) (λ b. not (b == 0) ≡ true) byte_filled text (AllPass-from_list_all is_byte text bytes)) has in
+      (All-weaker (λ b. is_byte b ≡ true) (λ b. not (b == 0) ≡ true) byte_filled text (AllPass-from_list_all is_byte text bytes)) has in
       cc;
 }
 

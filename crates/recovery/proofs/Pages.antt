@@ -35,7 +35,7 @@ names_after marker [] = refl
 names_after marker (e ∷ es) =
     ap (λ t. map (λ e. e.0) (cond t (e ∷ filter (λ e. is_listed [] marker e.0) es) (filter (λ e. is_listed [] marker e.0) es))) (listed_is marker e.0)
     ∙ elim (is_gt (name_cmp e.0 marker)) as (λ t. map (λ e. e.0) (cond t (e ∷ filter (λ e. is_listed [] marker e.0) es) (filter (λ e. is_listed [] marker e.0) es))
-        ≡ cond t (e.0 ∷ after marker (map (λ e. e.0) es)) (after marker (map (λ e. e.0) es))) [
+    ≡ cond t (e.0 ∷ after marker (map (λ e. e.0) es)) (after marker (map (λ e. e.0) es))) [
       | true ↦ ap (λ ys. e.0 ∷ ys) (names_after marker es)
       | false ↦ names_after marker es
     ]
@@ -104,10 +104,10 @@ module _ (marker : List ℕ) (old new told : List (List ℕ)) (tree : SwiftAccou
       let same : get_or told 999 next ≡ next = cc in
       let at : get_or rest 999 next ≡ next = sym (at_front most_names 999 next rest (omega arith)) ∙ ap (λ xs. get_or xs 999 next) (sym tells) ∙ same in
       let later : is_gt (name_cmp next marker) ≡ true =
-          subst (λ n. is_gt (name_cmp n marker) ≡ true) at (at_index (λ x. is_gt (name_cmp x marker) ≡ true) rest 999 next (passes (λ n. is_gt (name_cmp n marker)) (keys tree)) (omega arith)) in
+      subst (λ n. is_gt (name_cmp n marker) ≡ true) at (at_index (λ x. is_gt (name_cmp x marker) ≡ true) rest 999 next (passes (λ n. is_gt (name_cmp n marker)) (keys tree)) (omega arith)) in
       let behind : after next (keys tree) ≡ drop 1000 rest =
-          after_later marker next (keys tree) later ∙ ap (λ n. after n rest) (sym at)
-          ∙ after_at rest 999 next (filter_ascends (λ n. is_gt (name_cmp n marker)) (keys tree) (keys_ascend tree)) (omega arith) in
+      after_later marker next (keys tree) later ∙ ap (λ n. after n rest) (sym at)
+      ∙ after_at rest 999 next (filter_ascends (λ n. is_gt (name_cmp n marker)) (keys tree) (keys_ascend tree)) (omega arith) in
       record {
         names = ap (λ xs. xs ++ after next (keys tree)) added ∙ ap (λ xs. (old ++ xs) ++ after next (keys tree)) tells ∙ ap (λ xs. (old ++ take most_names rest) ++ xs) behind
             ∙ append_assoc old (take most_names rest) (drop 1000 rest) ∙ ap (λ xs. old ++ xs) (take-append-drop most_names rest);

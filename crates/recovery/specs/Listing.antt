@@ -1,6 +1,30 @@
 -- The containers of an account, as a listing tells them page by page, and the buckets among them. Source: Object Storage API
 -- v1, "Show account details and list containers", and this profile.
-use Rattle.std.specs.Prelude.{◌≡◌, ◌≤◌, ◌+◌, ◌-◌, ℕ, nat_lt, true, cond, List, [], ◌∷◌, ◌++◌, map, length, take, slice_get, is_some, Option, None, Some, Result, Ok, Err}
+use Rattle.std.specs.Prelude.{
+  ◌≡◌,
+  ◌≤◌,
+  ◌+◌,
+  ◌-◌,
+  ℕ,
+  nat_lt,
+  true,
+  cond,
+  List,
+  [],
+  ◌∷◌,
+  ◌++◌,
+  map,
+  length,
+  take,
+  slice_get,
+  is_some,
+  Option,
+  None,
+  Some,
+  Result,
+  Ok,
+  Err,
+}
 use Rattle.std.specs.List.{filter}
 use Rattle.std.specs.Ordering.{is_gt}
 use Rattle.std.specs.Option.{unwrap_or}

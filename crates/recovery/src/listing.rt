@@ -11,7 +11,22 @@ ghost use Rattle.recovery.specs.Answers.{pages};
 ghost use Rattle.recovery.specs.Calls.{always, by_account, Asks, Tells};
 ghost use Rattle.recovery.specs.Lent.{Stays};
 ghost use Rattle.recovery.specs.Listing.{
-    created_due, Has, HasNames, heads, IsMarked, names_due, next_marker, TellsAdded, TellsBuckets, TellsCreated, TellsItem, TellsItems, TellsNames, TellsNext, TellsOf, TellsPage
+  created_due,
+  Has,
+  HasNames,
+  heads,
+  IsMarked,
+  names_due,
+  next_marker,
+  TellsAdded,
+  TellsBuckets,
+  TellsCreated,
+  TellsItem,
+  TellsItems,
+  TellsNames,
+  TellsNext,
+  TellsOf,
+  TellsPage,
 };
 ghost use Rattle.recovery.specs.declared.fault.PlanFault.TheVariants as fault;
 
@@ -27,10 +42,7 @@ const MOST_NAMES: u32 = 1000;
 
 /// A page of the names of the containers after a marker, by GET of the account (Object Storage API v1, "Show account
 /// details and list containers").
-fn page<W: Swift>(
-    state: &mut Settled<'_, W>,
-    marker: &Bytes,
-) -> Result<List<Bytes>, PlanFault>
+fn page<W: Swift>(state: &mut Settled<'_, W>, marker: &Bytes) -> Result<List<Bytes>, PlanFault>
     ensures stays { Stays state.old state.new }
     ensures counted { IfOk result (λ _. (W.history state.old.store.now).called < budget
         × ((W.history state.new.store.now).called ≡ (W.history state.old.store.now).called + 1)) }

@@ -11,5 +11,5 @@ pub returns-clause-asks : goal.returns-clause-asks
 returns-clause-asks g c =
     asks_told (λ tree has. has) c.in_ok-next_marker.field-0
     (λ tree sound has tells. tells_next c.args.marker.now c.args.names.now c.add_names.new.names c.in_ok-page.page tree sound tells
-      (c.in_ok-add_names.ensures ∙ ap (λ xs. c.args.names.now ++ xs) c.as_slice.ensures) c.in_ok-next_marker.field-0 (c.in_ok-next_marker.ensures ∙ ap next_marker c.as_slice-2.ensures))
+    (c.in_ok-add_names.ensures ∙ ap (λ xs. c.args.names.now ++ xs) c.as_slice.ensures) c.in_ok-next_marker.field-0 (c.in_ok-next_marker.ensures ∙ ap next_marker c.as_slice-2.ensures))
     c.in_ok-page.ensures.asks
