@@ -4,8 +4,9 @@
     bench/chance-cases.py > crates/conversations/data/chance.txt
 
 The requests come from a generator with a fixed seed, and the replies from the small model below, which knows only what this
-profile says of five operations: status, code or ETag, and how many calls of the store each makes (docs/PROFILE.md). Nothing is
-taken from the program. The requests are signed as bench/sign-cases.py signs them, each for its own second.
+profile says of twelve operations: status, code or ETag, and how many calls of the store each makes (docs/PROFILE.md). Nothing is
+taken from the program. The requests are signed as bench/sign-cases.py signs them, each for its own second, but for some of
+those that read, which nobody signs.
 """
 import hashlib
 import importlib.util
@@ -26,25 +27,72 @@ def load_signing():
     return module
 
 
+# What is asked of a bucket, and of an object: method, and what stands behind the place.
+OF_BUCKETS = {
+    "CREATE": ("PUT", ""),
+    "DROP": ("DELETE", ""),
+    "LOOK": ("HEAD", ""),
+    "WHERE": ("GET", "?location"),
+    "LIST OF": ("GET", "?acl"),
+    "SET": ("PUT", "?acl"),
+}
+OF_OBJECTS = {"PUT": ("PUT", ""), "GET": ("GET", ""), "HEAD": ("HEAD", ""), "DELETE": ("DELETE", ""), "LIST OF KEY": ("GET", "?acl")}
+
+
+class Bucket:
+    """The moment of its making, whether everybody may read it, and the MD5s of its objects by key."""
+
+    def __init__(self, made, is_open):
+        self.made = made
+        self.is_open = is_open
+        self.objects = {}
+
+
 class Service:
-    """The buckets by name, each with the moment of its making and the MD5s of its objects by key."""
+    """The buckets by name."""
 
     def __init__(self):
         self.buckets = {}
         self.calls = 0
 
-    def answer(self, act, bucket, key, body, moment):
+    def answer(self, act, bucket, key, body, moment, acl, is_signed):
         """The status and the code or ETag of a request."""
-        _, objects = self.buckets.get(bucket, (None, None))
         self.calls += 1
-        if act == "CREATE":
-            if objects is not None:
-                return "409 BucketAlreadyOwnedByYou"
-            self.calls += 1
-            self.buckets[bucket] = (moment, {})
+        if act == "LIST":
+            self.calls += len(self.buckets)
             return "200"
-        if objects is None:
-            return "404" if act == "HEAD" else "404 NoSuchBucket"
+        if act == "CREATE":
+            return self.create(bucket, moment, acl)
+        if bucket not in self.buckets:
+            return "404" if act in ("HEAD", "LOOK") else "404 NoSuchBucket"
+        found = self.buckets[bucket]
+        if not is_signed and not found.is_open:
+            return "403" if act in ("HEAD", "LOOK") else "403 AccessDenied"
+        if act == "DROP":
+            return self.drop(bucket)
+        if act == "SET":
+            found.is_open = acl == "public-read"
+        if act in OF_BUCKETS:
+            return "200"
+        return self.answer_object(found, act, key, body, acl)
+
+    def create(self, bucket, moment, acl):
+        if bucket in self.buckets:
+            return "409 BucketAlreadyOwnedByYou"
+        self.calls += 1
+        self.buckets[bucket] = Bucket(moment, acl == "public-read")
+        return "200"
+
+    def drop(self, bucket):
+        if self.buckets[bucket].objects:
+            return "409 BucketNotEmpty"
+        del self.buckets[bucket]
+        return "204"
+
+    def answer_object(self, found, act, key, body, acl):
+        objects = found.objects
+        if act == "PUT" and acl and (acl == "public-read") != found.is_open:
+            return "501 NotImplemented"
         self.calls += 1
         if act == "PUT":
             objects[key] = hashlib.md5(body.encode()).hexdigest()
@@ -56,18 +104,43 @@ class Service:
             return "404" if act == "HEAD" else "404 NoSuchKey"
         if act == "GET":
             self.calls += 1
-        return f'200 "{objects[key]}"'
+        return "200" if act == "LIST OF KEY" else f'200 "{objects[key]}"'
 
 
-def request_lines(act, bucket, path, body, turn):
+def target_of(act, bucket, path):
+    """The method and the target of a request."""
+    if act == "LIST":
+        return "GET", "/"
+    if act in OF_BUCKETS:
+        method, behind = OF_BUCKETS[act]
+        return method, f"/{bucket}{behind}"
+    method, behind = OF_OBJECTS[act]
+    return method, f"/{bucket}/{path}{behind}"
+
+
+def request_lines(act, bucket, path, body, turn, acl, is_signed):
     """The lines that give a request, made so many seconds after the midnight of 24 May 2013."""
-    method = "PUT" if act == "CREATE" else act
-    target = f"/{bucket}" if act == "CREATE" else f"/{bucket}/{path}"
-    lines = [f"> {method} {target} HTTP/1.1", f">~ 20130524T{turn // 3600:02}{turn // 60 % 60:02}{turn % 60:02}Z"]
+    method, target = target_of(act, bucket, path)
+    lines = [f"> {method} {target} HTTP/1.1"]
+    if is_signed:
+        lines += [f">~ 20130524T{turn // 3600:02}{turn // 60 % 60:02}{turn % 60:02}Z"]
+    if acl:
+        lines += [f"> X-Amz-Acl: {acl}"]
     if act == "PUT":
         lines += ["> Content-Type: text/plain", f"> X-Amz-Meta-Count: {body.count('.')}", f"> Content-Length: {len(body)}", ">"]
         return lines + ([f">. {body}"] if body else [])
-    return lines + (["> Content-Length: 0"] if act == "CREATE" else []) + [">"]
+    return lines + (["> Content-Length: 0"] if method == "PUT" else []) + [">"]
+
+
+def choices(chance):
+    """An act, the access control list that it names, and whether it is signed."""
+    often = ["CREATE", "CREATE", "CREATE", "PUT", "PUT", "PUT", "PUT", "GET", "GET", "GET", "HEAD", "HEAD", "DELETE", "DELETE"]
+    act = chance.choice(often + ["DROP", "LOOK", "WHERE", "LIST OF", "SET", "LIST OF KEY", "LIST"])
+    acl = chance.choice(["private", "public-read"]) if act == "SET" else None
+    if act in ("CREATE", "PUT"):
+        acl = chance.choice([None, None, "private", "public-read"])
+    is_signed = act not in ("GET", "HEAD", "LOOK") or chance.randrange(3) > 0
+    return act, acl, is_signed
 
 
 def case(chance, name):
@@ -75,16 +148,19 @@ def case(chance, name):
     given = []
     wanted = []
     for turn in range(REQUESTS):
-        act = chance.choice(["CREATE", "PUT", "PUT", "PUT", "GET", "GET", "HEAD", "HEAD", "DELETE"])
+        act, acl, is_signed = choices(chance)
         bucket = chance.choice(["music", "photos", "photos", "photos"])
         key, path = chance.choice(KEYS)
         body = ".".join(str(number) for number in range(chance.randrange(40)))
-        given += request_lines(act, bucket, path, body, turn)
-        reply = service.answer(act, bucket, key, body, MOMENT + turn)
+        given += request_lines(act, bucket, path, body, turn, acl, is_signed)
+        reply = service.answer(act, bucket, key, body, MOMENT + turn, acl, is_signed)
         wanted.append(f"reply 1 {service.calls} {reply}")
     clock = " ".join(str(MOMENT + turn) for turn in range(REQUESTS))
-    left = [f"container {bucket} nobody {made} {len(objects)}" for bucket, (made, objects) in sorted(service.buckets.items())]
-    return [f"case {name}", "pieces 1000", f"clock {clock}", "connection", *given, "status 0", *wanted, *left]
+    left = [
+        f"container {name} {'everybody' if bucket.is_open else 'nobody'} {bucket.made} {len(bucket.objects)}"
+        for name, bucket in sorted(service.buckets.items())
+    ]
+    return [f"case {name}", "pieces 1000", f"clock {clock}", "connection", *given, "status 0", *wanted, *(left or ["containers none"])]
 
 
 def main():
