@@ -16,6 +16,8 @@ pub(crate) enum Answer {
     Missing,
     Made,
     There,
+    /// Containers of these names.
+    Containers(&'static [&'static str]),
     /// A bucket that everybody may read.
     Public,
     /// A bucket without its moment.
@@ -70,6 +72,7 @@ fn reply(alloc: Global, answer: Answer) -> Result<SwiftReply, Memory> {
         Answer::Missing => Ok(SwiftReply::NotFound),
         Answer::Made => Ok(SwiftReply::Made),
         Answer::There => Ok(SwiftReply::There),
+        Answer::Containers(names) => Ok(SwiftReply::Containers(texts(alloc, names)?)),
         Answer::Public => Ok(SwiftReply::Readers {
             readers: ReadList::Everybody,
             created: Some(1_369_353_600),
@@ -95,6 +98,14 @@ pub(crate) const ABC: &str = "900150983cd24fb0d6963f7d28e17f72";
 
 fn text(alloc: Global, text: &str) -> Result<Bytes, Memory> {
     Bytes::from_slice(alloc, text.as_bytes())
+}
+
+fn texts(alloc: Global, names: &[&str]) -> Result<List<Bytes>, Memory> {
+    let mut texts = List::new(alloc);
+    for name in names {
+        texts.push(text(alloc, name)?)?;
+    }
+    Ok(texts)
 }
 
 fn head(alloc: Global, etag: &str, size: u64, manifest: bool) -> Result<StoredHead, Memory> {
