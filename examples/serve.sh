@@ -17,7 +17,7 @@ ask() {
     curl --silent --show-error --fail-with-body --retry 5 --retry-connrefused --retry-delay 1 --user "$id:$secret" \
         --aws-sigv4 aws:amz:us-east-1:s3 -H 'x-amz-content-sha256: UNSIGNED-PAYLOAD' "$@"
 }
-ask -X PUT "$place/photos"
+ask -X PUT --data-binary '' "$place/photos"
 ask -X PUT --data-binary 'hello from s3gate' -H 'Content-Type: text/plain' "$place/photos/hello.txt"
 ask "$place/photos/hello.txt"
 cat <<END
@@ -30,6 +30,6 @@ s3gate serves at $place. In another shell:
   aws --endpoint-url $place s3api put-object --bucket music --key a.txt --body README.md
   aws --endpoint-url $place s3api get-object --bucket music --key a.txt /dev/stdout
 
-What works: create-bucket, put-object, get-object, head-object, delete-object. The store is gone when this ends.
+What works: buckets and their access control lists, and single objects; not yet a listing of objects. The store is gone when this ends.
 END
 wait "$server"
