@@ -2,16 +2,12 @@ pub mod Entries
 pub mod Handling
 pub mod Living
 pub mod Looping
-pub mod Map
 pub mod Operating
-pub mod Order
-pub mod Passing
 pub mod Pieces
 pub mod Proper
 pub mod Replying
 pub mod Resolving
 pub mod Serving
-pub mod Standing
 pub mod Statuses
 pub mod Texts
-pub mod Worlds
+pub mod lemmas

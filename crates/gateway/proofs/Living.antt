@@ -23,7 +23,7 @@ use Rattle.gateway.specs.Request.{Request}
 use Rattle.gateway.specs.Exchange.{Asked, Mark, Span, IsPiece, Performs, unsettled, answered, Replies, refused, performed}
 use Rattle.gateway.specs.Stands.{Follows, AllPass, SpanPasses}
 use Rattle.gateway.specs.Life.{CountedAt, counted, uncounted, Counted, After, Lives, AfterLives, OneRun, ManyRuns, SentIsCounted, pieces_of}
-use Rattle.gateway.proofs.Standing.{stands_throughout}
+use Rattle.gateway.proofs.lemmas.Standing.{stands_throughout}
 
 -- ---- one request
 

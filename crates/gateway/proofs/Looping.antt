@@ -16,10 +16,10 @@ use Rattle.gateway.specs.Exchange.{ReplyRelation, Mark, Span, RepliesBy, Where}
 use Rattle.gateway.specs.Connection.{Progress, ConnectionCursor, progress, cursor, Exchanges, none, more, ConnectionTrace}
 use Rattle.gateway.specs.Serving.{NextOne, EndsUnread}
 use Rattle.gateway.specs.Stands.{Stands}
-use Rattle.gateway.proofs.Map.{between_ends, exchanges_map, replies_agree}
+use Rattle.gateway.proofs.lemmas.Map.{between_ends, exchanges_map, replies_agree}
 use Rattle.gateway.proofs.Operating.{from_present}
-use Rattle.gateway.proofs.Order.{follows_append}
-use Rattle.gateway.proofs.Passing.{all_pass_append, all_pass_agree, all_pass_sound}
+use Rattle.gateway.proofs.lemmas.Order.{follows_append}
+use Rattle.gateway.proofs.lemmas.Passing.{all_pass_append, all_pass_agree, all_pass_sound}
 use Rattle.gateway.proofs.Serving.{next_unread}
 
 -- ---- what is given of the store

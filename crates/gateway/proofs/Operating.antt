@@ -25,7 +25,7 @@ use Rattle.recovery.specs.Settling.{IsKnown, settle_fault, as_plan, Anything, Se
 use Rattle.recovery.proofs.lemmas.Idle.{none_made, goes_none}
 use Rattle.planner.specs.Plan.{reply_of, Answered}
 use Rattle.gateway.specs.Exchange.{SettledBy, IsFault, unsettled, answered, Operated}
-use Rattle.gateway.proofs.Map.{settled_by_agree}
+use Rattle.gateway.proofs.lemmas.Map.{settled_by_agree}
 
 -- ---- histories that go on
 

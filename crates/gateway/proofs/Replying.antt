@@ -25,8 +25,8 @@ use Rattle.gateway.specs.Request.{Request}
 use Rattle.gateway.specs.Connection.{sent_by}
 use Rattle.gateway.specs.Exchange.{Asked, asked_by, mark, Span, IsSpan, Performs, unsettled, answered, refused, performed, refused_any, performed_any, RepliesBy, RepliesExpected, Where, IsCaused, Operated}
 use Rattle.gateway.specs.Stands.{SpanPasses, Stands}
-use Rattle.gateway.proofs.Order.{follows_none, is_span_follows}
-use Rattle.gateway.proofs.Passing.{performs_pass, all_pass_none, all_pass_one}
+use Rattle.gateway.proofs.lemmas.Order.{follows_none, is_span_follows}
+use Rattle.gateway.proofs.lemmas.Passing.{performs_pass, all_pass_none, all_pass_one}
 
 -- ---- the account
 

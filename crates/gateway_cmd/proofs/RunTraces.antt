@@ -10,10 +10,10 @@ use Rattle.gateway.specs.declared.service.Service.{Service}
 use Rattle.gateway.specs.Exchange.{ReplyRelation, Mark, Span, IsKnownOf, Replies, RepliesBy, FaultFreeReplies}
 use Rattle.gateway.specs.Connection.{is_failed_end}
 use Rattle.gateway.specs.Stands.{Follows, AllPass, StandsThroughout}
-use Rattle.gateway.proofs.Order.{follows_none, follows_append, connection_trace_order, connection_trace_order_faults, connection_trace_follow}
-use Rattle.gateway.proofs.Map.{Between, between_ends, FollowsBetween, connection_trace_map, by_agree, fault_free_map}
-use Rattle.gateway.proofs.Passing.{all_pass_none, all_pass_append, connection_trace_pass, connection_trace_sound, connection_trace_known}
-use Rattle.gateway.proofs.Standing.{stands_throughout}
+use Rattle.gateway.proofs.lemmas.Order.{follows_none, follows_append, connection_trace_order, connection_trace_order_faults, connection_trace_follow}
+use Rattle.gateway.proofs.lemmas.Map.{Between, between_ends, FollowsBetween, connection_trace_map, by_agree, fault_free_map}
+use Rattle.gateway.proofs.lemmas.Passing.{all_pass_none, all_pass_append, connection_trace_pass, connection_trace_sound, connection_trace_known}
+use Rattle.gateway.proofs.lemmas.Standing.{stands_throughout}
 use Rattle.gateway_cmd.specs.Run.{RunCursor, ServesNext, RunTrace, none, more}
 
 -- ---- whatever is said of replies

@@ -20,8 +20,8 @@ use Rattle.gateway.specs.Connection.{ConnectionTrace, is_failed_end, cursor, pro
 use Rattle.gateway.specs.Exchange.{ReplyRelation, Span, mark, RepliesBy, Where}
 use Rattle.gateway.specs.Stands.{Stands}
 use Rattle.gateway.specs.World.{World, world, progress_of, start_of, IsObservable, ServesOver}
-use Rattle.gateway.proofs.Standing.{stands_throughout}
-use Rattle.gateway.proofs.Worlds.{serves_none}
+use Rattle.gateway.proofs.lemmas.Standing.{stands_throughout}
+use Rattle.gateway.proofs.lemmas.Worlds.{serves_none}
 use Rattle.gateway_cli.specs.declared.command.Command.{Command}
 use Rattle.gateway_cmd.specs.declared.status.RunOutcome.{RunOutcome}
 use Rattle.gateway_cmd.specs.declared.status.RunOutcome.TheVariants.{Plain}

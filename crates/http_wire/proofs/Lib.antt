@@ -8,4 +8,4 @@ pub mod MessageLemmas
 pub mod ScanLemmas
 pub mod SeenLemmas
 pub mod TakeLemmas
-pub mod UniqueLemmas
+pub mod lemmas

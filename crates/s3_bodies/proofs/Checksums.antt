@@ -3,10 +3,10 @@ use Rattle.std.proofs.Common.{ℕ, List, [], ◌++◌, length, refl, ◌∙◌, 
 use Rattle.xml_forms.specs.Forms.{Begins, Stops, Reads, Then, Word, Unique, Possible, Opens}
 use Rattle.xml_forms.specs.Runs.{has, IsRun, Sized}
 use Rattle.xml_forms.specs.declared.class.Class.TheVariants.{Space, LetterOrDigit, Text}
-use Rattle.xml_forms.proofs.Choices.{Heads, then_heads}
-use Rattle.xml_forms.proofs.Readers.{any_run, opens_heads, run_reads, then_reads, word_heads}
-use Rattle.xml_forms.proofs.Runs.{ran_unique}
-use Rattle.xml_forms.proofs.Sequence.{then_stops, then_stops_first, then_unique, word_unique}
+use Rattle.xml_forms.proofs.lemmas.Choices.{Heads, then_heads}
+use Rattle.xml_forms.proofs.lemmas.Readers.{any_run, opens_heads, run_reads, then_reads, word_heads}
+use Rattle.xml_forms.proofs.lemmas.Runs.{ran_unique}
+use Rattle.xml_forms.proofs.lemmas.Sequence.{then_stops, then_stops_first, then_unique, word_unique}
 use Rattle.s3_bodies.specs.Completion.{Checksum, ChecksumEnd, ChecksumName, ChecksumText}
 
 end_some : (name : List ℕ) → Possible (ChecksumEnd name)

@@ -6,12 +6,12 @@ use Rattle.xml_forms.specs.Forms.{Begins, Stops, Reads, Exactly, Many, Skips, Sp
 use Rattle.xml_forms.specs.Openings.{Opening}
 use Rattle.xml_forms.specs.Runs.{has, IsRun, Spaced}
 use Rattle.xml_forms.specs.declared.class.Class.TheVariants.{Space}
-use Rattle.xml_forms.proofs.Elements.{exactly_unique, is_zero}
-use Rattle.xml_forms.proofs.Manies.{many_reads, many_some, many_unique}
-use Rattle.xml_forms.proofs.Openings.{document_breaks, document_reads, document_unique}
-use Rattle.xml_forms.proofs.Readers.{exactly_heads, nearer_value, opens_heads, spaced_exactly, spaced_reads, spaced_some, spaced_unique, then_reads, with_value, word_heads}
-use Rattle.xml_forms.proofs.Sequence.{then_some, then_stops_first, then_unique}
-use Rattle.xml_forms.proofs.Wholes.{Stuck, stuck_behind, stuck_within, whole}
+use Rattle.xml_forms.proofs.lemmas.Elements.{exactly_unique, is_zero}
+use Rattle.xml_forms.proofs.lemmas.Manies.{many_reads, many_some, many_unique}
+use Rattle.xml_forms.proofs.lemmas.Openings.{document_breaks, document_reads, document_unique}
+use Rattle.xml_forms.proofs.lemmas.Readers.{exactly_heads, nearer_value, opens_heads, spaced_exactly, spaced_reads, spaced_some, spaced_unique, then_reads, with_value, word_heads}
+use Rattle.xml_forms.proofs.lemmas.Sequence.{then_some, then_stops_first, then_unique}
+use Rattle.xml_forms.proofs.lemmas.Wholes.{Stuck, stuck_behind, stuck_within, whole}
 use Rattle.s3_bodies.specs.Completion.{Completion, IsCompletion, Part, Parts, PartsEnd, completion_end, completion_start, listed_of}
 use Rattle.s3_bodies.specs.PartReaders.{ClosesParts, EndsParts, part_of}
 use Rattle.s3_bodies.proofs.PartLemmas.{part_apart, part_some, part_unique}

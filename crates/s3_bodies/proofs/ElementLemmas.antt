@@ -8,12 +8,12 @@ use Rattle.xml_forms.specs.Forms.{Begins, Stops, Reads, Either, Exactly, RunThen
 use Rattle.xml_forms.specs.Readers.{read_by, ReadsText}
 use Rattle.xml_forms.specs.Runs.{has, Element, IsRun, Sized}
 use Rattle.xml_forms.specs.declared.class.Class.TheVariants.{Space, Digit, Dashed}
-use Rattle.xml_forms.proofs.Choices.{Heads, either_unique, heads_apart, then_heads}
-use Rattle.xml_forms.proofs.Elements.{closed_run, element_unique, exactly_begins, exactly_stops, exactly_unique, no_bytes, one_sized}
-use Rattle.xml_forms.proofs.Manies.{valued_stops, valued_begins, valued_unique, valued_heads}
-use Rattle.xml_forms.proofs.Readers.{apart_either, nearer_by, opens_heads, then_reads, word_heads}
-use Rattle.xml_forms.proofs.Runs.{ran_begins, ran_short, ran_stops, ran_unique}
-use Rattle.xml_forms.proofs.Sequence.{then_begins, then_stops, then_stops_first, then_unique, word_unique}
+use Rattle.xml_forms.proofs.lemmas.Choices.{Heads, either_unique, heads_apart, then_heads}
+use Rattle.xml_forms.proofs.lemmas.Elements.{closed_run, element_unique, exactly_begins, exactly_stops, exactly_unique, no_bytes, one_sized}
+use Rattle.xml_forms.proofs.lemmas.Manies.{valued_stops, valued_begins, valued_unique, valued_heads}
+use Rattle.xml_forms.proofs.lemmas.Readers.{apart_either, nearer_by, opens_heads, then_reads, word_heads}
+use Rattle.xml_forms.proofs.lemmas.Runs.{ran_begins, ran_short, ran_stops, ran_unique}
+use Rattle.xml_forms.proofs.lemmas.Sequence.{then_begins, then_stops, then_stops_first, then_unique, word_unique}
 use Rattle.s3_bodies.specs.Completion.{Bare, Etag, EtagText, Number, Quote, Quoted, QuotedEnd, etag_end}
 
 -- ---- a number

@@ -11,7 +11,7 @@ use Rattle.xml_forms.specs.Openings.{Declared, Marked, NoMark, Opening, RootEnd,
 use Rattle.xml_forms.specs.Runs.{has, Sized, Element, Spaced}
 use Rattle.xml_forms.specs.declared.class.Class.{Class}
 use Rattle.xml_forms.specs.declared.class.Class.TheVariants.{Space, Dashed, InDouble, InSingle}
-use Rattle.xml_forms.proofs.Readers.{any_run}
+use Rattle.xml_forms.proofs.lemmas.Readers.{any_run}
 use Rattle.s3_bodies.specs.Location.{Constraint, IsLocation, Location, LocationInside, Region, AnswersLocation, location_end, location_start}
 use Rattle.s3_bodies.specs.LocationTest.{is_cut, is_any, is_spaced, is_element, has_no_mark, is_marked, is_root_end, is_root_tag, is_opening, is_inside, is_document, names_location, TellsLocation}
 use Rattle.s3_bodies.specs.declared.fault.BodyFault.{BodyFault}

@@ -7,13 +7,13 @@ use Rattle.xml_forms.specs.Openings.{Opening}
 use Rattle.xml_forms.specs.Readers.{ReadsText, read_by}
 use Rattle.xml_forms.specs.Runs.{has, IsRun, Sized, Spaced}
 use Rattle.xml_forms.specs.declared.class.Class.TheVariants.{Space, Dashed}
-use Rattle.xml_forms.proofs.Choices.{Heads, either_unique, heads_apart, then_heads}
-use Rattle.xml_forms.proofs.Elements.{element_unique, exactly_begins, exactly_stops, exactly_unique}
-use Rattle.xml_forms.proofs.Openings.{document_breaks, document_reads, document_unique}
-use Rattle.xml_forms.proofs.Readers.{any_run, either_opens, exactly_heads, nearer_by, opens_heads, spaced_reads, then_reads, word_heads}
-use Rattle.xml_forms.proofs.Runs.{ran_unique}
-use Rattle.xml_forms.proofs.Sequence.{then_stops_first, then_unique}
-use Rattle.xml_forms.proofs.Wholes.{Stuck, stuck_behind, stuck_within, whole}
+use Rattle.xml_forms.proofs.lemmas.Choices.{Heads, either_unique, heads_apart, then_heads}
+use Rattle.xml_forms.proofs.lemmas.Elements.{element_unique, exactly_begins, exactly_stops, exactly_unique}
+use Rattle.xml_forms.proofs.lemmas.Openings.{document_breaks, document_reads, document_unique}
+use Rattle.xml_forms.proofs.lemmas.Readers.{any_run, either_opens, exactly_heads, nearer_by, opens_heads, spaced_reads, then_reads, word_heads}
+use Rattle.xml_forms.proofs.lemmas.Runs.{ran_unique}
+use Rattle.xml_forms.proofs.lemmas.Sequence.{then_stops_first, then_unique}
+use Rattle.xml_forms.proofs.lemmas.Wholes.{Stuck, stuck_behind, stuck_within, whole}
 use Rattle.s3_bodies.specs.Location.{Constraint, IsLocation, Location, LocationInside, Region, location_end, location_start}
 
 abbrev closed : List ℕ → List ℕ → List ℕ → Type 0

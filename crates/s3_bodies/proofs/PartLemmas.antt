@@ -4,11 +4,11 @@ use Rattle.std.proofs.Common.{◌≢◌, ◌<◌, ap, append_assoc, ◌∙◌, �
 use Rattle.xml_forms.specs.Forms.{Begins, Stops, Reads, Either, Exactly, Word, Unique, Apart, Possible, Opens, nearer}
 use Rattle.xml_forms.specs.Runs.{has, IsRun, Spaced}
 use Rattle.xml_forms.specs.declared.class.Class.TheVariants.{Space}
-use Rattle.xml_forms.proofs.Choices.{Heads, either_unique, heads_apart}
-use Rattle.xml_forms.proofs.Elements.{exactly_begins, exactly_stops, exactly_unique}
-use Rattle.xml_forms.proofs.Manies.{apart_sym, apart_then, many_reads, many_some, many_unique, skips_more, skips_none, spaced_apart}
-use Rattle.xml_forms.proofs.Readers.{apart_either, exactly_heads, opens_heads, spaced_reads, spaced_shorter, spaced_some, spaced_unique, then_reads, word_heads}
-use Rattle.xml_forms.proofs.Sequence.{then_some, then_stops_first, then_unique, word_unique}
+use Rattle.xml_forms.proofs.lemmas.Choices.{Heads, either_unique, heads_apart}
+use Rattle.xml_forms.proofs.lemmas.Elements.{exactly_begins, exactly_stops, exactly_unique}
+use Rattle.xml_forms.proofs.lemmas.Manies.{apart_sym, apart_then, many_reads, many_some, many_unique, skips_more, skips_none, spaced_apart}
+use Rattle.xml_forms.proofs.lemmas.Readers.{apart_either, exactly_heads, opens_heads, spaced_reads, spaced_shorter, spaced_some, spaced_unique, then_reads, word_heads}
+use Rattle.xml_forms.proofs.lemmas.Sequence.{then_some, then_stops_first, then_unique, word_unique}
 use Rattle.s3_bodies.specs.Completion.{Checksum, Checksums, Etag, EtagFirst, EtagThen, Number, NumberFirst, NumberThen, Part, PartEnd, PartInside, PartLast}
 use Rattle.s3_bodies.specs.PartReaders.{SkipsChecksums}
 use Rattle.s3_bodies.proofs.Checksums.{checksum_heads, checksum_opens, checksum_unique}

@@ -5,7 +5,7 @@ use Rattle.s3_names.specs.declared.target.Target.{Target}
 use Rattle.s3_names.specs.Target.{target_of}
 use Rattle.http_wire.specs.declared.message.Message.{Message}
 use Rattle.http_wire.specs.FirstMessage.{asks}
-use Rattle.http_wire.proofs.UniqueLemmas.{one_front}
+use Rattle.http_wire.proofs.lemmas.UniqueLemmas.{one_front}
 use Rattle.sigv4.specs.declared.signature.Signed.{Signed as Signature}
 use Rattle.sigv4.specs.Canonical.{canonical_text}
 use Rattle.sigv4.specs.Sign.{signed_of}

@@ -4,7 +4,7 @@ use Rattle.gateway.specs.Exchange.{RepliesBy}
 use Rattle.gateway.specs.Serving.{NextOne}
 use Rattle.gateway.specs.World.{World, world, start_of, cursor_of}
 use Rattle.gateway.proofs.Looping.{answered_agree, answered_more, answered_ends, answered_none, unread_at_once, line_serves_on}
-use Rattle.gateway.proofs.Worlds.{serves_none, serves_trans}
+use Rattle.gateway.proofs.lemmas.Worlds.{serves_none, serves_trans}
 use Rattle.gateway.proofs.serve.serve_connection.Goals as goal
 
 pub returns-in-Err-clause-serves : goal.returns-in-Err-clause-serves

@@ -1,6 +1,6 @@
 use Rattle.std.proofs.Common.{List, ℕ, ◌++◌, ap}
 use Rattle.gateway.proofs.Serving.{next_request, next_refused, next_end, next_cut, next_failed, next_unread}
-use Rattle.gateway.proofs.Worlds.{serves_none, serves_after}
+use Rattle.gateway.proofs.lemmas.Worlds.{serves_none, serves_after}
 use Rattle.gateway.proofs.serve.serve_next.Goals as goal
 
 pub returns-in-Ok-Request-clause-serves : goal.returns-in-Ok-Request-clause-serves

@@ -1,7 +1,7 @@
 use Rattle.std.proofs.Common.{◌∙◌, [], subst, refl, sym, inl, arith}
 use Rattle.gate_base.specs.Causes.{RisesIf}
 use Rattle.gateway.specs.World.{World, world}
-use Rattle.gateway.proofs.Worlds.{serves_none, serves_trans}
+use Rattle.gateway.proofs.lemmas.Worlds.{serves_none, serves_trans}
 use Rattle.gateway_cmd.specs.Report.{is_failed_run}
 use Rattle.gateway_cmd.specs.Run.{none, run_cursor_of}
 use Rattle.gateway_cmd.specs.declared.status.RunOutcome.TheVariants.{Plain}

@@ -1,4 +1,4 @@
-use Rattle.http_wire.proofs.UniqueLemmas.{one_front}
+use Rattle.http_wire.proofs.lemmas.UniqueLemmas.{one_front}
 use Rattle.http_wire.proofs.laws.one_front.Goals as goal
 
 pub returns : goal.returns

@@ -1,4 +1,4 @@
-use Rattle.http_wire.proofs.UniqueLemmas.{front_spells, one_spelling, spelt_front}
+use Rattle.http_wire.proofs.lemmas.UniqueLemmas.{front_spells, one_spelling, spelt_front}
 use Rattle.http_wire.proofs.laws.one_spelling.Goals as goal
 
 pub returns : goal.returns

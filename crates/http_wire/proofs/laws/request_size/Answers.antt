@@ -1,4 +1,4 @@
-use Rattle.http_wire.proofs.UniqueLemmas.{request_some, request_within}
+use Rattle.http_wire.proofs.lemmas.UniqueLemmas.{request_some, request_within}
 use Rattle.http_wire.proofs.laws.request_size.Goals as goal
 
 pub returns : goal.returns

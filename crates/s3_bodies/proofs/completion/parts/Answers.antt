@@ -1,7 +1,7 @@
 use Rattle.std.proofs.Common.{[], ◌∷◌, ◌++◌, map, subst, sym}
 use Rattle.std.proofs.lemmas.List.{append-nil}
 use Rattle.xml_forms.specs.Forms.{Skips}
-use Rattle.xml_forms.proofs.Manies.{skips_more, skips_none}
+use Rattle.xml_forms.proofs.lemmas.Manies.{skips_more, skips_none}
 use Rattle.s3_bodies.specs.Completion.{Part}
 use Rattle.s3_bodies.specs.PartReaders.{part_of}
 use Rattle.s3_bodies.proofs.CompletionLemmas.{grown}

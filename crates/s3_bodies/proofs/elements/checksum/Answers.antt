@@ -1,4 +1,4 @@
-use Rattle.xml_forms.proofs.Readers.{spaced_reads}
+use Rattle.xml_forms.proofs.lemmas.Readers.{spaced_reads}
 use Rattle.s3_bodies.specs.Completion.{Checksum}
 use Rattle.s3_bodies.proofs.Checksums.{checksum_opens}
 use Rattle.s3_bodies.proofs.elements.checksum.Goals as goal

@@ -1,4 +1,4 @@
-use Rattle.xml_forms.proofs.Readers.{spaced_reads}
+use Rattle.xml_forms.proofs.lemmas.Readers.{spaced_reads}
 use Rattle.s3_bodies.specs.Completion.{Etag}
 use Rattle.s3_bodies.proofs.ElementLemmas.{etag_opens}
 use Rattle.s3_bodies.proofs.elements.etag.Goals as goal

@@ -1,6 +1,6 @@
 use Rattle.std.proofs.Common.{codes}
 use Rattle.xml_forms.specs.Forms.{Either, Word}
-use Rattle.xml_forms.proofs.Readers.{nearer_rest}
+use Rattle.xml_forms.proofs.lemmas.Readers.{nearer_rest}
 use Rattle.s3_bodies.proofs.elements.quote.Goals as goal
 
 pub returns : goal.returns

@@ -1,6 +1,6 @@
 use Rattle.std.proofs.Common.{length, Err, Ok}
 use Rattle.std.proofs.lemmas.Result.{err_from_is_err_and}
-use Rattle.xml_forms.proofs.Elements.{is_zero, not_zero}
+use Rattle.xml_forms.proofs.lemmas.Elements.{is_zero, not_zero}
 use Rattle.s3_bodies.proofs.ElementLemmas.{end_begins, end_breaks, end_stops, text_empty, text_reads}
 use Rattle.s3_bodies.proofs.elements.quoted_text.Goals as goal
 

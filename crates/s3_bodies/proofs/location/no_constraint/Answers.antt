@@ -1,6 +1,6 @@
 use Rattle.std.proofs.Common.{[]}
 use Rattle.std.proofs.lemmas.Result.{err_from_is_err_and}
-use Rattle.xml_forms.proofs.Elements.{exactly_stops}
+use Rattle.xml_forms.proofs.lemmas.Elements.{exactly_stops}
 use Rattle.s3_bodies.specs.Location.{location_end}
 use Rattle.s3_bodies.proofs.location.no_constraint.Goals as goal
 

@@ -1,4 +1,4 @@
-use Rattle.xml_forms.proofs.Readers.{nearer_than}
+use Rattle.xml_forms.proofs.lemmas.Readers.{nearer_than}
 use Rattle.s3_bodies.specs.Completion.{Checksums, NumberThen}
 use Rattle.s3_bodies.specs.PartReaders.{part_of}
 use Rattle.s3_bodies.proofs.PartLemmas.{number_last_reads}

@@ -1,4 +1,4 @@
-use Rattle.xml_forms.proofs.Readers.{nearer_by, nearer_than}
+use Rattle.xml_forms.proofs.lemmas.Readers.{nearer_by, nearer_than}
 use Rattle.s3_bodies.specs.Completion.{EtagFirst, NumberFirst, PartInside}
 use Rattle.s3_bodies.specs.PartReaders.{part_of}
 use Rattle.s3_bodies.proofs.PartLemmas.{inside_reads}

@@ -1,4 +1,4 @@
-use Rattle.xml_forms.proofs.Readers.{nearer_than}
+use Rattle.xml_forms.proofs.lemmas.Readers.{nearer_than}
 use Rattle.s3_bodies.specs.Completion.{PartLast}
 use Rattle.s3_bodies.specs.PartReaders.{part_of}
 use Rattle.s3_bodies.proofs.PartLemmas.{last_reads}

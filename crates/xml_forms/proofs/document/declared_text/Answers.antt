@@ -1,5 +1,5 @@
 use Rattle.std.proofs.Common.{arith}
-use Rattle.xml_forms.proofs.Marks.{marked_stops, no_mark_all}
+use Rattle.xml_forms.proofs.lemmas.Marks.{marked_stops, no_mark_all}
 use Rattle.xml_forms.proofs.document.declared_text.Goals as goal
 
 pub returns : goal.returns

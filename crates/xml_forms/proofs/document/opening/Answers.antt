@@ -1,6 +1,6 @@
 use Rattle.std.proofs.Common.{Bor, List, ℕ}
 use Rattle.xml_forms.specs.Openings.{Declared, RootTag}
-use Rattle.xml_forms.proofs.Readers.{nearer_by}
+use Rattle.xml_forms.proofs.lemmas.Readers.{nearer_by}
 use Rattle.xml_forms.proofs.document.opening.Goals as goal
 
 pub returns : goal.returns

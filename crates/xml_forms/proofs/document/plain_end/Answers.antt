@@ -1,6 +1,6 @@
 use Rattle.std.proofs.Common.{[], codes}
 use Rattle.std.proofs.lemmas.Result.{err_from_is_err_and}
-use Rattle.xml_forms.proofs.Elements.{exactly_stops}
+use Rattle.xml_forms.proofs.lemmas.Elements.{exactly_stops}
 use Rattle.xml_forms.proofs.document.plain_end.Goals as goal
 
 pub returns-in_err-rest : goal.returns-in_err-rest

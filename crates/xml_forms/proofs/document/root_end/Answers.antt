@@ -2,7 +2,7 @@ use Rattle.std.proofs.Common.{[], codes, false, None, Bor, List, ℕ}
 use Rattle.xml_forms.specs.Forms.{Either, Exactly}
 use Rattle.xml_forms.specs.Runs.{Element}
 use Rattle.xml_forms.specs.declared.class.Class.TheVariants.{InDouble, InSingle}
-use Rattle.xml_forms.proofs.Readers.{nearer_by}
+use Rattle.xml_forms.proofs.lemmas.Readers.{nearer_by}
 use Rattle.xml_forms.proofs.document.root_end.Goals as goal
 
 pub returns : goal.returns

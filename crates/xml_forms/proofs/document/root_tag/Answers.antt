@@ -1,5 +1,5 @@
 use Rattle.std.proofs.lemmas.Result.{err_from_is_err_and}
-use Rattle.xml_forms.proofs.Openings.{tag_breaks, tag_reads}
+use Rattle.xml_forms.proofs.lemmas.Openings.{tag_breaks, tag_reads}
 use Rattle.xml_forms.proofs.document.root_tag.Goals as goal
 
 pub returns-in_err-rest : goal.returns-in_err-rest

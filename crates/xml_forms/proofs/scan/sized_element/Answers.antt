@@ -1,6 +1,6 @@
 use Rattle.std.proofs.Common.{◌≡◌, true, false, Bool, length, sym, ◌∙◌}
 use Rattle.std.proofs.lemmas.Result.{err_from_is_err_and}
-use Rattle.xml_forms.proofs.Elements.{element_breaks, element_empty, element_stops, element_begins, filled_by, is_zero, no_bytes, not_zero}
+use Rattle.xml_forms.proofs.lemmas.Elements.{element_breaks, element_empty, element_stops, element_begins, filled_by, is_zero, no_bytes, not_zero}
 use Rattle.xml_forms.proofs.scan.sized_element.Goals.{else-filled-via-then-filled+else-is_empty, else-filled-via-else-filled}
 use Rattle.xml_forms.proofs.scan.sized_element.Goals as goal
 

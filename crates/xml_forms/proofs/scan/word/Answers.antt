@@ -1,5 +1,5 @@
 use Rattle.std.proofs.Common.{arith}
-use Rattle.xml_forms.proofs.Words.{word_short, word_differs}
+use Rattle.xml_forms.proofs.lemmas.Words.{word_short, word_differs}
 use Rattle.xml_forms.proofs.scan.word.Goals as goal
 
 pub returns-then-i-bytes : goal.returns-then-i-bytes

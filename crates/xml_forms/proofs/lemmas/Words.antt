@@ -3,7 +3,7 @@ use Rattle.std.proofs.Common.{◌≡◌, ℕ, ◌-◌, ◌≤◌, ◌<◌, suc, 
 use Rattle.std.proofs.lemmas.List.{append-nil, take-append-drop, length-drop, take_all}
 use Rattle.std.proofs.Math.Seq.{drop-cons}
 use Rattle.xml_forms.specs.Forms.{Stops, Word}
-use Rattle.xml_forms.proofs.Sequence.{word_stops}
+use Rattle.xml_forms.proofs.lemmas.Sequence.{word_stops}
 
 -- a list is its first bytes, the next one and the others
 split_at : (w : List ℕ) (i : ℕ) → i < length w → w ≡ take i w ++ slice_index w i ∷ drop (suc i) w

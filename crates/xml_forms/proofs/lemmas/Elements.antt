@@ -6,8 +6,8 @@ use Rattle.xml_forms.specs.Forms.{Begins, Stops, Unique, Possible, Word, Exactly
 use Rattle.xml_forms.specs.Runs.{has, Sized, IsShort, IsFilled, Element, IsRun, IsPositive}
 use Rattle.xml_forms.specs.declared.class.Class.{Class}
 use Rattle.xml_forms.specs.declared.class.Class.TheVariants.{Space, Digit, LetterOrDigit, Dashed, Text, InDouble, InSingle}
-use Rattle.xml_forms.proofs.Sequence.{then_begins, then_stops_first, then_stops, then_unique, word_unique}
-use Rattle.xml_forms.proofs.Runs.{Closed, ran_begins, ran_stops, ran_short, ran_unique}
+use Rattle.xml_forms.proofs.lemmas.Sequence.{then_begins, then_stops_first, then_stops, then_unique, word_unique}
+use Rattle.xml_forms.proofs.lemmas.Runs.{Closed, ran_begins, ran_stops, ran_short, ran_unique}
 
 pub exactly_begins : {A : Type 0} (v : A) (w bytes rest : List ℕ) → Begins (Word w) bytes tt rest → Begins (Exactly v w) bytes v rest
 exactly_begins v w bytes rest p = record { word = p.word; spells = (refl, p.spells); at = p.at }

@@ -27,7 +27,7 @@ use Rattle.gateway.specs.Proper.{IsProperCode}
 use Rattle.gateway.specs.Request.{Request}
 use Rattle.gateway.specs.Exchange.{ReplyRelation, Mark, Span, Asked, asked_by, IsSpan, SettledBy, NotSettledBy, IsCaused, Performs, unsettled, answered, Replies, refused, performed, RepliesAny, refused_any, performed_any, RepliesBy, FaultFreeReplies, Exchange, CutExchange}
 use Rattle.gateway.specs.Connection.{Progress, ConnectionCursor, Serves, Exchanges, none, more, Breaks, Ends, over, cut, served, unread, unheard, untold, broken, ConnectionTrace}
-use Rattle.gateway.proofs.Order.{serves_order, exchanges_order, ends_order, serves_order_faults, exchanges_order_faults, ends_order_faults}
+use Rattle.gateway.proofs.lemmas.Order.{serves_order, exchanges_order, ends_order, serves_order_faults, exchanges_order_faults, ends_order_faults}
 
 -- ---- between two marks
 

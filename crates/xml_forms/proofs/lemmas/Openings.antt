@@ -6,12 +6,12 @@ use Rattle.xml_forms.specs.Forms.{Begins, Stops, Reads, Either, Then, Word, Exac
 use Rattle.xml_forms.specs.Runs.{has, IsRun, Sized, Element}
 use Rattle.xml_forms.specs.Openings.{Declared, Document, Marked, Opening, RootEnd, RootTag}
 use Rattle.xml_forms.specs.declared.class.Class.TheVariants.{Space, InDouble, InSingle}
-use Rattle.xml_forms.proofs.Sequence.{then_stops_first, then_stops, then_unique, word_unique}
-use Rattle.xml_forms.proofs.Runs.{ran_unique}
-use Rattle.xml_forms.proofs.Choices.{either_unique, Heads, heads_apart, then_heads}
-use Rattle.xml_forms.proofs.Elements.{element_unique, exactly_unique}
-use Rattle.xml_forms.proofs.Marks.{marked_unique}
-use Rattle.xml_forms.proofs.Readers.{any_run, apart_either, exactly_heads, spaced_reads, then_reads, word_heads}
+use Rattle.xml_forms.proofs.lemmas.Sequence.{then_stops_first, then_stops, then_unique, word_unique}
+use Rattle.xml_forms.proofs.lemmas.Runs.{ran_unique}
+use Rattle.xml_forms.proofs.lemmas.Choices.{either_unique, Heads, heads_apart, then_heads}
+use Rattle.xml_forms.proofs.lemmas.Elements.{element_unique, exactly_unique}
+use Rattle.xml_forms.proofs.lemmas.Marks.{marked_unique}
+use Rattle.xml_forms.proofs.lemmas.Readers.{any_run, apart_either, exactly_heads, spaced_reads, then_reads, word_heads}
 
 abbrev double : List ℕ → List ℕ → Type 0
 double = Element (codes " xmlns=\"") InDouble false None (codes "\">")

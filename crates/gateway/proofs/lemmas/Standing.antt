@@ -8,7 +8,7 @@ use Rattle.swift_calls.specs.History.{History}
 use Rattle.upload_records.specs.Consistent.{IsConsistent}
 use Rattle.gateway.specs.Exchange.{Span}
 use Rattle.gateway.specs.Stands.{Follows, AllPass, SpanPasses, Within, StandsAt, StandsThroughout}
-use Rattle.gateway.proofs.Passing.{span_sound}
+use Rattle.gateway.proofs.lemmas.Passing.{span_sound}
 
 -- where the account stands at one number
 abbrev IsOneOf : Settings → History → List Span → ℕ → ℕ → Type 0

@@ -21,7 +21,7 @@ use Rattle.gateway.specs.Request.{Request}
 use Rattle.gateway.specs.Exchange.{Mark, Span, Asked, asked_by, IsSpan, IsKnownOf, Performs, unsettled, answered, Replies, refused, performed}
 use Rattle.gateway.specs.Connection.{Progress, ConnectionCursor, Serves, Exchanges, none, more, Breaks, Ends, over, cut, served, unread, unheard, untold, broken, ConnectionTrace}
 use Rattle.gateway.specs.Stands.{Follows, OpPasses, NonePasses, SpanPasses, AllPass}
-use Rattle.gateway.proofs.Order.{follows_order, exchanges_follow, connection_trace_follow}
+use Rattle.gateway.proofs.lemmas.Order.{follows_order, exchanges_follow, connection_trace_follow}
 
 -- ---- one request
 

@@ -4,10 +4,10 @@ use Rattle.std.proofs.lemmas.List.{append_cancel_left}
 use Rattle.xml_forms.specs.Forms.{Begins, Stops, Reads, Either, Then, Many, Valued, SpellsAll, Skips, Unique, Apart, Possible, Opens, nearer}
 use Rattle.xml_forms.specs.Runs.{has, Sized, Spaced}
 use Rattle.xml_forms.specs.declared.class.Class.TheVariants.{Space}
-use Rattle.xml_forms.proofs.Sequence.{then_begins, then_stops, then_stops_first}
-use Rattle.xml_forms.proofs.Choices.{Heads}
-use Rattle.xml_forms.proofs.Readers.{either_reads}
-use Rattle.xml_forms.proofs.Runs.{same_run}
+use Rattle.xml_forms.proofs.lemmas.Sequence.{then_begins, then_stops, then_stops_first}
+use Rattle.xml_forms.proofs.lemmas.Choices.{Heads}
+use Rattle.xml_forms.proofs.lemmas.Readers.{either_reads}
+use Rattle.xml_forms.proofs.lemmas.Runs.{same_run}
 
 -- a form goes for another that has the same spellings
 pub same_reads : {A : Type 0} (F G : A → List ℕ → Type 0) → ((a : A) (w : List ℕ) → F a w → G a w) → ((a : A) (w : List ℕ) → G a w → F a w)

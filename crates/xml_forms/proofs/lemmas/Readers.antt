@@ -8,10 +8,10 @@ use Rattle.xml_forms.specs.Readers.{read_by, rest_read}
 use Rattle.xml_forms.specs.Runs.{has, IsRun, Sized, Spaced}
 use Rattle.xml_forms.specs.declared.class.Class.{Class}
 use Rattle.xml_forms.specs.declared.class.Class.TheVariants.{Space}
-use Rattle.xml_forms.proofs.Sequence.{then_begins, then_stops}
-use Rattle.xml_forms.proofs.Runs.{ran_begins, ran_stops, ran_unique}
-use Rattle.xml_forms.proofs.Choices.{begins_left, begins_right, either_stops_first, either_stops_second, Heads}
-use Rattle.xml_forms.proofs.Elements.{closed_run}
+use Rattle.xml_forms.proofs.lemmas.Sequence.{then_begins, then_stops}
+use Rattle.xml_forms.proofs.lemmas.Runs.{ran_begins, ran_stops, ran_unique}
+use Rattle.xml_forms.proofs.lemmas.Choices.{begins_left, begins_right, either_stops_first, either_stops_second, Heads}
+use Rattle.xml_forms.proofs.lemmas.Elements.{closed_run}
 
 least_of : (l m : ℕ) → ((l ≤ m) × (min l m ≡ l)) ⊎ ((m ≤ l) × (min l m ≡ m))
 least_of l m = elim (cases_lt l m) [ inl h ↦ let le : l ≤ m = omega arith in inl (le, min-eq_left le) | inr h ↦ inr (h, min-eq_right h) ]

@@ -6,7 +6,7 @@ use Rattle.xml_forms.specs.Forms.{Begins, Follows, Stops, Unique}
 use Rattle.xml_forms.specs.Bodies.{Whole, OfSome, NotABody, Ends}
 use Rattle.xml_forms.specs.Runs.{has, IsRun}
 use Rattle.xml_forms.specs.declared.class.Class.TheVariants.{Space}
-use Rattle.xml_forms.proofs.Choices.{cut_twice}
+use Rattle.xml_forms.proofs.lemmas.Choices.{cut_twice}
 
 follows_self : (rest : List ℕ) → Follows rest rest
 follows_self [] = refl

@@ -1,0 +1,5 @@
+pub mod Map
+pub mod Order
+pub mod Passing
+pub mod Standing
+pub mod Worlds

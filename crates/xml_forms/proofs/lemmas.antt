@@ -1,0 +1,10 @@
+pub mod Choices
+pub mod Elements
+pub mod Manies
+pub mod Marks
+pub mod Openings
+pub mod Readers
+pub mod Runs
+pub mod Sequence
+pub mod Wholes
+pub mod Words
