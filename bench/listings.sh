@@ -1,0 +1,112 @@
+#!/usr/bin/env bash
+# What a listing of 1,000 keys takes out of 1,000, 10,000 and 100,000, by `s3gate serve` over `swiftd` and by the store alone.
+#
+#   bench/listings.sh [FOLDER] [ROUNDS]
+#
+# FOLDER has the programs s3gate and swiftd; without it those of crates/*/out are taken (README.md, "Run it"). Each listing is
+# asked for 20 times unless told otherwise. The keys are put by plain Swift calls, with the mark that the gateway gives an
+# object (docs/PROFILE.md). Only Python's own libraries are used.
+set -euo pipefail
+cd "$(dirname "$0")/.."
+exec python3 - "$@" <<'PYTHON'
+import contextlib, datetime, hashlib, http.client, importlib.util, os, socket, subprocess, sys, time
+
+sys.dont_write_bytecode = True
+spec = importlib.util.spec_from_file_location("sign", "examples/sign.py")
+sign = importlib.util.module_from_spec(spec)
+spec.loader.exec_module(sign)
+
+FOLDER = sys.argv[1] if len(sys.argv) > 1 else None
+ROUNDS = int(sys.argv[2]) if len(sys.argv) > 2 else 20
+TOKEN, ACCOUNT = "benchtoken", "bench"
+KEY = sign.first_key()
+EMPTY = hashlib.md5(b"").hexdigest()
+
+
+def program(name):
+    path = os.path.abspath(f"{FOLDER}/{name}" if FOLDER else f"crates/{name}/out/{name}")
+    if not os.access(path, os.X_OK):
+        sys.exit(f"no program {path}: run (cd crates/{name} && rt run) first, or name a folder")
+    return path
+
+
+def free_place():
+    with socket.create_server(("127.0.0.1", 0)) as it:
+        return "127.0.0.1:%d" % it.getsockname()[1]
+
+
+@contextlib.contextmanager
+def started(words, place, **variables):
+    with subprocess.Popen(words, env={**os.environ, **variables}, stdout=subprocess.DEVNULL, stderr=subprocess.DEVNULL) as process:
+        host, _, port = place.rpartition(":")
+        for _ in range(200):
+            with contextlib.suppress(ConnectionRefusedError), socket.create_connection((host, int(port))):
+                break
+            time.sleep(0.05)
+        try:
+            yield
+        finally:
+            process.kill()
+
+
+def swift(client, method, path, headers=()):
+    client.request(method, f"/v1/{ACCOUNT}{path}", b"", {"X-Auth-Token": TOKEN, "Content-Length": "0", **dict(headers)})
+    answer = client.getresponse()
+    return answer.status, answer.read()
+
+
+def s3(client, place, method, path):
+    lines = sign.signed(f"{method} {path} HTTP/1.1\r\nhost: {place}", *KEY, datetime.datetime.now(datetime.timezone.utc)).split("\r\n")[1:]
+    client.request(method, path, b"", {**dict(line.split(": ", 1) for line in lines), "Content-Length": "0"})
+    answer = client.getresponse()
+    return answer.status, answer.read()
+
+
+def middle(ask):
+    times = []
+    for _ in range(ROUNDS):
+        begun = time.perf_counter()
+        status, body = ask()
+        times.append(time.perf_counter() - begun)
+        if status != 200:
+            sys.exit(f"a listing is answered {status}: {body[:300]}")
+    return sorted(times)[ROUNDS // 2] * 1000, body
+
+
+def main():
+    s3gate, swiftd = program("s3gate"), program("swiftd")
+    store, gate = free_place(), free_place()
+    many = ["--connections", "1000000"]
+    load = " ".join(f"{it:.1f}" for it in os.getloadavg())
+    print(f"{datetime.datetime.now(datetime.timezone.utc):%Y-%m-%d %H:%M} UTC, {os.cpu_count()} processors, load {load}; {ROUNDS} rounds")
+    print("| keys | the store's page, ms | first page, ms | last page, ms | with a delimiter, ms |\n|---|---|---|---|---|")
+    with contextlib.ExitStack() as stack:
+        stack.enter_context(started([swiftd, "--token", TOKEN, "--account", ACCOUNT, *many], store, SWIFTD_LISTEN=store))
+        client = http.client.HTTPConnection(store, timeout=60)
+        stored = 0
+        kind = f"binary/octet-stream;s3={EMPTY}.1369353600.-"
+        for number in 1000, 10000, 100000:
+            bucket = f"keys{number}"
+            status, _ = swift(client, "PUT", f"/{bucket}", {"X-Container-Read": "", "X-Container-Meta-S3-Created": "1369353600"}.items())
+            for at in range(number):
+                status, body = swift(client, "PUT", f"/{bucket}/{at // 100:04}/{at:06}", {"Content-Type": kind}.items())
+                if status != 201:
+                    sys.exit(f"a PUT is answered {status}: {body}")
+            plain, _ = middle(lambda: swift(client, "GET", f"/{bucket}?format=json&limit=1000&marker=&prefix="))
+            client.close()
+            with started([s3gate, "serve", *many], gate, S3GATE_KEYS=os.path.abspath("examples/keys.txt"), S3GATE_LISTEN=gate, S3GATE_STORE=store, S3GATE_ACCOUNT=ACCOUNT, S3GATE_TOKEN=TOKEN):
+                gateway = http.client.HTTPConnection(gate, timeout=60)
+                first, body = middle(lambda: s3(gateway, gate, "GET", f"/{bucket}?list-type=2"))
+                if body.count(b"<Contents>") != 1000:
+                    sys.exit("a page hasn't 1,000 keys")
+                last, _ = middle(lambda: s3(gateway, gate, "GET", f"/{bucket}?list-type=2&start-after={(number - 1000) // 100:04}%2F"))
+                rolled, body = middle(lambda: s3(gateway, gate, "GET", f"/{bucket}?list-type=2&delimiter=%2F&max-keys=10"))
+                if body.count(b"<CommonPrefixes>") != 10:
+                    sys.exit("a page hasn't 10 common prefixes")
+                gateway.close()
+            client = http.client.HTTPConnection(store, timeout=60)
+            print(f"| {number:,} | {plain:.1f} | {first:.1f} | {last:.1f} | {rolled:.1f} |", flush=True)
+
+
+main()
+PYTHON

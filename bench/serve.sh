@@ -1,0 +1,125 @@
+#!/usr/bin/env bash
+# Requests a second, and milliseconds at the middle and at 99 of 100, of one client on one connection: for `s3gate serve` over
+# `swiftd`, for plain Swift calls to the same `swiftd`, and for `moto_server` where it is installed. The three take turns
+# within one run, so that a busy machine is busy for all of them.
+#
+#   bench/serve.sh [FOLDER] [REQUESTS]
+#
+# FOLDER has the programs s3gate and swiftd; without it those of crates/*/out are taken (README.md, "Run it"). Each kind of
+# request is made 1,000 times unless told otherwise, those of 16 MiB a fiftieth as often. Only Python's own libraries are used.
+set -euo pipefail
+cd "$(dirname "$0")/.."
+exec python3 - "$@" <<'PYTHON'
+import contextlib, datetime, hashlib, http.client, importlib.util, os, random, shutil, socket, subprocess, sys, time
+
+sys.dont_write_bytecode = True
+spec = importlib.util.spec_from_file_location("sign", "examples/sign.py")
+sign = importlib.util.module_from_spec(spec)
+spec.loader.exec_module(sign)
+
+FOLDER = sys.argv[1] if len(sys.argv) > 1 else None
+REQUESTS = int(sys.argv[2]) if len(sys.argv) > 2 else 1000
+TURNS = 5
+SMALL, LARGE = random.Random(1).randbytes(1 << 10), random.Random(2).randbytes(1 << 24)
+TOKEN, ACCOUNT = "benchtoken", "bench"
+KEY = sign.first_key()
+
+
+def program(name):
+    path = os.path.abspath(f"{FOLDER}/{name}" if FOLDER else f"crates/{name}/out/{name}")
+    if not os.access(path, os.X_OK):
+        sys.exit(f"no program {path}: run (cd crates/{name} && rt run) first, or name a folder")
+    return path
+
+
+def free_place():
+    with socket.create_server(("127.0.0.1", 0)) as it:
+        return "127.0.0.1:%d" % it.getsockname()[1]
+
+
+@contextlib.contextmanager
+def started(words, place, **variables):
+    with subprocess.Popen(words, env={**os.environ, **variables}, stdout=subprocess.DEVNULL, stderr=subprocess.DEVNULL) as process:
+        host, _, port = place.rpartition(":")
+        for _ in range(200):
+            with contextlib.suppress(ConnectionRefusedError), socket.create_connection((host, int(port))):
+                break
+            time.sleep(0.05)
+        try:
+            yield
+        finally:
+            process.kill()
+
+
+class Target:
+    """One server, one connection to it, and how its requests are written."""
+
+    def __init__(self, name, place, root, swift=False):
+        self.name, self.place, self.root, self.swift = name, place, root, swift
+        self.client = http.client.HTTPConnection(place, timeout=60)
+
+    def headers(self, method, path, body):
+        if self.swift:
+            return {"X-Auth-Token": TOKEN, "Content-Length": str(len(body)), "Content-Type": "binary/octet-stream"}
+        head = f"{method} {path} HTTP/1.1\r\nhost: {self.place}"
+        lines = sign.signed(head, *KEY, datetime.datetime.now(datetime.timezone.utc)).split("\r\n")[1:]
+        return {**dict(line.split(": ", 1) for line in lines), "Content-Length": str(len(body))}
+
+    def ask(self, method, name, body=b"", wanted=(200, 201, 202, 204)):
+        """The seconds of a request, from its first byte to the last of its answer."""
+        path = self.root + name
+        headers = self.headers(method, path, body)
+        begun = time.perf_counter()
+        self.client.request(method, path, body, headers)
+        answer = self.client.getresponse()
+        got = answer.read()
+        took = time.perf_counter() - begun
+        if answer.status not in wanted:
+            sys.exit(f"{self.name}: {method} {path} is answered {answer.status}")
+        return took, got
+
+
+KINDS = [("PUT of 1 KiB", "PUT", "small", SMALL, 1), ("GET of 1 KiB", "GET", "small", b"", 1), ("HEAD", "HEAD", "small", b"", 1), ("PUT of 16 MiB", "PUT", "large", LARGE, 50), ("GET of 16 MiB", "GET", "large", b"", 50)]
+
+
+def measured(targets):
+    for title, method, name, body, rarer in KINDS:
+        times = {target.name: [] for target in targets}
+        for _ in range(TURNS):
+            for target in targets:
+                for _ in range(max(1, REQUESTS // rarer // TURNS)):
+                    took, got = target.ask(method, f"/photos/{name}", body)
+                    times[target.name].append(took)
+                    if method == "GET" and got != (SMALL if name == "small" else LARGE):
+                        sys.exit(f"{target.name}: {title} gives other bytes")
+        for target in targets:
+            yield title, target.name, sorted(times[target.name])
+
+
+def main():
+    s3gate, swiftd = program("s3gate"), program("swiftd")
+    moto = shutil.which("moto_server")
+    load = " ".join(f"{it:.1f}" for it in os.getloadavg())
+    print(f"{datetime.datetime.now(datetime.timezone.utc):%Y-%m-%d %H:%M} UTC, {os.cpu_count()} processors, load {load}; {REQUESTS} requests of each kind, {max(1, REQUESTS // 50)} of 16 MiB")
+    store, gate, other = free_place(), free_place(), free_place()
+    many = ["--connections", "1000000"]
+    with contextlib.ExitStack() as stack:
+        stack.enter_context(started([swiftd, "--token", TOKEN, "--account", ACCOUNT, *many], store, SWIFTD_LISTEN=store))
+        # The gateway and the plain calls each have a store of their own: it serves one connection at a time.
+        plain = free_place()
+        stack.enter_context(started([swiftd, "--token", TOKEN, "--account", ACCOUNT, *many], plain, SWIFTD_LISTEN=plain))
+        stack.enter_context(started([s3gate, "serve", *many], gate, S3GATE_KEYS=os.path.abspath("examples/keys.txt"), S3GATE_LISTEN=gate, S3GATE_STORE=store, S3GATE_ACCOUNT=ACCOUNT, S3GATE_TOKEN=TOKEN))
+        targets = [Target("s3gate over swiftd", gate, ""), Target("swiftd, plain calls", plain, f"/v1/{ACCOUNT}", swift=True)]
+        if moto:
+            host, _, port = other.rpartition(":")
+            stack.enter_context(started([moto, "-H", host, "-p", port], other))
+            targets.append(Target("moto_server", other, ""))
+        for target in targets:
+            target.ask("PUT", "/photos")
+        print("| request | server | a second | ms, middle | ms, 99 of 100 |\n|---|---|---|---|---|")
+        for title, name, times in measured(targets):
+            print(f"| {title} | {name} | {len(times) / sum(times):.0f} | {times[len(times) // 2] * 1000:.2f} | {times[min(len(times) - 1, len(times) * 99 // 100)] * 1000:.2f} |")
+
+
+main()
+PYTHON
