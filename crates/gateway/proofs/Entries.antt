@@ -2,11 +2,11 @@
 use Rattle.std.proofs.Common.{◌≡◌, ℕ, Bool, true, false, not, ◌&&◌, ◌||◌, cond, List, [], ◌∷◌, ◌++◌, take, drop, codes, bytes_eq, refl, sym, ap, subst, ◌∙◌, inl, inr, arith}
 use Rattle.std.specs.Prelude.{◌⊎◌, fold, Contains}
 use Rattle.std.proofs.lemmas.List.{take-append-drop}
-use Rattle.std.proofs.lemmas.List.Elements.{Contains-append_left, Contains-append_right, Contains-append_cases, Contains-push, Contains-push_cases}
+use Rattle.std.proofs.lemmas.List.Elements.{Contains-append_left, Contains-append_right, Contains-append_cases, Contains-push}
 use Rattle.std.proofs.lemmas.Slice.Eq.{bytes_eq-Decides}
 use Rattle.gate_base.specs.declared.page.Pair.{Pair}
 use Rattle.s3_names.specs.Meta.{names_ascend, has_name, place_of, with_pair}
-use Rattle.s3_names.proofs.lemmas.MetaLemmas.{with_pair_ascends}
+use Rattle.s3_names.proofs.lemmas.MetaLemmas.{with_pair_ascends, with_pair_keeps, with_pair_has, with_pair_only, nowhere, is_one}
 use Rattle.s3_machine.specs.Limits.{is_kept_header}
 use Rattle.gateway.specs.Content.{is_own_header, is_entry, entry_name, entered, given_meta}
 use Rattle.http_wire.specs.Headers.{text_of}
@@ -42,53 +42,6 @@ same_if false false a b own also h k same = same
 
 same_name : (a b : List ℕ) → is_entry a ≡ true → is_entry b ≡ true → entry_name a ≡ entry_name b → a ≡ b
 same_name a b h k same = same_if (is_own_header a) (is_own_header b) a b refl refl h k same
-
--- ---- one more pair
-
-with_pair_keeps : (name value : List ℕ) (pairs : List Pair) (pair : Pair) → Contains pairs pair → Contains (with_pair name value pairs) pair
-unfolding with_pair
-with_pair_keeps name value pairs pair c =
-    stays (Contains-append_cases (take (place_of name pairs) pairs) (drop (place_of name pairs) pairs) pair (subst (λ all. Contains all pair) (sym (take-append-drop (place_of name pairs) pairs)) c))
-  where
-    stays : Contains (take (place_of name pairs) pairs) pair ⊎ Contains (drop (place_of name pairs) pairs) pair
-        → Contains (take (place_of name pairs) pairs ++ record { name = name; value = value } ∷ drop (place_of name pairs) pairs) pair
-    stays (inl first) = Contains-append_left (take (place_of name pairs) pairs) (record { name = name; value = value } ∷ drop (place_of name pairs) pairs) pair first
-    stays (inr last) =
-        Contains-append_right (take (place_of name pairs) pairs) (record { name = name; value = value } ∷ drop (place_of name pairs) pairs) pair
-        (Contains-append_right (record { name = name; value = value } ∷ []) (drop (place_of name pairs) pairs) pair last)
-
-with_pair_has : (name value : List ℕ) (pairs : List Pair) → Contains (with_pair name value pairs) (record { name = name; value = value })
-unfolding with_pair
-with_pair_has name value pairs =
-    let pair : Pair = record { name = name; value = value } in
-    Contains-append_right (take (place_of name pairs) pairs) (pair ∷ drop (place_of name pairs) pairs) pair
-    (Contains-append_left (pair ∷ []) (drop (place_of name pairs) pairs) pair (Contains-push [] pair))
-
-nowhere : (pair : Pair) → Contains [] pair → ⊥
-nowhere pair (k, below, at) = omega (arith, below)
-
-is_one : (one pair : Pair) → Contains (one ∷ []) pair → pair ≡ one
-is_one one pair c = sym (of (Contains-push_cases [] one pair c))
-  where
-    of : Contains [] pair ⊎ (one ≡ pair) → one ≡ pair
-    of (inl c) = absurd (nowhere pair c)
-    of (inr same) = same
-
-with_pair_only : (name value : List ℕ) (pairs : List Pair) (pair : Pair) → Contains (with_pair name value pairs) pair → (pair ≡ record { name = name; value = value }) ⊎ Contains pairs pair
-unfolding with_pair
-with_pair_only name value pairs pair c =
-    of (Contains-append_cases (take (place_of name pairs) pairs) (record { name = name; value = value } ∷ drop (place_of name pairs) pairs) pair c)
-  where
-    whole : Contains (take (place_of name pairs) pairs ++ drop (place_of name pairs) pairs) pair → Contains pairs pair
-    whole d = subst (λ all. Contains all pair) (take-append-drop (place_of name pairs) pairs) d
-
-    new : Contains (record { name = name; value = value } ∷ []) pair ⊎ Contains (drop (place_of name pairs) pairs) pair → (pair ≡ record { name = name; value = value }) ⊎ Contains pairs pair
-    new (inl one) = inl (is_one (record { name = name; value = value }) pair one)
-    new (inr last) = inr (whole (Contains-append_right (take (place_of name pairs) pairs) (drop (place_of name pairs) pairs) pair last))
-
-    of : Contains (take (place_of name pairs) pairs) pair ⊎ Contains (record { name = name; value = value } ∷ drop (place_of name pairs) pairs) pair → (pair ≡ record { name = name; value = value }) ⊎ Contains pairs pair
-    of (inl first) = inr (whole (Contains-append_left (take (place_of name pairs) pairs) (drop (place_of name pairs) pairs) pair first))
-    of (inr rest) = new (Contains-append_cases (record { name = name; value = value } ∷ []) (drop (place_of name pairs) pairs) pair rest)
 
 -- ---- one more header
 

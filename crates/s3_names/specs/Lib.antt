@@ -2,6 +2,7 @@ pub mod Answer
 pub mod Bucket
 pub mod Escapes
 pub mod Key
+pub mod Laws
 pub mod Meta
 pub mod Query
 pub mod Target

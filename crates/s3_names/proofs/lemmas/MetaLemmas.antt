@@ -1,5 +1,5 @@
 -- Pairs in the order of their names.
-use Rattle.std.proofs.Common.{◌≡◌, ℕ, ◌+◌, ◌≤◌, Bool, true, false, cond, not, ltb, List, [], ◌∷◌, ◌++◌, length, Some, None, position, unwrap_or, suc, inl, inr, refl, ap, sym, ◌∙◌, arith}
+use Rattle.std.proofs.Common.{◌≡◌, ℕ, ◌+◌, ◌≤◌, Bool, true, false, cond, not, ltb, List, [], ◌∷◌, ◌++◌, length, take, drop, Some, None, position, unwrap_or, suc, inl, inr, refl, ap, sym, subst, ◌∙◌, arith}
 use Rattle.std.specs.Cmp.{unsigned_ties}
 use Rattle.std.specs.Cmp.Lexicographic.{slice_cmp, lists_ties, nat_list_cmp_total}
 use Rattle.std.specs.Ordering.{nat_cmp, is_lt, is_eq, ordering_reverse}
@@ -8,8 +8,12 @@ use Rattle.std.specs.declared.cmp.Ordering.TheVariants.{Less, Equal, Greater}
 use Rattle.std.specs.Str.{bytes_eq}
 use Rattle.std.proofs.lemmas.Bool.{cases_Bool, and_from, and_parts, or_from, or_parts}
 use Rattle.std.proofs.lemmas.Bool.Decides.{nat_tests}
+use Rattle.std.proofs.lemmas.List.{take-append-drop}
+use Rattle.std.proofs.lemmas.List.Elements.{Contains-append_left, Contains-append_right, Contains-append_cases, Contains-push, Contains-push_cases}
 use Rattle.std.proofs.lemmas.List.Sums.{prefix_len-le-length}
+use Rattle.std.specs.Prelude.{◌⊎◌, Contains}
 use Rattle.gate_base.specs.declared.page.Pair.{Pair}
+use Rattle.s3_names.specs.Laws.{HasOneMore}
 use Rattle.s3_names.specs.Meta.{is_before, names_ascend, has_name, place_of, with_pair}
 
 -- the place is in the list or at its end
@@ -118,3 +122,58 @@ with_pair_push (q ∷ qs) last h =
     let more = with_pair_push qs last (ascend_tail q (qs ++ last ∷ []) h) in
     let before = ascend_last q qs last h in
     (or_from _ _ (before_is_other q.name last.name before) more.0, with_pair_behind last.name last.value q qs before ∙ ap (λ x. q ∷ x) more.1)
+
+-- ---- the elements with one more pair
+
+pub with_pair_keeps : (name value : List ℕ) (pairs : List Pair) (pair : Pair) → Contains pairs pair → Contains (with_pair name value pairs) pair
+unfolding with_pair
+with_pair_keeps name value pairs pair c =
+    stays (Contains-append_cases (take (place_of name pairs) pairs) (drop (place_of name pairs) pairs) pair (subst (λ all. Contains all pair) (sym (take-append-drop (place_of name pairs) pairs)) c))
+  where
+    stays : Contains (take (place_of name pairs) pairs) pair ⊎ Contains (drop (place_of name pairs) pairs) pair
+        → Contains (take (place_of name pairs) pairs ++ record { name = name; value = value } ∷ drop (place_of name pairs) pairs) pair
+    stays (inl first) = Contains-append_left (take (place_of name pairs) pairs) (record { name = name; value = value } ∷ drop (place_of name pairs) pairs) pair first
+    stays (inr last) =
+        Contains-append_right (take (place_of name pairs) pairs) (record { name = name; value = value } ∷ drop (place_of name pairs) pairs) pair
+        (Contains-append_right (record { name = name; value = value } ∷ []) (drop (place_of name pairs) pairs) pair last)
+
+pub with_pair_has : (name value : List ℕ) (pairs : List Pair) → Contains (with_pair name value pairs) (record { name = name; value = value })
+unfolding with_pair
+with_pair_has name value pairs =
+    let pair : Pair = record { name = name; value = value } in
+    Contains-append_right (take (place_of name pairs) pairs) (pair ∷ drop (place_of name pairs) pairs) pair
+    (Contains-append_left (pair ∷ []) (drop (place_of name pairs) pairs) pair (Contains-push [] pair))
+
+pub nowhere : (pair : Pair) → Contains [] pair → ⊥
+nowhere pair (k, below, at) = omega (arith, below)
+
+pub is_one : (one pair : Pair) → Contains (one ∷ []) pair → pair ≡ one
+is_one one pair c = sym (of (Contains-push_cases [] one pair c))
+  where
+    of : Contains [] pair ⊎ (one ≡ pair) → one ≡ pair
+    of (inl c) = absurd (nowhere pair c)
+    of (inr same) = same
+
+pub with_pair_only : (name value : List ℕ) (pairs : List Pair) (pair : Pair) → Contains (with_pair name value pairs) pair → (pair ≡ record { name = name; value = value }) ⊎ Contains pairs pair
+unfolding with_pair
+with_pair_only name value pairs pair c =
+    of (Contains-append_cases (take (place_of name pairs) pairs) (record { name = name; value = value } ∷ drop (place_of name pairs) pairs) pair c)
+  where
+    whole : Contains (take (place_of name pairs) pairs ++ drop (place_of name pairs) pairs) pair → Contains pairs pair
+    whole d = subst (λ all. Contains all pair) (take-append-drop (place_of name pairs) pairs) d
+
+    new : Contains (record { name = name; value = value } ∷ []) pair ⊎ Contains (drop (place_of name pairs) pairs) pair → (pair ≡ record { name = name; value = value }) ⊎ Contains pairs pair
+    new (inl one) = inl (is_one (record { name = name; value = value }) pair one)
+    new (inr last) = inr (whole (Contains-append_right (take (place_of name pairs) pairs) (drop (place_of name pairs) pairs) pair last))
+
+    of : Contains (take (place_of name pairs) pairs) pair ⊎ Contains (record { name = name; value = value } ∷ drop (place_of name pairs) pairs) pair → (pair ≡ record { name = name; value = value }) ⊎ Contains pairs pair
+    of (inl first) = inr (whole (Contains-append_left (take (place_of name pairs) pairs) (drop (place_of name pairs) pairs) pair first))
+    of (inr rest) = new (Contains-append_cases (record { name = name; value = value } ∷ []) (drop (place_of name pairs) pairs) pair rest)
+
+pub with_pair_is : (name value : List ℕ) (pairs : List Pair) → names_ascend pairs ≡ true → has_name name pairs ≡ false → HasOneMore (record { name = name; value = value }) pairs (with_pair name value pairs)
+with_pair_is name value pairs ascends new = record {
+  ascends = with_pair_ascends name value pairs ascends new;
+  only = λ pair c. with_pair_only name value pairs pair c;
+  has = with_pair_has name value pairs;
+  keeps = λ pair c. with_pair_keeps name value pairs pair c;
+}
