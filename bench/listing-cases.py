@@ -153,6 +153,16 @@ def case(bucket, objects, asked, number):
     return [f"case listings by chance, {bucket}, {number}", "pieces 1000", "connection", *given, "status 0", *wanted, ""]
 
 
+def setup(chance, bucket, objects):
+    """An earlier run that puts the objects."""
+    lines = ["setup", f"> PUT /{bucket} HTTP/1.1", ">~", "> Content-Length: 0", ">"]
+    for key in chance.sample(sorted(objects), len(objects)):
+        content = objects[key]
+        lines += [f"> PUT /{bucket}/{quote(key, safe='/')} HTTP/1.1", ">~", f"> Content-Length: {len(content)}", ">"]
+        lines += [f">. {content.decode()}"] if content else []
+    return lines + [""]
+
+
 def main():
     chance = random.Random(1)
     lines = ["# Listings by chance: written by bench/listing-cases.py, which says where the replies come from.", ""]
@@ -160,12 +170,7 @@ def main():
         bucket = f"bucket-{at}"
         keys = keys_by(chance, chance.randrange(3, 30))
         objects = {key: str(turn).encode() * chance.randrange(4) for turn, key in enumerate(keys)}
-        lines += ["setup", f"> PUT /{bucket} HTTP/1.1", ">~", "> Content-Length: 0", ">"]
-        for key in chance.sample(keys, len(keys)):
-            content = objects[key]
-            lines += [f"> PUT /{bucket}/{quote(key, safe='/')} HTTP/1.1", ">~", f"> Content-Length: {len(content)}", ">"]
-            lines += [f">. {content.decode()}"] if content else []
-        lines += [""]
+        lines += setup(chance, bucket, objects)
         for number in range(1, WALKS + 1):
             lines += case(bucket, objects, Asked(chance, keys), number)
     print("\n".join(load_signing().signed(lines)), end="")
