@@ -1,3 +1,4 @@
+pub mod Calendars
 pub mod Entries
 pub mod Handling
 pub mod Living

@@ -1,7 +1,9 @@
 -- What the laws of this crate say of definitions.
-use Rattle.std.specs.Prelude.{◌≡◌, true, List, Contains}
+use Rattle.std.specs.Prelude.{◌≡◌, ℕ, true, List, Contains}
 use Rattle.gate_base.specs.declared.page.Pair.{Pair}
 use Rattle.s3_names.specs.Meta.{names_ascend}
+use Rattle.httpdate.specs.Calendar as httpdate
+use Rattle.sigv4.specs.Moment.{day_number, is_day}
 use Rattle.gateway.specs.Content.{is_entry, entry_name, given_meta}
 use Rattle.http_wire.specs.Headers.{text_of}
 
@@ -24,3 +26,8 @@ pub record HasMade (headers meta : List Pair) : Type 0 where
 
 abbrev pub GivenMeta : Type 0
 GivenMeta = (headers : List Pair) → HasMade headers (given_meta headers)
+
+-- the calendar by which the time of a signature is a moment, and that by which a moment is a date of a reply, count one number
+-- of days to each day of the years 1970 to 9999
+abbrev pub CalendarsAgree : Type 0
+CalendarsAgree = (year month day : ℕ) → is_day year month day ≡ true → day_number year month day ≡ httpdate.days_from_civil year month day

@@ -1,5 +1,5 @@
 //! Laws of the definitions, each the contract of a function that does nothing.
-ghost use Rattle.gateway.specs.Laws.{GivenMeta};
+ghost use Rattle.gateway.specs.Laws.{CalendarsAgree, GivenMeta};
 ghost use Rattle.gateway.specs.Life.{ManyRuns, OneRun, SentIsCounted, StandsAll};
 
 /// Through a run the account is consistent after each call, and goes through the steps of the request that has the call.
@@ -26,4 +26,10 @@ pub fn law_sent_is_counted()
 /// The metadata of headers has their entries and no other, each name once and in order.
 pub fn law_given_meta()
     ensures { GivenMeta }
+{}
+
+/// The calendar of signatures is that of dates: a time that a request was signed for and the moment that a reply is dated by are
+/// numbers of one scale.
+pub fn law_calendars_agree()
+    ensures { CalendarsAgree }
 {}

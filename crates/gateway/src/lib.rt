@@ -20,7 +20,10 @@ mod service;
 mod write;
 
 pub use ended::Ended;
-pub use laws::{law_given_meta, law_many_runs, law_one_run, law_sent_is_counted, law_stands_all};
+pub use laws::{
+    law_calendars_agree, law_given_meta, law_many_runs, law_one_run, law_sent_is_counted,
+    law_stands_all,
+};
 pub use meant::{Meant, meaning};
 pub use resolved::ResolvedRequest;
 pub use serve::serve_connection;
