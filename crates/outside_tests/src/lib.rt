@@ -13,6 +13,8 @@ mod copies_of_s3;
 #[cfg(test)]
 mod copies_of_swift;
 #[cfg(test)]
+mod many_keys;
+#[cfg(test)]
 mod odd_stores;
 #[cfg(test)]
 mod own_line;
