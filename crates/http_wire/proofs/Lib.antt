@@ -2,6 +2,7 @@ pub mod DueLemmas
 pub mod FillLemmas
 pub mod FirstMessageLemmas
 pub mod HeadersLemmas
+pub mod InterimLemmas
 pub mod JoinLemmas
 pub mod LookLemmas
 pub mod MessageLemmas

@@ -1,1 +1,2 @@
+pub mod OwedLemmas
 pub mod UniqueLemmas

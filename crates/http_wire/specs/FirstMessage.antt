@@ -137,7 +137,7 @@ IsRefused bytes LongBody head = IsJudged bytes LongBody head
 IsRefused bytes Transfer head = IsJudged bytes Transfer head
 IsRefused bytes ShortBody head = EndsInBody bytes head
 
--- what stands first in the bytes. The interim line of 100 Continue will be owed where an accepted head asks for it
+-- what stands first in the bytes
 abbrev pub BeginsWith : List ℕ → FirstMessage → Type 0
 BeginsWith bytes (asks message size) = IsAsked bytes message size
 BeginsWith bytes nothing = bytes ≡ []

@@ -1,6 +1,24 @@
 -- The bytes of a reply (RFC 9112, sections 2, 3, 4 and 5; Content-Length as in RFC 9110, section 8.6; and this profile).
 use Rattle.std.specs.Prelude.{
-  ℕ, Bool, true, false, ◌||◌, ◌==◌, List, [], ◌∷◌, ◌++◌, length, map, codes, decimal, bytes_eq, unwrap_or, if◌then◌else◌, IsTrue, flat_map
+  ℕ,
+  Bool,
+  true,
+  false,
+  ◌||◌,
+  ◌==◌,
+  List,
+  [],
+  ◌∷◌,
+  ◌++◌,
+  length,
+  map,
+  codes,
+  decimal,
+  bytes_eq,
+  unwrap_or,
+  if◌then◌else◌,
+  IsTrue,
+  flat_map,
 }
 use Rattle.std.specs.List.{list_any}
 use Rattle.std.specs.Char.{to_ascii_lowercase}

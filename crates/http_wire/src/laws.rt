@@ -2,6 +2,7 @@
 ghost use Rattle.std.specs.Prelude.{◌≡◌, ◌<◌, ◌≤◌, List, length, take, ℕ};
 ghost use Rattle.http_wire.specs.declared.message.Message.{Message};
 ghost use Rattle.http_wire.specs.FirstMessage.{FirstMessage, BeginsWith, Spells, asks};
+ghost use Rattle.http_wire.specs.Interim.{OwesInterim, IsOwedFirst};
 
 /// At most one thing stands first in a list of bytes.
 pub fn one_front()
@@ -22,4 +23,10 @@ pub fn one_spelling()
     ensures spelt { (bytes : List ℕ) (message : Message) (size : ℕ) → BeginsWith bytes (asks message size) → Spells (take size bytes) message }
     ensures front { (bytes : List ℕ) (message : Message) (size : ℕ) → size ≤ length bytes → Spells (take size bytes) message
         → BeginsWith bytes (asks message size) }
+{}
+
+/// What comes first says whether the interim line is owed for it.
+pub fn interim_owed()
+    ensures { (bytes : List ℕ) (front : FirstMessage) → BeginsWith bytes front
+        → (OwesInterim bytes → IsOwedFirst bytes front) × (IsOwedFirst bytes front → OwesInterim bytes) }
 {}

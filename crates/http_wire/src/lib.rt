@@ -4,6 +4,7 @@
 mod advance;
 mod fill;
 mod headers;
+mod interim;
 mod join;
 mod judge;
 mod laws;
@@ -16,7 +17,7 @@ mod take;
 
 pub use headers::{first_value, has_header, has_name, has_one, text_of, values_of};
 pub use join::joined;
-pub use laws::{one_front, one_spelling, request_size};
+pub use laws::{interim_owed, one_front, one_spelling, request_size};
 pub use message::{Got, Kind, Message, ReadFault};
 pub use print::{print_memory, print_page};
 pub use reader::Reader;

@@ -1,6 +1,7 @@
 ghost use Rattle.std.specs.Prelude.{◌≡◌, ◌≤◌, ◌<◌, ◌++◌, [], true, false, length, drop, IsTrue, IfOk, OnErr};
-ghost use Rattle.gate_base.specs.Line.{OnlyReads};
+ghost use Rattle.gate_base.specs.Line.{LineServes};
 ghost use Rattle.http_wire.specs.Gives.{Gives, OnRequest, ends, is_failed_read, weight};
+ghost use Rattle.http_wire.specs.Interim.{OwesInterim, SendsOn};
 
 use crate::advance::{Found, HEAD_LIMIT, advance};
 use crate::fill::READ_SIZE;
@@ -60,13 +61,17 @@ impl Reader {
     /// and `Refused` for all else, by its kind. Failed comes only where the line failed. After an error, and after any
     /// answer but a request, the reader answers `End` and leaves the line alone. No byte is lost by an error: what was
     /// read of the line stays with the reader, where the line is observable.
+    ///
+    /// Before it reads a body it writes `HTTP/1.1 100 Continue` and two line ends, where the head is accepted, its version
+    /// is HTTP/1.1, the body isn't empty, and a header `Expect` has the value `100-continue`, in any case (RFC 9110,
+    /// section 10.1.1). It writes nothing else. Where that write fails, first bytes of the line may have been sent.
     pub fn next_request<N: Line<C>, C: Counted>(
         &mut self,
         line: &mut N,
         store: &C,
     ) -> Result<Got, ReadFault>
         requires { IsTrue (N.model line.old).is_open }
-        ensures reads { OnlyReads (is_failed_read result) (N.model line.old) (N.model line.new) }
+        ensures line { LineServes (is_failed_read result) (N.model line.old) (N.model line.new) }
 
         // A loop over requests ends.
         ensures falls { OnRequest result
@@ -82,6 +87,10 @@ impl Reader {
         ensures effect_err { IsTrue (N.model line.old).observable → OnErr result
             (self.new.bytes ++ (N.model line.new).transcript.rest ≡ self.old.bytes ++ (N.model line.old).transcript.rest) }
         ensures place_err { OnErr result (self.new.place ≡ self.old.place) }
+
+        // And the interim line was sent where it is owed, and nothing else.
+        ensures sent { self.old.ended ≡ false → IsTrue (N.model line.old).observable
+            → SendsOn (OwesInterim (self.old.bytes ++ (N.model line.old).transcript.rest)) (C.called store.now) (N.model line.old).transcript result (N.model line.new).transcript }
     {
         if self.over {
             return Ok(Got::End);

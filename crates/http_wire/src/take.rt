@@ -1,15 +1,17 @@
 //! A whole head with its body.
 ghost use Rattle.std.specs.Prelude.{true, false, ◌≡◌, ◌≤◌, ◌<◌, ◌+◌, ◌++◌, [], length, take, drop, IsTrue, IfOk, OnErr};
-ghost use Rattle.gate_base.specs.Line.{OnlyReads};
+ghost use Rattle.gate_base.specs.Line.{LineServes, OnlyReads};
 ghost use Rattle.httparse.specs.Grammar.{RequestHead};
 ghost use Rattle.httparse.specs.Spans.{IsRequestAt, IsRequestWithin};
-ghost use Rattle.http_wire.specs.FirstMessage.{is_head};
+ghost use Rattle.http_wire.specs.FirstMessage.{is_head, message_of};
+ghost use Rattle.http_wire.specs.Interim.{is_owed, SendsOn};
 ghost use Rattle.http_wire.specs.Seen.{window};
 ghost use Rattle.http_wire.specs.Taken.{BodyFrom, OnWhole, TakenFrom};
 ghost use Rattle.http_wire.specs.Gives.{is_failed_read};
 
 use crate::advance::window;
 use crate::fill::read_room;
+use crate::interim::offer;
 use crate::judge::judge;
 use crate::message::message_at;
 use crate::{Kind, Message, ReadFault};
@@ -31,8 +33,9 @@ pub(crate) enum Taken {
     Not { kind: Kind, head: bool },
 }
 
-/// Takes the message of a whole head, with its body, and the bytes of both away. Where it is refused, and without an
-/// answer, no byte is lost: what came of the body stays in `partial`, behind what stays in `pending`.
+/// Takes the message of a whole head, with its body, and the bytes of both away. The interim line is written before the
+/// body, where the head asks for it. Where the request is refused, and without an answer, no byte is lost: what came of
+/// the body stays in `partial`, behind what stays in `pending`.
 pub(crate) fn take_message<N: Line<C>, C: Counted>(
     pending: &mut Vec<u8>,
     partial: &mut Vec<u8>,
@@ -44,7 +47,9 @@ pub(crate) fn take_message<N: Line<C>, C: Counted>(
     requires open { IsTrue (N.model line.old).is_open }
     requires within { IsRequestWithin (window pending.old.items) lines.now spans.now }
     requires none { partial.old.items ≡ [] }
-    ensures reads { OnlyReads (is_failed_read result) (N.model line.old) (N.model line.new) }
+    ensures line { LineServes (is_failed_read result) (N.model line.old) (N.model line.new) }
+    ensures sent { IsTrue (N.model line.old).observable → (h : RequestHead) → IsRequestAt (window pending.old.items) lines.now spans.now h
+        → SendsOn (is_owed (message_of h) ≡ true) (C.called store.now) (N.model line.old).transcript result (N.model line.new).transcript }
     ensures none { IfOk result (OnWhole (partial.new.items ≡ [])) }
     ensures fewer { IfOk result (OnWhole (length pending.new.items + spans.now.len ≤ length pending.old.items)) }
     ensures effect { IsTrue (N.model line.old).observable → IfOk result (λ taken. (h : RequestHead) → IsRequestAt (window pending.old.items) lines.now spans.now h
@@ -63,6 +68,7 @@ pub(crate) fn take_message<N: Line<C>, C: Counted>(
             });
         }
     };
+    offer(&message, size, line, store)?;
     if !take_body(pending, partial, spans.len, size, line, store)? {
         return Ok(Taken::Not {
             kind: Kind::ShortBody,

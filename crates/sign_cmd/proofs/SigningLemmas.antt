@@ -1,16 +1,18 @@
 -- What a request and what stands first on a line say of the answer.
-use Rattle.std.proofs.Common.{◌≡◌, ℕ, Bool, true, false, ◌&&◌, List, [], ◌++◌, codes, subst}
+use Rattle.std.proofs.Common.{◌≡◌, ℕ, Bool, true, false, ◌&&◌, List, [], ◌++◌, codes, subst, inl, inr, true≢false}
 use Rattle.std.proofs.lemmas.Bool.{and_parts}
 use Rattle.gate_base.specs.declared.page.Pair.{Pair}
+use Rattle.gate_base.specs.declared.outside.Piece.{Piece}
 use Rattle.http_wire.specs.declared.message.Got.TheVariants.{Request, CutShort, Refused}
 use Rattle.http_wire.specs.declared.message.Kind.{Kind}
 use Rattle.http_wire.specs.declared.message.Message.{Message}
 use Rattle.http_wire.specs.FirstMessage.{FirstMessage, asks, cut_short, refused, BeginsWith}
 use Rattle.http_wire.specs.Headers.{has_one}
 use Rattle.http_wire.specs.Gives.{Pending, Gives}
+use Rattle.http_wire.specs.Interim.{OwesInterim, SendsInterim}
 use Rattle.sigv4.specs.Sign.{is_date_time}
 use Rattle.sigv4.specs.Verdict.{time_of}
-use Rattle.sign_cmd.specs.Signing.{has_marks, Answers, AnswersFrom}
+use Rattle.sign_cmd.specs.Signing.{has_marks, Answers, AnswersFrom, SendsBy, is_failed_signing}
 use Rattle.sign_cmd.specs.declared.first.Signing.{Signing}
 use Rattle.sign_cmd.specs.declared.first.Signing.TheVariants.{Signed, NoRequest, LineFailed, Memory}
 
@@ -43,3 +45,18 @@ cut_first secret region rest old new left place is gives = (cut_short, front_fir
 
 pub refused_first : (secret region rest : List ℕ) (old new : Pending) (left : List ℕ) (kind : Kind) (place : ℕ) (head : Bool) → old ≡ fresh → Gives old (old.bytes ++ rest) (Refused kind place head) new left → AnswersFrom secret region rest NoRequest
 refused_first secret region rest old new left kind place head is gives = (refused kind head, front_first rest old (refused kind head) is gives.1, tt)
+
+-- ---- what was sent
+
+interim_by : {P : Type 0} (connection at : ℕ) (old new : List Piece) (signing : Signing) → is_failed_signing signing ≡ false → SendsInterim P connection at old new → SendsBy P connection at old signing new
+interim_by connection at old new (Signed signed) heard sends = sends
+interim_by connection at old new NoRequest heard sends = sends
+interim_by connection at old new LineFailed heard sends = absurd (true≢false heard)
+interim_by connection at old new Memory heard (inl (p, e)) = inr (p, e)
+interim_by connection at old new Memory heard (inr (n, e)) = inl e
+
+-- a request was read, and its answer doesn't touch the line
+pub request_sent : (rest : List ℕ) (reader : Pending) (connection at : ℕ) (old new : List Piece) (signing : Signing) → reader ≡ fresh → is_failed_signing signing ≡ false
+    → SendsInterim (OwesInterim (reader.bytes ++ rest)) connection at old new → SendsBy (OwesInterim rest) connection at old signing new
+request_sent rest reader connection at old new signing is heard sends =
+    interim_by connection at old new signing heard (subst (λ (p : Pending). SendsInterim (OwesInterim (p.bytes ++ rest)) connection at old new) is sends)

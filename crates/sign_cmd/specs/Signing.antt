@@ -3,14 +3,17 @@
 use Rattle.std.specs.Prelude.{◌≡◌, ◌≤◌, ⊤, ◌⊎◌, ℕ, ◌+◌, Bool, true, false, IsTrue, ◌&&◌, List, [], ◌∷◌, codes, Option, Some, None, Result, Ok, Err}
 use Rattle.std.specs.Result.{is_ok}
 use Rattle.gate_base.specs.declared.page.Pair.{Pair}
+use Rattle.gate_base.specs.declared.outside.Piece.{Piece}
 use Rattle.gate_base.specs.Causes.{RisesIf}
 use Rattle.gate_base.specs.Line.{LineModel}
+use Rattle.gate_base.specs.Transcript.{Transcript}
 use Rattle.s3_names.specs.declared.fault.NameFault.{NameFault}
 use Rattle.s3_names.specs.declared.target.Target.{Target}
 use Rattle.s3_names.specs.Target.{target_of}
 use Rattle.http_wire.specs.declared.message.Message.{Message}
 use Rattle.http_wire.specs.FirstMessage.{FirstMessage, asks, nothing, cut_short, refused, BeginsWith}
 use Rattle.http_wire.specs.Headers.{has_one}
+use Rattle.http_wire.specs.Interim.{OwesInterim, SendsInterim, MaySendInterim, CutsInterim}
 use Rattle.sigv4.specs.declared.signature.Signed.{Signed as Signature}
 use Rattle.sigv4.specs.Canonical.{canonical_text}
 use Rattle.sigv4.specs.Sign.{is_date_time, signed_of}
@@ -84,10 +87,35 @@ is_failed_signing NoRequest = false
 is_failed_signing LineFailed = true
 is_failed_signing Memory = false
 
--- at most one connection began, bytes of it were read, and no piece was sent
-pub record SignsOn (failed : Bool) (old new : LineModel) : Type 0 where
+-- ---- what is done to the line
+
+-- the interim line is owed for the request that the first of these connections begins with
+abbrev pub OwesFirst : List (List ℕ) → Type 0
+OwesFirst [] = ⊥
+OwesFirst (bytes ∷ others) = OwesInterim bytes
+
+-- what was sent on a connection when the store had counted so many calls, where the interim line is owed if P holds: that line
+-- where it is owed, and nothing else; where memory ran out maybe not even that, and where the line failed its first bytes
+abbrev pub SendsBy : Type 0 → ℕ → ℕ → List Piece → Signing → List Piece → Type 0
+SendsBy P connection at old (Signed signed) new = SendsInterim P connection at old new
+SendsBy P connection at old NoRequest new = SendsInterim P connection at old new
+SendsBy P connection at old LineFailed new = CutsInterim P connection at old new
+SendsBy P connection at old Memory new = MaySendInterim P connection at old new
+
+-- the same of a line, on its next connection
+abbrev pub SendsFirst : ℕ → Transcript → Signing → Transcript → Type 0
+SendsFirst at old signing new = SendsBy (OwesFirst old.waiting) (old.begun + 1) at old.sent signing new.sent
+
+-- the interim line at most: where the line failed its first bytes, and else all of it or nothing
+abbrev pub SendsAtMost : Bool → Type 0 → ℕ → ℕ → List Piece → List Piece → Type 0
+SendsAtMost true P connection at old new = CutsInterim P connection at old new
+SendsAtMost false P connection at old new = MaySendInterim P connection at old new
+
+-- at most one connection began, bytes of it were read, and at most the interim line was sent on it
+pub record SignsOn (failed : Bool) (at : ℕ) (old new : LineModel) : Type 0 where
   pub faults : RisesIf failed old.faults new.faults
   pub next_faults : failed ≡ false → new.next_faults ≡ old.next_faults
   pub observable : IsTrue old.observable → IsTrue new.observable
   pub begun : IsTrue old.observable → new.transcript.begun ≤ old.transcript.begun + 1
-  pub sent : IsTrue old.observable → new.transcript.sent ≡ old.transcript.sent
+  pub sent : IsTrue old.observable
+      → SendsAtMost failed (OwesFirst old.transcript.waiting) (old.transcript.begun + 1) at old.transcript.sent new.transcript.sent

@@ -1,6 +1,7 @@
 ghost use Rattle.std.specs.Prelude.{◌≡◌, false, IsTrue};
-ghost use Rattle.gate_base.specs.Line.{OnlyReads};
-ghost use Rattle.sign_cmd.specs.Signing.{Answers, AnswersFrom, AnswersFirst, SignsOn, is_failed_signing};
+ghost use Rattle.gate_base.specs.Line.{LineServes};
+ghost use Rattle.http_wire.specs.Interim.{OwesInterim};
+ghost use Rattle.sign_cmd.specs.Signing.{Answers, AnswersFrom, AnswersFirst, SendsBy, SendsFirst, SignsOn, is_failed_signing};
 
 use crate::message::sign_message;
 use gate_base::{Counted, Line, Memory};
@@ -24,7 +25,8 @@ pub enum Signing {
 /// Reads the first request of the first connection and signs it by a secret for a region. It is signed where its target
 /// reads, exactly one header is `x-amz-date`, of the form `YYYYMMDDTHHMMSSZ`, and exactly one `x-amz-content-sha256`; else,
 /// and where no request comes first, the answer is `NoRequest`. All headers but `authorization` are signed, and the hash of
-/// the payload is the one that the header gives. Where the line has no connection, no request comes first.
+/// the payload is the one that the header gives. Where the line has no connection, no request comes first. Nothing is
+/// written to the line but what [`Reader::next_request`] writes: the interim line, where the request asks for it.
 pub fn sign_first<N: Line<W>, W: Counted>(
     alloc: Global,
     secret: &[u8],
@@ -32,8 +34,9 @@ pub fn sign_first<N: Line<W>, W: Counted>(
     line: &mut N,
     store: &W,
 ) -> Signing
-    ensures line { SignsOn (is_failed_signing result) (N.model line.old) (N.model line.new) }
+    ensures line { SignsOn (is_failed_signing result) (W.called store.now) (N.model line.old) (N.model line.new) }
     ensures effect { IsTrue (N.model line.old).observable → AnswersFirst secret.now region.now (N.model line.old).transcript.waiting result }
+    ensures sent { IsTrue (N.model line.old).observable → SendsFirst (W.called store.now) (N.model line.old).transcript result (N.model line.new).transcript }
 {
     match line.next() {
         Ok(true) => sign_next(alloc, secret, region, line, store),
@@ -51,8 +54,10 @@ fn sign_next<N: Line<W>, W: Counted>(
     store: &W,
 ) -> Signing
     requires { IsTrue (N.model line.old).is_open }
-    ensures reads { OnlyReads (is_failed_signing result) (N.model line.old) (N.model line.new) }
+    ensures line { LineServes (is_failed_signing result) (N.model line.old) (N.model line.new) }
     ensures effect { IsTrue (N.model line.old).observable → AnswersFrom secret.now region.now (N.model line.old).transcript.rest result }
+    ensures sent { IsTrue (N.model line.old).observable → SendsBy (OwesInterim (N.model line.old).transcript.rest) (N.model line.old).transcript.begun
+        (W.called store.now) (N.model line.old).transcript.sent result (N.model line.new).transcript.sent }
 {
     let mut reader = match Reader::new(alloc) {
         Ok(reader) => reader,

@@ -13,7 +13,8 @@ use Rattle.http_wire.specs.declared.message.Kind.TheVariants.{BadHead, LongHead,
 use Rattle.http_wire.specs.FirstMessage.{FirstMessage, EndsInBody, HasDeadPrefix, HasHead, HasNoHead, IsAsked, BeginsWith, IsJudged, IsRefused, Spells, asks, cut_short, is_head, judge, message_of, message_with, nothing, refused}
 use Rattle.http_wire.proofs.LookLemmas.{head_has_byte, nothing_lives}
 
-same_head : (bytes : List ℕ) (h k : RequestHead) (n m : ℕ) → HasHead bytes h n → HasHead bytes k m → h ≡ k
+-- the bytes have one head at most, of one size
+pub same_head : (bytes : List ℕ) (h k : RequestHead) (n m : ℕ) → HasHead bytes h n → HasHead bytes k m → h ≡ k
 same_head bytes h k n m has had = (request_unique bytes h k (drop n bytes) (drop m bytes) has.0 had.0).0
 
 same_size : (bytes : List ℕ) (h k : RequestHead) (n m : ℕ) → HasHead bytes h n → HasHead bytes k m → n ≡ m
@@ -21,7 +22,7 @@ same_size bytes h k n m has had =
     has.1 ∙ ap (λ v. length (print_request v)) (same_head bytes h k n m has had) ∙ sym had.1
 
 -- no head is in no byte
-not_empty : (bytes : List ℕ) (h : RequestHead) (n : ℕ) → HasHead bytes h n → bytes ≡ [] → ⊥
+pub not_empty : (bytes : List ℕ) (h : RequestHead) (n : ℕ) → HasHead bytes h n → bytes ≡ [] → ⊥
 not_empty bytes h n has none =
     omega (arith, head_has_byte h, ap length has.0.1, ap length none, length-append (print_request h) (drop n bytes))
 

@@ -1,4 +1,6 @@
-use Rattle.sign_cmd.proofs.SigningLemmas.{request_first, cut_first, refused_first}
+use Rattle.std.proofs.Common.{ap}
+use Rattle.sign_cmd.proofs.SigningLemmas.{request_first, cut_first, refused_first, request_sent}
+use Rattle.http_wire.specs.Gives.{Pending}
 use Rattle.sign_cmd.proofs.first.sign_next.Goals as goal
 
 pub returns-in-Ok-Request-clause-effect : goal.returns-in-Ok-Request-clause-effect
@@ -15,3 +17,9 @@ pub returns-in-Ok-Refused-clause-effect : goal.returns-in-Ok-Refused-clause-effe
 returns-in-Ok-Refused-clause-effect g c = λ line.
     let gives = rw c.in-Ok-Refused.field-0-is at (c.in-Ok-Refused.ensures.effect line) in
     refused_first c.args.secret.now c.args.region.now _ c.in-Ok.reader c.next_request.new.self _ c.in-Ok-Refused.field-0-0 c.in-Ok-Refused.field-0-1 c.in-Ok-Refused.field-0-2 c.in-Ok.ensures gives
+
+pub returns-in-Ok-Request-clause-sent : goal.returns-in-Ok-Request-clause-sent
+returns-in-Ok-Request-clause-sent g c = λ line.
+    request_sent (g.N.Line.model c.args.line.now).transcript.rest c.in-Ok.reader (g.N.Line.model c.args.line.now).transcript.begun (g.W.Counted.called c.args.store.now)
+    (g.N.Line.model c.args.line.now).transcript.sent (g.N.Line.model c.next_request.new.line).transcript.sent c.answer.result c.in-Ok.ensures c.answer.ensures.heard
+    (c.in-Ok-Request.ensures.sent (ap (λ (r : Pending). r.ended) c.in-Ok.ensures) line)

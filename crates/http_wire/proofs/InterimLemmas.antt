@@ -1,0 +1,75 @@
+-- What was sent of the interim line while a request was read.
+use Rattle.std.proofs.Common.{◌≡◌, ℕ, inl, inr, true, List, [], ◌++◌, subst, ◌∙◌}
+use Rattle.gate_base.specs.declared.outside.Piece.{Piece}
+use Rattle.gate_base.specs.Transcript.{Transcript}
+use Rattle.httparse.specs.declared.spans.HeaderSpan.{HeaderSpan}
+use Rattle.httparse.specs.declared.spans.RequestSpans.{RequestSpans}
+use Rattle.httparse.specs.Grammar.{RequestHead}
+use Rattle.httparse.specs.Spans.{IsRequestAt}
+use Rattle.http_wire.specs.declared.message.Message.{Message}
+use Rattle.http_wire.specs.declared.message.ReadFault.{ReadFault}
+use Rattle.http_wire.specs.declared.message.ReadFault.TheVariants.{Failed, Memory}
+use Rattle.http_wire.specs.declared.advance.Found.TheVariants.{Head}
+use Rattle.http_wire.specs.FirstMessage.{HasHead, HasNoHead, message_of}
+use Rattle.http_wire.specs.Interim.{is_owed, OwesInterim, SendsInterim, MaySendInterim, CutsInterim, SendsOnFault}
+use Rattle.http_wire.specs.Seen.{window, IsFound}
+use Rattle.http_wire.proofs.FirstMessageLemmas.{whole_head}
+use Rattle.http_wire.proofs.lemmas.OwedLemmas.{owed_by_head, none_owed}
+use Rattle.http_wire.proofs.lemmas.UniqueLemmas.{not_empty}
+
+-- bytes were read before, and nothing was sent then
+earlier : (P : Type 0) (at : ℕ) (old middle new : Transcript) (fault : ReadFault) → middle.begun ≡ old.begun → middle.sent ≡ old.sent
+    → SendsOnFault P at middle fault new → SendsOnFault P at old fault new
+earlier P at old middle new Failed b s sends =
+    let before : (ℕ × List Piece) → Type 0 = λ x. CutsInterim P x.0 at x.1 new.sent in
+    subst before (λ i. (b i, s i)) sends
+earlier P at old middle new Memory b s sends =
+    let before : (ℕ × List Piece) → Type 0 = λ x. MaySendInterim P x.0 at x.1 new.sent in
+    subst before (λ i. (b i, s i)) sends
+
+moved : {P Q : Type 0} (connection at : ℕ) (old new : List Piece) → (P → Q) → (Q → P) → SendsInterim P connection at old new → SendsInterim Q connection at old new
+moved connection at old new to from (inl (p, e)) = inl (to p, e)
+moved connection at old new to from (inr (n, e)) = inr (λ q. n (from q), e)
+
+moved_fault : {P Q : Type 0} (at : ℕ) (old new : Transcript) (fault : ReadFault) → (P → Q) → SendsOnFault P at old fault new → SendsOnFault Q at old fault new
+moved_fault at old new Failed to (inl e) = inl e
+moved_fault at old new Failed to (inr (p, n, e)) = inr (to p, n, e)
+moved_fault at old new Memory to (inl e) = inl e
+moved_fault at old new Memory to (inr (p, e)) = inr (to p, e)
+
+-- the same by the bytes, where a head came whole and its message was taken
+pub whole_sent : (came more all : List ℕ) (headers : List HeaderSpan) (spans : RequestSpans) (at : ℕ) (old middle new : Transcript)
+    → came ++ more ≡ all → IsFound came headers (Head spans) → middle.begun ≡ old.begun → middle.sent ≡ old.sent
+    → ((h : RequestHead) → IsRequestAt (window came) headers spans h → SendsInterim (is_owed (message_of h) ≡ true) middle.begun at middle.sent new.sent)
+    → SendsInterim (OwesInterim all) old.begun at old.sent new.sent
+whole_sent came more all headers spans at old middle new is found b s sends =
+    let h : RequestHead = found.0.0 in
+    let has = subst (λ (v : List ℕ). HasHead v h spans.len) is (whole_head came more headers spans h found.0.1 found.1) in
+    let before : (ℕ × List Piece) → Type 0 = λ x. SendsInterim (is_owed (message_of h) ≡ true) x.0 at x.1 new.sent in
+    moved old.begun at old.sent new.sent (λ owed. (h, spans.len, has, owed)) (owed_by_head all h spans.len has) (subst before (λ i. (b i, s i)) (sends h found.0.1))
+
+-- and where its message could not be taken
+pub whole_sent_fault : (came more all : List ℕ) (headers : List HeaderSpan) (spans : RequestSpans) (at : ℕ) (old middle new : Transcript) (fault : ReadFault)
+    → came ++ more ≡ all → IsFound came headers (Head spans) → middle.begun ≡ old.begun → middle.sent ≡ old.sent
+    → ((h : RequestHead) → IsRequestAt (window came) headers spans h → SendsOnFault (is_owed (message_of h) ≡ true) at middle fault new)
+    → SendsOnFault (OwesInterim all) at old fault new
+whole_sent_fault came more all headers spans at old middle new fault is found b s sends =
+    let h : RequestHead = found.0.0 in
+    let has = subst (λ (v : List ℕ). HasHead v h spans.len) is (whole_head came more headers spans h found.0.1 found.1) in
+    moved_fault at old new fault (λ owed. (h, spans.len, has, owed)) (earlier (is_owed (message_of h) ≡ true) at old middle new fault b s (sends h found.0.1))
+
+-- no whole head came, and nothing was sent
+pub none_sent : (came more all : List ℕ) (connection at : ℕ) (old new : List Piece) → came ++ more ≡ all → HasNoHead (came ++ more) → new ≡ old
+    → SendsInterim (OwesInterim all) connection at old new
+none_sent came more all connection at old new is none e = inr (none_owed all (subst HasNoHead is none), e)
+
+pub empty_has_none : (bytes more : List ℕ) → bytes ≡ [] → more ≡ [] → HasNoHead (bytes ++ more)
+empty_has_none bytes more none end h n has = not_empty (bytes ++ more) h n has (λ i. none i ++ end i)
+
+-- the line was sent where it is owed, and then the body was not read
+pub then_fails : (message head : Message) (at : ℕ) (old middle new : Transcript) (fault : ReadFault) → message ≡ head
+    → SendsInterim (is_owed message ≡ true) old.begun at old.sent middle.sent → new.sent ≡ middle.sent → SendsOnFault (is_owed head ≡ true) at old fault new
+then_fails message head at old middle new Failed is (inl (p, e)) s = inr (subst (λ (m : Message). is_owed m ≡ true) is p, 25, s ∙ e)
+then_fails message head at old middle new Failed is (inr (n, e)) s = inl (s ∙ e)
+then_fails message head at old middle new Memory is (inl (p, e)) s = inr (subst (λ (m : Message). is_owed m ≡ true) is p, s ∙ e)
+then_fails message head at old middle new Memory is (inr (n, e)) s = inl (s ∙ e)
