@@ -9,6 +9,7 @@ mod laws;
 mod limits;
 mod native;
 mod operation;
+mod reading;
 mod table;
 
 pub use code::Code;
@@ -18,3 +19,4 @@ pub use laws::{law_get_after_delete, law_get_after_put};
 pub use limits::{MOST_BODY_BYTES, is_content_type, is_meta_name, is_meta_value, is_proper_meta};
 pub use native::{Native, is_other_acl, may_read};
 pub use operation::{Label, Listed, ObjectHead, Op, Reply, Settings};
+pub use reading::{Conditions, ETags, Range};

@@ -306,8 +306,9 @@ impl Native {
                 meta,
                 body,
             } => self.put_object(bucket, key, *acl, content_type, meta, body, label),
-            Op::GetObject { bucket, key } => self.get_object(bucket, key, label),
-            Op::HeadObject { bucket, key } => self.head_object(bucket, key, label),
+            Op::ListObjects { .. } => Err(Memory),
+            Op::GetObject { bucket, key, .. } => self.get_object(bucket, key, label),
+            Op::HeadObject { bucket, key, .. } => self.head_object(bucket, key, label),
             Op::DeleteObject { bucket, key } => self.delete_object(bucket, key, label),
             Op::GetObjectAcl { bucket, key } => Ok(self.get_object_acl(bucket, key, label)),
         }
