@@ -1,0 +1,4 @@
+pub mod AnswerText
+pub mod Answers
+pub mod Fields
+pub mod Framing
