@@ -3,7 +3,12 @@
 
 mod answers;
 mod fault;
+mod fields;
 mod framing;
+mod head;
+mod lists;
+mod numbers;
+mod objects;
 mod written;
 
 pub use answers::read_answer;
