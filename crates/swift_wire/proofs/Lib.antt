@@ -1,0 +1,5 @@
+pub mod FieldLemmas
+pub mod FramingLemmas
+pub mod HeadLemmas
+pub mod ListLemmas
+pub mod NumberLemmas

@@ -1,0 +1,5 @@
+pub mod AnswerText
+pub mod Answers
+pub mod Fields
+pub mod Framing
+pub mod Head
