@@ -1,5 +1,6 @@
 pub mod ETag
 pub mod Finish
+pub mod Items
 pub mod Laws
 pub mod Limits
 pub mod Native
