@@ -1,0 +1,6 @@
+pub mod Asking
+pub mod Dated
+pub mod Ends
+pub mod Follows
+pub mod Taking
+pub mod lemmas
