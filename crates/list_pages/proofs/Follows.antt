@@ -10,12 +10,7 @@ use Rattle.std.proofs.lemmas.List.Folds.{list_all-append}
 use Rattle.std.proofs.Math.Seq.{drop-cons}
 use Rattle.gate_base.specs.Maps.{name_cmp}
 use Rattle.swift_calls.specs.declared.heads.NameItem.{NameItem}
-use Rattle.list_pages.specs.Listing.{Ascends, IsPageOf, BreaksAt, is_name_with, follows, name_in}
-
--- the last of some names, or the marker before them
-abbrev pub last_of : List ℕ → List (List ℕ) → List ℕ
-last_of marker [] = marker
-last_of marker (name ∷ names) = last_of name names
+use Rattle.list_pages.specs.Listing.{last_of, Ascends, IsPageOf, BreaksAt, is_name_with, follows, name_in}
 
 pub last_more : (marker : List ℕ) (names : List (List ℕ)) (name : List ℕ) → last_of marker (names ++ name ∷ []) ≡ name
 last_more marker [] name = refl

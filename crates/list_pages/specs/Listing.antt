@@ -24,6 +24,11 @@ abbrev pub Ascends : List ℕ → List (List ℕ) → Type 0
 Ascends marker [] = Unit {0}
 Ascends marker (name ∷ names) = (name_cmp marker name ≡ Less) × Ascends name names
 
+-- the last of some names, or the marker before them
+abbrev pub last_of : List ℕ → List (List ℕ) → List ℕ
+last_of marker [] = marker
+last_of marker (name ∷ names) = last_of name names
+
 -- the name of an object, 1 to 1024 bytes of UTF-8 without byte 0, that begins with a prefix
 abbrev pub is_name_with : List ℕ → List ℕ → Bool
 is_name_with prefix name = is_key name && begins prefix name

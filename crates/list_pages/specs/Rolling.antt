@@ -1,11 +1,11 @@
 -- Keys that come one after the other, in the order of their bytes, and the items that they make so far. Source: Amazon S3
 -- API Reference, "ListObjects", and this profile.
-use Rattle.std.specs.Prelude.{◌≡◌, ℕ, nat_lt, Bool, false, ◌&&◌, List, [], ◌∷◌, ◌++◌, length, take, map, Option}
+use Rattle.std.specs.Prelude.{◌≡◌, ℕ, nat_lt, Bool, false, ◌&&◌, List, [], ◌∷◌, ◌++◌, length, take, map, Option, true}
 use Rattle.std.specs.declared.cmp.Ordering.TheVariants.{Less}
 use Rattle.std.specs.Ordering.{is_gt, eq_by_cmp}
 use Rattle.std.specs.FinMap.{entries, from_entries}
 use Rattle.gate_base.specs.Maps.{name_cmp}
-use Rattle.s3_machine.specs.Items.{row_of, behind}
+use Rattle.s3_machine.specs.Items.{begins, row_of, behind}
 
 -- what is wanted of a listing: keys with a prefix, rolled up by a delimiter, texts behind a marker, and at most so many
 pub record Wanted : Type 0 where
@@ -28,6 +28,11 @@ first_rows w keys =
 abbrev pub Before : {X : Type 0} → List ℕ → List (List ℕ × X) → Type 0
 Before k [] = Unit {0}
 Before k (e ∷ es) = (name_cmp e.0 k ≡ Less) × Before k es
+
+-- further keys, which begin with the prefix, each behind all before it
+abbrev pub Rises : {H : Type 0} → List ℕ → List (List ℕ × H) → List (List ℕ × H) → Type 0
+Rises prefix seen [] = Unit {0}
+Rises prefix seen (k ∷ rest) = (begins prefix k.0 ≡ true) × Before k.0 seen × Rises prefix (seen ++ k ∷ []) rest
 
 -- a text comes before another, or is the same
 abbrev pub UpTo : List ℕ → List ℕ → Type 0

@@ -1,5 +1,6 @@
 -- What is kept while names are rolled up, and what a name of a listing tells. Source: this profile.
 use Rattle.std.specs.Prelude.{◌≡◌, ℕ, nat_lt, Bool, true, false, if◌then◌else◌, not, ◌&&◌, ◌==◌, is_none, List, [], length, map, Option, None, Some}
+use Rattle.std.specs.List.{Contains}
 use Rattle.std.specs.Ordering.{is_lt}
 use Rattle.std.specs.Option.{unwrap_or}
 use Rattle.gate_base.specs.Maps.{name_cmp}
@@ -65,3 +66,7 @@ is_to_show rolls item =
 pub record IsUntagged (rolls : Rolls) (item : NameItem) : Type 0 where
   pub shown : is_to_show rolls item ≡ true
   pub bare : read_stamp item.content_type ≡ None
+
+-- the type of one of these objects ends in no stamp
+abbrev pub HasUntagged : List NameItem → Type 0
+HasUntagged items = (item : NameItem) × Contains items item × (read_stamp item.content_type ≡ None)

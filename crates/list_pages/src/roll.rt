@@ -1,5 +1,5 @@
-ghost use Rattle.std.specs.Prelude.{◌≡◌, ◌≢◌, ◌++◌, ◌∷◌, [], true, false, not, ◌&&◌, nat_lt, take, List, ℕ, IfOk, OnOk, OnErr, None, Err};
-ghost use Rattle.std.specs.List.{All};
+ghost use Rattle.std.specs.Prelude.{◌<◌, map, Ok, ◌≡◌, ◌≢◌, ◌++◌, ◌∷◌, [], true, false, not, ◌&&◌, nat_lt, take, List, ℕ, IfOk, OnOk, OnErr, None, Err};
+ghost use Rattle.std.specs.List.{All, list_all};
 ghost use Rattle.std.specs.Ordering.{is_lt};
 ghost use Rattle.gate_base.specs.Maps.{name_cmp};
 ghost use Rattle.s3_machine.specs.Items.{begins};
@@ -8,8 +8,9 @@ ghost use Rattle.list_pages.specs.Rolls.{wanted};
 ghost use Rattle.s3_machine.specs.Shown.{IsShownItem, IsShownItemHead};
 ghost use Rattle.s3_machine.specs.declared.items.ItemHead.{ItemHead};
 ghost use Rattle.swift_marks.specs.Tag.{read_stamp};
-ghost use Rattle.list_pages.specs.Rolling.{Before, Rolled, ends};
-ghost use Rattle.list_pages.specs.Rolls.{head_in, row_view, rows_of, seen_of, under_of, IsUntagged};
+ghost use Rattle.list_pages.specs.Listing.{is_name_with, last_of, name_in};
+ghost use Rattle.list_pages.specs.Rolling.{Before, Rises, Rolled, ends};
+ghost use Rattle.list_pages.specs.Rolls.{head_in, row_view, rows_of, seen_of, under_of, HasUntagged, IsUntagged};
 ghost use Rattle.list_pages.specs.declared.fault.RollFault.TheVariants as fault;
 
 use crate::RollFault;
@@ -137,6 +138,27 @@ impl Roll {
         self.take(item)?;
         self.last = name;
         Ok(0 < self.max && !self.more)
+    }
+
+    /// Takes the names of a page, of a listing that wants items and is not full yet, until the answer is full. False once
+    /// it is. The faults are those of [`Roll::push`] for one of the names.
+    pub fn push_page(&mut self, page: &[NameItem]) -> Result<bool, RollFault>
+        requires names { list_all (is_name_with self.old.wanted.prefix) (map name_in page.now) ≡ true }
+        requires wants { 0 < self.old.wanted.max }
+        requires room { self.old.more ≡ false }
+        ensures rolled { OnOk result ((seen : List (List ℕ × ItemHead)) → Rolled self.old.wanted (rows_of self.old.items) self.old.more seen → Rises self.old.wanted.prefix seen (map seen_of page.now)
+            → Rolled self.new.wanted (rows_of self.new.items) self.new.more (seen ++ map seen_of page.now)) }
+        ensures wanted { self.new.wanted ≡ self.old.wanted }
+        ensures last { result ≡ Ok true → self.new.last ≡ last_of self.old.last (map name_in page.now) }
+        ensures goes { IfOk result (λ goes. goes ≡ not self.new.more) }
+        ensures no_tag { result ≡ Err fault.NoTag → HasUntagged page.now }
+    {
+        for item in page {
+            if !self.push(item)? {
+                return Ok(false);
+            }
+        }
+        Ok(true)
     }
 
     /// Takes the next name, where none is left over yet.

@@ -11,13 +11,8 @@ use Rattle.std.specs.FinMap.Entries.{below_all}
 use Rattle.gate_base.specs.Maps.{name_cmp}
 use Rattle.s3_machine.specs.Items.{begins}
 use Rattle.list_pages.specs.Rolling.{Wanted}
-use Rattle.list_pages.specs.Rolling.{Before, Rolled}
+use Rattle.list_pages.specs.Rolling.{Before, Rises, Rolled}
 use Rattle.list_pages.proofs.lemmas.Rolling.{push_over}
-
--- further keys, each behind all before it
-abbrev pub Rises : {H : Type 0} → List ℕ → List (List ℕ × H) → List (List ℕ × H) → Type 0
-Rises prefix seen [] = Unit {0}
-Rises prefix seen (k ∷ rest) = (begins prefix k.0 ≡ true) × Before k.0 seen × Rises prefix (seen ++ k ∷ []) rest
 
 -- once one is left over, no further key changes anything
 pub roll_rest : {H : Type 0} (w : Wanted) (shown : List (List ℕ × Option H)) (more : Bool) (seen rest : List (List ℕ × H)) → more ≡ true → Rises w.prefix seen rest → Rolled w shown more seen → Rolled w shown more (seen ++ rest)

@@ -10,10 +10,9 @@ use Rattle.std.specs.FinMap.{entries, from_entries, slice_cmp-IsAntisymmetric, n
 use Rattle.gate_base.specs.Maps.{name_cmp}
 use Rattle.s3_machine.specs.Items.{behind, row_of, begins}
 use Rattle.list_pages.specs.Rolling.{Wanted}
-use Rattle.list_pages.specs.Rolling.{UpTo, AllUpTo, Rolled}
+use Rattle.list_pages.specs.Rolling.{Rises, UpTo, AllUpTo, Rolled}
 use Rattle.list_pages.proofs.lemmas.Rising.{upto_trans, upto_longer, short, short_front, begins_cut}
 use Rattle.list_pages.proofs.lemmas.Rolling.{text_is, common, fronted, push_behind}
-use Rattle.list_pages.proofs.lemmas.Pages.{Rises}
 use Rattle.list_pages.proofs.lemmas.PickedEntries.{entries_rising}
 
 no_rows : (X : Type 0) → let none : List (List ℕ × X) = [] in entries (from_entries {R = name_cmp} none) ≡ none
