@@ -1,3 +1,4 @@
 pub mod FieldLaws
 pub mod PackLaws
+pub mod Stamps
 pub mod TagLaws

@@ -1,12 +1,13 @@
 -- The tag of an object: the content type that the store keeps, with the object's own content type, its ETag, the
 -- moment of its putting and the upload that it is of (this profile).
-use Rattle.std.specs.Prelude.{◌≡◌, ⊤, ℕ, ◌-◌, Bool, true, not, ◌&&◌, ◌==◌, nat_le, nat_lt, if◌then◌else◌, Option, Some, None, Result, Ok, Err}
+use Rattle.std.specs.Prelude.{◌≡◌, ⊤, ℕ, ◌-◌, Bool, true, not, ◌&&◌, ◌==◌, nat_eq, nat_le, nat_lt, if◌then◌else◌, Option, Some, None, Result, Ok, Err}
 use Rattle.std.specs.Prelude.{List, [], ◌∷◌, ◌++◌, length, take, drop, slice_index, codes, decimal}
-use Rattle.std.specs.List.{list_all, before_first, after_first, before_last, after_last}
+use Rattle.std.specs.List.{list_all, before_first, after_first, before_last, after_last, ends_with}
 use Rattle.std.specs.Str.{bytes_eq}
 use Rattle.gate_base.specs.Told.{moment_limit}
 use Rattle.swift_marks.specs.declared.forms.TheConstants.{LONGEST_TYPE, MOST_PARTS}
 use Rattle.swift_marks.specs.Number.{number_of, is_lower_hex, id_text, fits_id, id_of}
+use Rattle.swift_marks.specs.declared.tag.Stamp.{Stamp}
 use Rattle.swift_marks.specs.declared.tag.Tag.{Tag}
 use Rattle.swift_marks.specs.declared.fault.MarkFault.{MarkFault}
 use Rattle.swift_marks.specs.declared.fault.MarkFault.TheVariants.{NoTag, BadPack, Memory}
@@ -77,3 +78,30 @@ ReadsTag due (Ok tag) = due ≡ Some tag
 ReadsTag due (Err NoTag) = due ≡ None
 ReadsTag due (Err BadPack) = ⊥
 ReadsTag due (Err Memory) = ⊤
+
+-- ---- the end of a tag
+
+-- what stands in a tag behind the content type
+abbrev pub stamp_of : Tag → Stamp
+stamp_of tag = record { etag = tag.etag; moment = tag.moment; id = tag.id }
+
+-- the stamps that have a text
+unfoldable pub is_stamp : Stamp → Bool
+is_stamp stamp = is_etag stamp.etag && nat_lt stamp.moment moment_limit && fits_id stamp.id
+
+-- `;s3=ETAG.SECONDS.ID`
+unfoldable pub stamp_text : Stamp → List ℕ
+stamp_text stamp = codes ";s3=" ++ stamp.etag ++ codes "." ++ decimal stamp.moment ++ codes "." ++ id_text stamp.id
+
+-- the stamp that a text ends in, whatever stands before it
+unfoldable pub read_stamp : List ℕ → Option Stamp
+read_stamp text =
+    let stamp = stamp_of (tag_parts text) in
+    if is_stamp stamp && ends_with nat_eq text (stamp_text stamp) then Some stamp else None
+
+-- what reading a stamp answers; memory may run out for any text
+abbrev pub ReadsStamp : Option Stamp → Result Stamp MarkFault → Type 0
+ReadsStamp due (Ok stamp) = due ≡ Some stamp
+ReadsStamp due (Err NoTag) = due ≡ None
+ReadsStamp due (Err BadPack) = ⊥
+ReadsStamp due (Err Memory) = ⊤

@@ -14,4 +14,4 @@ pub use laws::{
     law_tag_has_one_text, law_tag_is_field, law_tag_text_reads,
 };
 pub use packs::{pack, unpack};
-pub use tag::Tag;
+pub use tag::{Stamp, Tag};

@@ -27,6 +27,85 @@ impl Copying for Tag {
     }
 }
 
+/// The end of a tag, `;s3=ETAG.SECONDS.ID`: all that a tag tells but the content type of the object.
+#[derive(Debug, Drop)]
+pub struct Stamp {
+    pub etag: Bytes,
+    pub moment: u64,
+    pub id: Option<u128>,
+}
+
+impl Copying for Stamp {
+    fn copy(&self) -> Result<Stamp, Memory> {
+        Ok(Stamp {
+            etag: self.etag.copy()?,
+            moment: self.moment,
+            id: self.id,
+        })
+    }
+}
+
+impl Stamp {
+    ghost use Rattle.swift_marks.specs.Tag.{is_stamp, read_stamp, stamp_of, stamp_text, tag_parts, ReadsStamp};
+
+    /// Reads the stamp that a text ends in, whatever stands before it. NoTag exactly where it ends in none.
+    ///
+    /// A store may spell the content type anew in a listing of objects, so that what stands before the stamp is no content
+    /// type any more (`;` is listed as nothing); the stamp stays as it was put.
+    #[tactic(auto, unfolding(crate::specs::Tag::read_stamp))]
+    pub fn read(alloc: Global, text: &[u8]) -> Result<Stamp, MarkFault>
+        ensures { ReadsStamp (read_stamp text.now) result }
+    {
+        let stamp = Stamp::parts(alloc, text)?;
+        if !stamp.is_stamp() {
+            return Err(MarkFault::NoTag);
+        }
+        let end = stamp.write(alloc)?;
+        if !text.ends_with(end.as_slice()) {
+            return Err(MarkFault::NoTag);
+        }
+        Ok(stamp)
+    }
+
+    /// What stands in the places of a stamp, be it one or not.
+    #[tactic(auto, unfolding(crate::specs::Tag::tag_parts))]
+    fn parts(alloc: Global, text: &[u8]) -> Result<Stamp, Memory>
+        ensures { IfOk result (λ stamp. stamp ≡ stamp_of (tag_parts text.now)) }
+    {
+        let (_, mark) = cut_last(text, b'=');
+        let (etag, numbers) = cut(mark, b'.');
+        let (moment, id) = cut(numbers, b'.');
+        Ok(Stamp {
+            etag: Bytes::from_slice(alloc, etag)?,
+            moment: number_of(moment),
+            id: id_of(id),
+        })
+    }
+
+    /// The stamp has a text.
+    #[tactic(auto, unfolding(crate::specs::Tag::is_stamp))]
+    fn is_stamp(&self) -> bool
+        ensures { result ≡ is_stamp self.now }
+    {
+        is_etag(self.etag.as_slice()) && self.moment < MOMENT_LIMIT && fits_id(self.id)
+    }
+
+    /// The text of the stamp.
+    #[tactic(auto, unfolding(crate::specs::Tag::stamp_text))]
+    fn write(&self, alloc: Global) -> Result<Bytes, Memory>
+        requires { is_stamp self.now ≡ true }
+        ensures { IfOk result (λ text. text ≡ stamp_text self.now) }
+    {
+        let mut text = Bytes::from_slice(alloc, b";s3=")?;
+        text.append(self.etag.as_slice())?;
+        text.append(b".")?;
+        append_decimal(&mut text, self.moment)?;
+        text.append(b".")?;
+        append_id(&mut text, self.id)?;
+        Ok(text)
+    }
+}
+
 impl Tag {
     ghost use Rattle.swift_marks.specs.Tag.{has_text, tag_text, tag_parts, read_tag, ReadsTag};
 

@@ -1,0 +1,7 @@
+pub mod Asking
+pub mod Dated
+pub mod Ends
+pub mod Follows
+pub mod Paging
+pub mod Taking
+pub mod lemmas

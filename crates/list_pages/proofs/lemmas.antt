@@ -1,0 +1,9 @@
+pub mod Pages
+pub mod PickedEntries
+pub mod Pushing
+pub mod Rising
+pub mod Rolling
+pub mod Starting
+pub mod Starts
+pub mod Texts
+pub mod Turning

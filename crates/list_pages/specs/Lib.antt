@@ -1,0 +1,4 @@
+pub mod Fault
+pub mod Listing
+pub mod Rolling
+pub mod Rolls
