@@ -1,3 +1,4 @@
+pub mod Digits
 pub mod Entries
 pub mod Handling
 pub mod Living
@@ -5,9 +6,11 @@ pub mod Looping
 pub mod Operating
 pub mod Pieces
 pub mod Proper
+pub mod ProperReads
 pub mod Replying
 pub mod Resolving
 pub mod Serving
 pub mod Statuses
+pub mod Tags
 pub mod Texts
 pub mod lemmas
