@@ -1,4 +1,5 @@
 pub mod Calendars
+pub mod Digits
 pub mod Entries
 pub mod Handling
 pub mod Living
@@ -6,9 +7,11 @@ pub mod Looping
 pub mod Operating
 pub mod Pieces
 pub mod Proper
+pub mod ProperReads
 pub mod Replying
 pub mod Resolving
 pub mod Serving
 pub mod Statuses
+pub mod Tags
 pub mod Texts
 pub mod lemmas

@@ -19,11 +19,13 @@ use Rattle.gateway.specs.declared.rows.Level.{Level}
 use Rattle.gateway.specs.declared.rows.Level.TheVariants.{Service, Bucket, Key}
 use Rattle.gateway.specs.declared.rows.Row.{Row}
 use Rattle.gateway.specs.declared.rows.Row.TheVariants.{ListBuckets, CreateBucket, PutBucketAcl, DeleteBucket, HeadBucket, GetBucketLocation}
-use Rattle.gateway.specs.declared.rows.Row.TheVariants.{GetBucketAcl, PutObject, GetObject, HeadObject, DeleteObject, GetObjectAcl}
+use Rattle.gateway.specs.declared.rows.Row.TheVariants.{GetBucketAcl, ListObjects, ListObjectsV2, PutObject, GetObject, HeadObject}
+use Rattle.gateway.specs.declared.rows.Row.TheVariants.{DeleteObject, GetObjectAcl}
 use Rattle.gateway.specs.Rows.{rows, shape_of, level_of, is_same_level, is_same_set, fits}
 use Rattle.gateway.specs.Headers.{given_acl}
 use Rattle.gateway.specs.ResolvedRequest.{IsProperMeant}
 use Rattle.gateway.specs.Proper.{IsProperCode}
+use Rattle.gateway.proofs.ProperReads.{range_proper, first_proper, second_proper}
 use Rattle.gateway.specs.Meaning.{Reason, first_refusal, target_reasons, reasons, row_of, judged, put_acl, op_of, meaning_of}
 
 -- ---- the reasons
@@ -134,11 +136,17 @@ op_proper settings DeleteBucket message target caller e none also = bucket_of me
 op_proper settings HeadBucket message target caller e none also = bucket_of message target (at_level message target HeadBucket e) none
 op_proper settings GetBucketLocation message target caller e none also = bucket_of message target (at_level message target GetBucketLocation e) none
 op_proper settings GetBucketAcl message target caller e none also = bucket_of message target (at_level message target GetBucketAcl e) none
+op_proper settings ListObjects message target caller e none also =
+    (bucket_of message target (at_level message target ListObjects e) none, first_proper target.query also.1.1.1.1.1.1.1.1.1.1.1.1.0)
+op_proper settings ListObjectsV2 message target caller e none also =
+    (bucket_of message target (at_level message target ListObjectsV2 e) none, second_proper target.query also.1.1.1.1.1.1.1.1.1.1.1.1.0)
 op_proper settings PutObject message target caller e none also =
-    let content = also.1.1.1.1.1.1.1.1.1.1.1.1 in
+    let content = also.1.1.1.1.1.1.1.1.1.1.1.1.1.1 in
     (place_of message target (at_level message target PutObject e) none, record { typed = is_named _ content.0; described = is_named _ content.1.1.0; sized = short message.body content.1.1.1.0 })
-op_proper settings GetObject message target caller e none also = place_of message target (at_level message target GetObject e) none
-op_proper settings HeadObject message target caller e none also = place_of message target (at_level message target HeadObject e) none
+op_proper settings GetObject message target caller e none also =
+    (place_of message target (at_level message target GetObject e) none, range_proper message.headers)
+op_proper settings HeadObject message target caller e none also =
+    (place_of message target (at_level message target HeadObject e) none, range_proper message.headers)
 op_proper settings DeleteObject message target caller e none also = place_of message target (at_level message target DeleteObject e) none
 op_proper settings GetObjectAcl message target caller e none also = place_of message target (at_level message target GetObjectAcl e) none
 op_proper settings _ message target caller e none also = proper_code NotImplemented refl
@@ -146,7 +154,7 @@ op_proper settings _ message target caller e none also = proper_code NotImplemen
 -- ---- the meaning
 
 own : (settings : Settings) (row : Row) (message : Message) (target : Target) (caller : Caller) → AllProper (reasons settings row message target caller)
-own settings row message target caller = (refl, (refl, (refl, (refl, (refl, (refl, (refl, (refl, (refl, (refl, (refl, (refl, (refl, (refl, (refl, (refl, (refl, (refl, (refl, tt)))))))))))))))))))
+own settings row message target caller = (refl, (refl, (refl, (refl, (refl, (refl, (refl, (refl, (refl, (refl, (refl, (refl, (refl, (refl, (refl, (refl, (refl, (refl, (refl, (refl, (refl, tt)))))))))))))))))))))
 
 judged_proper : (settings : Settings) (found : Option Row) (message : Message) (target : Target) (caller : Caller) → row_of message target ≡ found → NoneHolds (target_reasons message target) → IsProperMeant (judged settings found message target caller)
 judged_proper settings None message target caller e none = proper_code MethodNotAllowed refl
@@ -180,6 +188,8 @@ op_known DeleteBucket message target e = cc
 op_known HeadBucket message target e = cc
 op_known GetBucketLocation message target e = cc
 op_known GetBucketAcl message target e = cc
+op_known ListObjects message target e = cc
+op_known ListObjectsV2 message target e = cc
 op_known PutObject message target e = cc
 op_known GetObject message target e = cc
 op_known HeadObject message target e = cc

@@ -6,10 +6,8 @@ use Rattle.gate_base.specs.declared.page.Pair.{Pair}
 use Rattle.s3_names.specs.declared.acl.Acl.{Acl}
 use Rattle.s3_names.specs.declared.acl.Acl.TheVariants.{Private, PublicRead}
 use Rattle.http_wire.specs.Headers.{has_header, text_of}
-use Rattle.gateway.specs.declared.rows.Level.{Level}
-use Rattle.gateway.specs.declared.rows.Level.TheVariants.{Key}
 use Rattle.gateway.specs.declared.rows.Row.{Row}
-use Rattle.gateway.specs.Rows.{shape_of, is_same_level}
+use Rattle.gateway.specs.Rows.{shape_of}
 
 -- copies, tags, redirections and the tokens of sessions
 abbrev pub is_unsupported_name : List ℕ → Bool
@@ -45,16 +43,6 @@ is_read method = bytes_eq method (codes "GET") || bytes_eq method (codes "HEAD")
 abbrev pub is_conditional_write : List ℕ → List Pair → Bool
 is_conditional_write method headers =
     not (is_read method) && (has_header (codes "if-match") headers || has_header (codes "if-none-match") headers)
-
--- a range or a condition
-abbrev pub is_conditional : List Pair → Bool
-is_conditional headers =
-    has_header (codes "range") headers || has_header (codes "if-match") headers || has_header (codes "if-none-match") headers
-    || has_header (codes "if-modified-since") headers || has_header (codes "if-unmodified-since") headers
-
--- these with a GET or HEAD of a key, where they aren't built
-abbrev pub is_conditional_read : List ℕ → Level → List Pair → Bool
-is_conditional_read method level headers = is_read method && is_same_level level Key && is_conditional headers
 
 -- the canned access control list of a name, if the profile has it
 abbrev pub acl_named : List ℕ → Option Acl

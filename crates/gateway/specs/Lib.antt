@@ -1,4 +1,5 @@
 pub mod Closing
+pub mod Conditions
 pub mod Connection
 pub mod Content
 pub mod Exchange
@@ -6,9 +7,12 @@ pub mod Handled
 pub mod Headers
 pub mod Laws
 pub mod Life
+pub mod Listings
 pub mod Meaning
+pub mod Numbers
 pub mod Proper
 pub mod Query
+pub mod Ranges
 pub mod Request
 pub mod ResolvedRequest
 pub mod Rows

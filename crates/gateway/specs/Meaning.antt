@@ -22,10 +22,14 @@ use Rattle.gateway.specs.declared.meant.Meant.TheVariants.{Op, Refused}
 use Rattle.gateway.specs.declared.rows.Level.TheVariants.{Service, Key}
 use Rattle.gateway.specs.declared.rows.Row.{Row}
 use Rattle.gateway.specs.declared.rows.Row.TheVariants.{ListBuckets, CreateBucket, PutBucketAcl, DeleteBucket, HeadBucket, GetBucketLocation}
-use Rattle.gateway.specs.declared.rows.Row.TheVariants.{GetBucketAcl, PutObject, GetObject, HeadObject, DeleteObject, GetObjectAcl}
+use Rattle.gateway.specs.declared.rows.Row.TheVariants.{GetBucketAcl, ListObjects, ListObjectsV2, PutObject, GetObject, HeadObject}
+use Rattle.gateway.specs.declared.rows.Row.TheVariants.{DeleteObject, GetObjectAcl}
 use Rattle.gateway.specs.Rows.{shape_of, is_method, level_of, is_same_level, row_for}
 use Rattle.gateway.specs.Query.{has_unknown_name, has_foreign_name, has_name_twice}
-use Rattle.gateway.specs.Headers.{has_unsupported, is_chunked, is_conditional_write, is_conditional_read, given_acl, has_other_acl, lacks_acl, has_other_class}
+use Rattle.gateway.specs.Headers.{has_unsupported, is_chunked, is_conditional_write, given_acl, has_other_acl, lacks_acl, has_other_class}
+use Rattle.gateway.specs.Conditions.{given_conditions}
+use Rattle.gateway.specs.Ranges.{given_range}
+use Rattle.gateway.specs.Listings.{has_bad_word, has_long_text, has_bad_token, first_asked, second_asked}
 use Rattle.gateway.specs.Content.{has_bad_digest, is_other_body, taken_type, taken_meta, has_bad_entry, is_long_body, has_bad_location, has_other_location}
 
 -- a reason to refuse, and whether it holds
@@ -82,22 +86,28 @@ content_reasons settings row message caller =
     ∷ reason (has_other_location row settings.region message.body) InvalidArgument
     ∷ caller_reasons row caller
 
-abbrev pub digest_reasons : Settings → Row → Message → Caller → List Reason
-digest_reasons settings row message caller =
+abbrev pub argument_reasons : Settings → Row → Message → Target → Caller → List Reason
+argument_reasons settings row message target caller =
+    reason (has_bad_word target.query) InvalidArgument
+    ∷ reason (has_long_text target.query) InvalidArgument
+    ∷ reason (has_bad_token target.query) InvalidArgument
+    ∷ content_reasons settings row message caller
+
+abbrev pub digest_reasons : Settings → Row → Message → Target → Caller → List Reason
+digest_reasons settings row message target caller =
     reason (has_bad_digest message.headers) InvalidDigest
     ∷ reason (is_other_body message.headers message.body) BadDigest
-    ∷ content_reasons settings row message caller
+    ∷ argument_reasons settings row message target caller
 
 abbrev pub header_reasons : Settings → Row → Message → Target → Caller → List Reason
 header_reasons settings row message target caller =
     reason (has_unsupported message.headers) NotImplemented
     ∷ reason (is_chunked message.headers) NotImplemented
     ∷ reason (is_conditional_write message.method message.headers) NotImplemented
-    ∷ reason (is_conditional_read message.method (level_of target.bucket target.key) message.headers) NotImplemented
     ∷ reason (has_other_acl message.headers) NotImplemented
     ∷ reason (lacks_acl row message.headers) NotImplemented
     ∷ reason (has_other_class message.headers) InvalidStorageClass
-    ∷ digest_reasons settings row message caller
+    ∷ digest_reasons settings row message target caller
 
 abbrev pub reasons : Settings → Row → Message → Target → Caller → List Reason
 reasons settings row message target caller =
@@ -131,6 +141,8 @@ op_of DeleteBucket message target = Op (op.DeleteBucket target.bucket)
 op_of HeadBucket message target = Op (op.HeadBucket target.bucket)
 op_of GetBucketLocation message target = Op (op.GetLocation target.bucket)
 op_of GetBucketAcl message target = Op (op.GetBucketAcl target.bucket)
+op_of ListObjects message target = Op (op.ListObjects target.bucket (first_asked target.query))
+op_of ListObjectsV2 message target = Op (op.ListObjects target.bucket (second_asked target.query))
 op_of PutObject message target =
     Op
     (op.PutObject
@@ -140,8 +152,8 @@ op_of PutObject message target =
     (taken_type PutObject message.headers)
     (taken_meta PutObject message.headers)
     message.body)
-op_of GetObject message target = Op (op.GetObject target.bucket target.key)
-op_of HeadObject message target = Op (op.HeadObject target.bucket target.key)
+op_of GetObject message target = Op (op.GetObject target.bucket target.key (given_range message.headers) (given_conditions message.headers))
+op_of HeadObject message target = Op (op.HeadObject target.bucket target.key (given_range message.headers) (given_conditions message.headers))
 op_of DeleteObject message target = Op (op.DeleteObject target.bucket target.key)
 op_of GetObjectAcl message target = Op (op.GetObjectAcl target.bucket target.key)
 op_of _ message target = Refused NotImplemented

@@ -1,6 +1,7 @@
--- What the names of a query may be. Source: this profile.
-use Rattle.std.specs.Prelude.{ℕ, Bool, not, nat_lt, List, count_by, bytes_eq}
+-- What the names of a query may be, and the values that they have. Source: this profile.
+use Rattle.std.specs.Prelude.{ℕ, Bool, not, nat_lt, List, [], count_by, find, bytes_eq}
 use Rattle.std.specs.List.{list_any}
+use Rattle.std.specs.Option.{option_map_or}
 use Rattle.gate_base.specs.declared.page.Pair.{Pair}
 use Rattle.gateway.specs.declared.rows.Row.{Row}
 use Rattle.gateway.specs.Rows.{rows, asked, is_name_of}
@@ -28,3 +29,10 @@ is_given_twice query pair = nat_lt 1 (count_of pair.name query)
 -- a name that is given twice
 abbrev pub has_name_twice : List Pair → Bool
 has_name_twice query = list_any (is_given_twice query) (asked query)
+
+abbrev pub value_of : Pair → List ℕ
+value_of pair = pair.value
+
+-- the value of a name, nothing where the query doesn't have the name
+abbrev pub text_at : List ℕ → List Pair → List ℕ
+text_at name query = option_map_or value_of (find (λ pair. bytes_eq pair.name name) query) []

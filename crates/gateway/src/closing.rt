@@ -49,15 +49,16 @@ fn close_value(value: &[u8]) -> bool
     close_word(rest)
 }
 
-fn after_first(text: &[u8]) -> &[u8]
+/// The text behind its first byte.
+pub(crate) fn after_first(text: &[u8]) -> &[u8]
     requires { 0 < length text.now }
     ensures { result.now ≡ drop 1 text.now }
 {
     &text[1..]
 }
 
-// The place of the first comma.
-fn first_comma(text: &[u8]) -> Option<usize>
+/// The place of the first comma.
+pub(crate) fn first_comma(text: &[u8]) -> Option<usize>
     ensures place { result ≡ position is_comma text.now }
     ensures within { IfSome result (λ at. at < length text.now) }
 {

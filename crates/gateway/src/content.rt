@@ -186,35 +186,22 @@ fn is_here(region: &[u8], location: &[u8]) -> bool
     location.len() == 0 || location == region
 }
 
-/// Whether the body should name a location and isn't of that form.
-pub fn has_bad_location(alloc: Global, row: Row, body: &[u8]) -> Result<bool, Memory>
-    ensures { IfOk result (λ bad. bad ≡ has_bad_location row body.now) }
-{
-    if !shape_of(row).has_location() {
-        return Ok(false);
-    }
-    match read_location(alloc, body) {
-        Ok(_) => Ok(false),
-        Err(BodyFault::NotTheBody(_) | BodyFault::TooMany) => Ok(true),
-        Err(BodyFault::Memory) => Err(Memory),
-    }
-}
-
-/// Whether the body should name a location and names neither the region nor none.
-pub fn has_other_location(
+/// Whether the body should name a location and isn't of that form, and whether it should name one and names neither the
+/// region nor none. The body is read once.
+pub fn location_faults(
     alloc: Global,
     row: Row,
     region: &[u8],
     body: &[u8],
-) -> Result<bool, Memory>
-    ensures { IfOk result (λ other. other ≡ has_other_location row region.now body.now) }
+) -> Result<(bool, bool), Memory>
+    ensures { IfOk result (λ faults. faults ≡ record { 0 = has_bad_location row body.now; 1 = has_other_location row region.now body.now }) }
 {
     if !shape_of(row).has_location() {
-        return Ok(false);
+        return Ok((false, false));
     }
     match read_location(alloc, body) {
-        Ok(location) => Ok(!is_here(region, location.as_slice())),
-        Err(BodyFault::NotTheBody(_) | BodyFault::TooMany) => Ok(true),
+        Ok(location) => Ok((false, !is_here(region, location.as_slice()))),
+        Err(BodyFault::NotTheBody(_) | BodyFault::TooMany) => Ok((true, true)),
         Err(BodyFault::Memory) => Err(Memory),
     }
 }

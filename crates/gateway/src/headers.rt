@@ -2,12 +2,10 @@
 ghost use Rattle.std.specs.Prelude.{◌≡◌, ◌&&◌, ◌||◌, not, nat_eq, ◌==◌, [], ◌∷◌, length, codes, bytes_eq, IfOk, is_none, take, map, filter};
 ghost use Rattle.std.specs.List.{list_any, starts_with, join_with_byte};
 ghost use Rattle.http_wire.specs.Headers.{has_header, text_of};
-ghost use Rattle.gateway.specs.declared.rows.Level.{Level};
-ghost use Rattle.gateway.specs.declared.rows.Level.TheVariants.{Key};
-ghost use Rattle.gateway.specs.Rows.{shape_of, is_same_level};
-ghost use Rattle.gateway.specs.Headers.{is_unsupported_name, is_unsupported_kind, is_unsupported, has_unsupported, has_part, is_chunked, is_read, is_conditional_write, is_conditional, is_conditional_read, acl_named, names_acl, given_acl, has_other_acl, lacks_acl, has_other_class};
+ghost use Rattle.gateway.specs.Rows.{shape_of};
+ghost use Rattle.gateway.specs.Headers.{is_unsupported_name, is_unsupported_kind, is_unsupported, has_unsupported, has_part, is_chunked, is_read, is_conditional_write, acl_named, names_acl, given_acl, has_other_acl, lacks_acl, has_other_class};
 
-use crate::rows::{Level, Row, is_same_level, shape_of};
+use crate::rows::{Row, shape_of};
 use gate_base::{Memory, Pair};
 use http_wire::{has_header, text_of};
 use s3_names::Acl;
@@ -78,23 +76,6 @@ pub fn is_conditional_write(method: &[u8], headers: &[Pair]) -> bool
     ensures { result ≡ is_conditional_write method.now headers.now }
 {
     !is_read(method) && (has_header(headers, b"if-match") || has_header(headers, b"if-none-match"))
-}
-
-fn is_conditional(headers: &[Pair]) -> bool
-    ensures { result ≡ is_conditional headers.now }
-{
-    has_header(headers, b"range")
-        || has_header(headers, b"if-match")
-        || has_header(headers, b"if-none-match")
-        || has_header(headers, b"if-modified-since")
-        || has_header(headers, b"if-unmodified-since")
-}
-
-/// Whether a GET or HEAD of a key has a range or a condition, which aren't built.
-pub fn is_conditional_read(method: &[u8], level: Level, headers: &[Pair]) -> bool
-    ensures { result ≡ is_conditional_read method.now level headers.now }
-{
-    is_read(method) && is_same_level(level, Level::Key) && is_conditional(headers)
 }
 
 fn names_acl(headers: &[Pair]) -> bool

@@ -2,14 +2,18 @@
 #![tactic(auto)]
 
 mod closing;
+mod conditions;
 mod content;
 mod ended;
 mod handle;
 mod headers;
 mod label;
 mod laws;
+mod listings;
 mod meant;
+mod numbers;
 mod query;
+mod ranges;
 mod received;
 mod reply;
 mod resolve;

@@ -1,24 +1,30 @@
 //! What a request means.
 ghost use Rattle.std.specs.Prelude.{◌≡◌, ◌≢◌, ◌&&◌, ◌||◌, not, nat_lt, length, IfOk};
 ghost use Rattle.gateway.specs.ResolvedRequest.{IsProperMeant};
-ghost use Rattle.gateway.specs.Meaning.{first_refusal, target_reasons, judged, reasons, header_reasons, digest_reasons, content_reasons, caller_reasons, meaning_of, op_of, or_private, put_acl, KeepsFront, is_denied, has_bad_bucket, row_of};
+ghost use Rattle.gateway.specs.Meaning.{first_refusal, target_reasons, judged, reasons, header_reasons, digest_reasons, argument_reasons, content_reasons, caller_reasons, meaning_of, op_of, or_private, put_acl, KeepsFront, is_denied, has_bad_bucket, row_of};
 ghost use Rattle.gateway.specs.declared.meant.Meant.TheVariants as variant;
 ghost use Rattle.gateway.specs.Rows.{shape_of, level_of};
 ghost use Rattle.gateway.specs.Meaning.{has_long_key, has_bad_key};
 ghost use Rattle.gateway.specs.Content.{taken_type, taken_meta};
 ghost use Rattle.gateway.specs.Headers.{given_acl};
+ghost use Rattle.gateway.specs.Conditions.{given_conditions};
+ghost use Rattle.gateway.specs.Ranges.{given_range};
+ghost use Rattle.gateway.specs.Listings.{first_asked, second_asked};
 
+use crate::conditions::given_conditions;
 use crate::content::{
-    has_bad_digest, has_bad_entry, has_bad_location, has_other_location, is_long_body,
-    is_other_body, taken_meta, taken_type,
+    has_bad_digest, has_bad_entry, is_long_body, is_other_body, location_faults, taken_meta,
+    taken_type,
 };
 use crate::headers::{
-    given_acl, has_other_acl, has_other_class, has_unsupported, is_chunked, is_conditional_read,
-    is_conditional_write, lacks_acl,
+    given_acl, has_other_acl, has_other_class, has_unsupported, is_chunked, is_conditional_write,
+    lacks_acl,
 };
+use crate::listings::{first_asked, has_bad_token, has_bad_word, has_long_text, second_asked};
 use crate::query::{has_foreign_name, has_name_twice, has_unknown_name};
+use crate::ranges::given_range;
 use crate::rows::{Level, Row, is_method, is_same_level, level_of, row_for, shape_of};
-use gate_base::{Bytes, Caller, Copying, Memory};
+use gate_base::{Bytes, Caller, Copying, Memory, Pair};
 use http_wire::Message;
 use s3_machine::{Code, Op, Settings, is_content_type, is_proper_meta};
 use s3_names::{Acl, MOST_KEY_BYTES, Meta, Target, is_bucket, is_key};
@@ -146,9 +152,6 @@ fn by_headers(
     if is_conditional_write(method, headers) {
         return Ok(Meant::Refused(Code::NotImplemented));
     }
-    if is_conditional_read(method, level_of_target(target), headers) {
-        return Ok(Meant::Refused(Code::NotImplemented));
-    }
     if has_other_acl(alloc, headers)? {
         return Ok(Meant::Refused(Code::NotImplemented));
     }
@@ -161,7 +164,7 @@ fn by_headers(
     by_digest(alloc, settings, row, message, target, caller)
 }
 
-/// The reasons against the digest of the body, and then those against the content.
+/// The reasons against the digest of the body, and then those against the values of the query.
 fn by_digest(
     alloc: Global,
     settings: &Settings,
@@ -170,7 +173,7 @@ fn by_digest(
     target: &Target,
     caller: &Caller,
 ) -> Result<Meant, Memory>
-    ensures value { IfOk result (λ meant. meant ≡ first_refusal (digest_reasons settings.now row message.entry.now caller.now) (op_of row message.entry.now target.now)) }
+    ensures value { IfOk result (λ meant. meant ≡ first_refusal (digest_reasons settings.now row message.entry.now target.now caller.now) (op_of row message.entry.now target.now)) }
     ensures keeps { KeepsFront message.entry.now message.exit.now }
 {
     let headers = message.headers.as_slice();
@@ -179,6 +182,31 @@ fn by_digest(
     }
     if is_other_body(alloc, headers, message.body.as_slice())? {
         return Ok(Meant::Refused(Code::BadDigest));
+    }
+    by_arguments(alloc, settings, row, message, target, caller)
+}
+
+/// The reasons against the values of the query, and then those against the content.
+fn by_arguments(
+    alloc: Global,
+    settings: &Settings,
+    row: Row,
+    message: &mut Message,
+    target: &Target,
+    caller: &Caller,
+) -> Result<Meant, Memory>
+    ensures value { IfOk result (λ meant. meant ≡ first_refusal (argument_reasons settings.now row message.entry.now target.now caller.now) (op_of row message.entry.now target.now)) }
+    ensures keeps { KeepsFront message.entry.now message.exit.now }
+{
+    let query = target.query.pairs();
+    if has_bad_word(query) {
+        return Ok(Meant::Refused(Code::InvalidArgument));
+    }
+    if has_long_text(query) {
+        return Ok(Meant::Refused(Code::InvalidArgument));
+    }
+    if has_bad_token(alloc, query)? {
+        return Ok(Meant::Refused(Code::InvalidArgument));
     }
     by_content(alloc, settings, row, message, target, caller)
 }
@@ -211,11 +239,12 @@ fn by_content(
     if is_long_body(message.body.as_slice()) {
         return Ok(Meant::Refused(Code::EntityTooLarge));
     }
-    let body = message.body.as_slice();
-    if has_bad_location(alloc, row, body)? {
+    let region = settings.region.as_slice();
+    let (is_bad, is_other) = location_faults(alloc, row, region, message.body.as_slice())?;
+    if is_bad {
         return Ok(Meant::Refused(Code::MalformedXML));
     }
-    if has_other_location(alloc, row, settings.region.as_slice(), body)? {
+    if is_other {
         return Ok(Meant::Refused(Code::InvalidArgument));
     }
     if is_denied(row, *caller) {
@@ -249,13 +278,13 @@ fn op_of(
         Row::GetBucketLocation => get_location(target),
         Row::GetBucketAcl => get_bucket_acl(target),
         Row::PutObject => put_object(alloc, message, target, acl, content_type, meta),
-        Row::GetObject => get_object(target),
-        Row::HeadObject => head_object(target),
+        Row::ListObjects => list_objects(alloc, target),
+        Row::ListObjectsV2 => list_objects_v2(alloc, target),
+        Row::GetObject => get_object(alloc, message.headers.as_slice(), target),
+        Row::HeadObject => head_object(alloc, message.headers.as_slice(), target),
         Row::DeleteObject => delete_object(target),
         Row::GetObjectAcl => get_object_acl(target),
-        Row::ListObjects
-        | Row::ListObjectsV2
-        | Row::ListMultipartUploads
+        Row::ListMultipartUploads
         | Row::CreateMultipartUpload
         | Row::UploadPart
         | Row::ListParts
@@ -351,20 +380,48 @@ fn place(target: &Target) -> Result<(Bytes, Bytes), Memory>
     Ok((bucket, key))
 }
 
-fn get_object(target: &Target) -> Result<Meant, Memory>
-    ensures { IfOk result (λ meant. meant ≡ Meant.Op (Op.GetObject target.now.bucket target.now.key)) }
+fn list_objects(alloc: Global, target: &Target) -> Result<Meant, Memory>
+    ensures { IfOk result (λ meant. meant ≡ Meant.Op (Op.ListObjects target.now.bucket (first_asked target.now.query))) }
 {
     let bucket = target.bucket.copy()?;
-    let key = target.key.copy()?;
-    Ok(Meant::Op(Op::GetObject { bucket, key }))
+    let asked = first_asked(alloc, target.query.pairs())?;
+    Ok(Meant::Op(Op::ListObjects { bucket, asked }))
 }
 
-fn head_object(target: &Target) -> Result<Meant, Memory>
-    ensures { IfOk result (λ meant. meant ≡ Meant.Op (Op.HeadObject target.now.bucket target.now.key)) }
+fn list_objects_v2(alloc: Global, target: &Target) -> Result<Meant, Memory>
+    ensures { IfOk result (λ meant. meant ≡ Meant.Op (Op.ListObjects target.now.bucket (second_asked target.now.query))) }
 {
     let bucket = target.bucket.copy()?;
-    let key = target.key.copy()?;
-    Ok(Meant::Op(Op::HeadObject { bucket, key }))
+    let asked = second_asked(alloc, target.query.pairs())?;
+    Ok(Meant::Op(Op::ListObjects { bucket, asked }))
+}
+
+fn get_object(alloc: Global, headers: &[Pair], target: &Target) -> Result<Meant, Memory>
+    ensures { IfOk result (λ meant. meant ≡ Meant.Op (Op.GetObject target.now.bucket target.now.key (given_range headers.now) (given_conditions headers.now))) }
+{
+    let range = given_range(alloc, headers)?;
+    let (bucket, key) = place(target)?;
+    let conditions = given_conditions(alloc, headers)?;
+    Ok(Meant::Op(Op::GetObject {
+        bucket,
+        key,
+        range,
+        conditions,
+    }))
+}
+
+fn head_object(alloc: Global, headers: &[Pair], target: &Target) -> Result<Meant, Memory>
+    ensures { IfOk result (λ meant. meant ≡ Meant.Op (Op.HeadObject target.now.bucket target.now.key (given_range headers.now) (given_conditions headers.now))) }
+{
+    let range = given_range(alloc, headers)?;
+    let (bucket, key) = place(target)?;
+    let conditions = given_conditions(alloc, headers)?;
+    Ok(Meant::Op(Op::HeadObject {
+        bucket,
+        key,
+        range,
+        conditions,
+    }))
 }
 
 fn delete_object(target: &Target) -> Result<Meant, Memory>

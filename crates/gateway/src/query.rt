@@ -1,8 +1,9 @@
-//! The names of a query. `x-id`, by which clients name the operation a second time, is none of them.
-ghost use Rattle.std.specs.Prelude.{◌≡◌, not, nat_lt, count_by, filter, codes, bytes_eq};
+//! The names of a query and their values. `x-id`, by which clients name the operation a second time, is none of the names.
+ghost use Rattle.std.specs.Prelude.{◌≡◌, not, nat_lt, count_by, filter, find, codes, bytes_eq};
 ghost use Rattle.std.specs.List.{list_any};
+ghost use Rattle.std.specs.Option.{option_copied};
 ghost use Rattle.gateway.specs.Rows.{counts, asked, is_asked};
-ghost use Rattle.gateway.specs.Query.{is_foreign, has_foreign_name, is_unknown, has_unknown_name, count_of, is_given_twice, has_name_twice};
+ghost use Rattle.gateway.specs.Query.{is_foreign, has_foreign_name, is_unknown, has_unknown_name, count_of, is_given_twice, has_name_twice, text_at};
 
 use crate::rows::{Row, is_known, is_name_of};
 use gate_base::Pair;
@@ -85,4 +86,20 @@ pub fn has_name_twice(query: &[Pair]) -> bool
         .iter()
         .filter(|pair| counts(pair))
         .any(|pair| is_given_twice(query, pair))
+}
+
+/// The value of a name, nothing where the query doesn't have the name.
+pub fn text_at<'a>(query: &'a [Pair], name: &[u8]) -> &'a [u8]
+    ensures { result.now ≡ text_at name.now query.now }
+{
+    match first(query, name) {
+        Some(pair) => pair.value.as_slice(),
+        None => b"",
+    }
+}
+
+fn first<'a>(query: &'a [Pair], name: &[u8]) -> Option<&'a Pair>
+    ensures { option_copied result ≡ find (λ pair. bytes_eq pair.name name.now) query.now }
+{
+    query.iter().find(|pair| has_name(name, pair))
 }

@@ -149,10 +149,12 @@ pub fn shape_of(row: Row) -> Shape
         Row::HeadBucket => plain(b"HEAD", Level::Bucket, &[], &[]).built().for_all(),
         Row::GetBucketLocation => plain(b"GET", Level::Bucket, &LOCATION, &[]).built(),
         Row::GetBucketAcl => plain(b"GET", Level::Bucket, &ACL, &[]).built(),
-        Row::ListObjects => plain(b"GET", Level::Bucket, &[], &OBJECTS_NAMES).for_all(),
-        Row::ListObjectsV2 => {
-            plain(b"GET", Level::Bucket, &LIST_TYPE, &OBJECTS_V2_NAMES).for_all()
-        }
+        Row::ListObjects => plain(b"GET", Level::Bucket, &[], &OBJECTS_NAMES)
+            .built()
+            .for_all(),
+        Row::ListObjectsV2 => plain(b"GET", Level::Bucket, &LIST_TYPE, &OBJECTS_V2_NAMES)
+            .built()
+            .for_all(),
         Row::ListMultipartUploads => plain(b"GET", Level::Bucket, &UPLOADS, &UPLOADS_NAMES),
         Row::PutObject => plain(b"PUT", Level::Key, &[], &[]).built().with_content(),
         Row::GetObject => plain(b"GET", Level::Key, &[], &[]).built().for_all(),

@@ -18,6 +18,7 @@ mod meanings;
 mod messages;
 mod names;
 mod pages;
+mod reads;
 mod records;
 mod signatures;
 mod store;

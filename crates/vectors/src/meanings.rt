@@ -1,10 +1,11 @@
 //! Cases of `gateway`: what requests mean.
 use crate::answers::{NO_VERB, refused, text};
+use crate::reads::{tell_asked, tell_conditions, tell_range};
 use case_text::Fault;
 use gate_base::{Bytes, Caller, List, Memory, Pair};
 use gateway::{Meant, meaning};
 use http_wire::Message;
-use s3_machine::{Op, Settings};
+use s3_machine::{Conditions, Op, Range, Settings};
 use s3_names::{Acl, Meta, NameFault, Target};
 use std::alloc::Global;
 
@@ -229,13 +230,14 @@ fn tell(alloc: Global, kind: Kind, meant: &Meant) -> Result<Bytes, Fault> {
 
 fn describe(alloc: Global, op: &Op) -> Result<Bytes, Fault> {
     let mut told = Bytes::new(alloc);
-    tell_operation(op, &mut told)?;
+    tell_operation(alloc, op, &mut told)?;
     Ok(told)
 }
 
 /// The operation's name, its bucket and its key with `/` between them, and last the access control list where one is given;
-/// of a PUT of an object before that also its content type, the entries of its metadata, and its body in brackets.
-fn tell_operation(op: &Op, told: &mut Bytes) -> Result<(), Memory> {
+/// of a PUT of an object before that also its content type, the entries of its metadata, and its body in brackets. What a
+/// read asks for stands last.
+fn tell_operation(alloc: Global, op: &Op, told: &mut Bytes) -> Result<(), Memory> {
     match op {
         Op::ListBuckets => told.append(b"ListBuckets"),
         Op::CreateBucket { bucket, acl } => {
@@ -251,8 +253,28 @@ fn tell_operation(op: &Op, told: &mut Bytes) -> Result<(), Memory> {
             tell_acl(*acl, told)
         }
         Op::GetObjectAcl { bucket, key } => tell_names(b"GetObjectAcl ", bucket, key, told),
-        Op::GetObject { bucket, key } => tell_names(b"GetObject ", bucket, key, told),
-        Op::HeadObject { bucket, key } => tell_names(b"HeadObject ", bucket, key, told),
+        Op::ListObjects { bucket, asked } => {
+            tell_name(b"ListObjects ", bucket, told)?;
+            tell_asked(alloc, asked, told)
+        }
+        Op::GetObject {
+            bucket,
+            key,
+            range,
+            conditions,
+        } => {
+            tell_names(b"GetObject ", bucket, key, told)?;
+            tell_read(alloc, *range, conditions, told)
+        }
+        Op::HeadObject {
+            bucket,
+            key,
+            range,
+            conditions,
+        } => {
+            tell_names(b"HeadObject ", bucket, key, told)?;
+            tell_read(alloc, *range, conditions, told)
+        }
         Op::DeleteObject { bucket, key } => tell_names(b"DeleteObject ", bucket, key, told),
         Op::PutObject {
             bucket,
@@ -268,6 +290,16 @@ fn tell_operation(op: &Op, told: &mut Bytes) -> Result<(), Memory> {
             tell_given(*acl, told)
         }
     }
+}
+
+fn tell_read(
+    alloc: Global,
+    range: Option<Range>,
+    conditions: &Conditions,
+    told: &mut Bytes,
+) -> Result<(), Memory> {
+    tell_range(alloc, range, told)?;
+    tell_conditions(alloc, conditions, told)
 }
 
 fn tell_given(acl: Option<Acl>, told: &mut Bytes) -> Result<(), Memory> {

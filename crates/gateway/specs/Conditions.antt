@@ -1,0 +1,66 @@
+-- The conditions of a GET or a HEAD. Source: RFC 9110, sections 8.8.3 (entity tags), 13.1.1 to 13.1.4 (If-Match, If-None-Match,
+-- If-Modified-Since, If-Unmodified-Since) and 5.6.7 (dates); that tags stand with quotes or without them, and are compared
+-- without the mark of a weak one, is this profile's.
+use Rattle.std.specs.Prelude.{ℕ, Bool, ◌&&◌, ◌==◌, ◌-◌, nat_eq, nat_le, if◌then◌else◌, List, [], ◌∷◌, map, take, drop, length, slice_get, codes, bytes_eq, Option, false}
+use Rattle.std.specs.List.{prefix_len, suffix_len, slice_split, starts_with}
+use Rattle.std.specs.Option.{option_map_or}
+use Rattle.httpdate.specs.Date.{parse_secs}
+use Rattle.gate_base.specs.declared.page.Pair.{Pair}
+use Rattle.http_wire.specs.Headers.{has_header, text_of}
+use Rattle.s3_machine.specs.declared.reading.ETags.{ETags}
+use Rattle.s3_machine.specs.declared.reading.ETags.TheVariants.{Absent, Any, Listed}
+use Rattle.s3_machine.specs.declared.reading.Conditions.{Conditions}
+use Rattle.gateway.specs.Closing.{is_comma}
+
+abbrev pub is_space : ℕ → Bool
+is_space byte = byte == 32
+
+abbrev pub is_quote : ℕ → Bool
+is_quote byte = byte == 34
+
+-- the text without the spaces at its start, and without those at its end
+abbrev pub behind_spaces : List ℕ → List ℕ
+behind_spaces text = drop (prefix_len is_space text) text
+
+abbrev pub before_spaces : List ℕ → List ℕ
+before_spaces text = take (length text - suffix_len is_space text) text
+
+-- the text without the mark of a weak tag
+abbrev pub without_mark : List ℕ → List ℕ
+without_mark text = if starts_with nat_eq text (codes "W/") then drop 2 text else text
+
+-- a double quote at both ends, which aren't the same
+abbrev pub is_quoted : List ℕ → Bool
+is_quoted text = nat_le 2 (length text) && starts_with nat_eq text (codes "\"") && option_map_or is_quote (slice_get text (length text - 1)) false
+
+-- the text between the quotes, where there are any
+abbrev pub without_quotes : List ℕ → List ℕ
+without_quotes text = if is_quoted text then drop 1 (take (length text - 1) text) else text
+
+-- the tag that stands between two commas
+unfoldable pub etag_of : List ℕ → List ℕ
+etag_of piece = without_quotes (without_mark (before_spaces (behind_spaces piece)))
+
+-- the tags of a value, in order; `*` stands for all
+unfoldable pub etags_of : List ℕ → ETags
+etags_of value = if bytes_eq value (codes "*") then Any else Listed (map etag_of (slice_split is_comma value))
+
+-- those of a request. Values of several headers are joined by a comma
+abbrev pub given_etags : List ℕ → List Pair → ETags
+given_etags name headers = if has_header name headers then etags_of (text_of name headers) else Absent
+
+-- the moment of a date, in seconds since the beginning of 1970. A text that is no date of 1970 to 9999 in one of the three forms
+-- counts as none, and so does a header that isn't there
+unfoldable pub date_of : List ℕ → Option ℕ
+date_of text = parse_secs text
+
+abbrev pub given_date : List ℕ → List Pair → Option ℕ
+given_date name headers = date_of (text_of name headers)
+
+abbrev pub given_conditions : List Pair → Conditions
+given_conditions headers = record {
+  matched = given_etags (codes "if-match") headers;
+  unmatched = given_etags (codes "if-none-match") headers;
+  modified = given_date (codes "if-modified-since") headers;
+  unmodified = given_date (codes "if-unmodified-since") headers;
+}
