@@ -44,6 +44,7 @@ pub(crate) fn head_in(
 }
 
 /// The pieces of metadata up to the first that is absent; none where there are too many, or one is repeated.
+#[tactic(auto, using(crate::proofs::MetaLemmas::meta_start, crate::proofs::MetaLemmas::meta_more, crate::proofs::MetaLemmas::meta_ends, crate::proofs::MetaLemmas::meta_bad, crate::proofs::MetaLemmas::meta_full, crate::proofs::MetaLemmas::meta_past, crate::proofs::MetaLemmas::meta_past_bad))]
 fn meta_in(alloc: Global, headers: &[Pair]) -> Result<Option<List<Bytes>>, Memory>
     ensures { IfOk result (λ meta. meta ≡ meta_in headers.now) }
 {
@@ -59,7 +60,8 @@ fn meta_in(alloc: Global, headers: &[Pair]) -> Result<Option<List<Bytes>>, Memor
     }
     match meta_at(alloc, headers, MOST_PIECES)? {
         Some(None) => Ok(Some(pieces)),
-        _ => Ok(None),
+        Some(Some(_)) => Ok(None),
+        None => Ok(None),
     }
 }
 
