@@ -1,4 +1,8 @@
 pub mod AnswerText
 pub mod Answers
+pub mod Calls
+pub mod CallText
 pub mod Fields
 pub mod Framing
+pub mod Paths
+pub mod Place

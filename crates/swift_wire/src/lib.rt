@@ -2,11 +2,19 @@
 #![tactic(auto)]
 
 mod answers;
+mod call_reader;
+mod call_writer;
 mod fault;
+mod fields;
 mod framing;
+mod paths;
+mod place;
 mod written;
 
 pub use answers::read_answer;
+pub use call_reader::read_call;
+pub use call_writer::write_call;
 pub use fault::WireFault;
 pub use framing::{End, answer_end};
+pub use place::{Place, has_token, is_place};
 pub use written::write_answer;
