@@ -7,8 +7,11 @@ mod call_writer;
 mod fault;
 mod fields;
 mod framing;
+mod listings;
+mod numbers;
 mod paths;
 mod place;
+mod ranges;
 mod written;
 
 pub use answers::read_answer;
