@@ -25,6 +25,9 @@ none_dead call bytes dead reply (h, n, m, is, gives) = dead.0 h n is.0
 pub head_within : (bytes : List ℕ) (h : ResponseHead) (n : ℕ) → HasHead bytes h n → n ≤ length bytes
 head_within bytes h n has = omega (arith, has.1, ap length has.0.1, length-append (print_response h) (drop n bytes))
 
+pub shows_within : (bytes : List ℕ) (found : Head) → Shows bytes (Whole found) → found.len ≤ length bytes
+shows_within bytes found (h, has, status, headers) = head_within bytes h found.len has
+
 -- what a found head says is what is expected behind it
 same_expected : (head : Bool) (h : ResponseHead) (found : Head) → found.status ≡ status_code h → found.headers ≡ headers_in h
     → expected head found.status found.headers ≡ expected_of head h
@@ -65,8 +68,8 @@ pub reads_reply : (call : SwiftRequest) (bytes : List ℕ) (found : Head) (body 
     → Some reply ≡ reply_of call (record { status = found.status; headers = found.headers; body = body }) → SpellsAnswer call reply bytes
 reads_reply call bytes found body reply (h, has, status, headers) is gives =
     let parts = body_is bytes found.len (expected (asks_head call) found.status found.headers) body is in
-    let whole : length bytes ≡ found.len + parts.0 = omega (arith, parts.2.1, length-drop found.len bytes, head_within bytes h found.len has) in
-    let says = ap (reply_of call) (same_said h found body status headers ∙ ap (said h) parts.2.2) in
+    let whole : length bytes ≡ found.len + parts.0 = omega (arith, parts.2, length-drop found.len bytes, head_within bytes h found.len has) in
+    let says = ap (reply_of call) (same_said h found body status headers ∙ ap (said h) parts.3) in
     (h, found.len, parts.0, (has, sym (same_expected (asks_head call) h found status headers) ∙ parts.1, whole), sym says ∙ sym gives)
 
 abbrev no_reply : Option SwiftReply
@@ -91,7 +94,7 @@ reads_none call bytes found body (h, has, status, headers) is gives reply (k, p,
     let head : h ≡ k = same_head bytes h k found.len p has answer.0 in
     let size : found.len ≡ p = same_size bytes h k found.len p has answer.0 in
     let says : said_found found body ≡ said k (drop p bytes) =
-    same_said h found body status headers ∙ ap (said h) (parts.2.2 ∙ ap (λ v. drop v bytes) size) ∙ ap (λ v. said v (drop p bytes)) head in
+    same_said h found body status headers ∙ ap (said h) (parts.3 ∙ ap (λ v. drop v bytes) size) ∙ ap (λ v. said v (drop p bytes)) head in
     some_is_not SwiftReply ⊥ reply (reply_of call (said_found found body)) gives (ap (reply_of call) says ∙ given)
 
 body_whole : (bytes : List ℕ) (n m : ℕ) → length (drop n bytes) ≡ m → body_by bytes n (Some m) ≡ Some (drop n bytes)

@@ -1,75 +1,72 @@
--- The pieces of metadata, one by one.
-use Rattle.std.proofs.Common.{◌≡◌, ℕ, suc, ◌+◌, ◌-◌, ◌<◌, ◌≤◌, List, [], ◌∷◌, ◌++◌, Option, Some, None, option_map, refl, sym, ap, subst, ◌∙◌, append_assoc, append-nil, arith}
+-- Pieces of metadata, one after the other.
+use Rattle.std.proofs.Common.{◌≡◌, ℕ, suc, ◌+◌, ◌-◌, ◌<◌, ◌≤◌, Bool, true, false, cond, List, [], ◌∷◌, ◌++◌, Option, Some, None, refl, ap, sym, ◌∙◌, arith, append_assoc, append-nil}
+use Rattle.std.specs.Prelude.{option_map}
 use Rattle.gate_base.specs.declared.page.Pair.{Pair}
-use Rattle.swift_wire.specs.Fields.{field, meta_by, meta_from, meta_in, meta_name}
+use Rattle.http_wire.specs.Headers.{has_header}
+use Rattle.swift_wire.specs.Fields.{field, meta_name, meta_by, meta_from, meta_in}
 
--- pieces before those that are still to be read
 abbrev pub behind : List (List ℕ) → Option (List (List ℕ)) → Option (List (List ℕ))
-behind pieces rest = option_map (λ more. pieces ++ more) rest
+behind pieces rest = option_map (λ others. pieces ++ others) rest
 
--- what is read from a number on goes on behind the pieces before it
-abbrev pub MetaAt : List Pair → List (List ℕ) → ℕ → Type 0
-MetaAt headers pieces i = (i ≤ 11) × (behind pieces (meta_from (11 - i) i headers) ≡ meta_in headers)
+-- these pieces were read, up to an index
+pub record HasRead (headers : List Pair) (pieces : List (List ℕ)) (index : ℕ) : Type 0 where
+  pub within : index ≤ 11
+  pub read : meta_in headers ≡ behind pieces (meta_from (11 - index) index headers)
 
-behind_nothing : (rest : Option (List (List ℕ))) → behind [] rest ≡ rest
-behind_nothing None = refl
-behind_nothing (Some pieces) = refl
+whole : (rest : Option (List (List ℕ))) → rest ≡ behind [] rest
+whole None = refl
+whole (Some others) = refl
 
-pub meta_start : (headers : List Pair) (pieces : List (List ℕ)) → pieces ≡ [] → MetaAt headers pieces 0
-meta_start headers pieces none = (omega arith, ap (λ v. behind v (meta_from 11 0 headers)) none ∙ behind_nothing (meta_from 11 0 headers))
+pub read_nothing : (headers : List Pair) → HasRead headers [] 0
+read_nothing headers = record { within = omega arith; read = whole (meta_from 11 0 headers) }
 
-step : (headers : List Pair) (pieces : List (List ℕ)) (i : ℕ) → i < 11 → MetaAt headers pieces i
-    → behind pieces (meta_by (field (meta_name i) headers) (meta_from (11 - (i + 1)) (i + 1) headers)) ≡ meta_in headers
+step : (headers : List Pair) (index : ℕ) → index < 11
+    → meta_from (11 - index) index headers ≡ meta_by (field (meta_name index) headers) (meta_from (11 - (index + 1)) (index + 1) headers)
 unfolding meta_from
-step headers pieces i below at =
-    let left : 11 - i ≡ suc (11 - (i + 1)) = omega (arith, below) in
-    sym (ap (λ k. behind pieces (meta_from k i headers)) left) ∙ at.1
+step headers index within =
+    let e : 11 - index ≡ suc (11 - (index + 1)) = omega arith in
+    ap (λ most. meta_from most index headers) e
 
-behind_piece : (pieces : List (List ℕ)) (piece : List ℕ) (rest : Option (List (List ℕ)))
-    → behind (pieces ++ piece ∷ []) rest ≡ behind pieces (option_map (λ more. piece ∷ more) rest)
-behind_piece pieces piece None = refl
-behind_piece pieces piece (Some more) = ap Some (append_assoc pieces (piece ∷ []) more)
+one_more : (pieces : List (List ℕ)) (piece : List ℕ) (rest : Option (List (List ℕ))) → behind pieces (meta_by (Some (Some piece)) rest) ≡ behind (pieces ++ piece ∷ []) rest
+one_more pieces piece None = refl
+one_more pieces piece (Some others) = ap (λ all. Some all) (sym (append_assoc pieces (piece ∷ []) others))
 
--- a piece that is there
-pub meta_more : (headers : List Pair) (pieces : List (List ℕ)) (piece : List ℕ) (i : ℕ) → i < 11
-    → Some (Some piece) ≡ field (meta_name i) headers → MetaAt headers pieces i → MetaAt headers (pieces ++ piece ∷ []) (i + 1)
-meta_more headers pieces piece i below is at =
-    let rest = meta_from (11 - (i + 1)) (i + 1) headers in
-    (omega (arith, below), behind_piece pieces piece rest ∙ ap (λ found. behind pieces (meta_by found rest)) is ∙ step headers pieces i below at)
+pub read_more : (headers : List Pair) (pieces more : List (List ℕ)) (index : ℕ) (piece : List ℕ) → HasRead headers pieces index → index < 11
+    → Some (Some piece) ≡ field (meta_name index) headers → more ≡ pieces ++ piece ∷ [] → HasRead headers more (index + 1)
+read_more headers pieces more index piece done within found grown =
+    rw grown (record {
+      within = omega arith;
+      read = done.read ∙ ap (behind pieces) (step headers index within)
+          ∙ ap (λ given. behind pieces (meta_by given (meta_from (11 - (index + 1)) (index + 1) headers))) (sym found)
+          ∙ one_more pieces piece (meta_from (11 - (index + 1)) (index + 1) headers);
+    })
 
--- the first that is absent
-pub meta_ends : (headers : List Pair) (pieces : List (List ℕ)) (i : ℕ) → i < 11
-    → Some None ≡ field (meta_name i) headers → MetaAt headers pieces i → Some pieces ≡ meta_in headers
-meta_ends headers pieces i below is at =
-    ap Some (sym (append-nil pieces)) ∙ ap (λ found. behind pieces (meta_by found (meta_from (11 - (i + 1)) (i + 1) headers))) is ∙ step headers pieces i below at
+pub read_all : (headers : List Pair) (pieces : List (List ℕ)) (index : ℕ) → HasRead headers pieces index → index < 11
+    → Some None ≡ field (meta_name index) headers → Some pieces ≡ meta_in headers
+read_all headers pieces index done within found =
+    sym (done.read ∙ ap (behind pieces) (step headers index within)
+    ∙ ap (λ given. behind pieces (meta_by given (meta_from (11 - (index + 1)) (index + 1) headers))) (sym found)
+    ∙ ap (λ all. Some all) (append-nil pieces))
 
-abbrev nothing : Option (List (List ℕ))
-nothing = None
+pub read_twice : (headers : List Pair) (pieces : List (List ℕ)) (index : ℕ) → HasRead headers pieces index → index < 11
+    → None ≡ field (meta_name index) headers → None ≡ meta_in headers
+read_twice headers pieces index done within found =
+    sym (done.read ∙ ap (behind pieces) (step headers index within)
+    ∙ ap (λ given. behind pieces (meta_by given (meta_from (11 - (index + 1)) (index + 1) headers))) (sym found))
 
--- one that is repeated
-pub meta_bad : (headers : List Pair) (pieces : List (List ℕ)) (i : ℕ) → i < 11
-    → None ≡ field (meta_name i) headers → MetaAt headers pieces i → nothing ≡ meta_in headers
-meta_bad headers pieces i below is at =
-    ap (λ found. behind pieces (meta_by found (meta_from (11 - (i + 1)) (i + 1) headers))) is ∙ step headers pieces i below at
-
-last : (headers : List Pair) (pieces : List (List ℕ)) (i : ℕ) → 11 ≤ i → MetaAt headers pieces i
-    → behind pieces (meta_by (field (meta_name 11) headers) None) ≡ meta_in headers
+full : (headers : List Pair) (b : Bool) → has_header (meta_name 11) headers ≡ b → meta_from 0 11 headers ≡ cond b None (Some [])
 unfolding meta_from
-last headers pieces i past at =
-    let all : i ≡ 11 = omega (arith, past, at.0) in
-    sym (ap (λ k. behind pieces (meta_from (11 - k) k headers)) all) ∙ at.1
+full headers b found = ap (λ t. cond t None (Some [])) found
 
--- behind the eleventh nothing
-pub meta_full : (headers : List Pair) (pieces : List (List ℕ)) (i : ℕ) → 11 ≤ i
-    → Some None ≡ field (meta_name 11) headers → MetaAt headers pieces i → Some pieces ≡ meta_in headers
-meta_full headers pieces i past is at =
-    ap Some (sym (append-nil pieces)) ∙ ap (λ found. behind pieces (meta_by found None)) is ∙ last headers pieces i past at
+pub read_too_many : (headers : List Pair) (pieces : List (List ℕ)) (index : ℕ) → HasRead headers pieces index → 11 ≤ index
+    → has_header (meta_name 11) headers ≡ true → None ≡ meta_in headers
+read_too_many headers pieces index done past found =
+    let e : index ≡ 11 = omega (arith, done.within) in
+    sym (done.read ∙ ap (λ i. behind pieces (meta_from (11 - i) i headers)) e ∙ ap (behind pieces) (full headers true found))
 
--- a twelfth
-pub meta_past : (headers : List Pair) (pieces : List (List ℕ)) (piece : List ℕ) (i : ℕ) → 11 ≤ i
-    → Some (Some piece) ≡ field (meta_name 11) headers → MetaAt headers pieces i → nothing ≡ meta_in headers
-meta_past headers pieces piece i past is at = ap (λ found. behind pieces (meta_by found None)) is ∙ last headers pieces i past at
-
-pub meta_past_bad : (headers : List Pair) (pieces : List (List ℕ)) (i : ℕ) → 11 ≤ i
-    → None ≡ field (meta_name 11) headers → MetaAt headers pieces i → nothing ≡ meta_in headers
-meta_past_bad headers pieces i past is at = ap (λ found. behind pieces (meta_by found None)) is ∙ last headers pieces i past at
+pub read_full : (headers : List Pair) (pieces : List (List ℕ)) (index : ℕ) → HasRead headers pieces index → 11 ≤ index
+    → has_header (meta_name 11) headers ≡ false → Some pieces ≡ meta_in headers
+read_full headers pieces index done past found =
+    let e : index ≡ 11 = omega (arith, done.within) in
+    sym (done.read ∙ ap (λ i. behind pieces (meta_from (11 - i) i headers)) e ∙ ap (behind pieces) (full headers false found)
+    ∙ ap (λ all. Some all) (append-nil pieces))

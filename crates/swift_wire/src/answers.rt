@@ -5,11 +5,12 @@ ghost use Rattle.swift_wire.specs.declared.head.Front.TheVariants.{Whole};
 ghost use Rattle.swift_wire.specs.Answers.{ReadsAnswer, asks_head, body_by, reply_of, missing, gone, put_reply, delete_reply, containers_reply, names_reply, head_container_reply, readers_reply, put_object_reply, stored_reply, head_object_reply, head_reply, is_part, bytes_from, part_reply, beyond, bytes_reply};
 
 use crate::WireFault;
-use crate::fields::{created_in, etag_in, readers_in, size_in, whole_size_in};
+use crate::fields::created_in;
 use crate::framing::expected;
 use crate::head::{Front, Head, find_head};
 use crate::lists::{container_names, name_items};
 use crate::objects::head_in;
+use crate::values::{etag_in, readers_in, size_in, whole_size_in};
 use gate_base::{Bytes, List, Memory, Pair};
 use std::alloc::Global;
 use swift_calls::{StoredHead, SwiftReply, SwiftRequest};
@@ -143,11 +144,7 @@ fn delete_reply(status: u16) -> Option<SwiftReply>
     }
 }
 
-fn containers_reply(
-    alloc: Global,
-    status: u16,
-    body: &[u8],
-) -> Result<Option<SwiftReply>, Memory>
+fn containers_reply(alloc: Global, status: u16, body: &[u8]) -> Result<Option<SwiftReply>, Memory>
     ensures { IfOk result (λ reply. reply ≡ containers_reply status body.now) }
 {
     if status == 200 {
@@ -330,9 +327,5 @@ pub(crate) fn is_part(range: Option<(u64, u64)>, size: u64, count: usize) -> boo
 fn end_of(last: u64, size: u64) -> u64
     ensures { result ≡ min (last + 1) size }
 {
-    if last < size {
-        last + 1
-    } else {
-        size
-    }
+    if last < size { last + 1 } else { size }
 }
