@@ -3,7 +3,7 @@ use Rattle.std.proofs.Common.{◌≡◌, ℕ, zero, suc, ◌+◌, ◌<◌, ◌�
 use Rattle.std.specs.Str.{IsUtf8, is_utf8}
 use Rattle.std.proofs.lemmas.Str.{is_utf8-from_IsUtf8, IsUtf8-from_is_utf8}
 use Rattle.std.proofs.lemmas.List.{take_more, take_all}
-use Rattle.serde_json.specs.Data.{Data}
+use Rattle.serde_json.specs.Data.{Data, no_items}
 use Rattle.serde_json.specs.Find.{as_array}
 use Rattle.serde_json.specs.Read.{read}
 use Rattle.serde_json.specs.View.{view, items_view}
@@ -68,6 +68,11 @@ unfolding each
 each_back f [] value = one_back (f (view value))
 each_back f (v ∷ values) value =
     ap (front (f (view v))) (each_back f values value) ∙ front_back (f (view v)) (each f (items_view values)) (f (view value))
+
+-- no entry yet
+pub each_start : {A : Type 0} (f : Data → Option A) (firsts : List A) → firsts ≡ [] → each f no_items ≡ Some firsts
+unfolding each
+each_start f firsts none = ap Some (sym none)
 
 -- one entry more
 pub each_more : {A : Type 0} (f : Data → Option A) (values : List Value) (i : ℕ) (value : Value) (firsts : List A) (last : A)

@@ -140,11 +140,20 @@ names_reply status body =
 abbrev pub readers_reply : List Pair → Option SwiftReply
 readers_reply headers = both (λ readers created. Readers readers created) (readers_in headers) (created_in headers)
 
+abbrev pub head_container_reply : ℕ → List Pair → Option SwiftReply
+head_container_reply status headers = if status == 204 then readers_reply headers else missing status
+
 abbrev pub stored_reply : List Pair → Option SwiftReply
 stored_reply headers = option_map (λ etag. Stored etag) (etag_in headers)
 
+abbrev pub put_object_reply : ℕ → List Pair → Option SwiftReply
+put_object_reply status headers = if status == 201 then stored_reply headers else missing status
+
 abbrev pub head_reply : List Pair → Option SwiftReply
 head_reply headers = option_map (λ head. Head head) (head_in (size_in headers) headers)
+
+abbrev pub head_object_reply : ℕ → List Pair → Option SwiftReply
+head_object_reply status headers = if status == 200 then head_reply headers else missing status
 
 -- so many bytes are those of the range of an object of this size
 abbrev pub is_part : Option (ℕ × ℕ) → ℕ → ℕ → Bool
@@ -173,13 +182,13 @@ bytes_reply range status headers body =
 -- the reply that an answer gives to a call, if it gives one
 abbrev pub reply_of : SwiftRequest → Said → Option SwiftReply
 reply_of (ListContainers marker limit) s = containers_reply s.status s.body
-reply_of (HeadContainer container) s = if s.status == 204 then readers_reply s.headers else missing s.status
+reply_of (HeadContainer container) s = head_container_reply s.status s.headers
 reply_of (PutContainer container readers created) s = put_reply s.status
 reply_of (PostContainer container readers) s = gone s.status
 reply_of (DeleteContainer container) s = delete_reply s.status
 reply_of (ListNames container prefix marker limit) s = names_reply s.status s.body
-reply_of (PutObject container name content_type meta body) s = if s.status == 201 then stored_reply s.headers else missing s.status
-reply_of (HeadObject container name) s = if s.status == 200 then head_reply s.headers else missing s.status
+reply_of (PutObject container name content_type meta body) s = put_object_reply s.status s.headers
+reply_of (HeadObject container name) s = head_object_reply s.status s.headers
 reply_of (GetObject container name range) s = bytes_reply range s.status s.headers s.body
 reply_of (DeleteObject container name) s = gone s.status
 
@@ -197,6 +206,11 @@ asks_head (PutObject container name content_type meta body) = false
 asks_head (HeadObject container name) = true
 asks_head (GetObject container name range) = false
 asks_head (DeleteObject container name) = false
+
+-- the body, where the bytes are a head of this length and exactly the body that has to follow
+abbrev pub body_by : List ℕ → ℕ → Option ℕ → Option (List ℕ)
+body_by bytes len None = None
+body_by bytes len (Some size) = if length (drop len bytes) == size then Some (drop len bytes) else None
 
 -- what an answer of a head and a body says
 abbrev pub said : ResponseHead → List ℕ → Said

@@ -38,7 +38,7 @@ use Rattle.gate_base.specs.Ascii.{is_slash}
 use Rattle.gate_base.specs.Told.{moment_limit}
 use Rattle.gate_base.specs.declared.page.Pair.{Pair}
 use Rattle.http_wire.specs.FirstMessage.{is_length}
-use Rattle.http_wire.specs.Headers.{values_of}
+use Rattle.http_wire.specs.Headers.{values_of, has_header}
 use Rattle.swift_calls.specs.declared.account.ReadList.{ReadList}
 use Rattle.swift_calls.specs.declared.account.ReadList.TheVariants.{Nobody, Everybody}
 use Rattle.swift_calls.specs.declared.heads.StoredHead.{StoredHead}
@@ -159,7 +159,7 @@ meta_by (Some (Some piece)) rest = option_map (λ pieces. piece ∷ pieces) rest
 
 -- the pieces from a number on, at most so many: those behind a gap count for nothing
 unfoldable pub meta_from : ℕ → ℕ → List Pair → Option (List (List ℕ))
-meta_from zero i headers = meta_by (field (meta_name i) headers) None
+meta_from zero i headers = if has_header (meta_name i) headers then None else Some []
 meta_from (suc most) i headers = meta_by (field (meta_name i) headers) (meta_from most (i + 1) headers)
 
 -- the pieces of metadata, at most 11

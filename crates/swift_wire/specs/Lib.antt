@@ -1,5 +1,9 @@
 pub mod AnswerText
 pub mod Answers
+pub mod CallText
+pub mod Calls
 pub mod Fields
 pub mod Framing
 pub mod Head
+pub mod Paths
+pub mod Place

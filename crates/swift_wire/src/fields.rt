@@ -1,31 +1,34 @@
-//! The values of headers, each as it is read.
-ghost use Rattle.std.specs.Prelude.{◌≡◌, option_map, codes, IfOk, Option, slice_range};
-ghost use Rattle.std.specs.List.{list_all};
-ghost use Rattle.swift_wire.specs.Fields.{field, only, everybody, readers_by, readers_from, readers_in, before_limit, moment_in, created_from, created_in, is_tag_byte, tag_only, is_quoted, unquoted, tag_in, etag_in, manifest_from, manifest_in, size_in, size_behind, whole_size_in};
+//! The values of header fields, each as it is read.
+ghost use Rattle.std.specs.Prelude.{◌≡◌, option_map, IfOk};
+ghost use Rattle.std.specs.Option.{option_copied};
+ghost use Rattle.swift_wire.specs.Fields.{field, only, readers_by, moment_in, created_in, meta_name, meta_in};
 
-use crate::numbers::{number_in, plain_number};
-use gate_base::{MOMENT_LIMIT, Pair, cut};
+use crate::numbers::{append_decimal, plain_number};
+use gate_base::{Bytes, List, MOMENT_LIMIT, Memory, Pair};
 use http_wire::{first_value, has_header, has_one};
+use std::alloc::Global;
 use swift_calls::ReadList;
 
-/// The value of a header that may be absent; none where it is repeated.
-#[tactic(auto, using(crate::proofs::FieldLemmas::field_absent, crate::proofs::FieldLemmas::field_one, crate::proofs::FieldLemmas::field_repeated))]
+/// The most pieces of metadata.
+const MOST_PIECES: u64 = 11;
+
+/// The value of a header that may be absent: `None` where it is given more than once.
 pub(crate) fn field<'a>(headers: &'a [Pair], name: &[u8]) -> Option<Option<&'a [u8]>>
-    ensures { option_map (option_map (λ value. value.now)) result ≡ field name.now headers.now }
+    ensures { option_map option_copied result ≡ field name.now headers.now }
 {
-    if !has_header(headers, name) {
-        return Some(None);
-    }
     if has_one(headers, name) {
-        Some(Some(first_value(headers, name)))
-    } else {
+        return Some(Some(first_value(headers, name)));
+    }
+    if has_header(headers, name) {
         None
+    } else {
+        Some(None)
     }
 }
 
-/// The value of a header that has to be there once.
+/// The value of a header that has to be there, exactly once.
 pub(crate) fn only<'a>(headers: &'a [Pair], name: &[u8]) -> Option<&'a [u8]>
-    ensures { option_map (λ value. value.now) result ≡ only name.now headers.now }
+    ensures { option_copied result ≡ only name.now headers.now }
 {
     match field(headers, name) {
         Some(value) => value,
@@ -33,25 +36,7 @@ pub(crate) fn only<'a>(headers: &'a [Pair], name: &[u8]) -> Option<&'a [u8]>
     }
 }
 
-/// The one Content-Length, of 1 to 19 digits.
-pub(crate) fn size_in(headers: &[Pair]) -> Option<u64>
-    ensures { result ≡ size_in headers.now }
-{
-    number_in(only(headers, b"content-length")?)
-}
-
-/// The read list: nobody without the header.
-pub(crate) fn readers_in(headers: &[Pair]) -> Option<ReadList>
-    ensures { result ≡ readers_in headers.now }
-{
-    match field(headers, b"x-container-read") {
-        Some(Some(value)) => readers_by(value),
-        Some(None) => Some(ReadList::Nobody),
-        None => None,
-    }
-}
-
-/// The read list that a value writes.
+/// The read list that a value of `X-Container-Read` writes.
 pub(crate) fn readers_by(value: &[u8]) -> Option<ReadList>
     ensures { result ≡ readers_by value.now }
 {
@@ -65,111 +50,67 @@ pub(crate) fn readers_by(value: &[u8]) -> Option<ReadList>
     }
 }
 
-/// The creation time, in seconds, where there is one.
+/// A moment up to the end of the year 9999, in seconds.
+pub(crate) fn moment_in(value: &[u8]) -> Option<u64>
+    ensures { result ≡ moment_in value.now }
+{
+    match plain_number(value) {
+        Some(moment) if moment < MOMENT_LIMIT => Some(moment),
+        _ => None,
+    }
+}
+
+/// The creation time of a container, where the header may be absent.
 pub(crate) fn created_in(headers: &[Pair]) -> Option<Option<u64>>
     ensures { result ≡ created_in headers.now }
 {
     match field(headers, b"x-container-meta-s3-created") {
-        Some(Some(value)) => Some(Some(moment_in(value)?)),
+        Some(Some(value)) => match moment_in(value) {
+            Some(moment) => Some(Some(moment)),
+            None => None,
+        },
         Some(None) => Some(None),
         None => None,
     }
 }
 
-fn moment_in(value: &[u8]) -> Option<u64>
-    ensures { result ≡ moment_in value.now }
+/// The name of a piece of metadata, in lower case.
+fn meta_name(alloc: Global, index: u64) -> Result<Bytes, Memory>
+    ensures { IfOk result (λ name. name ≡ meta_name index) }
 {
-    before_limit(plain_number(value)?)
+    let mut name = Bytes::from_slice(alloc, b"x-object-meta-s3-")?;
+    append_decimal(&mut name, index)?;
+    Ok(name)
 }
 
-fn before_limit(moment: u64) -> Option<u64>
-    ensures { result ≡ before_limit moment }
+/// The piece of metadata of an index.
+fn piece_at<'a>(
+    alloc: Global,
+    headers: &'a [Pair],
+    index: u64,
+) -> Result<Option<Option<&'a [u8]>>, Memory>
+    ensures { IfOk result (λ piece. option_map option_copied piece ≡ field (meta_name index) headers.now) }
 {
-    if moment < MOMENT_LIMIT {
-        Some(moment)
+    let name = meta_name(alloc, index)?;
+    Ok(field(headers, name.as_slice()))
+}
+
+/// The pieces of metadata up to the first that is missing, at most 11.
+pub(crate) fn meta_in(alloc: Global, headers: &[Pair]) -> Result<Option<List<Bytes>>, Memory>
+    ensures { IfOk result (λ pieces. pieces ≡ meta_in headers.now) }
+{
+    let mut pieces = List::new(alloc);
+    'pieces: for index in 0..MOST_PIECES {
+        match piece_at(alloc, headers, index)? {
+            Some(Some(piece)) => pieces.push(Bytes::from_slice(alloc, piece)?)?,
+            Some(None) => return Ok(Some(pieces)),
+            None => return Ok(None),
+        }
+    }
+    let next = meta_name(alloc, MOST_PIECES)?;
+    if has_header(headers, next.as_slice()) {
+        Ok(None)
     } else {
-        None
+        Ok(Some(pieces))
     }
-}
-
-/// The ETag, in quotes or without them.
-pub(crate) fn etag_in(headers: &[Pair]) -> Option<&[u8]>
-    ensures { option_map (λ etag. etag.now) result ≡ etag_in headers.now }
-{
-    tag_in(only(headers, b"etag")?)
-}
-
-fn tag_in(value: &[u8]) -> Option<&[u8]>
-    ensures { option_map (λ etag. etag.now) result ≡ tag_in value.now }
-{
-    let text = unquoted(value);
-    if is_tag(text) {
-        Some(text)
-    } else {
-        None
-    }
-}
-
-fn unquoted(text: &[u8]) -> &[u8]
-    ensures { result.now ≡ unquoted text.now }
-{
-    if is_quoted(text) {
-        &text[1..text.len() - 1]
-    } else {
-        text
-    }
-}
-
-fn is_quoted(text: &[u8]) -> bool
-    ensures { result ≡ is_quoted text.now }
-{
-    2 <= text.len() && (text[0] == b'"' && text[text.len() - 1] == b'"')
-}
-
-/// Whether the bytes are those that an entity tag has between its quotes.
-pub(crate) fn is_tag(text: &[u8]) -> bool
-    ensures { result ≡ list_all is_tag_byte text.now }
-{
-    text.iter().all(|byte| is_tag_byte(*byte))
-}
-
-fn is_tag_byte(byte: u8) -> bool
-    ensures { result ≡ is_tag_byte byte }
-{
-    32 < byte && (byte != b'"' && byte != 127)
-}
-
-/// Whether the object is a static large object.
-pub(crate) fn manifest_in(headers: &[Pair]) -> Option<bool>
-    ensures { result ≡ manifest_in headers.now }
-{
-    match field(headers, b"x-static-large-object") {
-        Some(Some(value)) => is_true(value),
-        Some(None) => Some(false),
-        None => None,
-    }
-}
-
-fn is_true(value: &[u8]) -> Option<bool>
-    ensures { result ≡ manifest_from (Some (Some value.now)) }
-{
-    if value == b"True".as_slice() {
-        Some(true)
-    } else {
-        None
-    }
-}
-
-/// The size of the whole object that an answer has a part of.
-pub(crate) fn whole_size_in(headers: &[Pair]) -> Option<u64>
-    ensures { result ≡ whole_size_in headers.now }
-{
-    size_behind(only(headers, b"content-range")?)
-}
-
-fn size_behind(value: &[u8]) -> Option<u64>
-    ensures { result ≡ size_behind value.now }
-{
-    let (_, size) = cut(value, b'/');
-    plain_number(size)
 }

@@ -2,8 +2,8 @@
 ghost use Rattle.std.specs.Prelude.{◌≡◌, Some, IfOk};
 ghost use Rattle.swift_wire.specs.Framing.{Ends, expected, is_bodiless, end_by};
 
-use crate::fields::size_in;
 use crate::head::{Front, find_head};
+use crate::values::size_in;
 use gate_base::{Copying, Memory, Pair};
 use http_wire::has_header;
 use std::alloc::Global;

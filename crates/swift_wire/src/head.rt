@@ -79,11 +79,7 @@ fn find_among_many(alloc: Global, bytes: &[u8]) -> Result<Front, Memory>
 }
 
 #[tactic(auto, using(crate::proofs::HeadLemmas::dead_crowded, crate::proofs::HeadLemmas::shows_whole))]
-fn find_within(
-    alloc: Global,
-    bytes: &[u8],
-    room: &mut [HeaderSpan],
-) -> Result<Front, Memory>
+fn find_within(alloc: Global, bytes: &[u8], room: &mut [HeaderSpan]) -> Result<Front, Memory>
     requires { MOST_LINES ≤ length room.old }
     ensures { IfOk result (λ front. Shows bytes.now front) }
 {

@@ -2,16 +2,26 @@
 #![tactic(auto)]
 
 mod answers;
+mod call_reader;
+mod call_writer;
 mod fault;
 mod fields;
 mod framing;
 mod head;
+mod listings;
 mod lists;
 mod numbers;
 mod objects;
+mod paths;
+mod place;
+mod ranges;
+mod values;
 mod written;
 
 pub use answers::read_answer;
+pub use call_reader::read_call;
+pub use call_writer::write_call;
 pub use fault::WireFault;
 pub use framing::{End, answer_end};
+pub use place::{Place, has_token, is_place};
 pub use written::write_answer;

@@ -1,15 +1,12 @@
 //! The heads of objects, as they are read.
-ghost use Rattle.std.specs.Prelude.{◌≡◌, ◌++◌, option_map, IfOk, OnOk, decimal};
-ghost use Rattle.swift_wire.specs.Fields.{field, meta_name, meta_in, head_in};
+ghost use Rattle.std.specs.Prelude.{◌≡◌, IfOk};
+ghost use Rattle.swift_wire.specs.Fields.{head_in};
 
-use crate::fields::{etag_in, field, manifest_in, only};
-use gate_base::{Bytes, List, Memory, Pair};
-use itoa::Buffer;
+use crate::fields::{meta_in, only};
+use crate::values::{etag_in, manifest_in};
+use gate_base::{Bytes, Memory, Pair};
 use std::alloc::Global;
 use swift_calls::StoredHead;
-
-/// The pieces of metadata that are read, at most.
-const MOST_PIECES: u64 = 11;
 
 /// The head of an object of a size; none where a header is wanting, or says what none of these says.
 pub(crate) fn head_in(
@@ -41,45 +38,4 @@ pub(crate) fn head_in(
         manifest,
         meta,
     }))
-}
-
-/// The pieces of metadata up to the first that is absent; none where there are too many, or one is repeated.
-fn meta_in(alloc: Global, headers: &[Pair]) -> Result<Option<List<Bytes>>, Memory>
-    ensures { IfOk result (λ meta. meta ≡ meta_in headers.now) }
-{
-    let mut pieces = List::new(alloc);
-    let mut index = 0u64;
-    'pieces: while index < MOST_PIECES {
-        match meta_at(alloc, headers, index)? {
-            Some(Some(piece)) => pieces.push(Bytes::from_slice(alloc, piece)?)?,
-            Some(None) => return Ok(Some(pieces)),
-            None => return Ok(None),
-        }
-        index += 1;
-    }
-    match meta_at(alloc, headers, MOST_PIECES)? {
-        Some(None) => Ok(Some(pieces)),
-        _ => Ok(None),
-    }
-}
-
-/// The piece of a number, if it is there.
-fn meta_at<'a>(
-    alloc: Global,
-    headers: &'a [Pair],
-    index: u64,
-) -> Result<Option<Option<&'a [u8]>>, Memory>
-    ensures { IfOk result (λ found. option_map (option_map (λ piece. piece.now)) found ≡ field (meta_name index) headers.now) }
-{
-    let name = meta_name(alloc, index)?;
-    Ok(field(headers, name.as_slice()))
-}
-
-fn meta_name(alloc: Global, index: u64) -> Result<Bytes, Memory>
-    ensures { IfOk result (λ name. name ≡ meta_name index) }
-{
-    let mut name = Bytes::from_slice(alloc, b"x-object-meta-s3-")?;
-    let mut buffer = Buffer::new();
-    name.append(buffer.format(index).as_bytes())?;
-    Ok(name)
 }

@@ -1,12 +1,16 @@
-use Rattle.std.proofs.Common.{Some, ap, rules, ◌∙◌}
-use Rattle.swift_wire.proofs.FieldLemmas.{field_absent, field_one, field_repeated}
+use Rattle.std.proofs.Common.{ap, sym, ◌∙◌, Some}
+use Rattle.swift_wire.proofs.lemmas.FieldLemmas.{one_field, many_fields, no_field}
 use Rattle.swift_wire.proofs.fields.field.Goals as goal
 
-pub returns-then-not-has_header : goal.returns-then-not-has_header
-returns-then-not-has_header c = field_absent c.args.name.now c.args.headers.now (search rules)
-
 pub returns-then-has_one : goal.returns-then-has_one
-returns-then-has_one c = ap (λ v. Some (Some v)) c.first_value.ensures ∙ field_one c.args.name.now c.args.headers.now (search rules)
+returns-then-has_one c =
+    ap (λ value. Some (Some value)) c.first_value.ensures
+    ∙ sym (one_field c.args.name.now c.args.headers.now (sym c.has_one.ensures ∙ c.if-has_one.true))
 
-pub returns-else-has_one : goal.returns-else-has_one
-returns-else-has_one c = field_repeated c.args.name.now c.args.headers.now (search rules) (search rules)
+pub returns-then-has_header : goal.returns-then-has_header
+returns-then-has_header c =
+    sym (many_fields c.args.name.now c.args.headers.now (sym c.has_one.ensures ∙ c.if-has_one.false) (sym c.has_header.ensures ∙ c.if-has_header.true))
+
+pub returns-else-has_header : goal.returns-else-has_header
+returns-else-has_header c =
+    sym (no_field c.args.name.now c.args.headers.now (sym c.has_header.ensures ∙ c.if-has_header.false))
