@@ -1,10 +1,10 @@
 -- Where an account is, and the token of a message. Source: Object Storage API v1, "X-Auth-Token"; the limits are this
 -- profile's.
-use Rattle.std.specs.Prelude.{◌≡◌, ℕ, Bool, true, ◌&&◌, nat_le, List, [], ◌∷◌, length, codes, bytes_eq}
+use Rattle.std.specs.Prelude.{◌≡◌, ℕ, Bool, true, ◌&&◌, nat_le, List, [], ◌∷◌, length, codes}
 use Rattle.std.specs.List.{list_all}
 use Rattle.gate_base.specs.Ascii.{is_visible}
 use Rattle.http_wire.specs.declared.message.Message.{Message}
-use Rattle.http_wire.specs.Headers.{has_one, first_value, values_of}
+use Rattle.http_wire.specs.Headers.{values_of}
 use Rattle.swift_wire.specs.declared.place.Place.{Place}
 use Rattle.swift_wire.specs.declared.place.TheConstants.{MOST_PLACE_BYTES}
 
@@ -22,8 +22,3 @@ IsPlace place = is_place place ≡ true
 -- the message has exactly one X-Auth-Token, and it is the place's
 abbrev pub HasToken : Place → Message → Type 0
 HasToken place message = values_of (codes "x-auth-token") message.headers ≡ place.token ∷ []
-
--- the same as a test
-abbrev pub has_token : Place → Message → Bool
-has_token place message =
-    has_one (codes "x-auth-token") message.headers && bytes_eq (first_value (codes "x-auth-token") message.headers) place.token

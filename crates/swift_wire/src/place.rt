@@ -1,10 +1,12 @@
 //! Where an account is, and who may ask for it.
-ghost use Rattle.std.specs.Prelude.{◌≡◌};
+ghost use Rattle.std.specs.Prelude.{◌≡◌, ◌↔◌, IsTrue};
 ghost use Rattle.std.specs.List.{list_all};
 ghost use Rattle.gate_base.specs.Ascii.{is_visible};
-ghost use Rattle.swift_wire.specs.Place.{is_place_text, is_place};
+ghost use Rattle.swift_wire.specs.Place.{is_place_text, is_place, HasToken};
 
+use crate::fields::only;
 use gate_base::{Bytes, Copying, Memory};
+use http_wire::Message;
 
 /// An account of a store: the host as `Host` names it, the name of the account, and the token that lets one ask for it
 /// (`X-Auth-Token`). Each has 1 to 1024 bytes of visible ASCII; what takes a place asks for this.
@@ -53,4 +55,16 @@ fn is_visible(byte: u8) -> bool
     ensures { result ≡ is_visible byte }
 {
     b'!' <= byte && byte <= b'~'
+}
+
+/// Whether the message has exactly one `X-Auth-Token`, and it is the place's. A store answers 401 where it isn't,
+/// before it asks what call the message spells.
+#[tactic(auto, using(crate::proofs::lemmas::FieldLemmas::has_only, crate::proofs::lemmas::FieldLemmas::has_none))]
+pub fn has_token(place: &Place, message: &Message) -> bool
+    ensures { IsTrue result ↔ HasToken place.now message.now }
+{
+    match only(message.headers.as_slice(), b"x-auth-token") {
+        Some(token) => token == place.token.as_slice(),
+        None => false,
+    }
 }
