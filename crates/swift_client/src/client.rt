@@ -24,7 +24,7 @@ pub struct SwiftClient<L: Link> {
     link: L,
     place: Place,
     alloc: Global,
-    /// The last answer, whose room the next one takes.
+    /// The last answer.
     reply: Bytes,
     unread: Bytes,
     /// The answers that spelled nothing, and the calls made when none was left.

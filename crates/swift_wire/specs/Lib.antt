@@ -1,3 +1,4 @@
+pub mod Announced
 pub mod AnswerText
 pub mod Answers
 pub mod Calls

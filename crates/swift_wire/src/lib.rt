@@ -1,6 +1,7 @@
 //! How calls of Object Storage API v1 and their answers are written in HTTP/1.1, and how they are read.
 #![tactic(auto)]
 
+mod announced;
 mod answers;
 mod call_reader;
 mod call_writer;
@@ -12,6 +13,7 @@ mod paths;
 mod place;
 mod written;
 
+pub use announced::{Announced, read_front};
 pub use answers::read_answer;
 pub use call_reader::read_call;
 pub use call_writer::write_call;
