@@ -65,7 +65,7 @@ use Rattle.swift_calls.specs.declared.calls.SwiftReply.TheVariants.{
   Head,
   Bytes,
 }
-use Rattle.swift_wire.specs.declared.framing.TheConstants.{HEAD_LIMIT}
+use Rattle.swift_wire.specs.declared.head.TheConstants.{HEAD_LIMIT}
 use Rattle.swift_wire.specs.Fields.{everybody, is_tag_byte}
 use Rattle.swift_wire.specs.Answers.{is_part}
 

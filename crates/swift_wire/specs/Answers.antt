@@ -129,24 +129,31 @@ put_reply status = if status == 201 then Some Made else (if status == 202 then S
 abbrev pub delete_reply : ℕ → Option SwiftReply
 delete_reply status = if status == 409 then Some NotEmpty else gone status
 
-abbrev pub containers_reply : Said → Option SwiftReply
-containers_reply s =
-    if s.status == 200 then option_map (λ names. Containers names) (container_names s.body)
-    else (if s.status == 204 then Some (Containers []) else None)
+abbrev pub containers_reply : ℕ → List ℕ → Option SwiftReply
+containers_reply status body =
+    if status == 200 then option_map (λ names. Containers names) (container_names body) else (if status == 204 then Some (Containers []) else None)
 
-abbrev pub names_reply : Said → Option SwiftReply
-names_reply s =
-    if s.status == 200 then option_map (λ items. Names items) (name_items s.body)
-    else (if s.status == 204 then Some (Names []) else missing s.status)
+abbrev pub names_reply : ℕ → List ℕ → Option SwiftReply
+names_reply status body =
+    if status == 200 then option_map (λ items. Names items) (name_items body) else (if status == 204 then Some (Names []) else missing status)
 
 abbrev pub readers_reply : List Pair → Option SwiftReply
 readers_reply headers = both (λ readers created. Readers readers created) (readers_in headers) (created_in headers)
 
+abbrev pub head_container_reply : ℕ → List Pair → Option SwiftReply
+head_container_reply status headers = if status == 204 then readers_reply headers else missing status
+
 abbrev pub stored_reply : List Pair → Option SwiftReply
 stored_reply headers = option_map (λ etag. Stored etag) (etag_in headers)
 
+abbrev pub put_object_reply : ℕ → List Pair → Option SwiftReply
+put_object_reply status headers = if status == 201 then stored_reply headers else missing status
+
 abbrev pub head_reply : List Pair → Option SwiftReply
 head_reply headers = option_map (λ head. Head head) (head_in (size_in headers) headers)
+
+abbrev pub head_object_reply : ℕ → List Pair → Option SwiftReply
+head_object_reply status headers = if status == 200 then head_reply headers else missing status
 
 -- so many bytes are those of the range of an object of this size
 abbrev pub is_part : Option (ℕ × ℕ) → ℕ → ℕ → Bool
@@ -158,31 +165,31 @@ bytes_from range None body = None
 bytes_from range (Some head) body = if is_part range head.size (length body) then Some (Bytes head body) else None
 
 -- 206, which only a range is answered with
-abbrev pub part_reply : Option (ℕ × ℕ) → Said → Option SwiftReply
-part_reply None s = None
-part_reply (Some range) s = bytes_from (Some range) (head_in (whole_size_in s.headers) s.headers) s.body
+abbrev pub part_reply : Option (ℕ × ℕ) → List Pair → List ℕ → Option SwiftReply
+part_reply None headers body = None
+part_reply (Some range) headers body = bytes_from (Some range) (head_in (whole_size_in headers) headers) body
 
 -- 416, which only a range is answered with
 abbrev pub beyond : Option (ℕ × ℕ) → Option SwiftReply
 beyond None = None
 beyond (Some range) = Some Unsatisfiable
 
-abbrev pub bytes_reply : Option (ℕ × ℕ) → Said → Option SwiftReply
-bytes_reply range s =
-    if s.status == 200 then bytes_from range (head_in (size_in s.headers) s.headers) s.body
-    else (if s.status == 206 then part_reply range s else (if s.status == 416 then beyond range else missing s.status))
+abbrev pub bytes_reply : Option (ℕ × ℕ) → ℕ → List Pair → List ℕ → Option SwiftReply
+bytes_reply range status headers body =
+    if status == 200 then bytes_from range (head_in (size_in headers) headers) body
+    else (if status == 206 then part_reply range headers body else (if status == 416 then beyond range else missing status))
 
 -- the reply that an answer gives to a call, if it gives one
 abbrev pub reply_of : SwiftRequest → Said → Option SwiftReply
-reply_of (ListContainers marker limit) s = containers_reply s
-reply_of (HeadContainer container) s = if s.status == 204 then readers_reply s.headers else missing s.status
+reply_of (ListContainers marker limit) s = containers_reply s.status s.body
+reply_of (HeadContainer container) s = head_container_reply s.status s.headers
 reply_of (PutContainer container readers created) s = put_reply s.status
 reply_of (PostContainer container readers) s = gone s.status
 reply_of (DeleteContainer container) s = delete_reply s.status
-reply_of (ListNames container prefix marker limit) s = names_reply s
-reply_of (PutObject container name content_type meta body) s = if s.status == 201 then stored_reply s.headers else missing s.status
-reply_of (HeadObject container name) s = if s.status == 200 then head_reply s.headers else missing s.status
-reply_of (GetObject container name range) s = bytes_reply range s
+reply_of (ListNames container prefix marker limit) s = names_reply s.status s.body
+reply_of (PutObject container name content_type meta body) s = put_object_reply s.status s.headers
+reply_of (HeadObject container name) s = head_object_reply s.status s.headers
+reply_of (GetObject container name range) s = bytes_reply range s.status s.headers s.body
 reply_of (DeleteObject container name) s = gone s.status
 
 -- ---- spellings
@@ -199,6 +206,11 @@ asks_head (PutObject container name content_type meta body) = false
 asks_head (HeadObject container name) = true
 asks_head (GetObject container name range) = false
 asks_head (DeleteObject container name) = false
+
+-- the body, where the bytes are a head of this length and exactly the body that has to follow
+abbrev pub body_by : List ℕ → ℕ → Option ℕ → Option (List ℕ)
+body_by bytes len None = None
+body_by bytes len (Some size) = if length (drop len bytes) == size then Some (drop len bytes) else None
 
 -- what an answer of a head and a body says
 abbrev pub said : ResponseHead → List ℕ → Said

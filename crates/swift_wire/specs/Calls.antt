@@ -24,7 +24,7 @@ use Rattle.swift_calls.specs.declared.calls.SwiftRequest.TheVariants.{
 }
 use Rattle.swift_wire.specs.Answers.{both}
 use Rattle.swift_wire.specs.Fields.{field, only, plain_number, readers_by, created_in, meta_in}
-use Rattle.swift_wire.specs.Paths.{path_of, query_values}
+use Rattle.swift_wire.specs.Paths.{path_of, values_named}
 use Rattle.swift_wire.specs.Place.{HasToken}
 use Rattle.swift_wire.specs.declared.fault.WireFault.{WireFault}
 use Rattle.swift_wire.specs.declared.fault.WireFault.TheVariants.{NotACall, NotAnAnswer, Memory}
@@ -110,7 +110,7 @@ bodiless message call = if bytes_eq message.body [] then call else None
 -- GET of an account
 abbrev pub account_call : Message → Option SwiftRequest
 account_call message =
-    if has_method (codes "GET") message then option_and_then containers_listing (query_values account_names message.target) else None
+    if has_method (codes "GET") message then option_and_then containers_listing (values_named account_names (query_text message.target)) else None
 
 -- the read list, which PUT and POST of a container have to give
 abbrev pub readers_given : List Pair → Option ReadList
@@ -135,7 +135,7 @@ changed_container container message =
 -- those, and GET of a container
 abbrev pub container_call : List ℕ → Message → Option SwiftRequest
 container_call container message =
-    if has_method (codes "GET") message then option_and_then (names_listing container) (query_values container_names message.target)
+    if has_method (codes "GET") message then option_and_then (names_listing container) (values_named container_names (query_text message.target))
     else unasked message (changed_container container message)
 
 -- PUT of an object
@@ -145,11 +145,17 @@ put_object container name message =
     (meta_in message.headers)
 
 -- HEAD, GET and DELETE of an object
-abbrev pub object_call : List ℕ → List ℕ → Message → Option SwiftRequest
-object_call container name message =
+abbrev pub bare_object_call : List ℕ → List ℕ → Message → Option SwiftRequest
+bare_object_call container name message =
     if has_method (codes "HEAD") message then Some (HeadObject container name)
     else (if has_method (codes "GET") message then option_map (λ range. GetObject container name range) (range_in message.headers)
     else (if has_method (codes "DELETE") message then Some (DeleteObject container name) else None))
+
+-- those, and PUT of an object, which alone may have a body
+abbrev pub object_call : List ℕ → List ℕ → Message → Option SwiftRequest
+object_call container name message =
+    if has_method (codes "PUT") message then unasked message (put_object container name message)
+    else bodiless message (unasked message (bare_object_call container name message))
 
 -- ---- the call of a message
 
@@ -158,13 +164,11 @@ account_in (Account account) = account
 account_in (Container account container) = account
 account_in (Object account container name) = account
 
--- by the kind of its path. Only a PUT of an object has a body
+-- by the kind of its path
 abbrev pub call_at : Path → Message → Option SwiftRequest
 call_at (Account account) message = bodiless message (account_call message)
 call_at (Container account container) message = bodiless message (container_call container message)
-call_at (Object account container name) message =
-    if has_method (codes "PUT") message then unasked message (put_object container name message)
-    else bodiless message (unasked message (object_call container name message))
+call_at (Object account container name) message = object_call container name message
 
 abbrev pub call_within : Place → Message → Option Path → Option SwiftRequest
 call_within place message None = None

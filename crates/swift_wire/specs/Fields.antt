@@ -42,7 +42,6 @@ use Rattle.http_wire.specs.Headers.{values_of, has_header}
 use Rattle.swift_calls.specs.declared.account.ReadList.{ReadList}
 use Rattle.swift_calls.specs.declared.account.ReadList.TheVariants.{Nobody, Everybody}
 use Rattle.swift_calls.specs.declared.heads.StoredHead.{StoredHead}
-use Rattle.swift_wire.specs.Framing.{length_given}
 
 -- none of the values or the one that there is; nothing where there are more
 abbrev pub at_most_one : List (List ℕ) → Option (Option (List ℕ))
@@ -62,9 +61,24 @@ needed (Some value) = value
 abbrev pub only : List ℕ → List Pair → Option (List ℕ)
 only name headers = needed (field name headers)
 
--- a number of 1 to 19 digits without leading zeros
+-- a number of 1 to 19 digits
+abbrev pub number_in : List ℕ → Option ℕ
+number_in text = if is_length text then Some (digits_value 10 text) else None
+
+-- the same without leading zeros
 abbrev pub plain_number : List ℕ → Option ℕ
 plain_number text = if is_length text && bytes_eq text (decimal (digits_value 10 text)) then Some (digits_value 10 text) else None
+
+-- ---- sizes
+
+abbrev pub size_from : Option (Option (List ℕ)) → Option ℕ
+size_from None = None
+size_from (Some None) = None
+size_from (Some (Some value)) = number_in value
+
+-- the one Content-Length, of 1 to 19 digits (RFC 9110, section 8.6)
+abbrev pub size_in : List Pair → Option ℕ
+size_in headers = size_from (field (codes "content-length") headers)
 
 -- ---- containers
 
@@ -151,10 +165,6 @@ meta_from (suc most) i headers = meta_by (field (meta_name i) headers) (meta_fro
 -- the pieces of metadata, at most 11
 abbrev pub meta_in : List Pair → Option (List (List ℕ))
 meta_in headers = meta_from 11 0 headers
-
--- the size that Content-Length says
-abbrev pub size_in : List Pair → Option ℕ
-size_in headers = length_given (values_of (codes "content-length") headers)
 
 -- the size of the whole object: the number after `/` in Content-Range (RFC 9110, section 14.4)
 abbrev pub size_behind : List ℕ → Option ℕ

@@ -8,6 +8,7 @@ use Rattle.std.specs.Prelude.{
   Bool,
   ◌||◌,
   ◌==◌,
+  nat_le,
   if◌then◌else◌,
   List,
   [],
@@ -20,12 +21,12 @@ use Rattle.std.specs.Prelude.{
   Some,
   None,
 }
-use Rattle.std.specs.Str.Parse.{digits_value}
 use Rattle.gate_base.specs.declared.page.Pair.{Pair}
 use Rattle.httparse.specs.Grammar.{ResponseHead, ReadsResponse, NeverHasResponse, print_response, status_code}
-use Rattle.http_wire.specs.FirstMessage.{header_of, is_length}
-use Rattle.http_wire.specs.Headers.{has_header, values_of}
-use Rattle.swift_wire.specs.declared.framing.TheConstants.{HEAD_LIMIT}
+use Rattle.http_wire.specs.FirstMessage.{header_of}
+use Rattle.http_wire.specs.Headers.{has_header}
+use Rattle.swift_wire.specs.Fields.{size_in}
+use Rattle.swift_wire.specs.declared.head.TheConstants.{HEAD_LIMIT}
 use Rattle.swift_wire.specs.declared.framing.End.{End}
 use Rattle.swift_wire.specs.declared.framing.End.TheVariants.{More, At, Bad}
 
@@ -41,12 +42,6 @@ HasNoHead bytes = (h : ResponseHead) (n : ℕ) → ¬ (HasHead bytes h n)
 abbrev pub headers_in : ResponseHead → List Pair
 headers_in h = map header_of h.fields
 
--- the one length that is given, of 1 to 19 digits (RFC 9110, section 8.6)
-abbrev pub length_given : List (List ℕ) → Option ℕ
-length_given [] = None
-length_given (value ∷ []) = if is_length value then Some (digits_value 10 value) else None
-length_given (value ∷ other ∷ values) = None
-
 -- an answer that has no body, whatever its length says: to HEAD, and of 204 and 304 (RFC 9112, section 6.3)
 abbrev pub is_bodiless : Bool → ℕ → Bool
 is_bodiless head status = head || (status == 204 || status == 304)
@@ -55,7 +50,7 @@ is_bodiless head status = head || (status == 204 || status == 304)
 abbrev pub expected : Bool → ℕ → List Pair → Option ℕ
 expected head status headers =
     if has_header (codes "transfer-encoding") headers then None
-    else (if is_bodiless head status then Some 0 else length_given (values_of (codes "content-length") headers))
+    else (if is_bodiless head status then Some 0 else size_in headers)
 
 abbrev pub expected_of : Bool → ResponseHead → Option ℕ
 expected_of head h = expected head (status_code h) (headers_in h)
@@ -79,3 +74,8 @@ abbrev pub Ends : Bool → List ℕ → End → Type 0
 Ends head bytes (At end) = (h : ResponseHead) × (n m : ℕ) × BeginsAnswer head bytes h n m × (end ≡ n + m)
 Ends head bytes Bad = IsHopeless head bytes
 Ends head bytes More = ((h : ResponseHead) (n m : ℕ) → ¬ (BeginsAnswer head bytes h n m)) × ¬ (IsHopeless head bytes)
+
+-- where an answer ends of which so many bytes are there, with a head of len bytes and a body of this length
+abbrev pub end_by : ℕ → ℕ → Option ℕ → End
+end_by have len None = Bad
+end_by have len (Some size) = if nat_le (len + size) have then At (len + size) else More

@@ -1,10 +1,11 @@
 pub mod Announced
 pub mod AnswerText
 pub mod Answers
-pub mod Calls
 pub mod CallText
+pub mod Calls
 pub mod Fields
 pub mod Framing
+pub mod Head
 pub mod Link
 pub mod Paths
 pub mod Place

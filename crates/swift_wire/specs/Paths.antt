@@ -1,13 +1,13 @@
 -- The target of a call: the path names an account, a container or an object, and the query has values. Sources: Object
 -- Storage API v1; RFC 3986, sections 2.1 and 3.4.
 use Rattle.std.specs.Prelude.{ℕ, Bool, nat_eq, List, [], ◌∷◌, drop, codes, bytes_eq, if◌then◌else◌, Result, Ok, Err}
-use Rattle.std.specs.List.{list_any, starts_with, slice_split, before_first, after_first}
-use Rattle.std.specs.Prelude.{Option, None, Some, option_map}
+use Rattle.std.specs.List.{list_any, starts_with, before_first, after_first}
+use Rattle.std.specs.Prelude.{Option, None, Some, option_map, option_and_then}
 use Rattle.gate_base.specs.Ascii.{is_slash}
 use Rattle.s3_names.specs.declared.fault.NameFault.{NameFault}
 use Rattle.s3_names.specs.Escapes.{decoded}
 use Rattle.s3_names.specs.Query.{is_ampersand, is_equals}
-use Rattle.s3_names.specs.Target.{path_text, query_text}
+use Rattle.s3_names.specs.Target.{path_text}
 use Rattle.swift_wire.specs.Answers.{both}
 use Rattle.swift_wire.specs.declared.paths.Path.{Path}
 use Rattle.swift_wire.specs.declared.paths.Path.TheVariants.{Account, Container, Object}
@@ -61,18 +61,21 @@ path_of target = if has_version (path_text target) then path_in (drop 4 (path_te
 abbrev pub value_named : List ℕ → List ℕ → Option (List ℕ)
 value_named name piece = if bytes_eq (before_first is_equals piece) name then unescaped (after_first is_equals piece) else None
 
--- the values of pieces that have these names in this order
-abbrev pub values_named : List (List ℕ) → List (List ℕ) → Option (List (List ℕ))
-values_named [] [] = Some []
-values_named [] (piece ∷ pieces) = None
-values_named (name ∷ names) [] = None
-values_named (name ∷ names) (piece ∷ pieces) = both (λ value values. value ∷ values) (value_named name piece) (values_named names pieces)
+abbrev pub has_more : List ℕ → Bool
+has_more text = list_any is_ampersand text
 
--- the pieces between the ampersands; none in an empty query
-abbrev pub query_pieces : List ℕ → List (List ℕ)
-query_pieces [] = []
-query_pieces (byte ∷ text) = slice_split is_ampersand (byte ∷ text)
+-- the value of the first piece, and what follows its `&`, which has to be there
+abbrev pub first_value : List ℕ → List ℕ → Option (List ℕ × List ℕ)
+first_value name text =
+    if has_more text then option_map (λ value. (value, after_first is_ampersand text)) (value_named name (before_first is_ampersand text)) else None
 
--- the values of the query, whose names are these in this order
-abbrev pub query_values : List (List ℕ) → List ℕ → Option (List (List ℕ))
-query_values names target = values_named names (query_pieces (query_text target))
+-- the value of the last piece
+abbrev pub last_value : List ℕ → List ℕ → Option (List ℕ)
+last_value name text = if has_more text then None else value_named name text
+
+-- the values of pieces with `&` between each two, whose names are these in this order
+abbrev pub values_named : List (List ℕ) → List ℕ → Option (List (List ℕ))
+values_named [] text = if bytes_eq text [] then Some [] else None
+values_named (name ∷ []) text = option_map (λ value. value ∷ []) (last_value name text)
+values_named (name ∷ other ∷ names) text =
+    option_and_then (λ first. option_map (λ values. first.0 ∷ values) (values_named (other ∷ names) first.1)) (first_value name text)

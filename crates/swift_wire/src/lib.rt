@@ -1,4 +1,5 @@
-//! How calls of Object Storage API v1 and their answers are written in HTTP/1.1, and how they are read.
+//! How calls of Object Storage API v1 and their answers are written in HTTP/1.1, and how they are read; and
+//! what exchanges such messages with a store.
 #![tactic(auto)]
 
 mod announced;
@@ -8,9 +9,16 @@ mod call_writer;
 mod fault;
 mod fields;
 mod framing;
+mod head;
 mod link;
+mod listings;
+mod lists;
+mod numbers;
+mod objects;
 mod paths;
 mod place;
+mod ranges;
+mod values;
 mod written;
 
 pub use announced::{Announced, read_front};
