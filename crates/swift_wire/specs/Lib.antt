@@ -1,3 +1,4 @@
+pub mod Announced
 pub mod AnswerText
 pub mod Answers
 pub mod CallText
@@ -5,5 +6,6 @@ pub mod Calls
 pub mod Fields
 pub mod Framing
 pub mod Head
+pub mod Link
 pub mod Paths
 pub mod Place

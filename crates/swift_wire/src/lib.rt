@@ -1,6 +1,8 @@
-//! How calls of Object Storage API v1 and their answers are written in HTTP/1.1, and how they are read.
+//! How calls of Object Storage API v1 and their answers are written in HTTP/1.1, and how they are read; and
+//! what exchanges such messages with a store.
 #![tactic(auto)]
 
+mod announced;
 mod answers;
 mod call_reader;
 mod call_writer;
@@ -8,6 +10,7 @@ mod fault;
 mod fields;
 mod framing;
 mod head;
+mod link;
 mod listings;
 mod lists;
 mod numbers;
@@ -18,10 +21,12 @@ mod ranges;
 mod values;
 mod written;
 
+pub use announced::{Announced, read_front};
 pub use answers::read_answer;
 pub use call_reader::read_call;
 pub use call_writer::write_call;
 pub use fault::WireFault;
 pub use framing::{End, answer_end};
+pub use link::{Link, LinkFault};
 pub use place::{Place, has_token, is_place};
 pub use written::write_answer;

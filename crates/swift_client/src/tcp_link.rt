@@ -1,0 +1,174 @@
+//! Exchanges over a TCP connection. It tells nothing of their bytes.
+ghost use Rattle.std.specs.Prelude.{◌≡◌, false};
+ghost use Rattle.std.proofs.Common.{refl, sym, true≢false};
+ghost use Rattle.gate_base.specs.Causes.{Rose};
+ghost use Rattle.swift_client.specs.Silent.{nowhere, silent_history};
+
+use crate::receive::receive;
+use gate_base::{Bytes, Counted};
+use std::alloc::Global;
+use std::io;
+use std::io::{ErrorKind, Write};
+use std::net::{Net, OpenStream, ToSocketAddrs};
+use std::time::Duration;
+use swift_wire::{Link, LinkFault};
+
+/// Exchanges with the store at an address, one after the other, over a connection that is kept from one to the next.
+///
+/// Before a request is sent, the connection is tested without waiting. Where the store has ended it, or sent bytes that
+/// nobody asked for, a new one is made first. Once a byte of a request was sent, it is never sent again.
+///
+/// An exchange fails where the store can't be reached, where it ends the connection before its answer is whole, where the
+/// answer has a Transfer-Encoding, no length, or a head of more than 65,536 bytes, where bytes come behind the answer, and
+/// where the store lets the limit of time pass: while a connection is made, before it takes more of the request, or
+/// before it sends more of the answer. Then the connection is dropped. It is dropped too after an answer whose
+/// `Connection` says anything but `keep-alive`, or whose version is HTTP/1.0.
+#[derive(Drop)]
+pub struct TcpLink<R: Net> {
+    rt: R,
+    alloc: Global,
+    address: Bytes,
+    /// The limit of time in seconds.
+    limit: u64,
+    stream: Option<R::Stream>,
+    /// The connection was handed over, and no exchange was made on it.
+    fresh: bool,
+    calls: u64,
+    faults: u64,
+}
+
+impl<R: Net + Drop> TcpLink<R> {
+    /// A link to the store at an address: a host's name or number, a colon and a port. The first exchange makes the
+    /// connection. `limit` is the limit of time, in seconds; with a limit of 0 each exchange fails.
+    pub fn new(rt: R, alloc: Global, address: Bytes, limit: u64) -> TcpLink<R>
+        ensures { ⟦<TcpLink<R> as Link>⟧.history result ≡ silent_history 0 0 }
+    {
+        TcpLink {
+            rt,
+            alloc,
+            address,
+            limit,
+            stream: None,
+            fresh: false,
+            calls: 0,
+            faults: 0,
+        }
+    }
+
+    /// The same, with a connection that is there. The first exchange is made on it without a test. It fails where the
+    /// connection takes no limit of time.
+    pub fn over(
+        rt: R,
+        alloc: Global,
+        address: Bytes,
+        limit: u64,
+        stream: R::Stream,
+    ) -> io::Result<TcpLink<R>> {
+        set_limits::<R>(&stream, limit)?;
+        let mut link = TcpLink::new(rt, alloc, address, limit);
+        link.stream = Some(stream);
+        link.fresh = true;
+        Ok(link)
+    }
+
+    /// A new connection. Each place that the address names is tried.
+    fn connect(&self) -> io::Result<R::Stream> {
+        let Ok(address) = str::from_utf8(self.address.as_slice()) else {
+            return Err(io::Error::from(ErrorKind::InvalidInput));
+        };
+        let limit = Duration::from_secs(self.limit);
+        let mut last = io::Error::from(ErrorKind::InvalidInput);
+        for place in address.to_socket_addrs(&self.rt)? {
+            match self.rt.connect_timeout(place, limit) {
+                Ok(stream) => {
+                    set_limits::<R>(&stream, self.limit)?;
+                    return Ok(stream);
+                }
+                Err(error) => last = error,
+            }
+        }
+        Err(last)
+    }
+
+    /// A connection for an exchange: the one that is kept, where it may serve another, or a new one.
+    fn ready(&mut self) -> io::Result<R::Stream>
+        ensures { self.new ≡ record self.old { stream = self.new.stream; fresh = self.new.fresh } }
+    {
+        let fresh = self.fresh;
+        self.fresh = false;
+        if let Some(stream) = self.stream.take() {
+            if fresh || is_quiet::<R>(&stream) {
+                return Ok(stream);
+            }
+        }
+        self.connect()
+    }
+
+    /// One exchange. The connection is kept only where it went well.
+    fn go(&mut self, request: &[u8], reply: &mut Bytes) -> io::Result<()>
+        ensures { self.new ≡ record self.old { stream = self.new.stream; fresh = self.new.fresh } }
+    {
+        let mut stream = self.ready()?;
+        stream.write_all(request)?;
+        let answer = receive(self.alloc, &mut stream, request.starts_with(b"HEAD "))?;
+        *reply = answer.bytes;
+        if answer.stays {
+            self.stream = Some(stream);
+        }
+        Ok(())
+    }
+}
+
+impl<R: Net> Counted for TcpLink<R> {
+    ghost called = { λ l. l.calls };
+
+    fn calls(&self) -> u64 {
+        self.calls
+    }
+}
+
+impl<R: Net + Drop> Link for TcpLink<R> {
+    ghost history = { λ l. silent_history l.calls l.faults };
+
+    ghost place = { λ l. nowhere };
+
+    ghost counted = { λ l. refl };
+
+    ghost is_history = { λ l. record { last = λ observable. absurd (true≢false (sym observable)); rise = λ observable. absurd (true≢false (sym observable)) } };
+
+    fn exchange(&mut self, request: &[u8], reply: &mut Bytes) -> Result<(), LinkFault> {
+        self.calls += 1;
+        match self.go(request, reply) {
+            Ok(()) => Ok(()),
+            Err(error) if error.kind() == ErrorKind::OutOfMemory => Err(LinkFault::Memory),
+            Err(_) => {
+                self.faults = self.faults.saturating_add(1);
+                Err(LinkFault::Failed)
+            }
+        }
+    }
+}
+
+/// Has the stream's calls fail after so many seconds without progress.
+fn set_limits<R: Net>(stream: &R::Stream, limit: u64) -> io::Result<()> {
+    let limit = Some(Duration::from_secs(limit));
+    stream.set_nodelay(true)?;
+    stream.set_read_timeout(limit)?;
+    stream.set_write_timeout(limit)
+}
+
+/// Whether the stream may serve another exchange: it is open, and nothing came since the last answer.
+fn is_quiet<R: Net>(stream: &R::Stream) -> bool {
+    match peek_now::<R>(stream) {
+        Ok(_) => false,
+        Err(error) => error.kind() == ErrorKind::WouldBlock,
+    }
+}
+
+/// Looks for the next byte without waiting for it. An error of kind `WouldBlock` where none came.
+fn peek_now<R: Net>(stream: &R::Stream) -> io::Result<usize> {
+    stream.set_nonblocking(true)?;
+    let found = stream.peek(&mut [0]);
+    stream.set_nonblocking(false)?;
+    found
+}
