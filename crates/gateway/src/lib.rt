@@ -24,7 +24,10 @@ mod service;
 mod write;
 
 pub use ended::Ended;
-pub use laws::{law_given_meta, law_many_runs, law_one_run, law_sent_is_counted, law_stands_all};
+pub use laws::{
+    law_given_meta, law_many_runs, law_one_run, law_range_asked, law_sent_is_counted,
+    law_stands_all, law_token_returns,
+};
 pub use meant::{Meant, meaning};
 pub use resolved::ResolvedRequest;
 pub use serve::serve_connection;
