@@ -1,5 +1,5 @@
 //! The items of a listing in the machine's running form: all rows as a set, plain and slow.
-ghost use Rattle.std.specs.Prelude.{◌≡◌, ◌≤◌, ◌==◌, true, length, map, take, option_copied, IfOk, IfSome, OnOk};
+ghost use Rattle.std.specs.Prelude.{◌≡◌, ◌≤◌, ◌&&◌, true, length, map, nat_lt, take, IfOk, IfSome, OnOk};
 ghost use Rattle.std.specs.FinMap.{entries, from_entries};
 ghost use Rattle.std.specs.Option.{option_map};
 ghost use Rattle.gate_base.specs.Maps.{name_cmp};
@@ -82,7 +82,7 @@ impl Table<Option<ItemHead>> {
     {
         let mut items = List::new(alloc);
         for (text, object) in &self.entries {
-            if marker < text.as_slice() {
+            if marker.cmp(text.as_slice()).is_lt() {
                 items.push(Item {
                     text: Bytes::from_slice(alloc, text)?,
                     object: copy_option(object)?,
@@ -101,7 +101,7 @@ impl Table<NativeObject> {
         let rows = self.rows(alloc, asked.prefix.as_slice(), asked.delimiter.as_slice())?;
         let items = rows.items_behind(alloc, marker_of(asked))?;
         let max = asked.max as usize;
-        let truncated = 0 < max && max < items.len();
+        let truncated = is_cut(max, items.len());
         Ok((first(items, max), truncated))
     }
 
@@ -129,6 +129,13 @@ impl Table<NativeObject> {
         }
         Ok(rows)
     }
+}
+
+/// Whether an item is left over, where any is asked for.
+fn is_cut(max: usize, count: usize) -> bool
+    ensures { result ≡ (nat_lt 0 max && nat_lt max count) }
+{
+    0 < max && max < count
 }
 
 /// The first items.

@@ -1,4 +1,4 @@
--- The bytes that a range asks for are bytes of the object, and there is one of them.
+-- The bytes that are asked for are bytes of the object: all of them, or those of a range, of which there is one.
 use Rattle.std.proofs.Common.{◌≡◌, ◌≤◌, ◌<◌, ◌+◌, ◌-◌, ℕ, Bool, true, false, cond, Option, Some, None, refl, ap, sym, ◌∙◌, arith, min, nat_lt}
 use Rattle.s3_machine.specs.declared.operation.ObjectHead.{ObjectHead}
 use Rattle.s3_machine.specs.declared.reading.Conditions.{Conditions}
@@ -11,10 +11,11 @@ use Rattle.s3_machine.specs.Conditions.{fails, is_known}
 use Rattle.s3_machine.specs.Ranges.{between, span_of}
 use Rattle.s3_machine.specs.Reading.{all_of, judged, ranged, ranged_by}
 
--- bytes of an object of this size; where a range asked for them, there is one
+-- bytes of an object of this size: all of them, or those of a range, of which there is one
 pub record IsWithin (size : ℕ) (partial : Bool) (span : Span) : Type 0 where
   pub ends : span.from + span.length ≤ size
   pub filled : partial ≡ true → 0 < span.length
+  pub whole : partial ≡ false → span ≡ all_of size
 
 abbrev pub Fits : ℕ → Judged → Type 0
 Fits size PreconditionFailed = Unit {0}
@@ -26,7 +27,7 @@ between_fits : (from end size : ℕ) → end ≤ size → (t : Bool) → t ≡ n
 between_fits from end size le false e = tt
 between_fits from end size le true e =
     let l : from < end = grind (arith, e) in
-    record { ends = omega (arith, l, le); filled = λ _. omega (arith, l) }
+    record { ends = omega (arith, l, le); filled = λ _. omega (arith, l); whole = λ e. cc }
 
 span_fits : (range : Range) (size : ℕ) → Fits size (ranged_by (span_of range size))
 span_fits (FromTo first last) size = between_fits first (min (last + 1) size) size (omega arith) _ refl
@@ -34,7 +35,7 @@ span_fits (From first) size = between_fits first size size (omega arith) _ refl
 span_fits (Last count) size = between_fits (size - count) size size (omega arith) _ refl
 
 ranged_fits : (range : Option Range) (size : ℕ) → Fits size (ranged range size)
-ranged_fits None size = record { ends = omega arith; filled = λ e. cc }
+ranged_fits None size = record { ends = omega arith; filled = λ e. cc; whole = λ _. refl }
 ranged_fits (Some range) size = span_fits range size
 
 cond_fits : (b : Bool) (size : ℕ) (j k : Judged) → Fits size j → Fits size k → Fits size (cond b j k)
