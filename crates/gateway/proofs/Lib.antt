@@ -8,10 +8,12 @@ pub mod Operating
 pub mod Pieces
 pub mod Proper
 pub mod ProperReads
+pub mod Ranging
 pub mod Replying
 pub mod Resolving
 pub mod Serving
 pub mod Statuses
 pub mod Tags
 pub mod Texts
+pub mod Tokens
 pub mod lemmas

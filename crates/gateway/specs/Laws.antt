@@ -1,10 +1,15 @@
 -- What the laws of this crate say of definitions.
-use Rattle.std.specs.Prelude.{◌≡◌, ℕ, true, List, Contains}
+use Rattle.std.specs.Prelude.{◌≡◌, ◌↔◌, ℕ, true, List, Contains, Some}
+use Rattle.hex.specs.Hex.{encode_lower, IsBytes}
+use Rattle.httpdate.specs.Calendar as httpdate
 use Rattle.gate_base.specs.declared.page.Pair.{Pair}
 use Rattle.s3_names.specs.Meta.{names_ascend}
-use Rattle.httpdate.specs.Calendar as httpdate
+use Rattle.s3_machine.specs.declared.reading.Range.{Range}
+use Rattle.s3_machine.specs.Limits.{is_listing_text}
 use Rattle.sigv4.specs.Moment.{day_number, is_day}
 use Rattle.gateway.specs.Content.{is_entry, entry_name, given_meta}
+use Rattle.gateway.specs.Listings.{token_of}
+use Rattle.gateway.specs.Ranges.{AsksFor, range_of}
 use Rattle.http_wire.specs.Headers.{text_of}
 
 -- the entry that a header makes: its value is the text of all headers of the header's name
@@ -31,3 +36,11 @@ GivenMeta = (headers : List Pair) → HasMade headers (given_meta headers)
 -- of days to each day of the years 1970 to 9999
 abbrev pub CalendarsAgree : Type 0
 CalendarsAgree = (year month day : ℕ) → is_day year month day ≡ true → day_number year month day ≡ httpdate.days_from_civil year month day
+
+-- a value of Range is read as a range exactly where it asks for it
+abbrev pub RangeAsked : Type 0
+RangeAsked = (text : List ℕ) (range : Range) → (range_of text ≡ Some range) ↔ AsksFor text range
+
+-- the token that a reply prints for a text is read as the text
+abbrev pub TokenReturns : Type 0
+TokenReturns = (text : List ℕ) → IsBytes text → is_listing_text text ≡ true → token_of (encode_lower text) ≡ Some text

@@ -1,5 +1,5 @@
 //! Laws of the definitions, each the contract of a function that does nothing.
-ghost use Rattle.gateway.specs.Laws.{CalendarsAgree, GivenMeta};
+ghost use Rattle.gateway.specs.Laws.{CalendarsAgree, GivenMeta, RangeAsked, TokenReturns};
 ghost use Rattle.gateway.specs.Life.{ManyRuns, OneRun, SentIsCounted, StandsAll};
 
 /// Through a run the account is consistent after each call, and goes through the steps of the request that has the call.
@@ -32,4 +32,14 @@ pub fn law_given_meta()
 /// numbers of one scale.
 pub fn law_calendars_agree()
     ensures { CalendarsAgree }
+{}
+
+/// The value of a Range header is read as a range exactly where it asks for that range, in its whole text.
+pub fn law_range_asked()
+    ensures { RangeAsked }
+{}
+
+/// The token that a listing prints for the text of its last item is read as that text.
+pub fn law_token_returns()
+    ensures { TokenReturns }
 {}

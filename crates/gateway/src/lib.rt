@@ -25,8 +25,8 @@ mod write;
 
 pub use ended::Ended;
 pub use laws::{
-    law_calendars_agree, law_given_meta, law_many_runs, law_one_run, law_sent_is_counted,
-    law_stands_all,
+    law_calendars_agree, law_given_meta, law_many_runs, law_one_run, law_range_asked,
+    law_sent_is_counted, law_stands_all, law_token_returns,
 };
 pub use meant::{Meant, meaning};
 pub use resolved::ResolvedRequest;
