@@ -87,7 +87,7 @@ impl Machine {
             return Ok(());
         }
         let mut talk = Talk::open(self.alloc, bytes)?;
-        for piece in pieces {
+        for piece in pieces.iter().filter(|piece| !is_interim(piece)) {
             let label = label_of(self.turn, given.moments.as_slice());
             self.turn = self.turn.saturating_add(1);
             let turn = Turn {
@@ -198,6 +198,11 @@ impl Machine {
         }
         tally.mismatch(turn.case, turn.context, due.as_slice(), came)
     }
+}
+
+/// Whether the piece answers no request: it is written before a body is read, and the reply follows.
+fn is_interim(piece: &Piece) -> bool {
+    piece.bytes.as_slice().starts_with(b"HTTP/1.1 100 ")
 }
 
 /// How many of the first pieces are of a connection.

@@ -1,5 +1,5 @@
 -- A connection, request by request, over a history that grows.
-use Rattle.std.proofs.Common.{◌≡◌, ℕ, List, [], ◌∷◌, ◌++◌, Bool, true, false, None, Some, slice_set, ◌-◌, refl, sym, subst, ◌∙◌, arith}
+use Rattle.std.proofs.Common.{◌≡◌, ℕ, List, [], ◌∷◌, ◌++◌, Bool, true, false, None, Some, slice_set, ◌-◌, refl, sym, subst, ◌∙◌, arith, inl}
 use Rattle.gate_base.specs.Causes.{RisesIf}
 use Rattle.gate_base.specs.Line.{LineModel, LineServes, TranscriptServes}
 use Rattle.gate_base.specs.Transcript.{Transcript}
@@ -90,7 +90,7 @@ pub unread_at_once : (service : Service) (R : ReplyRelation) (here : Mark) (mome
     → (spans : List Span) × ConnectionTrace service R transcript.begun ended (cursor transcript.rest 0 (progress here moments draws transcript.sent)) spans (progress here moments draws transcript'.sent)
 unfolding fresh
 unread_at_once service R here moments draws transcript transcript' ended ends =
-    let last = next_unread service R here moments draws transcript.begun transcript.sent fresh fresh transcript.rest transcript.rest transcript transcript' ended refl refl ends in
+    let last = next_unread service R here moments draws transcript.begun transcript.sent fresh fresh transcript.rest transcript.rest transcript transcript' ended refl (inl refl) ends in
     (last.0, record { last = cursor transcript.rest 0 (progress here moments draws transcript.sent); before = []; after = last.0; exchanges = none (cursor transcript.rest 0 (progress here moments draws transcript.sent)); ends = last.1; all = refl })
 
 -- a connection that is served goes on being served

@@ -10,6 +10,7 @@ use Rattle.http_wire.specs.declared.message.Message.{Message}
 use Rattle.http_wire.specs.declared.message.Kind.{Kind}
 use Rattle.http_wire.specs.FirstMessage.{BeginsWith, asks, nothing, cut_short, refused}
 use Rattle.http_wire.specs.Gives.{place_after}
+use Rattle.http_wire.specs.Interim.{OwesInterim, SendsInterim, MaySendInterim, CutsInterim}
 use Rattle.http_wire.specs.Print.{memory_reply}
 use Rattle.gateway.specs.declared.ended.Ended.{Ended}
 use Rattle.gateway.specs.declared.ended.Ended.TheVariants.{End, Closed, CutShort, Refused, LineFailed, Memory}
@@ -69,14 +70,29 @@ pub record NextLabel (clock draws clock' draws' : SourceModel) (next : Label) : 
 abbrev pub Labels : Progress → Progress → Caller → Label → Type 0
 Labels old new from label = LabelGiven old.moments old.draws new.moments new.draws from label
 
+-- the interim line was sent for what comes first, before any call for it, exactly where it is owed
+abbrev pub OwedIsSent : ℕ → ConnectionCursor → List Piece → Type 0
+OwedIsSent connection old heard = SendsInterim (OwesInterim old.rest) connection old.progress.mark.number old.progress.sent heard
+
+-- memory ran out while the first was read: the line was sent, or not, where it is owed
+abbrev pub OwedMayBeSent : ℕ → ConnectionCursor → List Piece → Type 0
+OwedMayBeSent connection old heard = MaySendInterim (OwesInterim old.rest) connection old.progress.mark.number old.progress.sent heard
+
+-- the line failed while the first was read: first bytes of it were sent, or none, where it is owed
+abbrev pub OwedIsCut : ℕ → ConnectionCursor → List Piece → Type 0
+OwedIsCut connection old heard = CutsInterim (OwesInterim old.rest) connection old.progress.mark.number old.progress.sent heard
+
 -- the next request was resolved and answered in whole
 pub record Serves (service : Service) (R : ReplyRelation) (connection : ℕ) (end : Option Ended)
     (old : ConnectionCursor) (span : Span) (new : ConnectionCursor) : Type 0 where
   pub request : Request
   pub label : Label
+  -- the pieces sent once it was read
+  pub heard : List Piece
   pub resolves : Resolves service label.moment old request new.rest new.place
+  pub owed : OwedIsSent connection old heard
   pub labels : Labels old.progress new.progress request.caller label
-  pub exchange : Exchange R connection old.progress.mark span new.progress.mark request label end old.progress.sent new.progress.sent
+  pub exchange : Exchange R connection old.progress.mark span new.progress.mark request label end heard new.progress.sent
 
 -- any number of requests, none of which ended the connection, with their spans
 pub data Exchanges (service : Service) (R : ReplyRelation) (connection : ℕ) : ConnectionCursor → List Span → ConnectionCursor → Type 0 where
@@ -91,9 +107,11 @@ pub record Breaks (service : Service) (R : ReplyRelation) (connection : ℕ) (ol
   pub label : Label
   pub rest : List ℕ
   pub place : ℕ
+  pub heard : List Piece
   pub resolves : Resolves service label.moment old request rest place
+  pub owed : OwedIsSent connection old heard
   pub labels : Labels old.progress new request.caller label
-  pub exchange : CutExchange R connection old.progress.mark span new.mark request label old.progress.sent new.sent
+  pub exchange : CutExchange R connection old.progress.mark span new.mark request label heard new.sent
 
 -- of the progress only the pieces sent may differ
 pub record OnlySent (old new : Progress) : Type 0 where
@@ -111,14 +129,14 @@ pub data Ends (service : Service) (R : ReplyRelation) (connection : ℕ) (ended 
   served : (cursor : ConnectionCursor) (span : Span) → Serves service R connection (Some ended) last span cursor
       → new ≡ cursor.progress → Ends service R connection ended last new (span ∷ [])
   -- memory ran out while a request was read
-  unread : ended ≡ Memory → OnlySent last.progress new
-      → Sends connection last.progress.mark.number last.progress.mark.number (memory_reply false) last.progress.sent new.sent
+  unread : (heard : List Piece) → ended ≡ Memory → OnlySent last.progress new → OwedMayBeSent connection last heard
+      → Sends connection last.progress.mark.number last.progress.mark.number (memory_reply false) heard new.sent
       → Ends service R connection ended last new []
   -- the line failed while a request was read
-  unheard : ended ≡ LineFailed → new ≡ last.progress → Ends service R connection ended last new []
+  unheard : ended ≡ LineFailed → OnlySent last.progress new → OwedIsCut connection last new.sent → Ends service R connection ended last new []
   -- memory ran out while a request was read, and the line failed under the reply for that
-  untold : ended ≡ LineFailed → OnlySent last.progress new
-      → SendsPart connection last.progress.mark.number last.progress.mark.number (memory_reply false) last.progress.sent new.sent
+  untold : (heard : List Piece) → ended ≡ LineFailed → OnlySent last.progress new → OwedMayBeSent connection last heard
+      → SendsPart connection last.progress.mark.number last.progress.mark.number (memory_reply false) heard new.sent
       → Ends service R connection ended last new []
   -- the line failed under the reply to a request
   broken : (span : Span) → ended ≡ LineFailed → Breaks service R connection last span new → Ends service R connection ended last new (span ∷ [])

@@ -2,7 +2,8 @@
 //!
 //! `messages COUNT [SIZES]` reads up to so many messages of a connection of the bytes of its lines, until the reader has
 //! ended, in pieces of 65,536 bytes and of each of the sizes (of 1, 2, 3 and 7 bytes where none is given), alone and behind
-//! another request. It answers with a line a message, and tells where the same bytes in other pieces give other lines.
+//! another request. It answers with a line a message, and before it the bytes that were written while it was read, and
+//! tells where the same bytes in other pieces give other lines.
 //! `failing SIZE CALL` does so in pieces of one size while the line's call of a number fails: `next` is the first call, the
 //! reads follow. `message` shows the first message whole. `page STATUS METHOD [close]` prints the page of its lines, which
 //! are headers, an empty line and a body. `memory METHOD` is the out-of-memory reply.
@@ -60,12 +61,14 @@ pub(crate) fn line_of(
     Ok(MemLine::new(alloc, connections, piece, fails)?)
 }
 
-/// A connection that is open, its reader, and how many of its bytes stand before those of the case.
+/// A connection that is open, its reader, how many of its bytes stand before those of the case, and how many of the pieces
+/// that were written are told.
 #[derive(Drop)]
 struct Talk {
     line: MemLine,
     reader: Reader,
     before: u64,
+    told: usize,
     ghost open: { IsTrue (is_open_of line) },
 }
 
@@ -80,6 +83,7 @@ impl Talk {
             line,
             reader,
             before: 0,
+            told: 0,
         })
     }
 
@@ -98,9 +102,21 @@ impl Talk {
         }
     }
 
-    /// Tells the next answer. True where it is a request.
+    /// Tells the bytes that were written and aren't told yet.
+    fn tell_written(&mut self, to: &mut String) -> Result<(), Fault> {
+        let pieces = self.line.pieces();
+        for piece in pieces.iter().skip(self.told) {
+            tell_bytes(piece.bytes.as_slice(), to)?;
+        }
+        self.told = pieces.len();
+        Ok(())
+    }
+
+    /// Tells what is written before the next answer, and that answer. True where it is a request.
     fn tell_next(&mut self, to: &mut String) -> Result<bool, Fault> {
-        match self.next() {
+        let answer = self.next();
+        self.tell_written(to)?;
+        match answer {
             Ok(got) => tell(&got, self.before, to),
             Err(ReadFault::Memory) => Err(Fault::Memory),
             Err(ReadFault::Failed) => {
@@ -143,6 +159,13 @@ fn opens(line: &mut MemLine) -> bool
     match Line::<NoCount>::next(line) {
         Ok(begun) => begun,
         Err(_) => false,
+    }
+}
+
+fn tell_bytes(bytes: &[u8], to: &mut String) -> Result<(), Fault> {
+    match str::from_utf8(bytes) {
+        Ok(text) => Ok(to.push_str(text)?),
+        Err(_) => Err(Fault::Unread("no UTF-8 was written")),
     }
 }
 

@@ -76,7 +76,9 @@ module _ {R R' : ReplyRelation} {first last : Mark} (f : FollowsBetween R R' fir
   serves_map between serves = record {
     request = serves.request;
     label = serves.label;
+    heard = serves.heard;
     resolves = serves.resolves;
+    owed = serves.owed;
     labels = serves.labels;
     exchange = exchange_map between serves.exchange;
   }
@@ -88,7 +90,9 @@ module _ {R R' : ReplyRelation} {first last : Mark} (f : FollowsBetween R R' fir
     label = breaks.label;
     rest = breaks.rest;
     place = breaks.place;
+    heard = breaks.heard;
     resolves = breaks.resolves;
+    owed = breaks.owed;
     labels = breaks.labels;
     exchange = cut_exchange_map between breaks.exchange;
   }
@@ -110,9 +114,9 @@ module _ {R R' : ReplyRelation} {first last : Mark} (f : FollowsBetween R R' fir
   ends_map between (over is front same) = over is front same
   ends_map between (cut is front same) = cut is front same
   ends_map {old = old} between (served cursor span serves same) = served cursor span (serves_map (subst (λ t. Between first last old.progress.mark t.mark) same between) serves) same
-  ends_map between (unread is only sends) = unread is only sends
-  ends_map between (unheard is same) = unheard is same
-  ends_map between (untold is only sends) = untold is only sends
+  ends_map between (unread heard is only owed sends) = unread heard is only owed sends
+  ends_map between (unheard is only owed) = unheard is only owed
+  ends_map between (untold heard is only owed sends) = untold heard is only owed sends
   ends_map between (broken span is breaks) = broken span is (breaks_map between breaks)
 
   pub connection_trace_map : {service : Service} {connection : ℕ} {ended : Ended} {old : ConnectionCursor} {spans : List Span} {new : Progress} → Between first last old.progress.mark new.mark

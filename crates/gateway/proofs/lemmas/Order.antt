@@ -49,9 +49,9 @@ module _ {service : Service} {R : ReplyRelation} {connection : ℕ} where
   ends_order (over is front same) = let e = ap (λ t. t.mark.number) same in omega arith
   ends_order (cut is front same) = let e = ap (λ t. t.mark.number) same in omega arith
   ends_order (served cursor span serves same) = let e = ap (λ t. t.mark.number) same in let near = serves_order serves in omega arith
-  ends_order (unread is only sends) = let e = ap (λ m. m.number) only.mark in omega arith
-  ends_order (unheard is same) = let e = ap (λ t. t.mark.number) same in omega arith
-  ends_order (untold is only sends) = let e = ap (λ m. m.number) only.mark in omega arith
+  ends_order (unread heard is only owed sends) = let e = ap (λ m. m.number) only.mark in omega arith
+  ends_order (unheard is only owed) = let e = ap (λ m. m.number) only.mark in omega arith
+  ends_order (untold heard is only owed sends) = let e = ap (λ m. m.number) only.mark in omega arith
   ends_order (broken span is breaks) = breaks_order breaks
 
   pub connection_trace_order : {ended : Ended} {old : ConnectionCursor} {spans : List Span} {new : Progress} → ConnectionTrace service R connection ended old spans new → old.progress.mark.number ≤ new.mark.number
@@ -73,9 +73,9 @@ module _ {service : Service} {R : ReplyRelation} {connection : ℕ} where
   ends_order_faults (over is front same) = let e = ap (λ t. t.mark.faults) same in omega arith
   ends_order_faults (cut is front same) = let e = ap (λ t. t.mark.faults) same in omega arith
   ends_order_faults (served cursor span serves same) = let e = ap (λ t. t.mark.faults) same in let near = serves_order_faults serves in omega arith
-  ends_order_faults (unread is only sends) = let e = ap (λ m. m.faults) only.mark in omega arith
-  ends_order_faults (unheard is same) = let e = ap (λ t. t.mark.faults) same in omega arith
-  ends_order_faults (untold is only sends) = let e = ap (λ m. m.faults) only.mark in omega arith
+  ends_order_faults (unread heard is only owed sends) = let e = ap (λ m. m.faults) only.mark in omega arith
+  ends_order_faults (unheard is only owed) = let e = ap (λ m. m.faults) only.mark in omega arith
+  ends_order_faults (untold heard is only owed sends) = let e = ap (λ m. m.faults) only.mark in omega arith
   ends_order_faults (broken span is breaks) = breaks_order_faults breaks
 
   pub connection_trace_order_faults : {ended : Ended} {old : ConnectionCursor} {spans : List Span} {new : Progress} → ConnectionTrace service R connection ended old spans new → old.progress.mark.faults ≤ new.mark.faults
@@ -98,9 +98,9 @@ module _ {service : Service} {R : ReplyRelation} {connection : ℕ} where
   ends_follow (over is front same) = follows_none (ap (λ t. t.mark.number) same)
   ends_follow (cut is front same) = follows_none (ap (λ t. t.mark.number) same)
   ends_follow {last = last} (served cursor span serves same) = subst (λ t. Follows last.progress.mark.number (span ∷ []) t.mark.number) (sym same) (serves_follow serves)
-  ends_follow (unread is only sends) = follows_none (ap (λ m. m.number) only.mark)
-  ends_follow (unheard is same) = follows_none (ap (λ t. t.mark.number) same)
-  ends_follow (untold is only sends) = follows_none (ap (λ m. m.number) only.mark)
+  ends_follow (unread heard is only owed sends) = follows_none (ap (λ m. m.number) only.mark)
+  ends_follow (unheard is only owed) = follows_none (ap (λ m. m.number) only.mark)
+  ends_follow (untold heard is only owed sends) = follows_none (ap (λ m. m.number) only.mark)
   ends_follow (broken span is breaks) = breaks_follow breaks
 
   pub connection_trace_follow : {ended : Ended} {old : ConnectionCursor} {spans : List Span} {new : Progress} → ConnectionTrace service R connection ended old spans new → Follows old.progress.mark.number spans new.mark.number

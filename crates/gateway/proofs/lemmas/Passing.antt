@@ -119,9 +119,9 @@ module _ {service : Service} {h : History} {connection : ℕ} where
   ends_pass (over is front same) = all_pass_none service.settings h
   ends_pass (cut is front same) = all_pass_none service.settings h
   ends_pass (served cursor span serves same) = all_pass_one service.settings h span (serves_pass serves)
-  ends_pass (unread is only sends) = all_pass_none service.settings h
-  ends_pass (unheard is same) = all_pass_none service.settings h
-  ends_pass (untold is only sends) = all_pass_none service.settings h
+  ends_pass (unread heard is only owed sends) = all_pass_none service.settings h
+  ends_pass (unheard is only owed) = all_pass_none service.settings h
+  ends_pass (untold heard is only owed sends) = all_pass_none service.settings h
   ends_pass (broken span is breaks) = all_pass_one service.settings h span (breaks_pass breaks)
 
   pub connection_trace_pass : {ended : Ended} {old : ConnectionCursor} {spans : List Span} {new : Progress} → ConnectionTrace service (Replies service.settings h) connection ended old spans new → AllPass service.settings h spans
@@ -156,9 +156,9 @@ module _ {service : Service} {h : History} {connection : ℕ} where
   ends_known known (over is front same) = subst (λ t. IsKnownOf h t.mark) (sym same) known
   ends_known known (cut is front same) = subst (λ t. IsKnownOf h t.mark) (sym same) known
   ends_known known (served cursor span serves same) = subst (λ t. IsKnownOf h t.mark) (sym same) (serves_known known serves)
-  ends_known known (unread is only sends) = subst (IsKnownOf h) (sym only.mark) known
-  ends_known known (unheard is same) = subst (λ t. IsKnownOf h t.mark) (sym same) known
-  ends_known known (untold is only sends) = subst (IsKnownOf h) (sym only.mark) known
+  ends_known known (unread heard is only owed sends) = subst (IsKnownOf h) (sym only.mark) known
+  ends_known known (unheard is only owed) = subst (IsKnownOf h) (sym only.mark) known
+  ends_known known (untold heard is only owed sends) = subst (IsKnownOf h) (sym only.mark) known
   ends_known known (broken span is breaks) = breaks_known known breaks
 
   pub connection_trace_known : {ended : Ended} {old : ConnectionCursor} {spans : List Span} {new : Progress} → IsKnownOf h old.progress.mark
