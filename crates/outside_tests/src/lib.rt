@@ -26,3 +26,5 @@ mod runs;
 mod runtime;
 #[cfg(test)]
 mod tcp_line;
+#[cfg(test)]
+mod tcp_link;
