@@ -28,3 +28,5 @@ mod runs;
 mod runtime;
 #[cfg(test)]
 mod tcp_line;
+#[cfg(test)]
+mod tcp_link;

@@ -1,10 +1,12 @@
 //! `s3gate`, the gateway. The words after the program's name are those of `gateway_cmd::run`, and the file that
-//! `S3GATE_KEYS` names has the key text. `session` serves one connection on standard input and output, `serve` the clients
-//! that come to the place which `S3GATE_LISTEN` names, and both over a fresh store in memory; `sign` signs the first request
-//! of standard input.
+//! `S3GATE_KEYS` names has the key text.
+//!
+//! `session` serves one connection on standard input and output, over a fresh store in memory. `serve` serves the clients
+//! that come to the place which `S3GATE_LISTEN` names, over the Swift store at `S3GATE_STORE`, in its account
+//! `S3GATE_ACCOUNT`, with the token `S3GATE_TOKEN`. `sign` signs the first request of standard input.
 #![tactic(auto)]
 
-use gate_base::{Line, List, Memory, RandomDraws, StdLine, StdSink, SystemClock};
+use gate_base::{Bytes, Copying, Line, List, Memory, RandomDraws, StdLine, StdSink, SystemClock};
 use gateway_cmd::run;
 use sockets::TcpLine;
 use std::alloc::Global;
@@ -13,19 +15,26 @@ use std::io::{ErrorKind, Write};
 use std::net::TcpListener;
 use std::process::ExitCode;
 use std::{env, fs, io};
-use swift_calls::{Account, MemSwift};
+use swift_calls::{Account, MemSwift, Swift};
+use swift_client::{SwiftClient, TcpLink};
+use swift_wire::{Place, is_place};
 
 /// The exit status where memory ran out before the run began.
 const MEMORY: u8 = 5;
 
-/// The exit status where the key file can't be read, or there is no place to listen at.
+/// The exit status where the key file can't be read, where there is no place to listen at, or where the store's address,
+/// account or token isn't 1 to 1024 bytes of visible ASCII.
 const SETUP: u8 = 9;
 
 /// How many seconds a client may be silent, where `S3GATE_IDLE` doesn't say.
 const USUAL_IDLE: u64 = 60;
 
-/// The most that `S3GATE_IDLE` may say: a day.
-const LONGEST_IDLE: u64 = 86_400;
+/// How many seconds the store may be silent, where `S3GATE_STORE_TIMEOUT` doesn't say: longer than a Swift proxy waits for
+/// its own servers.
+const USUAL_SILENCE: u64 = 300;
+
+/// The most seconds of a limit of time: a day.
+const LONGEST: u64 = 86_400;
 
 fn main(rt: HostRuntime) -> ExitCode {
     match start(&rt) {
@@ -44,32 +53,34 @@ fn start(rt: &HostRuntime) -> io::Result<u8> {
     let words = words(rt)?;
     if begins_with(&words, b"serve") {
         let mut line = clients(rt)?;
-        run_over(rt, &words, keys.as_str(), &mut line)
+        let mut store = swift_store(rt)?;
+        run_over(rt, &words, keys.as_str(), &mut line, &mut store)
     } else {
         let mut line = StdLine::new(rt.clone()?);
-        run_over(rt, &words, keys.as_str(), &mut line)
+        let Ok(mut store) = empty_store(rt.alloc()) else {
+            return Ok(MEMORY);
+        };
+        run_over(rt, &words, keys.as_str(), &mut line, &mut store)
     }
 }
 
-fn run_over<N: Line<MemSwift>>(
+fn run_over<N: Line<W>, W: Swift>(
     rt: &HostRuntime,
     words: &[String],
     keys: &str,
     line: &mut N,
+    store: &mut W,
 ) -> io::Result<u8> {
     let mut report = report_for(rt.clone()?, words);
     let mut clock = SystemClock::new(rt.clone()?);
     let mut draws = RandomDraws::new(rt.clone()?);
-    let Ok(mut store) = empty_store(rt.alloc()) else {
-        return Ok(MEMORY);
-    };
     Ok(run(
         rt.alloc(),
         words,
         keys,
         line,
         &mut report,
-        &mut store,
+        store,
         &mut clock,
         &mut draws,
     ))
@@ -85,7 +96,7 @@ fn key_text(rt: &HostRuntime) -> io::Result<String> {
 
 /// The clients that come to the place which the environment names. How many of them are served is said by the words.
 fn clients(rt: &HostRuntime) -> io::Result<TcpLine<HostRuntime>> {
-    let limit = idle_limit(rt)?;
+    let limit = seconds(rt, "S3GATE_IDLE", USUAL_IDLE)?;
     let Some(place) = variable(rt, "S3GATE_LISTEN")? else {
         return Err(io::Error::from(ErrorKind::InvalidInput));
     };
@@ -93,14 +104,43 @@ fn clients(rt: &HostRuntime) -> io::Result<TcpLine<HostRuntime>> {
     TcpLine::new(rt, rt.alloc(), listener, limit, None)
 }
 
-/// How many seconds a client may be silent.
-fn idle_limit(rt: &HostRuntime) -> io::Result<u64> {
-    let Some(text) = variable(rt, "S3GATE_IDLE")? else {
-        return Ok(USUAL_IDLE);
+/// The Swift store that the environment names. The first call connects to it.
+fn swift_store(rt: &HostRuntime) -> io::Result<SwiftClient<TcpLink<HostRuntime>>> {
+    let limit = seconds(rt, "S3GATE_STORE_TIMEOUT", USUAL_SILENCE)?;
+    let place = Place {
+        host: text(rt, "S3GATE_STORE")?,
+        account: text(rt, "S3GATE_ACCOUNT")?,
+        token: text(rt, "S3GATE_TOKEN")?,
+    };
+    if !is_place(&place) {
+        return Err(io::Error::from(ErrorKind::InvalidInput));
+    }
+    let Ok(address) = place.host.copy() else {
+        return Err(io::Error::from(ErrorKind::OutOfMemory));
+    };
+    let link = TcpLink::new(rt.clone()?, rt.alloc(), address, limit);
+    Ok(SwiftClient::new(rt.alloc(), link, place))
+}
+
+/// A limit of time: the seconds that the environment says, or else the usual ones.
+fn seconds(rt: &HostRuntime, name: &str, usual: u64) -> io::Result<u64> {
+    let Some(text) = variable(rt, name)? else {
+        return Ok(usual);
     };
     match text.as_str().parse::<u64>() {
-        Ok(seconds) if 1 <= seconds && seconds <= LONGEST_IDLE => Ok(seconds),
+        Ok(seconds) if 1 <= seconds && seconds <= LONGEST => Ok(seconds),
         _ => Err(io::Error::from(ErrorKind::InvalidInput)),
+    }
+}
+
+/// The bytes of a variable of the environment, none where it isn't there.
+fn text(rt: &HostRuntime, name: &str) -> io::Result<Bytes> {
+    let Some(text) = variable(rt, name)? else {
+        return Ok(Bytes::new(rt.alloc()));
+    };
+    match Bytes::from_slice(rt.alloc(), text.as_bytes()) {
+        Ok(bytes) => Ok(bytes),
+        Err(_) => Err(io::Error::from(ErrorKind::OutOfMemory)),
     }
 }
 
