@@ -29,7 +29,10 @@ fn last_spaces(text: &[u8]) -> usize
     ensures is { result ≡ suffix_len is_space text.now }
     ensures within { result ≤ length text.now }
 {
-    text.iter().rev().take_while(|byte| is_space(**byte)).count()
+    text.iter()
+        .rev()
+        .take_while(|byte| is_space(**byte))
+        .count()
 }
 
 fn behind_spaces(text: &[u8]) -> &[u8]
