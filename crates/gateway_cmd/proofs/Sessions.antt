@@ -1,5 +1,5 @@
 -- A session, connection by connection, over a history that grows, and the run that it is.
-use Rattle.std.proofs.Common.{◌≡◌, ◌≢◌, ◌++◌, ◌∷◌, ℕ, Bool, true, false, List, [], Option, None, Some, if◌then◌else◌, slice_set, ◌-◌, refl, sym, ap, subst, ◌∙◌, arith}
+use Rattle.std.proofs.Common.{◌≡◌, ◌≢◌, ◌++◌, ◌∷◌, ℕ, Bool, true, false, List, [], Option, None, Some, if◌then◌else◌, slice_set, ◌-◌, refl, sym, ap, subst, inl, ◌∙◌, arith}
 use Rattle.gate_base.specs.Line.{LineModel, TranscriptServes}
 use Rattle.gate_base.specs.Told.{SourceModel}
 use Rattle.gate_base.specs.Transcript.{Begins}
@@ -108,14 +108,14 @@ run_serves_none serving keys ended line store clock draws plain fails ends = rec
   serves = serves_none (λ t. t) (λ told R. ([], none (run_cursor_of (world line store Unsure clock draws))));
 }
 
-signs_on_none : (failed : Bool) (line : LineModel) → failed ≡ false → SignsOn failed line line
-signs_on_none true line fails = cc
-signs_on_none false line fails = record { faults = refl; next_faults = λ same. refl; observable = λ t. t; begun = λ t. omega arith; sent = λ t. refl }
+signs_on_none : (failed : Bool) (at : ℕ) (line : LineModel) → failed ≡ false → SignsOn failed at line line
+signs_on_none true at line fails = cc
+signs_on_none false at line fails = record { faults = refl; next_faults = λ same. refl; observable = λ t. t; begun = λ t. omega arith; sent = λ t. inl refl }
 
-pub run_signs_none : (id region keys : List ℕ) (ended : RunOutcome) (line : LineModel) → is_failed_run ended ≡ false → ended ≢ Plain Done → (are_keys (keys_of keys) ≡ true → ended ≢ Plain Memory → ⊥) → RunSigns id region keys ended line line
-run_signs_none id region keys ended line fails other never = record {
+pub run_signs_none : (id region keys : List ℕ) (at : ℕ) (ended : RunOutcome) (line : LineModel) → is_failed_run ended ≡ false → ended ≢ Plain Done → (are_keys (keys_of keys) ≡ true → ended ≢ Plain Memory → ⊥) → RunSigns id region keys at ended line line
+run_signs_none id region keys at ended line fails other never = record {
   other = other;
-  line = signs_on_none (is_failed_run ended) line fails;
+  line = signs_on_none (is_failed_run ended) at line fails;
   effect = λ secret good has observable memory. absurd (never good memory);
 }
 

@@ -10,7 +10,7 @@ use Rattle.sigv4.specs.Keys.{keys_of, are_keys, secret_of}
 use Rattle.sigv4.specs.declared.keys.AccessKey.{AccessKey}
 use Rattle.sigv4.specs.declared.keys.KeysFault.{KeysFault}
 use Rattle.sigv4.specs.declared.keys.KeysFault.TheVariants as fault
-use Rattle.sign_cmd.specs.Signing.{AnswersFirst, SignsOn}
+use Rattle.sign_cmd.specs.Signing.{AnswersFirst, SendsFirst, SignsOn}
 use Rattle.sign_cmd.specs.declared.first.Signing.{Signing}
 use Rattle.gateway.specs.declared.service.Service.{Service}
 use Rattle.gateway.specs.Exchange.{ReplyRelation, Span}
@@ -127,9 +127,9 @@ pub record RunServes (serving : Serving) (keys : List ℕ) (ended : RunOutcome) 
   pub line : LineServed serving (is_failed_run ended) (is_done ended) old.line (new known).line
   pub serves : ServesOver serving.settings (RunTraces (service_of serving keys)) old (new known)
 
--- the first request was signed, or could not be; where the key is there, by its secret
-pub record RunSigns (id region keys : List ℕ) (ended : RunOutcome) (old new : LineModel) : Type 0 where
+-- the first request was signed when the store had counted so many calls, or could not be; where the key is there, by its secret
+pub record RunSigns (id region keys : List ℕ) (at : ℕ) (ended : RunOutcome) (old new : LineModel) : Type 0 where
   pub other : ended ≢ Plain Done
-  pub line : SignsOn (is_failed_run ended) old new
+  pub line : SignsOn (is_failed_run ended) at old new
   pub effect : (secret : List ℕ) → are_keys (keys_of keys) ≡ true → secret_of id (keys_of keys) ≡ Some secret → IsTrue old.observable → ended ≢ Plain Memory
-      → (signing : Signing) × AnswersFirst secret region old.transcript.waiting signing × (ended ≡ end_of signing)
+      → (signing : Signing) × AnswersFirst secret region old.transcript.waiting signing × SendsFirst at old.transcript signing new.transcript × (ended ≡ end_of signing)

@@ -2,7 +2,7 @@
 ghost use Rattle.std.specs.Prelude.{◌≡◌, ◌≢◌, ℕ, false, IsTrue, List, Some, None};
 ghost use Rattle.recovery.specs.declared.state.Known.TheVariants.{Unsure};
 ghost use Rattle.sigv4.specs.Keys.{secret_of};
-ghost use Rattle.sign_cmd.specs.Signing.{AnswersFirst, SignsOn};
+ghost use Rattle.sign_cmd.specs.Signing.{AnswersFirst, SendsFirst, SignsOn};
 ghost use Rattle.sign_cmd.specs.declared.first.Signing.{Signing};
 ghost use Rattle.gateway.specs.World.{world, Continues};
 ghost use Rattle.gateway_cli.specs.Words.{command_of};
@@ -42,7 +42,7 @@ pub fn attempt<N: Line<W>, W: Swift, C: Clock, D: Draws>(
     ensures serves { (serving : Serving) → serving_of (command_of words.now) ≡ Some serving → RunServes serving keys.now result
         (world (N.model line.old) (W.history store.old) Unsure (C.model clock.old) (D.model draws.old))
         (λ known. world (N.model line.new) (W.history store.new) known (C.model clock.new) (D.model draws.new)) }
-    ensures signs { (id region : List ℕ) → command_of words.now ≡ Some (commands.Sign id region) → RunSigns id region keys.now result (N.model line.old) (N.model line.new) }
+    ensures signs { (id region : List ℕ) → command_of words.now ≡ Some (commands.Sign id region) → RunSigns id region keys.now (W.history store.old).called result (N.model line.old) (N.model line.new) }
 {
     match read_words(alloc, words) {
         Ok(command) => perform(alloc, command, keys, line, store, clock, draws),
@@ -70,7 +70,7 @@ fn perform<N: Line<W>, W: Swift, C: Clock, D: Draws>(
     ensures serves { (serving : Serving) → serving_of (Some command) ≡ Some serving → RunServes serving keys.now result
         (world (N.model line.old) (W.history store.old) Unsure (C.model clock.old) (D.model draws.old))
         (λ known. world (N.model line.new) (W.history store.new) known (C.model clock.new) (D.model draws.new)) }
-    ensures signs { (id region : List ℕ) → command ≡ commands.Sign id region → RunSigns id region keys.now result (N.model line.old) (N.model line.new) }
+    ensures signs { (id region : List ℕ) → command ≡ commands.Sign id region → RunSigns id region keys.now (W.history store.old).called result (N.model line.old) (N.model line.new) }
 {
     match read_keys(alloc, keys) {
         Ok(keys) => match command {
@@ -118,9 +118,10 @@ fn sign<N: Line<W>, W: Swift>(
     ensures usage { result ≡ ended.Plain status.Usage → secret_of id.now keys.now ≡ None }
     ensures refused { secret_of id.now keys.now ≡ None → (result ≡ ended.Plain status.Usage) × (line.new ≡ line.old) }
     ensures other { result ≢ ended.Plain status.Done }
-    ensures line { SignsOn (is_failed_run result) (N.model line.old) (N.model line.new) }
+    ensures line { SignsOn (is_failed_run result) (W.history store.now).called (N.model line.old) (N.model line.new) }
     ensures effect { (secret : List ℕ) → secret_of id.now keys.now ≡ Some secret → IsTrue (N.model line.old).observable
-        → (signing : Signing) × AnswersFirst secret region.now (N.model line.old).transcript.waiting signing × (result ≡ end_of signing) }
+        → (signing : Signing) × AnswersFirst secret region.now (N.model line.old).transcript.waiting signing
+        × SendsFirst (W.history store.now).called (N.model line.old).transcript signing (N.model line.new).transcript × (result ≡ end_of signing) }
 {
     match keys.secret(id.as_slice()) {
         Some(secret) => end_of(sign_first(alloc, secret, region.as_slice(), line, store)),

@@ -5,7 +5,7 @@ ghost use Rattle.recovery.specs.declared.state.Known.TheVariants.{Unsure};
 ghost use Rattle.recovery.specs.Calls.{Met};
 ghost use Rattle.recovery.specs.Settling.{Anything};
 ghost use Rattle.sigv4.specs.Keys.{keys_of, are_keys, secret_of};
-ghost use Rattle.sign_cmd.specs.Signing.{AnswersFirst, SignsOn};
+ghost use Rattle.sign_cmd.specs.Signing.{AnswersFirst, SendsFirst, SignsOn};
 ghost use Rattle.sign_cmd.specs.declared.first.Signing.{Signing};
 ghost use Rattle.gateway.specs.World.{world, IsObservable, Continues};
 ghost use Rattle.gateway_cli.specs.Words.{command_of};
@@ -60,10 +60,10 @@ pub fn run<N: Line<W>, R: Sink, W: Swift, C: Clock, D: Draws>(
     ensures serving { (serving : Serving) → serving_of (command_of words.now) ≡ Some serving
         → LineServed serving (result == 3) (result == 0) (N.model line.old) (N.model line.new) }
 
-    // A run that signs touches nothing but the line and the report, and writes nothing to the line, of which at most one connection
-    // begins: 3 comes only where the line failed.
+    // A run that signs touches nothing but the line and the report. At most one connection of the line begins, and at most the
+    // interim line is sent on it: 3 comes only where the line failed.
     ensures apart { asked_for words.now ≡ to_sign → (store.new ≡ store.old) × (clock.new ≡ clock.old) × (draws.new ≡ draws.old) }
-    ensures signing { asked_for words.now ≡ to_sign → SignsOn (result == 3) (N.model line.old) (N.model line.new) }
+    ensures signing { asked_for words.now ≡ to_sign → SignsOn (result == 3) (W.history store.old).called (N.model line.old) (N.model line.new) }
 
     // The report has the lines of how the run ended, and nothing else; where its count of faults rose, the first bytes of them.
     // It is left alone where all connections were served.
@@ -81,8 +81,9 @@ pub fn run<N: Line<W>, R: Sink, W: Swift, C: Clock, D: Draws>(
         → FaultFree (W.history store.new) (W.history store.old).called (W.history store.new).called }
 
     // Where line, clock and draws are observable, a run that serves is a trace: its connections in order, none skipped, and
-    // of each the requests in order. The bytes that are expected for a request, or where the line failed under them the
-    // first of these, are sent at its commit point or later, and before the next request's first call. Over every store a
+    // of each the requests in order. The interim line is sent where it is owed for a request, before its first call; the bytes
+    // that are expected for the request, or where the line failed under them the first of these, are sent at its commit point
+    // or later, and before the next request's first call. Over every store a
     // request that is no operation gets its code without a call, ServiceUnavailable comes only where the store's count of
     // faults rose, and no call lies outside the spans.
     ensures heard { (serving : Serving) → serving_of (command_of words.now) ≡ Some serving
@@ -103,10 +104,11 @@ pub fn run<N: Line<W>, R: Sink, W: Swift, C: Clock, D: Draws>(
         (world (N.model line.old) (W.history store.old) Unsure (C.model clock.old) (D.model draws.old))
         (λ known. world (N.model line.new) (W.history store.new) known (C.model clock.new) (D.model draws.new)) }
 
-    // What is signed is the line's first request, by the secret of the key.
+    // What is signed is the line's first request, by the secret of the key. Nothing was sent but the interim line, where it is owed.
     ensures effect_signed { (id region secret : List ℕ) → command_of words.now ≡ Some (commands.Sign id region)
         → are_keys (keys_of keys.now) ≡ true → secret_of id (keys_of keys.now) ≡ Some secret → IsTrue (N.model line.old).observable → (result ≡ 5 → ⊥)
         → (signing : Signing) × AnswersFirst secret region (N.model line.old).transcript.waiting signing
+        × SendsFirst (W.history store.old).called (N.model line.old).transcript signing (N.model line.new).transcript
         × (text : List ℕ) × Says (end_of signing) result text × Reports text (R.model report.old) (R.model report.new) }
 {
     let ended = attempt(alloc, words, keys, line, store, clock, draws);

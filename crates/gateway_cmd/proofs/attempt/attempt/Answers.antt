@@ -16,4 +16,4 @@ pub returns-in-Err-Memory-clause-serves : goal.returns-in-Err-Memory-clause-serv
 returns-in-Err-Memory-clause-serves g c = λ serving is. run_serves_none serving c.args.keys.now _ _ _ _ _ refl refl refl
 
 pub returns-in-Err-Memory-clause-signs : goal.returns-in-Err-Memory-clause-signs
-returns-in-Err-Memory-clause-signs g c = λ id region is. run_signs_none id region c.args.keys.now _ _ refl (λ done. cc) (λ good other. other refl)
+returns-in-Err-Memory-clause-signs g c = λ id region is. run_signs_none id region c.args.keys.now _ _ _ refl (λ done. cc) (λ good other. other refl)

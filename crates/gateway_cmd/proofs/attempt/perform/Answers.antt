@@ -7,19 +7,19 @@ pub returns-in-Err-BadLine-clause-serves : goal.returns-in-Err-BadLine-clause-se
 returns-in-Err-BadLine-clause-serves g c = λ serving is. run_serves_none serving c.args.keys.now _ _ _ _ _ refl refl refl
 
 pub returns-in-Err-BadLine-clause-signs : goal.returns-in-Err-BadLine-clause-signs
-returns-in-Err-BadLine-clause-signs g c = λ id region is. run_signs_none id region c.args.keys.now _ _ refl (λ done. cc) (λ good other. (let clash : true ≡ false = sym good ∙ (rw c.in-Err-BadLine.field-0-is at c.in-Err-BadLine.ensures) in cc))
+returns-in-Err-BadLine-clause-signs g c = λ id region is. run_signs_none id region c.args.keys.now _ _ _ refl (λ done. cc) (λ good other. (let clash : true ≡ false = sym good ∙ (rw c.in-Err-BadLine.field-0-is at c.in-Err-BadLine.ensures) in cc))
 
 pub returns-in-Err-Twice-clause-serves : goal.returns-in-Err-Twice-clause-serves
 returns-in-Err-Twice-clause-serves g c = λ serving is. run_serves_none serving c.args.keys.now _ _ _ _ _ refl refl refl
 
 pub returns-in-Err-Twice-clause-signs : goal.returns-in-Err-Twice-clause-signs
-returns-in-Err-Twice-clause-signs g c = λ id region is. run_signs_none id region c.args.keys.now _ _ refl (λ done. cc) (λ good other. (let clash : true ≡ false = sym good ∙ (rw c.in-Err-Twice.field-0-is at c.in-Err-Twice.ensures) in cc))
+returns-in-Err-Twice-clause-signs g c = λ id region is. run_signs_none id region c.args.keys.now _ _ _ refl (λ done. cc) (λ good other. (let clash : true ≡ false = sym good ∙ (rw c.in-Err-Twice.field-0-is at c.in-Err-Twice.ensures) in cc))
 
 pub returns-clause-serves : goal.returns-clause-serves
 returns-clause-serves g c = λ serving is. run_serves_none serving c.args.keys.now _ _ _ _ _ refl refl refl
 
 pub returns-clause-signs : goal.returns-clause-signs
-returns-clause-signs g c = λ id region is. run_signs_none id region c.args.keys.now _ _ refl (λ done. cc) (λ good other. other refl)
+returns-clause-signs g c = λ id region is. run_signs_none id region c.args.keys.now _ _ _ refl (λ done. cc) (λ good other. other refl)
 
 pub returns-in-Session-clause-serves : goal.returns-in-Session-clause-serves
 returns-in-Session-clause-serves g c = λ serving is.

@@ -33,7 +33,7 @@ pub returns-clause-signing : goal.returns-clause-signing
 returns-clause-signing g c = λ signing.
     let command = sign_command _ signing in
     let exits = says_exits _ _ _ c.tell.ensures.says.1 in
-    subst (λ failed. SignsOn failed (g.N.Line.model c.args.line.now) (g.N.Line.model c.attempt-ended.new.line)) (exits_failed_run _ _ exits) (c.attempt-ended.ensures.signs command.0 command.1 command.2).line
+    subst (λ failed. SignsOn failed (g.W.Swift.history c.args.store.now).called (g.N.Line.model c.args.line.now) (g.N.Line.model c.attempt-ended.new.line)) (exits_failed_run _ _ exits) (c.attempt-ended.ensures.signs command.0 command.1 command.2).line
 
 pub returns-clause-report : goal.returns-clause-report
 returns-clause-report g c =
@@ -94,4 +94,4 @@ pub returns-clause-effect_signed : goal.returns-clause-effect_signed
 returns-clause-effect_signed g c = λ id region secret asked good known observable other.
     let says = c.tell.ensures.says in
     let signs = (c.attempt-ended.ensures.signs id region asked).effect secret good known observable (exits_other _ Memory _ (says_exits _ _ _ says.1) other) in
-    (signs.0, signs.1, says.0, subst (λ how. Says how c.tell.result says.0) signs.2 says.1, says.2)
+    (signs.0, signs.1, signs.2, says.0, subst (λ how. Says how c.tell.result says.0) signs.3 says.1, says.2)
