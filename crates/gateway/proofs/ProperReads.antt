@@ -1,5 +1,5 @@
 -- What is read of a request keeps the limits of an operation: its range, and what its listing asks for.
-use Rattle.std.proofs.Common.{◌≡◌, ◌≤◌, ◌<◌, ◌^◌, ℕ, Bool, true, false, not, ◌&&◌, ◌||◌, cond, List, [], ◌∷◌, length, Option, Some, None, IfSome, min, refl, arith}
+use Rattle.std.proofs.Common.{◌≡◌, ◌≤◌, ◌<◌, ◌^◌, ℕ, Bool, true, false, not, ◌||◌, cond, List, [], ◌∷◌, length, Option, Some, None, IfSome, refl, arith}
 use Rattle.std.specs.Prelude.{nat_le, nat_eq, drop, option_map, codes}
 use Rattle.std.specs.List.{list_all, list_any, starts_with, before_first, after_first}
 use Rattle.std.specs.Result.{result_ok}
@@ -19,7 +19,7 @@ use Rattle.gateway.specs.Numbers.{is_number, number_of}
 use Rattle.gateway.specs.Ranges.{is_dash, place_of, between, range_by, range_behind, range_of, given_range}
 use Rattle.gateway.specs.Query.{text_at}
 use Rattle.gateway.specs.Rows.{is_asked}
-use Rattle.gateway.specs.Listings.{capped, count_of, is_lower_hex, most_keys, listing_text, token_of, given_token, has_long_text, first_asked, second_asked}
+use Rattle.gateway.specs.Listings.{capped, count_of, is_lower_hex, listing_text, token_of, given_token, has_long_text, first_asked, second_asked}
 use Rattle.gateway.proofs.Digits.{own}
 
 -- ---- ranges

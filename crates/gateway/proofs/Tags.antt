@@ -1,5 +1,5 @@
 -- The tags of a value between its commas.
-use Rattle.std.proofs.Common.{◌≡◌, ℕ, ◌+◌, List, [], ◌∷◌, ◌++◌, take, drop, map, Some, None, position, refl, sym, ap, ◌∙◌, append_assoc}
+use Rattle.std.proofs.Common.{◌≡◌, ℕ, ◌+◌, List, [], ◌∷◌, ◌++◌, take, drop, map, Some, None, position, sym, ap, ◌∙◌, append_assoc}
 use Rattle.std.specs.List.{slice_split}
 use Rattle.std.proofs.lemmas.List.{drop-drop}
 use Rattle.s3_names.proofs.lemmas.Dots.{slice_split_from, slice_split_none_at}

@@ -1,7 +1,7 @@
 -- The conditions of a GET or a HEAD. Source: RFC 9110, sections 8.8.3 (entity tags), 13.1.1 to 13.1.4 (If-Match, If-None-Match,
 -- If-Modified-Since, If-Unmodified-Since) and 5.6.7 (dates); that tags stand with quotes or without them, and are compared
 -- without the mark of a weak one, is this profile's.
-use Rattle.std.specs.Prelude.{ℕ, Bool, ◌&&◌, ◌==◌, ◌-◌, nat_eq, nat_le, if◌then◌else◌, List, [], ◌∷◌, map, take, drop, length, slice_get, codes, bytes_eq, Option, false}
+use Rattle.std.specs.Prelude.{ℕ, Bool, ◌&&◌, ◌==◌, ◌-◌, nat_eq, nat_le, if◌then◌else◌, List, map, take, drop, length, slice_get, codes, bytes_eq, Option, false}
 use Rattle.std.specs.List.{prefix_len, suffix_len, slice_split, starts_with}
 use Rattle.std.specs.Option.{option_map_or}
 use Rattle.httpdate.specs.Date.{parse_secs}

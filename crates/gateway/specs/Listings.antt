@@ -1,6 +1,6 @@
 -- What a listing of objects asks for. Sources: Amazon S3 API Reference, "ListObjects" and "ListObjectsV2"; the limits of counts
 -- and of texts, and the form of a token, are this profile's.
-use Rattle.std.specs.Prelude.{ℕ, Bool, true, false, not, ◌&&◌, ◌||◌, nat_le, min, if◌then◌else◌, List, [], ◌∷◌, codes, bytes_eq, Option, Some, None, is_none}
+use Rattle.std.specs.Prelude.{ℕ, Bool, false, not, ◌&&◌, ◌||◌, nat_le, min, if◌then◌else◌, List, [], codes, bytes_eq, Option, Some, None, is_none}
 use Rattle.std.specs.List.{list_all}
 use Rattle.std.specs.Result.{result_ok}
 use Rattle.hex.specs.Hex.{decode_of}

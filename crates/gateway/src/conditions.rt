@@ -1,6 +1,6 @@
 //! The conditions of a GET or a HEAD.
-ghost use Rattle.std.specs.Prelude.{◌≡◌, ◌&&◌, ◌==◌, ◌-◌, ◌≤◌, ◌++◌, [], ◌∷◌, nat_eq, nat_le, false, map, take, drop, length, slice_get, codes, bytes_eq, IfOk, OnOk};
-ghost use Rattle.std.specs.List.{prefix_len, suffix_len, slice_split, starts_with};
+ghost use Rattle.std.specs.Prelude.{◌≡◌, ◌-◌, ◌≤◌, ◌++◌, [], ◌∷◌, false, map, length, slice_get, IfOk, OnOk};
+ghost use Rattle.std.specs.List.{prefix_len, suffix_len, slice_split};
 ghost use Rattle.std.specs.Option.{option_map_or};
 ghost use Rattle.gateway.specs.Closing.{is_comma};
 ghost use Rattle.gateway.specs.Conditions.{is_space, is_quote, behind_spaces, before_spaces, without_mark, is_quoted, without_quotes, etag_of, etags_of, given_etags, date_of, given_date, given_conditions};

@@ -1,10 +1,9 @@
 //! What a listing of objects asks for.
-ghost use Rattle.std.specs.Prelude.{◌≡◌, ◌&&◌, ◌||◌, not, nat_le, min, codes, bytes_eq, is_none, IfOk};
+ghost use Rattle.std.specs.Prelude.{◌≡◌, IfOk};
 ghost use Rattle.std.specs.List.{list_all};
 ghost use Rattle.std.specs.Result.{result_ok};
 ghost use Rattle.hex.specs.Hex.{decode_of};
 ghost use Rattle.gateway.specs.Query.{text_at};
-ghost use Rattle.gateway.specs.Rows.{is_asked};
 ghost use Rattle.gateway.specs.Listings.{up_to_greatest, count_of, capped, most_keys, is_lower_hex, listing_text, token_of, given_token, has_other, has_bad_flag, has_bad_count, has_bad_text, has_bad_token, has_bad_word, has_long_text, first_asked, second_asked};
 
 use crate::numbers::number_of;

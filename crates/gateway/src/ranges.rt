@@ -1,6 +1,6 @@
 //! What a Range header asks for.
-ghost use Rattle.std.specs.Prelude.{◌≡◌, ◌==◌, IfOk, nat_eq, length, drop, codes, option_map};
-ghost use Rattle.std.specs.List.{list_any, starts_with, before_first, after_first};
+ghost use Rattle.std.specs.Prelude.{◌≡◌, IfOk, option_map};
+ghost use Rattle.std.specs.List.{list_any};
 ghost use Rattle.gateway.specs.Ranges.{is_dash, place_of, between, range_by, range_behind, range_of, given_range};
 
 use crate::numbers::number_of;
