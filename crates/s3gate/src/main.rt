@@ -1,9 +1,12 @@
 //! `s3gate`, the gateway. The words after the program's name are those of `gateway_cmd::run`, and the file that
 //! `S3GATE_KEYS` names has the key text. `session` serves one connection on standard input and output, `serve` the clients
 //! that come to the place which `S3GATE_LISTEN` names, and both over a fresh store in memory; `sign` signs the first request
-//! of standard input.
+//! of standard input, to which nothing is written back.
 #![tactic(auto)]
 
+mod input;
+
+use crate::input::InputLine;
 use gate_base::{Line, List, Memory, RandomDraws, StdLine, StdSink, SystemClock};
 use gateway_cmd::run;
 use sockets::TcpLine;
@@ -45,8 +48,11 @@ fn start(rt: &HostRuntime) -> io::Result<u8> {
     if begins_with(&words, b"serve") {
         let mut line = clients(rt)?;
         run_over(rt, &words, keys.as_str(), &mut line)
-    } else {
+    } else if begins_with(&words, b"session") {
         let mut line = StdLine::new(rt.clone()?);
+        run_over(rt, &words, keys.as_str(), &mut line)
+    } else {
+        let mut line = InputLine::new(rt.clone()?);
         run_over(rt, &words, keys.as_str(), &mut line)
     }
 }
