@@ -3,9 +3,13 @@
 //!
 //! `session` serves one connection on standard input and output, over a fresh store in memory. `serve` serves the clients
 //! that come to the place which `S3GATE_LISTEN` names, over the Swift store at `S3GATE_STORE`, in its account
-//! `S3GATE_ACCOUNT`, with the token `S3GATE_TOKEN`. `sign` signs the first request of standard input.
+//! `S3GATE_ACCOUNT`, with the token `S3GATE_TOKEN`. `sign` signs the first request of standard
+//! input, to which nothing is written back.
 #![tactic(auto)]
 
+mod input;
+
+use crate::input::InputLine;
 use gate_base::{Bytes, Copying, Line, List, Memory, RandomDraws, StdLine, StdSink, SystemClock};
 use gateway_cmd::run;
 use sockets::TcpLine;
@@ -56,11 +60,16 @@ fn start(rt: &HostRuntime) -> io::Result<u8> {
         let mut store = swift_store(rt)?;
         run_over(rt, &words, keys.as_str(), &mut line, &mut store)
     } else {
-        let mut line = StdLine::new(rt.clone()?);
         let Ok(mut store) = empty_store(rt.alloc()) else {
             return Ok(MEMORY);
         };
-        run_over(rt, &words, keys.as_str(), &mut line, &mut store)
+        if begins_with(&words, b"session") {
+            let mut line = StdLine::new(rt.clone()?);
+            run_over(rt, &words, keys.as_str(), &mut line, &mut store)
+        } else {
+            let mut line = InputLine::new(rt.clone()?);
+            run_over(rt, &words, keys.as_str(), &mut line, &mut store)
+        }
     }
 }
 
