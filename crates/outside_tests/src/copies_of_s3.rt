@@ -1,7 +1,9 @@
 //! Copies of names, operations and replies of S3.
 use crate::copies::is_copied;
-use gate_base::{Bytes, Caller};
-use s3_machine::{Code, Label, Listed, ObjectHead, Op, Reply, Settings};
+use gate_base::{Bytes, Caller, List};
+use s3_machine::{
+    Asked, Code, Conditions, ETags, Label, Listed, ObjectHead, Op, Range, Reply, Settings,
+};
 use s3_names::{Acl, BucketName, Key, Meta, Query, Target};
 use std::alloc::Global;
 use std::test::Fail;
@@ -56,11 +58,44 @@ fn bucket_op(alloc: Global, number: u8) -> Op {
         3 => Op::HeadBucket { bucket },
         4 => Op::GetLocation { bucket },
         5 => Op::GetBucketAcl { bucket },
-        _ => Op::PutBucketAcl {
+        6 => Op::PutBucketAcl {
             bucket,
             acl: Acl::PublicRead,
         },
+        _ => Op::ListObjects {
+            bucket,
+            asked: asked(alloc),
+        },
     }
+}
+
+fn asked(alloc: Global) -> Asked {
+    Asked {
+        version: 2,
+        prefix: Bytes::new(alloc),
+        delimiter: Bytes::new(alloc),
+        marker: Bytes::new(alloc),
+        start_after: Bytes::new(alloc),
+        token: Some(Bytes::new(alloc)),
+        max: 3,
+        url: true,
+        owner: false,
+    }
+}
+
+fn conditions() -> Conditions {
+    Conditions {
+        matched: ETags::Any,
+        unmatched: ETags::Absent,
+        modified: Some(3),
+        unmodified: None,
+    }
+}
+
+fn are_etags_copied(alloc: Global) -> Result<bool, Fail> {
+    let mut etags = List::new(alloc);
+    etags.push(Bytes::from_slice(alloc, b"a")?)?;
+    is_copied(alloc, &ETags::Listed(etags))
 }
 
 fn key_op(alloc: Global, number: u8) -> Op {
@@ -75,8 +110,18 @@ fn key_op(alloc: Global, number: u8) -> Op {
             meta: Meta::new(alloc),
             body: Bytes::new(alloc),
         },
-        1 => Op::GetObject { bucket, key },
-        2 => Op::HeadObject { bucket, key },
+        1 => Op::GetObject {
+            bucket,
+            key,
+            range: Some(Range::FromTo(1, 2)),
+            conditions: conditions(),
+        },
+        2 => Op::HeadObject {
+            bucket,
+            key,
+            range: None,
+            conditions: Conditions::none(),
+        },
         3 => Op::DeleteObject { bucket, key },
         _ => Op::GetObjectAcl { bucket, key },
     }
@@ -142,7 +187,7 @@ fn is_reply_copied(alloc: Global, number: u8) -> Result<bool, Fail> {
 #[test]
 fn operations_and_replies_are_copied(rt: HostRuntime) -> Result<(), Fail> {
     let alloc = rt.alloc();
-    for number in 0..7 {
+    for number in 0..8 {
         assert!(rt; is_bucket_op_copied(alloc, number)?, "{number}");
     }
     for number in 0..5 {
@@ -152,6 +197,8 @@ fn operations_and_replies_are_copied(rt: HostRuntime) -> Result<(), Fail> {
         assert!(rt; is_reply_copied(alloc, number)?, "{number}");
     }
     assert!(rt; is_copied(alloc, &Code::NoSuchBucket)?);
+    assert!(rt; is_copied(alloc, &Range::Last(1))?);
+    assert!(rt; are_etags_copied(alloc)?);
     Ok(())
 }
 
