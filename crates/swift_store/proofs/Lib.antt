@@ -1,0 +1,5 @@
+pub mod Entries
+pub mod Listing
+pub mod Ordered
+pub mod Shelves
+pub mod Tables
