@@ -1,0 +1,34 @@
+use Rattle.std.proofs.Common.{◌<◌, arith, sym, subst}
+use Rattle.std.proofs.lemmas.Bool.Decides.{nat_tests}
+use Rattle.swift_calls.specs.History.{budget}
+use Rattle.swift_wire.specs.Calls.{SpellsRequest}
+use Rattle.swift_client.proofs.Calling.{read_as, lost, unread}
+use Rattle.swift_client.proofs.client.SwiftClientSwift.call.Goals as goal
+
+pub returns-in-Ok : goal.returns-in-Ok
+returns-in-Ok g c =
+    let counted = g.met.L.Link.counted c.args.self.now.link in
+    let called = c.calls.ensures in
+    let more = c.if-calls-ge-CALL_LIMIT.false in
+    let left : (g.L.Link.history c.args.self.now.link).called < budget = grind (arith, nat_tests) in
+    let spells = subst (λ bytes. SpellsRequest c.args.self.now.place c.args.request.now bytes) (sym c.as_slice.ensures) c.in_ok-bytes.ensures.spells in
+    rw (c.read.ensures.link, c.read.ensures.place)
+    (read_as _ _ _ _ _ left c.requires _ _ spells _ _ c.exchange.ensures.place c.in-Ok.ensures.exchanges _ _ c.read.ensures.reads c.read.ensures.own)
+
+pub returns-in-Err-Failed : goal.returns-in-Err-Failed
+returns-in-Err-Failed g c =
+    let counted = g.met.L.Link.counted c.args.self.now.link in
+    let called = c.calls.ensures in
+    let more = c.if-calls-ge-CALL_LIMIT.false in
+    let left : (g.L.Link.history c.args.self.now.link).called < budget = grind (arith, nat_tests) in
+    let spells = subst (λ bytes. SpellsRequest c.args.self.now.place c.args.request.now bytes) (sym c.as_slice.ensures) c.in_ok-bytes.ensures.spells in
+    lost _ _ _ _ _ left c.requires _ _ spells _ _ c.exchange.ensures.place _ c.in-Err-Failed.field-0-is c.in-Err-Failed.ensures.exchanges
+
+pub returns : goal.returns
+returns g c =
+    let counted = g.met.L.Link.counted c.args.self.now.link in
+    let called = c.calls.ensures in
+    let more = c.if-calls-ge-CALL_LIMIT.false in
+    let left : (g.L.Link.history c.args.self.now.link).called < budget = grind (arith, nat_tests) in
+    let spells = subst (λ bytes. SpellsRequest c.args.self.now.place c.args.request.now bytes) (sym c.as_slice.ensures) c.in_ok-bytes.ensures.spells in
+    unread _ _ _ _ _ left c.requires _ _ spells _ _ c.exchange.ensures.place _ c.in-Err-Memory.field-0-is c.in-Err-Memory.ensures.exchanges

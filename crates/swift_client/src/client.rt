@@ -1,0 +1,114 @@
+//! A store over a link.
+ghost use Rattle.std.specs.Prelude.{◌≡◌, ◌+◌, nat_eq, if◌then◌else◌, true, IsTrue, IsErrOf};
+ghost use Rattle.std.proofs.Common.{sym, ap, ◌∙◌};
+ghost use Rattle.std.proofs.Math.Nat.{add-zero};
+ghost use Rattle.std.proofs.lemmas.Bool.{and_parts, eqb-true, lt-ltb};
+ghost use Rattle.swift_calls.specs.History.{CountsFaults, budget};
+ghost use Rattle.swift_calls.specs.Step.{Fit};
+ghost use Rattle.swift_wire.specs.Place.{IsPlace};
+ghost use Rattle.swift_client.specs.Client.{history_over, ReadsAs};
+
+use gate_base::{Bytes, CALL_LIMIT, Counted};
+use std::alloc::Global;
+use std::mem::swap;
+use swift_calls::{Swift, SwiftFault, SwiftReply, SwiftRequest};
+use swift_wire::{Link, LinkFault, Place, WireFault, read_answer, write_call};
+
+/// A Swift store over a link. Each call is one exchange, so its calls are those of the link.
+///
+/// It counts a fault where the link counts one, where an answer spells nothing (its status is none of the call's, a
+/// header is missing or doesn't read), and where no call is left. It is observable where the link is, and then the
+/// account after each call is the link's.
+#[derive(Drop)]
+pub struct SwiftClient<L: Link> {
+    link: L,
+    place: Place,
+    alloc: Global,
+    /// The last answer, whose room the next one takes.
+    reply: Bytes,
+    unread: Bytes,
+    /// The answers that spelled nothing, and the calls made when none was left.
+    own: u64,
+    ghost placed: { IsPlace place },
+}
+
+impl<L: Link> SwiftClient<L> {
+    /// A store whose account is at `place`, over `link`. No call is made.
+    #[tactic(auto, using(crate::proofs::Calling::fresh_history))]
+    pub fn new(alloc: Global, link: L, place: Place) -> SwiftClient<L>
+        requires is_place { IsPlace place }
+        requires same { IsTrue (L.history link).observable → L.place link ≡ place }
+        ensures { ⟦<SwiftClient<L> as Swift>⟧.history result ≡ L.history link }
+    {
+        SwiftClient {
+            link,
+            place,
+            alloc,
+            reply: Bytes::new(alloc),
+            unread: Bytes::new(alloc),
+            own: 0,
+        }
+    }
+
+    /// The last answer that spelled nothing; empty where there was none.
+    pub fn unread(&self) -> &[u8]
+        ensures { result.now ≡ self.now.unread }
+    {
+        self.unread.as_slice()
+    }
+
+    /// What the answer that came says. One that spells nothing is kept.
+    fn read(&mut self, request: &SwiftRequest) -> Result<SwiftReply, SwiftFault>
+        requires { Fit request.now }
+        ensures link { self.new.link ≡ self.old.link }
+        ensures place { self.new.place ≡ self.old.place }
+        ensures reads { ReadsAs request.now self.old.reply result }
+        ensures own { CountsFaults self.old.own self.new.own result }
+        ensures unread { IsErrOf result SwiftFault.Failed → self.new.unread ≡ self.old.reply }
+    {
+        match read_answer(self.alloc, request, self.reply.as_slice()) {
+            Ok(reply) => Ok(reply),
+            Err(WireFault::Memory) => Err(SwiftFault::Memory),
+            Err(WireFault::NotACall) => unreachable!(),
+            Err(WireFault::NotAnAnswer) => {
+                swap(&mut self.unread, &mut self.reply);
+                self.own = self.own.saturating_add(1);
+                Err(SwiftFault::Failed)
+            }
+        }
+    }
+}
+
+impl<L: Link> Counted for SwiftClient<L> {
+    ghost called = { λ c. L.Counted.called c.link };
+
+    fn calls(&self) -> u64 {
+        self.link.calls()
+    }
+}
+
+impl<L: Link> Swift for SwiftClient<L> {
+    ghost history = { λ c. history_over (L.history c.link) (L.place c.link) c.place c.own };
+
+    ghost counted = { λ c. L.counted c.link };
+
+    ghost is_history = { λ c. record {
+      last = λ observable left.
+          let own = eqb-true c.own 0 (sym (ap (λ more. if more then nat_eq c.own 0 else true) (lt-ltb (L.history c.link).called budget left)) ∙ (and_parts _ _ (and_parts _ _ observable).1).1) in
+          (L.is_history c.link).last (and_parts _ _ observable).0 left ∙ sym (ap (λ own. (L.history c.link).faults + own) own ∙ add-zero (L.history c.link).faults);
+      rise = λ observable. (L.is_history c.link).rise (and_parts _ _ observable).0;
+    } };
+
+    fn call(&mut self, request: &SwiftRequest) -> Result<SwiftReply, SwiftFault> {
+        if self.link.calls() >= CALL_LIMIT {
+            self.own = self.own.saturating_add(1);
+            return Err(SwiftFault::Failed);
+        }
+        let bytes = write_call(self.alloc, &self.place, request)?;
+        match self.link.exchange(bytes.as_slice(), &mut self.reply) {
+            Ok(()) => self.read(request),
+            Err(LinkFault::Failed) => Err(SwiftFault::Failed),
+            Err(LinkFault::Memory) => Err(SwiftFault::Memory),
+        }
+    }
+}

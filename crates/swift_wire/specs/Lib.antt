@@ -1,0 +1,9 @@
+pub mod AnswerText
+pub mod Answers
+pub mod Calls
+pub mod CallText
+pub mod Fields
+pub mod Framing
+pub mod Link
+pub mod Paths
+pub mod Place

@@ -1,0 +1,22 @@
+//! How calls of Object Storage API v1 and their answers are written in HTTP/1.1, and how they are read.
+#![tactic(auto)]
+
+mod answers;
+mod call_reader;
+mod call_writer;
+mod fault;
+mod fields;
+mod framing;
+mod link;
+mod paths;
+mod place;
+mod written;
+
+pub use answers::read_answer;
+pub use call_reader::read_call;
+pub use call_writer::write_call;
+pub use fault::WireFault;
+pub use framing::{End, answer_end};
+pub use link::{Link, LinkFault};
+pub use place::{Place, has_token, is_place};
+pub use written::write_answer;
