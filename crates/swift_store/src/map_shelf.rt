@@ -2,6 +2,7 @@
 ghost use Rattle.std.specs.Prelude.{◌≡◌, true, option_copied};
 ghost use Rattle.std.specs.FinMap.{empty};
 ghost use Rattle.swift_calls.specs.Account.{find_object};
+ghost use Rattle.swift_store.specs.Shelf.{HasNoLists};
 
 use crate::folder::Folder;
 use crate::kept::Kept;
@@ -18,10 +19,12 @@ use swift_calls::{NameItem, ReadList, Stored, StoredHead};
 pub struct MapShelf {
     alloc: Global,
     folders: Table<Folder>,
+    ghost plain: { HasNoLists folders },
 }
 
 impl MapShelf {
     /// An account without a container. It takes no memory.
+    #[tactic(auto, using(crate::proofs::Shelves::none_empty))]
     pub fn new(alloc: Global) -> MapShelf
         ensures { result.folders ≡ empty }
     {
@@ -51,6 +54,8 @@ impl Shelf for MapShelf {
 
     ghost account = { λ s. s.folders };
 
+    ghost plain = { λ s observable. s.plain };
+
     fn containers(&mut self, marker: &[u8], limit: u32) -> Result<List<Bytes>, StoreFault> {
         Ok(self.folders.page(self.alloc, marker, limit as usize)?)
     }
@@ -69,7 +74,7 @@ impl Shelf for MapShelf {
         }
     }
 
-    #[tactic(auto, using(crate::proofs::Shelves::head_written, crate::proofs::Shelves::container_made))]
+    #[tactic(auto, using(crate::proofs::Shelves::head_written, crate::proofs::Shelves::container_made, crate::proofs::Shelves::plain_head, crate::proofs::Shelves::plain_made))]
     fn put_container(
         &mut self,
         name: &[u8],
@@ -85,6 +90,7 @@ impl Shelf for MapShelf {
         Ok(())
     }
 
+    #[tactic(auto, using(crate::proofs::Shelves::plain_removed))]
     fn drop_container(&mut self, name: &[u8]) -> Result<(), StoreFault> {
         self.folders.drop_at(name);
         Ok(())
@@ -131,6 +137,7 @@ impl Shelf for MapShelf {
         Ok(self.folders.put_object(container, name.as_slice(), object)?)
     }
 
+    #[tactic(auto, using(crate::proofs::Shelves::plain_taken))]
     fn remove(&mut self, container: &[u8], name: &[u8]) -> Result<bool, StoreFault> {
         let there = self.object(container, name).is_some();
         self.folders.drop_object(container, name);

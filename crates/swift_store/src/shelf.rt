@@ -1,11 +1,12 @@
 //! What keeps an account for a store.
-ghost use Rattle.std.specs.Prelude.{◌≡◌, ◌<◌, ◌^◌, ◌++◌, Bool, ℕ, IsTrue, is_some, IfOk, OnErr, OnOk, IsErrOf};
+ghost use Rattle.std.specs.Prelude.{◌≡◌, false, ◌<◌, ◌^◌, ◌++◌, Bool, ℕ, IsTrue, is_some, IfOk, OnErr, OnOk, IsErrOf};
 ghost use Rattle.std.specs.Option.{option_map};
 ghost use Rattle.std.specs.FinMap.{get, remove};
 ghost use Rattle.swift_calls.specs.Account.{SwiftAccount, files, find_object, put_file, remove_file, size_of};
-ghost use Rattle.swift_calls.specs.Bodies.{etag_of, head_of};
+ghost use Rattle.swift_calls.specs.Bodies.{etag_of, head_of, is_list};
 ghost use Rattle.swift_calls.specs.Step.{is_bare};
 ghost use Rattle.swift_store.specs.Shelf.{
+  HasNoLists,
   CountsStoreFaults,
   Writes,
   container_head,
@@ -131,6 +132,7 @@ pub trait Shelf {
     fn put(&mut self, container: &[u8], object: Stored, etag: Bytes) -> Result<(), StoreFault>
         requires etag { etag ≡ etag_of object.content }
         requires size { size_of object.content < 2 ^ 63 }
+        requires plain { is_list object.content ≡ false }
         ensures faults { CountsStoreFaults (faults self.old) (faults self.new) result }
         ensures sure { IsTrue (sure self.old) → IsTrue (sure self.new) }
         ensures never { IsTrue (sure self.old) → IsErrOf result fault.Failed → ⊥ }
@@ -145,4 +147,7 @@ pub trait Shelf {
         ensures observable { IsTrue (observable self.old) → IsTrue (observable self.new) }
         ensures effect { IsTrue (observable self.old) → Writes (account self.old) (remove_file container.now name.now (account self.old)) (account self.new) result }
         ensures told { IsTrue (observable self.old) → IfOk result (λ there. there ≡ is_some (find_object (account self.old) container.now name.now)) };
+
+    /// Where it is observable, no object lists segments.
+    ghost plain: { (s : Self) → IsTrue (observable s) → HasNoLists (account s) };
 }
