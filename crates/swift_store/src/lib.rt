@@ -14,4 +14,4 @@ mod table;
 pub use faults::StoreFault;
 pub use map_shelf::MapShelf;
 pub use shelf::Shelf;
-pub use store::serve;
+pub use store::{Store, serve};

@@ -105,3 +105,39 @@ pub fn serve<S: Shelf>(
         Err(WireFault::NotAnAnswer) => unreachable!(),
     }
 }
+
+/// A store of one account over a shelf.
+#[derive(Drop)]
+pub struct Store<S: Shelf> {
+    shelf: S,
+    place: Place,
+    alloc: Global,
+    ghost valid: { IsPlace place },
+}
+
+impl<S: Shelf> Store<S> {
+    /// A store of the place's account. It takes no memory.
+    pub fn new(alloc: Global, shelf: S, place: Place) -> Store<S>
+        requires { IsPlace place }
+        ensures shelf { result.shelf ≡ shelf }
+        ensures place { result.place ≡ place }
+    {
+        Store {
+            shelf,
+            place,
+            alloc,
+        }
+    }
+
+    /// Appends the answer to one message, as [`serve`] does.
+    pub fn serve(&mut self, message: Message, out: &mut Bytes) -> Result<(), StoreFault>
+        ensures place { self.new.place ≡ self.old.place }
+        ensures faults { CountsStoreFaults (S.faults self.old.shelf) (S.faults self.new.shelf) result }
+        ensures sure { IsTrue (S.sure self.old.shelf) → IsTrue (S.sure self.new.shelf) }
+        ensures never { IsTrue (S.sure self.old.shelf) → IsErrOf result fault.Failed → ⊥ }
+        ensures observable { IsTrue (S.observable self.old.shelf) → IsTrue (S.observable self.new.shelf) }
+        ensures served { Served (S.observable self.old.shelf) self.old.place message (S.account self.old.shelf) (S.account self.new.shelf) out.old out.new result }
+    {
+        serve(self.alloc, &self.place, &mut self.shelf, message, out)
+    }
+}
