@@ -29,4 +29,4 @@ pub use fault::WireFault;
 pub use framing::{End, answer_end};
 pub use link::{Link, LinkFault};
 pub use place::{Place, has_token, is_place};
-pub use written::write_answer;
+pub use written::{refusal, write_answer};

@@ -1,0 +1,142 @@
+-- The account after each call, by what was written.
+use Rattle.std.specs.Prelude.{◌≡◌, ◌⊎◌, ℕ, ◌<◌, ◌≤◌, ◌^◌, Bool, true, false, List, length, Option, None, Some, Result, Ok, Err}
+use Rattle.std.specs.Option.{option_map}
+use Rattle.std.specs.FinMap.{get, remove}
+use Rattle.std.proofs.Common.{refl, sym, ap, subst, ◌∙◌, inl, inr, arith, true≢false}
+use Rattle.std.proofs.lemmas.Option.{none-some, same_Some}
+use Rattle.gate_base.specs.Maps.{adjust}
+use Rattle.gate_base.proofs.lemmas.Maps.{by_name, adjust_same}
+use Rattle.swift_calls.specs.Account.{SwiftAccount, SwiftContainer, SwiftObject, find_object, put_file, remove_file, with_head, with_readers, size_of}
+use Rattle.swift_calls.specs.Bodies.{etag_text, etag_of}
+use Rattle.swift_calls.specs.Limits.{most_body}
+use Rattle.swift_calls.specs.Step.{swift_step, is_bare, head_container, put_container, post_container, delete_container, delete_by, put_object, delete_object}
+use Rattle.swift_calls.specs.declared.account.ReadList.{ReadList}
+use Rattle.swift_calls.specs.declared.account.Content.TheVariants.{Plain}
+use Rattle.swift_calls.specs.declared.calls.SwiftRequest.TheVariants.{HeadContainer, PutContainer, PostContainer, DeleteContainer, PutObject, DeleteObject}
+use Rattle.swift_calls.specs.declared.calls.SwiftReply.{SwiftReply}
+use Rattle.swift_calls.specs.declared.calls.SwiftReply.TheVariants as replies
+use Rattle.swift_store.specs.Shelf.{Writes, container_head, with_container}
+use Rattle.swift_store.specs.Serving.{TagsWith, etag_in, is_gone}
+use Rattle.swift_store.specs.declared.faults.StoreFault.{StoreFault}
+use Rattle.swift_store.specs.declared.faults.StoreFault.TheVariants.{Failed, Memory}
+
+-- nothing was written
+pub unwritten : (old written new : SwiftAccount) (fault : StoreFault) → new ≡ old → Writes {A = Unit {0}} old written new (Err fault)
+unwritten old written new Failed same = inl same
+unwritten old written new Memory same = same
+
+pub head_leaves : (n : List ℕ) (account : SwiftAccount) → account ≡ (swift_step (HeadContainer n) account).tree
+head_leaves n account = by (get account n)
+  where
+    by : (v : Option SwiftContainer) → account ≡ (head_container v account).tree
+    by None = refl
+    by (Some c) = refl
+
+-- ---- POST of a container
+
+pub posted : (n : List ℕ) (readers kept : ReadList) (created : Option ℕ) (account later : SwiftAccount) → Some (kept, created) ≡ option_map container_head (get account n) → later ≡ account
+    → with_container n readers created later ≡ (swift_step (PostContainer n readers) account).tree
+posted n readers kept created account later e same = ap (with_container n readers created) same ∙ by (get account n) refl e
+  where
+    by : (v : Option SwiftContainer) → get account n ≡ v → Some (kept, created) ≡ option_map container_head v → (put_container v n readers created account).tree ≡ (post_container v n readers account).tree
+    by None at e = absurd (none-some _ (sym e))
+    by (Some c) at e =
+        let given : created ≡ c.created = ap (λ (p : ReadList × Option ℕ). p.1) (same_Some (kept, created) (container_head c) e) in
+        adjust_same by_name n (with_head readers created) (with_readers readers) account (λ x is. λ i. record x { readers = readers; created = (given ∙ ap (λ (y : SwiftContainer). y.created) (same_Some c x (sym at ∙ is))) i })
+
+-- what was written of it, or failed
+pub posted_by : (n : List ℕ) (readers kept : ReadList) (created : Option ℕ) (account later new : SwiftAccount) (result : Result (Unit {0}) StoreFault) → Some (kept, created) ≡ option_map container_head (get account n) → later ≡ account
+    → Writes later (with_container n readers created later) new result → Writes account (swift_step (PostContainer n readers) account).tree new result
+posted_by n readers kept created account later new (Ok done) e same writes = writes ∙ posted n readers kept created account later e same
+posted_by n readers kept created account later new (Err Failed) e same (inl stayed) = inl (stayed ∙ same)
+posted_by n readers kept created account later new (Err Failed) e same (inr done) = inr (done ∙ posted n readers kept created account later e same)
+posted_by n readers kept created account later new (Err Memory) e same stayed = stayed ∙ same
+
+pub not_posted : (n : List ℕ) (readers : ReadList) (account : SwiftAccount) → None ≡ option_map container_head (get account n) → account ≡ (swift_step (PostContainer n readers) account).tree
+not_posted n readers account e = by (get account n) e
+  where
+    by : (v : Option SwiftContainer) → None ≡ option_map container_head v → account ≡ (post_container v n readers account).tree
+    by None e = refl
+    by (Some c) e = absurd (none-some _ e)
+
+-- ---- DELETE of a container
+
+pub dropped : (n : List ℕ) (account : SwiftAccount) (reply : SwiftReply) → is_gone reply ≡ true → reply ≡ (swift_step (DeleteContainer n) account).reply → remove account n ≡ (swift_step (DeleteContainer n) account).tree
+dropped n account reply gone e = by (get account n) (sym (ap is_gone e) ∙ gone)
+  where
+    on_test : (b : Bool) → is_gone (delete_by b n account).reply ≡ true → remove account n ≡ (delete_by b n account).tree
+    on_test true e = refl
+    on_test false e = absurd (true≢false (sym e))
+
+    by : (v : Option SwiftContainer) → is_gone (delete_container v n account).reply ≡ true → remove account n ≡ (delete_container v n account).tree
+    by None e = absurd (true≢false (sym e))
+    by (Some c) e = on_test (is_bare c) e
+
+pub not_dropped : (n : List ℕ) (account : SwiftAccount) (reply : SwiftReply) → is_gone reply ≡ false → reply ≡ (swift_step (DeleteContainer n) account).reply → account ≡ (swift_step (DeleteContainer n) account).tree
+not_dropped n account reply gone e = by (get account n) (sym (ap is_gone e) ∙ gone)
+  where
+    on_test : (b : Bool) → is_gone (delete_by b n account).reply ≡ false → account ≡ (delete_by b n account).tree
+    on_test true e = absurd (true≢false e)
+    on_test false e = refl
+
+    by : (v : Option SwiftContainer) → is_gone (delete_container v n account).reply ≡ false → account ≡ (delete_container v n account).tree
+    by None e = refl
+    by (Some c) e = on_test (is_bare c) e
+
+-- ---- PUT of an object
+
+module _ (c n content_type : List ℕ) (meta : List (List ℕ)) (body : List ℕ) (account : SwiftAccount) where
+  abbrev object : SwiftObject
+  object = record { content_type = content_type; meta = meta; content = Plain body }
+
+  pub put : (reply : SwiftReply) (etag : List ℕ) → Some etag ≡ etag_in reply → reply ≡ (swift_step (PutObject c n content_type meta body) account).reply
+      → put_file c n object account ≡ (swift_step (PutObject c n content_type meta body) account).tree
+  put reply etag tag e = by (get account c) (tag ∙ ap etag_in e)
+    where
+      by : (v : Option SwiftContainer) → Some etag ≡ etag_in (put_object v c n object account).reply → put_file c n object account ≡ (put_object v c n object account).tree
+      by None e = absurd (none-some _ (sym e))
+      by (Some folder) e = refl
+
+  pub not_put : (reply : SwiftReply) → None ≡ etag_in reply → reply ≡ (swift_step (PutObject c n content_type meta body) account).reply → account ≡ (swift_step (PutObject c n content_type meta body) account).tree
+  not_put reply tag e = by (get account c) (tag ∙ ap etag_in e)
+    where
+      by : (v : Option SwiftContainer) → None ≡ etag_in (put_object v c n object account).reply → account ≡ (put_object v c n object account).tree
+      by None e = refl
+      by (Some folder) e = absurd (none-some _ e)
+
+-- the ETag that is answered is that of the object
+pub tagged : (body : List ℕ) (reply : SwiftReply) (etag : List ℕ) → TagsWith body reply → Some etag ≡ etag_in reply → etag ≡ etag_of (Plain body)
+tagged body reply etag tags e = by reply tags e
+  where
+    by : (reply : SwiftReply) → TagsWith body reply → Some etag ≡ etag_in reply → etag ≡ etag_text body
+    by replies.Made tags e = absurd (none-some _ (sym e))
+    by replies.There tags e = absurd (none-some _ (sym e))
+    by replies.Gone tags e = absurd (none-some _ (sym e))
+    by (replies.Stored tag) tags e = same_Some etag tag e ∙ tags
+    by replies.NotFound tags e = absurd (none-some _ (sym e))
+    by replies.NotEmpty tags e = absurd (none-some _ (sym e))
+    by replies.Unsatisfiable tags e = absurd (none-some _ (sym e))
+    by (replies.Containers names) tags e = absurd (none-some _ (sym e))
+    by (replies.Readers readers created) tags e = absurd (none-some _ (sym e))
+    by (replies.Names items) tags e = absurd (none-some _ (sym e))
+    by (replies.Head head) tags e = absurd (none-some _ (sym e))
+    by (replies.Bytes head bytes) tags e = absurd (none-some _ (sym e))
+
+pub small : (body : List ℕ) → length body ≤ most_body → size_of (Plain body) < 2 ^ 63
+small body within = omega (arith, within)
+
+-- ---- DELETE of an object
+
+pub removed : (c n : List ℕ) (account : SwiftAccount) (reply : SwiftReply) → is_gone reply ≡ true → reply ≡ (swift_step (DeleteObject c n) account).reply → remove_file c n account ≡ (swift_step (DeleteObject c n) account).tree
+removed c n account reply gone e = by (find_object account c n) (sym (ap is_gone e) ∙ gone)
+  where
+    by : (v : Option SwiftObject) → is_gone (delete_object v c n account).reply ≡ true → remove_file c n account ≡ (delete_object v c n account).tree
+    by None e = absurd (true≢false (sym e))
+    by (Some found) e = refl
+
+pub not_removed : (c n : List ℕ) (account : SwiftAccount) (reply : SwiftReply) → is_gone reply ≡ false → reply ≡ (swift_step (DeleteObject c n) account).reply → account ≡ (swift_step (DeleteObject c n) account).tree
+not_removed c n account reply gone e = by (find_object account c n) (sym (ap is_gone e) ∙ gone)
+  where
+    by : (v : Option SwiftObject) → is_gone (delete_object v c n account).reply ≡ false → account ≡ (delete_object v c n account).tree
+    by None e = refl
+    by (Some found) e = absurd (true≢false e)

@@ -1,0 +1,6 @@
+pub mod Coded
+pub mod Kept
+pub mod Listing
+pub mod Serving
+pub mod Shelf
+pub mod Table

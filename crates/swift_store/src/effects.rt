@@ -1,0 +1,164 @@
+//! What each call writes, once its answer is there.
+ghost use Rattle.std.specs.Prelude.{◌≡◌, ◌≤◌, IsTrue, IsErrOf, length};
+ghost use Rattle.swift_calls.specs.Step.{Fit, swift_step};
+ghost use Rattle.swift_calls.specs.Limits.{most_body};
+ghost use Rattle.swift_calls.specs.declared.calls.SwiftRequest.TheVariants as asked;
+ghost use Rattle.swift_store.specs.Shelf.{CountsStoreFaults, Writes};
+ghost use Rattle.swift_store.specs.Serving.{TagsBody, TagsWith, etag_in, is_gone};
+ghost use Rattle.swift_store.specs.declared.faults.StoreFault.TheVariants as fault;
+
+use crate::{Shelf, StoreFault};
+use gate_base::{Bytes, List};
+use swift_calls::{Content, ReadList, Stored, SwiftReply, SwiftRequest};
+
+fn is_gone(reply: &SwiftReply) -> bool
+    ensures { result ≡ is_gone reply.now }
+{
+    match reply {
+        SwiftReply::Gone => true,
+        _ => false,
+    }
+}
+
+fn etag_in(reply: SwiftReply) -> Option<Bytes>
+    ensures { result ≡ etag_in reply }
+{
+    match reply {
+        SwiftReply::Stored { etag } => Some(etag),
+        _ => None,
+    }
+}
+
+#[tactic(auto, using(crate::proofs::Writing::posted_by, crate::proofs::Writing::not_posted, crate::proofs::Writing::unwritten))]
+fn post_container<S: Shelf>(shelf: &mut S, name: &[u8], readers: ReadList) -> Result<(), StoreFault>
+    ensures faults { CountsStoreFaults (S.faults shelf.old) (S.faults shelf.new) result }
+    ensures sure { IsTrue (S.sure shelf.old) → IsTrue (S.sure shelf.new) }
+    ensures never { IsTrue (S.sure shelf.old) → IsErrOf result fault.Failed → ⊥ }
+    ensures observable { IsTrue (S.observable shelf.old) → IsTrue (S.observable shelf.new) }
+    ensures effect { IsTrue (S.observable shelf.old) → Writes (S.account shelf.old) (swift_step (asked.PostContainer name.now readers) (S.account shelf.old)).tree (S.account shelf.new) result }
+{
+    match shelf.container(name)? {
+        Some((_, created)) => { shelf.put_container(name, readers, created) }
+        None => Ok(()),
+    }
+}
+
+#[tactic(auto, using(crate::proofs::Writing::dropped, crate::proofs::Writing::not_dropped))]
+fn delete_container<S: Shelf>(
+    shelf: &mut S,
+    name: &[u8],
+    reply: &SwiftReply,
+) -> Result<(), StoreFault>
+    ensures faults { CountsStoreFaults (S.faults shelf.old) (S.faults shelf.new) result }
+    ensures sure { IsTrue (S.sure shelf.old) → IsTrue (S.sure shelf.new) }
+    ensures never { IsTrue (S.sure shelf.old) → IsErrOf result fault.Failed → ⊥ }
+    ensures observable { IsTrue (S.observable shelf.old) → IsTrue (S.observable shelf.new) }
+    ensures effect { IsTrue (S.observable shelf.old) → reply.now ≡ (swift_step (asked.DeleteContainer name.now) (S.account shelf.old)).reply → Writes (S.account shelf.old) (swift_step (asked.DeleteContainer name.now) (S.account shelf.old)).tree (S.account shelf.new) result }
+{
+    if is_gone(reply) {
+        shelf.drop_container(name)?;
+    }
+    Ok(())
+}
+
+#[tactic(auto, using(crate::proofs::Writing::put, crate::proofs::Writing::not_put, crate::proofs::Writing::tagged, crate::proofs::Writing::small))]
+fn put_object<S: Shelf>(
+    shelf: &mut S,
+    container: &[u8],
+    name: Bytes,
+    content_type: Bytes,
+    meta: List<Bytes>,
+    body: Bytes,
+    reply: SwiftReply,
+) -> Result<(), StoreFault>
+    requires within { length body ≤ most_body }
+    requires tags { TagsWith body reply }
+    ensures faults { CountsStoreFaults (S.faults shelf.old) (S.faults shelf.new) result }
+    ensures sure { IsTrue (S.sure shelf.old) → IsTrue (S.sure shelf.new) }
+    ensures never { IsTrue (S.sure shelf.old) → IsErrOf result fault.Failed → ⊥ }
+    ensures observable { IsTrue (S.observable shelf.old) → IsTrue (S.observable shelf.new) }
+    ensures effect { IsTrue (S.observable shelf.old) → reply ≡ (swift_step (asked.PutObject container.now name content_type meta body) (S.account shelf.old)).reply → Writes (S.account shelf.old) (swift_step (asked.PutObject container.now name content_type meta body) (S.account shelf.old)).tree (S.account shelf.new) result }
+{
+    if let Some(etag) = etag_in(reply) {
+        let object = Stored {
+            name,
+            content_type,
+            meta,
+            content: Content::Plain(body),
+        };
+        shelf.put(container, object, etag)?;
+    }
+    Ok(())
+}
+
+#[tactic(auto, using(crate::proofs::Writing::removed, crate::proofs::Writing::not_removed, crate::proofs::Writing::unwritten))]
+fn delete_object<S: Shelf>(
+    shelf: &mut S,
+    container: &[u8],
+    name: &[u8],
+    reply: &SwiftReply,
+) -> Result<(), StoreFault>
+    ensures faults { CountsStoreFaults (S.faults shelf.old) (S.faults shelf.new) result }
+    ensures sure { IsTrue (S.sure shelf.old) → IsTrue (S.sure shelf.new) }
+    ensures never { IsTrue (S.sure shelf.old) → IsErrOf result fault.Failed → ⊥ }
+    ensures observable { IsTrue (S.observable shelf.old) → IsTrue (S.observable shelf.new) }
+    ensures effect { IsTrue (S.observable shelf.old) → reply.now ≡ (swift_step (asked.DeleteObject container.now name.now) (S.account shelf.old)).reply → Writes (S.account shelf.old) (swift_step (asked.DeleteObject container.now name.now) (S.account shelf.old)).tree (S.account shelf.new) result }
+{
+    if is_gone(reply) {
+        let _there = shelf.remove(container, name)?;
+    }
+    Ok(())
+}
+
+/// Writes what a call writes. Its body is moved.
+#[tactic(auto, using(crate::proofs::Writing::head_leaves))]
+pub(crate) fn apply<S: Shelf>(
+    shelf: &mut S,
+    call: SwiftRequest,
+    reply: SwiftReply,
+) -> Result<(), StoreFault>
+    requires fit { Fit call }
+    requires tags { TagsBody call reply }
+    ensures faults { CountsStoreFaults (S.faults shelf.old) (S.faults shelf.new) result }
+    ensures sure { IsTrue (S.sure shelf.old) → IsTrue (S.sure shelf.new) }
+    ensures never { IsTrue (S.sure shelf.old) → IsErrOf result fault.Failed → ⊥ }
+    ensures observable { IsTrue (S.observable shelf.old) → IsTrue (S.observable shelf.new) }
+    ensures effect { IsTrue (S.observable shelf.old) → reply ≡ (swift_step (call) (S.account shelf.old)).reply → Writes (S.account shelf.old) (swift_step (call) (S.account shelf.old)).tree (S.account shelf.new) result }
+{
+    match call {
+        SwiftRequest::PutContainer {
+            container,
+            readers,
+            created,
+        } => shelf.put_container(container.as_slice(), readers, created),
+        SwiftRequest::PostContainer { container, readers } => {
+            post_container(shelf, container.as_slice(), readers)
+        }
+        SwiftRequest::DeleteContainer { container } => {
+            delete_container(shelf, container.as_slice(), &reply)
+        }
+        SwiftRequest::PutObject {
+            container,
+            name,
+            content_type,
+            meta,
+            body,
+        } => put_object(
+            shelf,
+            container.as_slice(),
+            name,
+            content_type,
+            meta,
+            body,
+            reply,
+        ),
+        SwiftRequest::DeleteObject { container, name } => {
+            delete_object(shelf, container.as_slice(), name.as_slice(), &reply)
+        }
+        SwiftRequest::ListContainers { .. } => Ok(()),
+        SwiftRequest::HeadContainer { .. } => Ok(()),
+        SwiftRequest::ListNames { .. } => Ok(()),
+        SwiftRequest::HeadObject { .. } => Ok(()),
+        SwiftRequest::GetObject { .. } => Ok(()),
+    }
+}

@@ -1,0 +1,130 @@
+//! An object as it is kept in memory.
+ghost use Rattle.std.specs.Prelude.{◌≡◌, ◌<◌, ◌^◌, ◌++◌, IfOk, OnOk, OnErr};
+ghost use Rattle.swift_calls.specs.Account.{size_of};
+ghost use Rattle.swift_calls.specs.Bodies.{etag_of, etag_text, head_of, is_list, item_of, joined_etags};
+ghost use Rattle.swift_store.specs.Shelf.{object_of, part, part_of_content};
+
+use gate_base::{Bytes, Copying, List, Memory};
+use md5::{Digest, Md5};
+use slo_manifest::Segment;
+use std::alloc::Global;
+use std::marker::Model;
+use swift_calls::{Content, NameItem, Stored, StoredHead};
+
+/// An object without its name. Its ETag and its size are kept beside it, so that they are found once. Contracts see the
+/// object alone.
+#[derive(Drop)]
+pub(crate) struct Kept {
+    content_type: Bytes,
+    meta: List<Bytes>,
+    content: Content,
+    etag: Bytes,
+    size: u64,
+}
+
+impl Model for Kept {
+    ghost use Rattle.swift_calls.specs.Account.{SwiftObject};
+    ghost use Rattle.swift_store.specs.Coded.{object_code};
+
+    ghost Value = { SwiftObject };
+
+    ghost coded = { object_code };
+
+    ghost use Rattle.swift_store.specs.Kept.{object_in, IsKept};
+
+    ghost view = { object_in };
+
+    ghost invariant = { IsKept };
+}
+
+impl Kept {
+    /// An object whose ETag is known.
+    pub(crate) fn new(object: Stored, etag: Bytes) -> Kept
+        requires etag { etag ≡ etag_of object.content }
+        requires size { size_of object.content < 2 ^ 63 }
+        ensures { result ≡ object_of object }
+    {
+        let size = size_of(&object.content);
+        Kept {
+            content_type: object.content_type,
+            meta: object.meta,
+            content: object.content,
+            etag,
+            size,
+        }
+    }
+
+    pub(crate) fn head(&self) -> Result<StoredHead, Memory>
+        ensures { IfOk result (λ head. head ≡ head_of self.now) }
+    {
+        Ok(StoredHead {
+            content_type: self.content_type.copy()?,
+            size: self.size,
+            etag: self.etag.copy()?,
+            manifest: is_list(&self.content),
+            meta: self.meta.copy()?,
+        })
+    }
+
+    pub(crate) fn item(&self, alloc: Global, name: &[u8]) -> Result<NameItem, Memory>
+        ensures { IfOk result (λ item. item ≡ item_of name.now self.now) }
+    {
+        Ok(NameItem {
+            name: Bytes::from_slice(alloc, name)?,
+            hash: self.etag.copy()?,
+            size: self.size,
+            content_type: self.content_type.copy()?,
+        })
+    }
+
+    /// Appends bytes of the object. Where memory runs out, the text is as before.
+    pub(crate) fn read(&self, from: u64, end: u64, out: &mut Bytes) -> Result<(), Memory>
+        ensures ok { OnOk result (out.new ≡ out.old ++ part_of_content from end self.now.content) }
+        ensures err { OnErr result (out.new ≡ out.old) }
+    {
+        match &self.content {
+            Content::Plain(bytes) => out.append(part(bytes.as_slice(), from, end)),
+            Content::Segments(_) => Ok(()),
+        }
+    }
+}
+
+/// The bytes from one place to another, none where these aren't within.
+fn part(bytes: &[u8], from: u64, end: u64) -> &[u8]
+    ensures { result.now ≡ part from end bytes.now }
+{
+    if from <= end && end <= bytes.len() as u64 {
+        &bytes[from as usize..end as usize]
+    } else {
+        &[]
+    }
+}
+
+fn is_list(content: &Content) -> bool
+    ensures { result ≡ is_list content.now }
+{
+    match content {
+        Content::Plain(_) => false,
+        Content::Segments(_) => true,
+    }
+}
+
+/// The size of an object in bytes.
+fn size_of(content: &Content) -> u64
+    requires { size_of content.now < 2 ^ 63 }
+    ensures { result ≡ size_of content.now }
+{
+    match content {
+        Content::Plain(bytes) => bytes.len() as u64,
+        Content::Segments(segments) => segments.as_slice().iter().map(|s| s.size).sum(),
+    }
+}
+
+/// The MD5 (RFC 1321) of bytes in lower-case hexadecimal digits.
+#[tactic(auto, unfolding(swift_calls::specs::Bodies::etag_text))]
+pub(crate) fn etag_text(alloc: Global, bytes: &[u8]) -> Result<Bytes, Memory>
+    ensures { IfOk result (λ etag. etag ≡ etag_text bytes.now) }
+{
+    let text = hex::encode(alloc, Md5::digest(bytes))?;
+    Bytes::from_slice(alloc, text.as_bytes())
+}

@@ -1,0 +1,17 @@
+//! A Swift store: what keeps an account, in memory or elsewhere, and the answers to requests of Object Storage API v1.
+#![tactic(auto)]
+
+mod effects;
+mod faults;
+mod folder;
+mod kept;
+mod map_shelf;
+mod replies;
+mod shelf;
+mod store;
+mod table;
+
+pub use faults::StoreFault;
+pub use map_shelf::MapShelf;
+pub use shelf::Shelf;
+pub use store::{Store, serve};
