@@ -8,7 +8,7 @@
 set -euo pipefail
 cd "$(dirname "$0")/.."
 exec python3 - "$@" <<'PYTHON'
-import datetime, email.utils, os, re, socket, subprocess, sys, tempfile, time
+import datetime, email.utils, hashlib, http.server, os, re, socket, subprocess, sys, tempfile, threading, time
 
 PROGRAM = os.path.abspath(sys.argv[1] if len(sys.argv) > 1 else "crates/s3gate/out/s3gate")
 KEYS = os.path.abspath("examples/keys.txt")
@@ -24,10 +24,72 @@ PIECES = [b"Location: /photos\r\nContent-Length: 0\r\n\r\n", b'ETag: "5d41402abc
 # The published signature of a GET (Amazon S3 API Reference).
 SIGNED = b"canonical 7344ae5b7ee6c3e7e6b0fe0640412a37625d1fbfff95c48bbb2dc43964946972\nsignature f0e8bdb87c964420e857bd35b5d6ed310bd44f0170aba48dd91039c6036bdb41\n"
 
+# A store that is never called: nothing listens there.
+STORE = {"S3GATE_STORE": "127.0.0.1:1", "S3GATE_ACCOUNT": "a", "S3GATE_TOKEN": "t"}
 
-def ran(words, given=b"", keys=None, before="", place=None, idle=None):
+
+class Store(http.server.BaseHTTPRequestHandler):
+    """A Swift of one account in memory: containers, and objects that aren't segmented (OpenStack Object Storage API v1)."""
+
+    protocol_version = "HTTP/1.1"
+    account = {}
+
+    def answer(self, status, headers=(), body=b""):
+        self.send_response_only(status)
+        for name, value in [*headers, ("Content-Length", str(len(body)))]:
+            self.send_header(name, value)
+        self.end_headers()
+        if self.command != "HEAD":
+            self.wfile.write(body)
+
+    def kept(self, prefix):
+        """The request's headers that are kept and given again."""
+        return [(name, value) for name, value in self.headers.items() if name.lower().startswith(prefix)]
+
+    def do_any(self):
+        body = self.rfile.read(int(self.headers.get("Content-Length", "0")))
+        name, *rest = self.path.split("?")[0].split("/", 4)[3:]
+        found = self.account.get(name)
+        if rest:
+            self.do_object(found[1] if found else None, rest[0], body)
+        elif self.command == "PUT":
+            self.account[name] = (self.kept("x-container-"), found[1] if found else {})
+            self.answer(202 if found else 201)
+        elif found is None:
+            self.answer(404)
+        elif self.command == "POST":
+            self.account[name] = (self.kept("x-container-") + [it for it in found[0] if it[0].lower() != "x-container-read"], found[1])
+            self.answer(204)
+        elif self.command == "DELETE":
+            if not found[1]:
+                del self.account[name]
+            self.answer(409 if found[1] else 204)
+        else:
+            self.answer(204, found[0])
+
+    def do_object(self, objects, name, body):
+        if objects is None or (self.command != "PUT" and name not in objects):
+            self.answer(404)
+        elif self.command == "PUT":
+            etag = ("Etag", hashlib.md5(body).hexdigest())
+            objects[name] = (self.kept("x-object-meta-") + [("Content-Type", self.headers["Content-Type"]), etag], body)
+            self.answer(201, [etag])
+        elif self.command == "DELETE":
+            del objects[name]
+            self.answer(204)
+        else:
+            self.answer(200, *objects[name])
+
+    do_GET = do_HEAD = do_PUT = do_POST = do_DELETE = do_any
+
+    def log_message(self, *_):
+        pass
+
+
+def ran(words, given=b"", keys=None, before="", place=None, idle=None, store=STORE, timeout=None):
     """The status, the output and the report of a run; `before` is what the shell does with its streams."""
-    env = {name: it for name, it in [("S3GATE_KEYS", keys), ("S3GATE_LISTEN", place), ("S3GATE_IDLE", idle)] if it is not None}
+    given_env = [("S3GATE_KEYS", keys), ("S3GATE_LISTEN", place), ("S3GATE_IDLE", idle), ("S3GATE_STORE_TIMEOUT", timeout), *store.items()]
+    env = {name: it for name, it in given_env if it is not None}
     done = subprocess.run(["sh", "-c", f'exec "$@" {before}', "", PROGRAM, *words], input=given, env=env, capture_output=True, timeout=60)
     return done.returncode, done.stdout, done.stderr
 
@@ -53,7 +115,9 @@ def over_sockets():
     """The status, the output to the first of two clients and the report of a run that serves two, and what the second was answered."""
     with socket.create_server(("127.0.0.1", 0)) as it:
         place = it.getsockname()
-    env = {"S3GATE_KEYS": KEYS, "S3GATE_LISTEN": "%s:%d" % place}
+    store = http.server.ThreadingHTTPServer(("127.0.0.1", 0), Store)
+    threading.Thread(target=store.serve_forever, daemon=True).start()
+    env = {"S3GATE_KEYS": KEYS, "S3GATE_LISTEN": "%s:%d" % place, **STORE, "S3GATE_STORE": "127.0.0.1:%d" % store.server_port}
     with subprocess.Popen([PROGRAM, "serve", "--connections", "2"], env=env, stdout=subprocess.PIPE, stderr=subprocess.PIPE) as run:
         first = asked(place, signed("examples/objects.http"))
         second = asked(place, signed("examples/create-bucket.http"))
@@ -109,6 +173,10 @@ def main():
             ("a place that is taken", taken(), (9, b"", SETUP)),
             ("a limit of no time", ran(["serve"], place="127.0.0.1:0", idle="0"), (9, b"", SETUP)),
             ("a limit past a day", ran(["serve"], place="127.0.0.1:0", idle="86401"), (9, b"", SETUP)),
+            ("no store", ran(["serve"], place="127.0.0.1:0", store={}), (9, b"", SETUP)),
+            ("a token with a space", ran(["serve"], place="127.0.0.1:0", store={**STORE, "S3GATE_TOKEN": "t t"}), (9, b"", SETUP)),
+            ("an account of no byte", ran(["serve"], place="127.0.0.1:0", store={**STORE, "S3GATE_ACCOUNT": ""}), (9, b"", SETUP)),
+            ("a store without time", ran(["serve"], place="127.0.0.1:0", timeout="0"), (9, b"", SETUP)),
             ("no connection to serve", ran(["serve", "--connections", "0"], place="127.0.0.1:0"), (2, b"", USAGE)),
             ("the published signature", ran(sign, published, KEYS), (0, SIGNED, b"")),
             ("the same, by a key file without its last line end", ran(sign, published, f"{room}/no last line end"), (0, SIGNED, b"")),

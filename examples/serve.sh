@@ -2,8 +2,12 @@
 # Starts the program that examples/run.sh or `rt run` in crates/s3gate left, on the loopback interface with the example key,
 # makes a bucket by curl, puts an object there and gets it, and serves on until it is stopped by Ctrl-C.
 #
-#   examples/serve.sh [PORT]
+#   S3GATE_STORE=HOST:PORT S3GATE_ACCOUNT=ACCOUNT S3GATE_TOKEN=TOKEN examples/serve.sh [PORT]
+#
+# The three variables name a Swift store, an account of it and a token. Nothing else may write to the account.
 set -euo pipefail
+: "${S3GATE_STORE:?names no store}" "${S3GATE_ACCOUNT:?names no account}" "${S3GATE_TOKEN:?is no token}"
+export S3GATE_STORE S3GATE_ACCOUNT S3GATE_TOKEN
 port="${1:-8080}"
 cd "$(dirname "$0")/.."
 program=crates/s3gate/out/s3gate
@@ -30,6 +34,6 @@ s3gate serves at $place. In another shell:
   aws --endpoint-url $place s3api put-object --bucket music --key a.txt --body README.md
   aws --endpoint-url $place s3api get-object --bucket music --key a.txt /dev/stdout
 
-What works: buckets and their access control lists, and single objects; not yet a listing of objects. The store is gone when this ends.
+What works: buckets and their access control lists, and single objects; not yet a listing of objects.
 END
 wait "$server"

@@ -3,14 +3,14 @@
 //!
 //! `session` serves one connection on standard input and output, over a fresh store in memory. `serve` serves the clients
 //! that come to the place which `S3GATE_LISTEN` names, over the Swift store at `S3GATE_STORE`, in its account
-//! `S3GATE_ACCOUNT`, with the token `S3GATE_TOKEN`. `sign` signs the first request of standard
-//! input, to which nothing is written back.
+//! `S3GATE_ACCOUNT`, with the token `S3GATE_TOKEN`. `sign` signs the first request of standard input, to
+//! which nothing is written back.
 #![tactic(auto)]
 
 mod input;
 
 use crate::input::InputLine;
-use gate_base::{Bytes, Copying, Line, List, Memory, RandomDraws, StdLine, StdSink, SystemClock};
+use gate_base::{Bytes, Line, List, Memory, RandomDraws, StdLine, StdSink, SystemClock};
 use gateway_cmd::run;
 use sockets::TcpLine;
 use std::alloc::Global;
@@ -20,7 +20,7 @@ use std::net::TcpListener;
 use std::process::ExitCode;
 use std::{env, fs, io};
 use swift_calls::{Account, MemSwift, Swift};
-use swift_client::{SwiftClient, TcpLink};
+use swift_client::{SwiftClient, TcpLink, over_tcp};
 use swift_wire::{Place, is_place};
 
 /// The exit status where memory ran out before the run began.
@@ -124,11 +124,10 @@ fn swift_store(rt: &HostRuntime) -> io::Result<SwiftClient<TcpLink<HostRuntime>>
     if !is_place(&place) {
         return Err(io::Error::from(ErrorKind::InvalidInput));
     }
-    let Ok(address) = place.host.copy() else {
-        return Err(io::Error::from(ErrorKind::OutOfMemory));
-    };
-    let link = TcpLink::new(rt.clone()?, rt.alloc(), address, limit);
-    Ok(SwiftClient::new(rt.alloc(), link, place))
+    match over_tcp(rt.clone()?, rt.alloc(), place, limit) {
+        Ok(store) => Ok(store),
+        Err(_) => Err(io::Error::from(ErrorKind::OutOfMemory)),
+    }
 }
 
 /// A limit of time: the seconds that the environment says, or else the usual ones.

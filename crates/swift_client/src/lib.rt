@@ -3,8 +3,10 @@
 #![tactic(auto)]
 
 mod client;
+mod made;
 mod receive;
 mod tcp_link;
 
 pub use client::SwiftClient;
+pub use made::over_tcp;
 pub use tcp_link::TcpLink;
