@@ -9,8 +9,8 @@ use Rattle.swift_wire.specs.Answers.{is_part}
 use Rattle.std.proofs.lemmas.Grind.{flat_map-append}
 use Rattle.std.proofs.lemmas.List.{take_more, take_all, length-take-le}
 use Rattle.httparse.proofs.GrammarLemmas.{cons-append}
-use Rattle.http1.specs.Head.{print_header, print_headers, section_text}
-use Rattle.swift_wire.specs.AnswerText.{Field, Sent, meta_fields, sent_text, head_text, status_line, within_limit, text_by, refusal, length_field, readers_text, readers_fields, readers_sent, created_fields, is_created, etag_field, is_tag, stored_by, stored_sent, manifest_fields, object_fields, is_head, head_by, head_sent, bytes_by, range_text, range_field}
+use Rattle.http1.specs.Head.{print_header, print_headers, section_text, status_digits}
+use Rattle.swift_wire.specs.AnswerText.{Field, Sent, meta_fields, sent_text, head_text, line_of, status_line, phrase_of, within_limit, text_by, refusal, length_field, readers_text, readers_fields, readers_sent, created_fields, is_created, etag_field, is_tag, stored_by, stored_sent, manifest_fields, object_fields, is_head, head_by, head_sent, bytes_by, range_text, range_field}
 
 -- one header behind a text
 pub one_header : (text : List ℕ) (h : Field) → text ++ print_header h ≡ text ++ print_headers (h ∷ [])
@@ -32,13 +32,36 @@ header_last text a h = one_header (text ++ print_headers a) h ∙ join_headers t
 pub header_is : (text name value : List ℕ) → (((text ++ name) ++ codes ": ") ++ value) ++ 13 ∷ 10 ∷ [] ≡ text ++ print_header (name, value)
 header_is text name value = simp (append_assoc)
 
-pub status_is : (text digits phrase : List ℕ)
-    → (((text ++ codes "HTTP/1.1 ") ++ digits ++ 32 ∷ []) ++ phrase) ++ 13 ∷ 10 ∷ [] ≡ text ++ codes "HTTP/1.1 " ++ digits ++ 32 ∷ phrase ++ 13 ∷ 10 ∷ []
-status_is text digits phrase = simp (append_assoc, cons-append)
+status_parts : (text digits phrase : List ℕ)
+    → (((text ++ codes "HTTP/1.1 ") ++ digits ++ 32 ∷ []) ++ phrase) ++ 13 ∷ 10 ∷ [] ≡ text ++ line_of digits phrase
+status_parts text digits phrase = simp (append_assoc, cons-append)
+
+line_is : (text digits phrase a b c d : List ℕ) → a ≡ text ++ codes "HTTP/1.1 " → b ≡ a ++ digits ++ 32 ∷ []
+    → c ≡ b ++ phrase → d ≡ c ++ 13 ∷ 10 ∷ [] → d ≡ text ++ line_of digits phrase
+line_is text digits phrase a b c d one two three four =
+    four ∙ ap (λ v. v ++ 13 ∷ 10 ∷ []) (three ∙ ap (λ v. v ++ phrase) (two ∙ ap (λ v. v ++ digits ++ 32 ∷ []) one))
+    ∙ status_parts text digits phrase
+
+-- a status line, in turn
+pub status_is : (status : ℕ) (text phrase a b c d : List ℕ) → a ≡ text ++ codes "HTTP/1.1 " → b ≡ a ++ status_digits status ++ 32 ∷ []
+    → phrase ≡ phrase_of status → c ≡ b ++ phrase → d ≡ c ++ 13 ∷ 10 ∷ [] → d ≡ text ++ status_line status
+status_is status text phrase a b c d one two is three four =
+    line_is text (status_digits status) phrase a b c d one two three four ∙ ap (λ v. text ++ line_of (status_digits status) v) is
+
+-- a header of the same value
+pub same_header : (text name value other : List ℕ) → value ≡ other → text ++ print_header (name, value) ≡ text ++ print_header (name, other)
+same_header text name value other same = ap (λ v. text ++ print_header (name, v)) same
+
+pub same_meta : (text : List ℕ) (pieces others : List (List ℕ)) → pieces ≡ others
+    → text ++ print_headers (meta_fields 0 pieces) ≡ text ++ print_headers (meta_fields 0 others)
+same_meta text pieces others same = ap (λ v. text ++ print_headers (meta_fields 0 v)) same
 
 pub piece_is : (text digits value : List ℕ)
     → ((((text ++ codes "X-Object-Meta-S3-") ++ digits) ++ codes ": ") ++ value) ++ 13 ∷ 10 ∷ [] ≡ text ++ print_header (codes "X-Object-Meta-S3-" ++ digits, value)
 piece_is text digits value = simp (append_assoc)
+
+abbrev pub piece_field : ℕ → List ℕ → Field
+piece_field i piece = (codes "X-Object-Meta-S3-" ++ decimal i, piece)
 
 meta_push : (i : ℕ) (pieces : List (List ℕ)) (piece : List ℕ)
     → meta_fields i (pieces ++ piece ∷ []) ≡ meta_fields i pieces ++ (codes "X-Object-Meta-S3-" ++ decimal (i + length pieces), piece) ∷ []
@@ -52,15 +75,14 @@ meta_push i (first ∷ pieces) piece =
 -- one piece more
 pub meta_more : (old text : List ℕ) (pieces : List (List ℕ)) (i : ℕ) (piece : List ℕ) → i < length pieces → piece ≡ get_or pieces i piece
     → text ≡ old ++ print_headers (meta_fields 0 (take i pieces))
-    → text ++ print_header (codes "X-Object-Meta-S3-" ++ decimal i, piece) ≡ old ++ print_headers (meta_fields 0 (take (i + 1) pieces))
+    → text ++ print_header (piece_field i piece) ≡ old ++ print_headers (meta_fields 0 (take (i + 1) pieces))
 meta_more old text pieces i piece within same upto =
     let front = take i pieces in
     let count : 0 + length front ≡ i = omega (arith, length-take-le i pieces (omega (arith, within))) in
-    let field = λ (k : ℕ). (codes "X-Object-Meta-S3-" ++ decimal k, piece) in
-    let all : meta_fields 0 (take (i + 1) pieces) ≡ meta_fields 0 front ++ field i ∷ [] =
+    let all : meta_fields 0 (take (i + 1) pieces) ≡ meta_fields 0 front ++ piece_field i piece ∷ [] =
     ap (meta_fields 0) (take_more pieces i piece within ∙ ap (λ v. front ++ v ∷ []) (sym same))
-    ∙ meta_push 0 front piece ∙ ap (λ k. meta_fields 0 front ++ field k ∷ []) count in
-    ap (λ v. v ++ print_header (field i)) upto ∙ header_last old (meta_fields 0 front) (field i) ∙ ap (λ v. old ++ print_headers v) (sym all)
+    ∙ meta_push 0 front piece ∙ ap (λ k. meta_fields 0 front ++ piece_field k piece ∷ []) count in
+    ap (λ v. v ++ print_header (piece_field i piece)) upto ∙ header_last old (meta_fields 0 front) (piece_field i piece) ∙ ap (λ v. old ++ print_headers v) (sym all)
 
 -- the empty line and the body
 pub sent_parts : (line : List ℕ) (hs : List Field) (body : List ℕ) → ((line ++ print_headers hs) ++ 13 ∷ 10 ∷ []) ++ body ≡ section_text line hs ++ body
@@ -148,10 +170,9 @@ part_is head range body first second third last one two three four =
     ∙ header_last (status_line 206) front (range_field range head body) in
     four ∙ limited_is third (bytes_by (Some range) head body) parts
 
--- Content-Range, in turn
+-- the value of Content-Range, in turn
 pub range_is : (text from to size : List ℕ)
-    → ((((((text ++ codes "Content-Range: bytes ") ++ from) ++ codes "-") ++ to) ++ codes "/") ++ size) ++ 13 ∷ 10 ∷ []
-      ≡ text ++ print_header (codes "Content-Range", codes "bytes " ++ from ++ codes "-" ++ to ++ codes "/" ++ size)
+    → (((((text ++ codes "bytes ") ++ from) ++ codes "-") ++ to) ++ codes "/") ++ size ≡ text ++ codes "bytes " ++ from ++ codes "-" ++ to ++ codes "/" ++ size
 range_is text from to size = simp (append_assoc, cons-append)
 
 -- the bytes of a range end no later than the object

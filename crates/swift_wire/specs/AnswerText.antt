@@ -93,8 +93,11 @@ phrase_of status =
     else (if status == 204 then codes "No Content" else (if status == 206 then codes "Partial Content" else error_phrase status))))
 
 -- HTTP/1.1 SP status SP phrase CR LF (RFC 9112, section 4)
+abbrev pub line_of : List ℕ → List ℕ → List ℕ
+line_of digits phrase = codes "HTTP/1.1 " ++ digits ++ 32 ∷ phrase ++ 13 ∷ 10 ∷ []
+
 abbrev pub status_line : ℕ → List ℕ
-status_line status = codes "HTTP/1.1 " ++ status_digits status ++ 32 ∷ phrase_of status ++ 13 ∷ 10 ∷ []
+status_line status = line_of (status_digits status) (phrase_of status)
 
 abbrev pub head_text : Sent → List ℕ
 head_text s = section_text (status_line s.status) s.headers

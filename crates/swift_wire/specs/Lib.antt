@@ -1,3 +1,4 @@
+pub mod AnswerLaws
 pub mod AnswerText
 pub mod Answers
 pub mod CallText

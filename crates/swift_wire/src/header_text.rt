@@ -8,14 +8,14 @@ use gate_base::{Bytes, Memory};
 use swift_calls::ReadList;
 
 /// Adds a status line.
-#[tactic(auto, using(crate::proofs::SentLemmas::status_is))]
 pub(crate) fn append_status(text: &mut Bytes, status: u16) -> Result<(), Memory>
     ensures { OnOk result (text.new ≡ text.old ++ status_line status) }
 {
     text.append(b"HTTP/1.1 ")?;
     append_digits(text, status)?;
     text.append(phrase_of(status))?;
-    text.append(b"\r\n")
+    text.append(b"\r\n")?;
+    Ok(())
 }
 
 /// Adds the three digits of a status, and a space.
@@ -106,7 +106,6 @@ pub(crate) fn append_number(text: &mut Bytes, name: &[u8], number: u64) -> Resul
 }
 
 /// Adds the creation time, where there is one.
-#[tactic(auto, using(crate::proofs::SentLemmas::one_header))]
 pub(crate) fn append_created(text: &mut Bytes, created: Option<u64>) -> Result<(), Memory>
     ensures { OnOk result (text.new ≡ text.old ++ print_headers (created_fields created)) }
 {
@@ -120,7 +119,6 @@ pub(crate) fn append_created(text: &mut Bytes, created: Option<u64>) -> Result<(
 }
 
 /// Adds the pieces of metadata, each under its number.
-#[tactic(auto, using(crate::proofs::SentLemmas::meta_more))]
 pub(crate) fn append_meta(text: &mut Bytes, pieces: &[Bytes]) -> Result<(), Memory>
     ensures { OnOk result (text.new ≡ text.old ++ print_headers (meta_fields 0 pieces.now)) }
 {

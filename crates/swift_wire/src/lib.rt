@@ -1,6 +1,7 @@
 //! How calls of Object Storage API v1 and their answers are written in HTTP/1.1, and how they are read.
 #![tactic(auto)]
 
+mod answer_laws;
 mod answers;
 mod call_reader;
 mod call_writer;
@@ -9,8 +10,8 @@ mod fields;
 mod framing;
 mod head;
 mod header_text;
-mod listings;
 mod list_text;
+mod listings;
 mod lists;
 mod numbers;
 mod objects;
@@ -20,6 +21,7 @@ mod ranges;
 mod values;
 mod written;
 
+pub use answer_laws::{law_one_answer, law_one_reply};
 pub use answers::read_answer;
 pub use call_reader::read_call;
 pub use call_writer::write_call;

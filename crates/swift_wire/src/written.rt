@@ -1,12 +1,15 @@
 //! Answers as they are written.
-ghost use Rattle.std.specs.Prelude.{◌≡◌, ◌++◌, ◌∷◌, [], ◌+◌, ◌<◌, ◌^◌, length, nat_le, if◌then◌else◌, IfOk, OnOk, not, codes, Some, None};
+ghost use Rattle.std.specs.Prelude.{◌≡◌, ◌++◌, ◌&&◌, ◌∷◌, [], ◌+◌, ◌<◌, ◌^◌, length, nat_le, if◌then◌else◌, IfOk, OnOk, not, codes, Some, None};
 ghost use Rattle.std.specs.List.{list_all};
+ghost use Rattle.swift_wire.specs.Answers.{is_part};
 ghost use Rattle.http1.specs.Head.{is_trimmed_value, print_header, print_headers};
 ghost use Rattle.swift_wire.specs.AnswerText.{answer_text, text_by, refusal, status_line, length_field, put_sent, post_sent, delete_sent, list_containers_sent, head_container_sent, list_names_sent, put_object_sent, head_object_sent, get_sent, is_created, readers_fields, readers_sent, etag_field, stored_sent, manifest_fields, object_fields, is_size, is_meta, is_head, head_sent, range_text, within_limit, bytes_by, bytes_sent, containers_sent, names_sent, list_sent, sent_text};
 
 use crate::answers::is_part;
 use crate::head::HEAD_LIMIT;
-use crate::header_text::{append_created, append_header, append_meta, append_number, append_status, readers_text};
+use crate::header_text::{
+    append_created, append_header, append_meta, append_number, append_status, readers_text,
+};
 use crate::list_text::{containers_text, items_text};
 use crate::numbers::append_decimal;
 use crate::values::is_tag;
@@ -27,11 +30,7 @@ const SIZE_LIMIT: u64 = 10_000_000_000_000_000_000;
 /// The bytes of the answer to a call: Content-Length first, then the headers of the reply, no Date, and JSON without a
 /// space (Object Storage API v1). A reply without a spelling to that call gives an answer of status 500 and length 0,
 /// which spells nothing. It fails only where memory runs out; a body is copied once.
-pub fn write_answer(
-    alloc: Global,
-    call: &SwiftRequest,
-    reply: &SwiftReply,
-) -> Result<Bytes, Memory>
+pub fn write_answer(alloc: Global, call: &SwiftRequest, reply: &SwiftReply) -> Result<Bytes, Memory>
     ensures { IfOk result (λ text. text ≡ answer_text call.now reply.now) }
 {
     match call {
@@ -137,11 +136,7 @@ fn head_object_answer(alloc: Global, reply: &SwiftReply) -> Result<Bytes, Memory
     }
 }
 
-fn get_answer(
-    alloc: Global,
-    range: Option<(u64, u64)>,
-    reply: &SwiftReply,
-) -> Result<Bytes, Memory>
+fn get_answer(alloc: Global, range: Option<(u64, u64)>, reply: &SwiftReply) -> Result<Bytes, Memory>
     ensures { IfOk result (λ text. text ≡ text_by (get_sent range reply.now)) }
 {
     match reply {
@@ -209,12 +204,7 @@ fn is_created(created: Option<u64>) -> bool
     }
 }
 
-#[tactic(auto, using(crate::proofs::SentLemmas::readers_is))]
-fn readers_answer(
-    alloc: Global,
-    readers: ReadList,
-    created: Option<u64>,
-) -> Result<Bytes, Memory>
+fn readers_answer(alloc: Global, readers: ReadList, created: Option<u64>) -> Result<Bytes, Memory>
     ensures { IfOk result (λ text. text ≡ text_by (readers_sent readers created)) }
 {
     if !is_created(created) {
@@ -277,7 +267,6 @@ fn is_head(head: &StoredHead) -> bool
         && (is_tag(head.etag.as_slice()) && (is_size(head.size) && is_meta(head.meta.as_slice())))
 }
 
-#[tactic(auto, using(crate::proofs::SentLemmas::object_is))]
 fn append_object(text: &mut Bytes, head: &StoredHead) -> Result<(), Memory>
     ensures { OnOk result (text.new ≡ text.old ++ print_headers (object_fields head.now)) }
 {
@@ -319,13 +308,19 @@ fn bytes_answer(
 ) -> Result<Bytes, Memory>
     ensures { IfOk result (λ text. text ≡ text_by (bytes_sent range head.now body.now)) }
 {
-    if !is_part(range, head.size, body.len()) || !is_head(head) {
+    if !is_sent(range, head, body.len()) {
         return refusal(alloc, 500);
     }
     match range {
         Some((first, last)) => part_answer(alloc, first, last, head, body),
         None => whole_answer(alloc, head, body),
     }
+}
+
+fn is_sent(range: Option<(u64, u64)>, head: &StoredHead, count: usize) -> bool
+    ensures { result ≡ (is_part range head.now.size count && is_head head.now) }
+{
+    is_part(range, head.size, count) && is_head(head)
 }
 
 #[tactic(auto, using(crate::proofs::SentLemmas::whole_is))]
@@ -338,7 +333,6 @@ fn whole_answer(alloc: Global, head: &StoredHead, body: &[u8]) -> Result<Bytes, 
     Ok(answer)
 }
 
-#[tactic(auto, using(crate::proofs::SentLemmas::part_is))]
 fn part_answer(
     alloc: Global,
     first: u64,
@@ -356,18 +350,28 @@ fn part_answer(
     Ok(answer)
 }
 
-#[tactic(auto, using(crate::proofs::SentLemmas::range_is))]
+#[tactic(auto, using(crate::proofs::SentLemmas::header_is))]
 fn append_range(text: &mut Bytes, first: u64, count: u64, size: u64) -> Result<(), Memory>
     requires { first + count < 2 ^ 64 }
     ensures { OnOk result (text.new ≡ text.old ++ print_header (codes "Content-Range", range_text first count size)) }
 {
-    text.append(b"Content-Range: bytes ")?;
+    text.append(b"Content-Range")?;
+    text.append(b": ")?;
+    append_range_value(text, first, count, size)?;
+    text.append(b"\r\n")
+}
+
+#[tactic(auto, using(crate::proofs::SentLemmas::range_is))]
+fn append_range_value(text: &mut Bytes, first: u64, count: u64, size: u64) -> Result<(), Memory>
+    requires { first + count < 2 ^ 64 }
+    ensures { OnOk result (text.new ≡ text.old ++ range_text first count size) }
+{
+    text.append(b"bytes ")?;
     append_decimal(text, first)?;
     text.append(b"-")?;
     append_decimal(text, (first + count).saturating_sub(1))?;
     text.append(b"/")?;
-    append_decimal(text, size)?;
-    text.append(b"\r\n")
+    append_decimal(text, size)
 }
 
 fn containers_answer(alloc: Global, names: &[Bytes]) -> Result<Bytes, Memory>

@@ -1,0 +1,16 @@
+-- Laws of the answers: of the definitions alone, without code. Source: Object Storage API v1 and RFC 9112 as the definitions cite them.
+use Rattle.std.specs.Prelude.{◌≡◌, ℕ, ◌<◌, ◌^◌, Bool, true, List, length, Option, Some, None}
+use Rattle.swift_calls.specs.declared.calls.SwiftRequest.{SwiftRequest}
+use Rattle.swift_calls.specs.declared.calls.SwiftReply.{SwiftReply}
+use Rattle.swift_wire.specs.Framing.{Ends}
+use Rattle.swift_wire.specs.Answers.{asks_head, SpellsAnswer, SpellsNone}
+use Rattle.swift_wire.specs.AnswerText.{answer_text, refusal}
+use Rattle.swift_wire.specs.declared.framing.End.TheVariants.{At}
+
+-- no bytes spell two replies to one call
+abbrev pub OneReply : Type 0
+OneReply = (call : SwiftRequest) (first second : SwiftReply) (bytes : List ℕ) → SpellsAnswer call first bytes → SpellsAnswer call second bytes → first ≡ second
+
+-- bytes that spell a reply to a call are one whole answer
+abbrev pub OneAnswer : Type 0
+OneAnswer = (call : SwiftRequest) (reply : SwiftReply) (bytes : List ℕ) → SpellsAnswer call reply bytes → Ends (asks_head call) bytes (At (length bytes))
