@@ -1,2 +1,4 @@
 pub mod AnswerLaws
+pub mod BareRows
 pub mod FieldLemmas
+pub mod ReadBack
