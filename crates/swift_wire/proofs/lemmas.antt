@@ -2,3 +2,5 @@ pub mod AnswerLaws
 pub mod BareRows
 pub mod FieldLemmas
 pub mod ReadBack
+pub mod ReadersRow
+pub mod ValueRows

@@ -1,6 +1,8 @@
 -- Laws of the answers: of the definitions alone, without code. Source: Object Storage API v1 and RFC 9112 as the definitions cite them.
-use Rattle.std.specs.Prelude.{◌≡◌, ℕ, Bool, true, false, List, length}
+use Rattle.std.specs.Prelude.{◌≡◌, ℕ, Bool, true, false, List, length, Option}
+use Rattle.swift_calls.specs.declared.account.ReadList.{ReadList}
 use Rattle.swift_calls.specs.declared.calls.SwiftRequest.{SwiftRequest}
+use Rattle.swift_calls.specs.declared.calls.SwiftRequest.TheVariants.{HeadContainer, PutObject}
 use Rattle.swift_calls.specs.declared.calls.SwiftReply.{SwiftReply}
 use Rattle.swift_calls.specs.declared.calls.SwiftReply.TheVariants.{
   Made,
@@ -47,3 +49,15 @@ is_bare (Bytes head body) = false
 -- what is written for a reply that has a spelling, and says its status alone, spells it
 abbrev pub BareReadsBack : Type 0
 BareReadsBack = (call : SwiftRequest) (reply : SwiftReply) → is_bare reply ≡ true → is_spelled call reply ≡ true → SpellsAnswer call reply (answer_text call reply)
+
+-- the same for an ETag
+abbrev pub StoredReadsBack : Type 0
+StoredReadsBack =
+    (container name content_type : List ℕ) (meta : List (List ℕ)) (body etag : List ℕ) → is_spelled (PutObject container name content_type meta body) (Stored etag) ≡ true
+    → SpellsAnswer (PutObject container name content_type meta body) (Stored etag) (answer_text (PutObject container name content_type meta body) (Stored etag))
+
+-- the same for a read list and a creation time
+abbrev pub ReadersReadBack : Type 0
+ReadersReadBack =
+    (container : List ℕ) (readers : ReadList) (created : Option ℕ) → is_spelled (HeadContainer container) (Readers readers created) ≡ true
+    → SpellsAnswer (HeadContainer container) (Readers readers created) (answer_text (HeadContainer container) (Readers readers created))
