@@ -1,1 +1,6 @@
+pub mod AnswerLaws
+pub mod BareRows
 pub mod FieldLemmas
+pub mod ReadBack
+pub mod ReadersRow
+pub mod ValueRows

@@ -24,12 +24,12 @@ use Rattle.std.specs.Prelude.{
   Option,
   Some,
   None,
+  is_some,
 }
-use Rattle.std.specs.Option.{option_map_or}
 use Rattle.std.specs.List.{list_all}
 use Rattle.std.specs.Str.{is_utf8}
 use Rattle.gate_base.specs.Told.{moment_limit}
-use Rattle.http1.specs.Head.{are_headers, response_text}
+use Rattle.http1.specs.Head.{is_trimmed_value, section_text, status_digits}
 use Rattle.serde_json.specs.Data.{Data, array, object, number, unsigned, string, no_members, member}
 use Rattle.serde_json.specs.View.{items_of}
 use Rattle.serde_json.specs.Written.{compact_text}
@@ -80,17 +80,31 @@ pub record Sent : Type 0 where
   pub body : List ℕ
 
 -- the phrase of each status that is sent (RFC 9110, section 15)
+abbrev pub error_phrase : ℕ → List ℕ
+error_phrase status =
+    if status == 400 then codes "Bad Request" else (if status == 401 then codes "Unauthorized"
+    else (if status == 404 then codes "Not Found" else (if status == 409 then codes "Conflict"
+    else (if status == 416 then codes "Range Not Satisfiable" else (if status == 503 then codes "Service Unavailable"
+    else codes "Internal Server Error")))))
+
 abbrev pub phrase_of : ℕ → List ℕ
 phrase_of status =
     if status == 200 then codes "OK" else (if status == 201 then codes "Created" else (if status == 202 then codes "Accepted"
-    else (if status == 204 then codes "No Content" else (if status == 206 then codes "Partial Content"
-    else (if status == 400 then codes "Bad Request" else (if status == 401 then codes "Unauthorized"
-    else (if status == 404 then codes "Not Found" else (if status == 409 then codes "Conflict"
-    else (if status == 416 then codes "Range Not Satisfiable" else (if status == 503 then codes "Service Unavailable"
-    else codes "Internal Server Error"))))))))))
+    else (if status == 204 then codes "No Content" else (if status == 206 then codes "Partial Content" else error_phrase status))))
+
+-- HTTP/1.1 SP status SP phrase CR LF (RFC 9112, section 4)
+abbrev pub line_of : List ℕ → List ℕ → List ℕ
+line_of digits phrase = codes "HTTP/1.1 " ++ digits ++ 32 ∷ phrase ++ 13 ∷ 10 ∷ []
+
+abbrev pub status_line : ℕ → List ℕ
+status_line status = line_of (status_digits status) (phrase_of status)
 
 abbrev pub head_text : Sent → List ℕ
-head_text s = response_text 1 s.status (phrase_of s.status) s.headers
+head_text s = section_text (status_line s.status) s.headers
+
+-- an answer whose head has at most 65,536 bytes
+abbrev pub within_limit : Sent → Option Sent
+within_limit s = if nat_le (length (head_text s)) HEAD_LIMIT then Some s else None
 
 -- the bytes of an answer
 abbrev pub sent_text : Sent → List ℕ
@@ -138,9 +152,11 @@ is_tag etag = list_all is_tag_byte etag
 abbrev pub etag_field : List ℕ → Field
 etag_field etag = (codes "Etag", etag)
 
+abbrev pub stored_by : List ℕ → Sent
+stored_by etag = record { status = 201; headers = length_field 0 ∷ etag_field etag ∷ []; body = [] }
+
 abbrev pub stored_sent : List ℕ → Option Sent
-stored_sent etag =
-    if is_tag etag then Some (record { status = 201; headers = length_field 0 ∷ etag_field etag ∷ []; body = [] }) else None
+stored_sent etag = if is_tag etag then within_limit (stored_by etag) else None
 
 -- each piece of metadata under its number
 abbrev pub meta_fields : ℕ → List (List ℕ) → List Field
@@ -158,13 +174,21 @@ object_fields head = (codes "Content-Type", head.content_type) ∷ etag_field he
 abbrev pub is_size : ℕ → Bool
 is_size size = nat_lt size (10 ^ 19)
 
--- a head that is read
+-- at most 11 pieces of metadata, without control bytes and without white space at either end
+abbrev pub is_meta : List (List ℕ) → Bool
+is_meta pieces = nat_le (length pieces) 11 && list_all is_trimmed_value pieces
+
+-- a head that is read: its values have no control bytes and no white space at either end
 abbrev pub is_head : StoredHead → Bool
-is_head head = is_tag head.etag && (is_size head.size && nat_le (length head.meta) 11)
+is_head head =
+    is_trimmed_value head.content_type
+    && (is_tag head.etag && (is_size head.size && is_meta head.meta))
+
+abbrev pub head_by : StoredHead → Sent
+head_by head = record { status = 200; headers = length_field head.size ∷ object_fields head; body = [] }
 
 abbrev pub head_sent : StoredHead → Option Sent
-head_sent head =
-    if is_head head then Some (record { status = 200; headers = length_field head.size ∷ object_fields head; body = [] }) else None
+head_sent head = if is_head head then within_limit (head_by head) else None
 
 -- `bytes FIRST-LAST/SIZE` (RFC 9110, section 14.4)
 abbrev pub range_text : ℕ → ℕ → ℕ → List ℕ
@@ -179,7 +203,7 @@ bytes_by (Some range) head body =
     record { status = 206; headers = length_field (length body) ∷ object_fields head ++ range_field range head body ∷ []; body = body }
 
 abbrev pub bytes_sent : Option (ℕ × ℕ) → StoredHead → List ℕ → Option Sent
-bytes_sent range head body = if is_part range head.size (length body) && is_head head then Some (bytes_by range head body) else None
+bytes_sent range head body = if is_part range head.size (length body) && is_head head then within_limit (bytes_by range head body) else None
 
 -- ---- listings
 
@@ -189,11 +213,14 @@ container_value name =
     object (member (codes "bytes") (number (unsigned 0)) (member (codes "count") (number (unsigned 0)) (member (codes "name") (string name) no_members)))
 
 -- `{"bytes":SIZE,"content_type":TYPE,"hash":ETAG,"last_modified":TIME,"name":NAME}`: the time is fixed
+abbrev pub item_by : List ℕ → List ℕ → ℕ → List ℕ → Data
+item_by name hash size content_type =
+    object (member (codes "bytes") (number (unsigned size)) (member (codes "content_type") (string content_type)
+    (member (codes "hash") (string hash) (member (codes "last_modified") (string (codes "1970-01-01T00:00:00.000000"))
+    (member (codes "name") (string name) no_members)))))
+
 abbrev pub item_value : NameItem → Data
-item_value i =
-    object (member (codes "bytes") (number (unsigned i.size)) (member (codes "content_type") (string i.content_type)
-    (member (codes "hash") (string i.hash) (member (codes "last_modified") (string (codes "1970-01-01T00:00:00.000000"))
-    (member (codes "name") (string i.name) no_members)))))
+item_value i = item_by i.name i.hash i.size i.content_type
 
 -- the texts of an entry are UTF-8, as JSON has them
 abbrev pub is_item : NameItem → Bool
@@ -273,17 +300,13 @@ sent_of (HeadObject container name) reply = head_object_sent reply
 sent_of (GetObject container name range) reply = get_sent range reply
 sent_of (DeleteObject container name) reply = post_sent reply
 
--- an answer whose head can be sent: its values have no control bytes and no space at either end, and it has at most 65,536 bytes
-abbrev pub is_sendable : Sent → Bool
-is_sendable s = are_headers s.headers && nat_le (length (head_text s)) HEAD_LIMIT
-
 -- the reply has a spelling to the call
 abbrev pub is_spelled : SwiftRequest → SwiftReply → Bool
-is_spelled call reply = option_map_or is_sendable (sent_of call reply) false
+is_spelled call reply = is_some (sent_of call reply)
 
 abbrev pub text_by : Option Sent → List ℕ
 text_by None = refusal 500
-text_by (Some s) = if is_sendable s then sent_text s else refusal 500
+text_by (Some s) = sent_text s
 
 -- the bytes of the answer that gives a reply to a call; where it has no spelling, a 500 that spells nothing
 abbrev pub answer_text : SwiftRequest → SwiftReply → List ℕ

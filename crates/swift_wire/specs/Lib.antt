@@ -1,4 +1,5 @@
 pub mod Announced
+pub mod AnswerLaws
 pub mod AnswerText
 pub mod Answers
 pub mod CallText

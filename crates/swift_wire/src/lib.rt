@@ -3,6 +3,7 @@
 #![tactic(auto)]
 
 mod announced;
+mod answer_laws;
 mod answers;
 mod call_reader;
 mod call_writer;
@@ -11,6 +12,8 @@ mod fields;
 mod framing;
 mod head;
 mod link;
+mod header_text;
+mod list_text;
 mod listings;
 mod lists;
 mod numbers;
@@ -22,6 +25,10 @@ mod values;
 mod written;
 
 pub use announced::{Announced, read_front};
+pub use answer_laws::{
+    law_bare_reads_back, law_one_answer, law_one_reply, law_readers_read_back,
+    law_stored_reads_back,
+};
 pub use answers::read_answer;
 pub use call_reader::read_call;
 pub use call_writer::write_call;
