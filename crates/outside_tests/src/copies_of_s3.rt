@@ -1,7 +1,9 @@
 //! Copies of names, operations and replies of S3.
 use crate::copies::is_copied;
 use gate_base::{Bytes, Caller};
-use s3_machine::{Code, Label, Listed, ObjectHead, Op, Reply, Settings};
+use s3_machine::{
+    Asked, Code, Conditions, ETags, Label, Listed, ObjectHead, Op, Range, Reply, Settings,
+};
 use s3_names::{Acl, BucketName, Key, Meta, Query, Target};
 use std::alloc::Global;
 use std::test::Fail;
@@ -56,10 +58,28 @@ fn bucket_op(alloc: Global, number: u8) -> Op {
         3 => Op::HeadBucket { bucket },
         4 => Op::GetLocation { bucket },
         5 => Op::GetBucketAcl { bucket },
-        _ => Op::PutBucketAcl {
+        6 => Op::PutBucketAcl {
             bucket,
             acl: Acl::PublicRead,
         },
+        _ => Op::ListObjects {
+            bucket,
+            asked: asked(alloc),
+        },
+    }
+}
+
+fn asked(alloc: Global) -> Asked {
+    Asked {
+        version: 2,
+        prefix: Bytes::new(alloc),
+        delimiter: Bytes::new(alloc),
+        marker: Bytes::new(alloc),
+        start_after: Bytes::new(alloc),
+        token: Some(Bytes::new(alloc)),
+        max: 3,
+        url: true,
+        owner: true,
     }
 }
 
@@ -75,10 +95,29 @@ fn key_op(alloc: Global, number: u8) -> Op {
             meta: Meta::new(alloc),
             body: Bytes::new(alloc),
         },
-        1 => Op::GetObject { bucket, key },
-        2 => Op::HeadObject { bucket, key },
+        1 => Op::GetObject {
+            bucket,
+            key,
+            range: Some(Range::FromTo(1, 2)),
+            conditions: Conditions::none(),
+        },
+        2 => Op::HeadObject {
+            bucket,
+            key,
+            range: None,
+            conditions: conditions(),
+        },
         3 => Op::DeleteObject { bucket, key },
         _ => Op::GetObjectAcl { bucket, key },
+    }
+}
+
+fn conditions() -> Conditions {
+    Conditions {
+        matched: ETags::Any,
+        unmatched: ETags::Absent,
+        modified: Some(1),
+        unmodified: None,
     }
 }
 
@@ -142,7 +181,7 @@ fn is_reply_copied(alloc: Global, number: u8) -> Result<bool, Fail> {
 #[test]
 fn operations_and_replies_are_copied(rt: HostRuntime) -> Result<(), Fail> {
     let alloc = rt.alloc();
-    for number in 0..7 {
+    for number in 0..8 {
         assert!(rt; is_bucket_op_copied(alloc, number)?, "{number}");
     }
     for number in 0..5 {
