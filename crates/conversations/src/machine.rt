@@ -1,8 +1,8 @@
 //! The same requests through the S3 service as one machine: what it answers is what was written.
-ghost use Rattle.std.specs.Prelude.{◌≡◌, ◌<◌, IsTrue, IfOk};
+ghost use Rattle.std.specs.Prelude.{◌≡◌, ◌<◌, ◌≤◌, ◌+◌, ◌^◌, IsTrue, IfOk};
 ghost use Rattle.std.specs.List.{All};
 ghost use Rattle.gate_base.specs.Told.{moment_limit};
-ghost use Rattle.s3_machine.specs.Shown.{IsShowable, IsShown, IsShownBucket};
+ghost use Rattle.s3_machine.specs.Shown.{IsShowable, IsShown, IsShownBucket, IsShownItem};
 ghost use Rattle.s3_machine.specs.Step.{IsProper, IsProperOp};
 
 use crate::entry::Case;
@@ -13,7 +13,7 @@ use case_text::Fault;
 use gate_base::{Bytes, Caller, Copying, MOMENT_LIMIT, Piece};
 use gateway::{Meant, Service, meaning, print_reply};
 use http_wire::Message;
-use s3_machine::{BucketItem, Label, Native, ObjectHead, Op, Reply, Settings};
+use s3_machine::{BucketItem, Item, Label, Native, ObjectHead, Op, Reply, Settings};
 use s3_names::Target;
 use sigv4::{Keys, verify};
 use std::alloc::Global;
@@ -269,10 +269,25 @@ fn printed(
     }
 }
 
+/// How many bytes an object may have at most, so that numbers hold the end of a range.
+const MOST_BYTES: u64 = 1 << 63;
+
+fn is_within(from: u64, length: u64) -> bool
+    ensures { IsTrue result → (from + length ≤ 2 ^ 63) }
+{
+    length <= MOST_BYTES && from <= MOST_BYTES - length
+}
+
+fn is_filled(length: u64, partial: bool) -> bool
+    ensures { IsTrue result → IsTrue partial → (0 < length) }
+{
+    !partial || 0 < length
+}
+
 fn shows(head: &ObjectHead, from: u64, length: u64, partial: bool) -> bool
     ensures { IsTrue result → IsShown head.now from length partial }
 {
-    from == 0 && length <= 1 << 63 && !partial && head.modified < MOMENT_LIMIT
+    head.modified < MOMENT_LIMIT && is_within(from, length) && is_filled(length, partial)
 }
 
 fn is_showable(reply: &Reply) -> bool
@@ -282,6 +297,8 @@ fn is_showable(reply: &Reply) -> bool
         Reply::Refused(_) | Reply::Done | Reply::Gone | Reply::AclOf(_) => true,
         Reply::Made { .. } | Reply::Location { .. } | Reply::Stored { .. } => true,
         Reply::Buckets(items) => are_dated(items.as_slice()),
+        Reply::NotModified(head) => head.modified < MOMENT_LIMIT,
+        Reply::Objects { items, .. } => are_items_dated(items.as_slice()),
         Reply::Object {
             head,
             from,
@@ -297,4 +314,19 @@ fn are_dated(items: &[BucketItem]) -> bool
     ensures { IsTrue result → All IsShownBucket items.now }
 {
     items.iter().all(|item| item.created < MOMENT_LIMIT)
+}
+
+fn is_dated(item: &Item) -> bool
+    ensures { IsTrue result → IsShownItem item.now }
+{
+    match &item.object {
+        Some(head) => head.modified < MOMENT_LIMIT,
+        None => true,
+    }
+}
+
+fn are_items_dated(items: &[Item]) -> bool
+    ensures { IsTrue result → All IsShownItem items.now }
+{
+    items.iter().all(|item| is_dated(item))
 }

@@ -1,6 +1,6 @@
 //! Copies of names, operations and replies of S3.
 use crate::copies::is_copied;
-use gate_base::{Bytes, Caller};
+use gate_base::{Bytes, Caller, List};
 use s3_machine::{
     Asked, Code, Conditions, ETags, Label, Listed, ObjectHead, Op, Range, Reply, Settings,
 };
@@ -79,8 +79,23 @@ fn asked(alloc: Global) -> Asked {
         token: Some(Bytes::new(alloc)),
         max: 3,
         url: true,
-        owner: true,
+        owner: false,
     }
+}
+
+fn conditions() -> Conditions {
+    Conditions {
+        matched: ETags::Any,
+        unmatched: ETags::Absent,
+        modified: Some(3),
+        unmodified: None,
+    }
+}
+
+fn are_etags_copied(alloc: Global) -> Result<bool, Fail> {
+    let mut etags = List::new(alloc);
+    etags.push(Bytes::from_slice(alloc, b"a")?)?;
+    is_copied(alloc, &ETags::Listed(etags))
 }
 
 fn key_op(alloc: Global, number: u8) -> Op {
@@ -99,25 +114,16 @@ fn key_op(alloc: Global, number: u8) -> Op {
             bucket,
             key,
             range: Some(Range::FromTo(1, 2)),
-            conditions: Conditions::none(),
+            conditions: conditions(),
         },
         2 => Op::HeadObject {
             bucket,
             key,
             range: None,
-            conditions: conditions(),
+            conditions: Conditions::none(),
         },
         3 => Op::DeleteObject { bucket, key },
         _ => Op::GetObjectAcl { bucket, key },
-    }
-}
-
-fn conditions() -> Conditions {
-    Conditions {
-        matched: ETags::Any,
-        unmatched: ETags::Absent,
-        modified: Some(1),
-        unmodified: None,
     }
 }
 
@@ -191,6 +197,8 @@ fn operations_and_replies_are_copied(rt: HostRuntime) -> Result<(), Fail> {
         assert!(rt; is_reply_copied(alloc, number)?, "{number}");
     }
     assert!(rt; is_copied(alloc, &Code::NoSuchBucket)?);
+    assert!(rt; is_copied(alloc, &Range::Last(1))?);
+    assert!(rt; are_etags_copied(alloc)?);
     Ok(())
 }
 

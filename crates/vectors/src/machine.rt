@@ -7,7 +7,8 @@
 //!
 //! The verbs are `list` for ListBuckets; `make`, `drop`, `look`, `where`, `acl` and `set` for CreateBucket, DeleteBucket,
 //! HeadBucket, GetBucketLocation, GetBucketAcl and PutBucketAcl; `put`, `get`, `head`, `delete` and `object-acl` for
-//! PutObject, GetObject, HeadObject, DeleteObject and GetObjectAcl.
+//! PutObject, GetObject, HeadObject, DeleteObject and GetObjectAcl; and `items` for ListObjects, with its version in the place
+//! of the key. What `get`, `head` and `items` ask for beside stands in the place of the body, as words of [`crate::asks`].
 ghost use Rattle.std.specs.Prelude.{◌≡◌, IsTrue};
 ghost use Rattle.s3_machine.specs.Step.{IsPlace, IsProperContent, IsProperOp};
 
@@ -15,11 +16,13 @@ use crate::answers::{
     NO_VERB, add_pairs, append_all, append_pairs, cut, input, source, text as text_of, two_words,
     yes_or_no,
 };
+use crate::asks::{asked_in, conditions_in, is_proper_asked, is_proper_range, range_in};
 use case_text::Fault;
 use gate_base::{Bytes, Caller, Copying, MOMENT_LIMIT, Memory};
 use s3_machine::{
-    BucketItem, Code, Label, MOST_BODY_BYTES, Native, ObjectHead, Op, Reply, Settings, body_etag,
-    is_content_type, is_meta_name, is_meta_value, is_other_acl, is_proper_meta, may_read,
+    BucketItem, Code, Item, ItemHead, Label, MOST_BODY_BYTES, Native, ObjectHead, Op, Reply,
+    Settings, body_etag, is_content_type, is_meta_name, is_meta_value, is_other_acl,
+    is_proper_meta, may_read,
 };
 use s3_names::{Acl, Meta, is_bucket, is_key};
 use std::alloc::Global;
@@ -199,6 +202,8 @@ fn do_act(
 fn operation(alloc: Global, act: &Act<'_>) -> Result<Op, Fault> {
     match act.verb {
         "list" => Ok(Op::ListBuckets),
+        "items" => items(alloc, act),
+        "get" | "head" => read(alloc, act),
         "make" | "set" => with_acl(alloc, act),
         "drop" | "look" | "where" | "acl" => of_bucket(alloc, act),
         "put" => put(alloc, act),
@@ -232,12 +237,44 @@ fn of_object(alloc: Global, act: &Act<'_>) -> Result<Op, Fault> {
     let bucket = text_of(alloc, act.bucket.as_bytes())?;
     let key = text_of(alloc, act.key.as_bytes())?;
     match act.verb {
-        "get" => Ok(Op::GetObject { bucket, key }),
-        "head" => Ok(Op::HeadObject { bucket, key }),
         "delete" => Ok(Op::DeleteObject { bucket, key }),
         "object-acl" => Ok(Op::GetObjectAcl { bucket, key }),
         _ => Err(NO_ACT),
     }
+}
+
+fn read(alloc: Global, act: &Act<'_>) -> Result<Op, Fault> {
+    let bucket = text_of(alloc, act.bucket.as_bytes())?;
+    let key = text_of(alloc, act.key.as_bytes())?;
+    let range = range_in(act.body)?;
+    let conditions = conditions_in(alloc, act.body)?;
+    if act.verb == "get" {
+        Ok(Op::GetObject {
+            bucket,
+            key,
+            range,
+            conditions,
+        })
+    } else {
+        Ok(Op::HeadObject {
+            bucket,
+            key,
+            range,
+            conditions,
+        })
+    }
+}
+
+fn items(alloc: Global, act: &Act<'_>) -> Result<Op, Fault> {
+    let version = match act.key {
+        "1" => 1,
+        "2" => 2,
+        _ => return Err(NO_ACT),
+    };
+    Ok(Op::ListObjects {
+        bucket: text_of(alloc, act.bucket.as_bytes())?,
+        asked: asked_in(alloc, version, act.body)?,
+    })
 }
 
 fn put(alloc: Global, act: &Act<'_>) -> Result<Op, Fault> {
@@ -287,6 +324,7 @@ fn is_proper(op: &Op) -> bool
         Op::GetLocation { bucket } => is_bucket(bucket.as_slice()),
         Op::GetBucketAcl { bucket } => is_bucket(bucket.as_slice()),
         Op::PutBucketAcl { bucket, .. } => is_bucket(bucket.as_slice()),
+        Op::ListObjects { bucket, asked } => is_bucket(bucket.as_slice()) && is_proper_asked(asked),
         Op::PutObject {
             bucket,
             key,
@@ -298,8 +336,18 @@ fn is_proper(op: &Op) -> bool
             is_place(bucket.as_slice(), key.as_slice())
                 && is_content(content_type.as_slice(), meta, body.as_slice())
         }
-        Op::GetObject { bucket, key } => is_place(bucket.as_slice(), key.as_slice()),
-        Op::HeadObject { bucket, key } => is_place(bucket.as_slice(), key.as_slice()),
+        Op::GetObject {
+            bucket,
+            key,
+            range,
+            ..
+        } => is_place(bucket.as_slice(), key.as_slice()) && is_proper_range(*range),
+        Op::HeadObject {
+            bucket,
+            key,
+            range,
+            ..
+        } => is_place(bucket.as_slice(), key.as_slice()) && is_proper_range(*range),
         Op::DeleteObject { bucket, key } => is_place(bucket.as_slice(), key.as_slice()),
         Op::GetObjectAcl { bucket, key } => is_place(bucket.as_slice(), key.as_slice()),
     }
@@ -341,6 +389,15 @@ fn append_words(alloc: Global, reply: &Reply, to: &mut Bytes) -> Result<(), Faul
         Reply::Made { bucket } => append_all(to, &[b"made ", bucket.as_slice()]),
         Reply::Location { region } => append_all(to, &[b"in ", region.as_slice()]),
         Reply::AclOf(acl) => append_all(to, &[b"acl ", acl_name(*acl)]),
+        Reply::NotModified(head) => {
+            append_all(to, &[b"unchanged "])?;
+            append_head(alloc, head, to)
+        }
+        Reply::Objects {
+            items,
+            truncated,
+            ..
+        } => append_items(alloc, items.as_slice(), *truncated, to),
         Reply::Stored { etag } => append_all(to, &[b"stored ", etag.as_slice()]),
         Reply::Object {
             head,
@@ -377,6 +434,42 @@ fn append_bucket(alloc: Global, item: &BucketItem, to: &mut Bytes) -> Result<(),
     let created = item.created;
     let created = format!(in alloc; " {created}")?;
     append_all(to, &[b" ", item.name.as_slice(), created.as_bytes()])
+}
+
+/// `items`, or `items cut` where one is left over, and of each ` KEY ETAG MODIFIED SIZE`, or ` PREFIX *` for a common
+/// prefix.
+fn append_items(
+    alloc: Global,
+    items: &[Item],
+    truncated: bool,
+    to: &mut Bytes,
+) -> Result<(), Fault> {
+    append_all(
+        to,
+        &[if truncated {
+            b"items cut".as_slice()
+        } else {
+            b"items".as_slice()
+        }],
+    )?;
+    for item in items {
+        append_item(alloc, item, to)?;
+    }
+    Ok(())
+}
+
+fn append_item(alloc: Global, item: &Item, to: &mut Bytes) -> Result<(), Fault> {
+    append_all(to, &[b" ", item.text.as_slice()])?;
+    match &item.object {
+        Some(head) => append_item_head(alloc, head, to),
+        None => append_all(to, &[b" *"]),
+    }
+}
+
+fn append_item_head(alloc: Global, head: &ItemHead, to: &mut Bytes) -> Result<(), Fault> {
+    let (modified, size) = (head.modified, head.size);
+    let numbers = format!(in alloc; " {modified} {size}")?;
+    append_all(to, &[b" ", head.etag.as_slice(), numbers.as_bytes()])
 }
 
 fn append_code(alloc: Global, code: Code, to: &mut Bytes) -> Result<(), Fault> {
