@@ -9,6 +9,9 @@ pub mod FaultFree
 pub mod Files
 pub mod Fits
 pub mod Head
+pub mod KeyAsks
+pub mod KeyPages
+pub mod KeyWalk
 pub mod Listed
 pub mod Made
 pub mod Marks
@@ -17,5 +20,6 @@ pub mod One
 pub mod Pages
 pub mod Put
 pub mod Settling
+pub mod Taken
 pub mod Walk
 pub mod lemmas
