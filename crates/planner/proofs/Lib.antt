@@ -1,5 +1,6 @@
 pub mod BucketSteps
 pub mod CreateBucket
 pub mod Ends
+pub mod Readings
 pub mod Replies
 pub mod Steps

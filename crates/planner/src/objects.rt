@@ -1,8 +1,12 @@
 //! The plans of the operations on objects.
-ghost use Rattle.std.specs.Prelude.{◌≡◌, ◌≢◌, ◌<◌, Some, IfOk, Err};
+ghost use Rattle.std.specs.Prelude.{◌≡◌, ◌≢◌, ◌<◌, ◌+◌, ◌^◌, true, Some, IfOk, IfSome, Err};
 ghost use Rattle.gate_base.specs.Told.{moment_limit};
 ghost use Rattle.s3_names.specs.declared.acl.Acl.{Acl};
+ghost use Rattle.s3_machine.specs.Reading.{judged};
+ghost use Rattle.s3_machine.specs.Shown.{IsShown};
 ghost use Rattle.s3_machine.specs.Step.{IsPlace, IsProperContent};
+ghost use Rattle.s3_machine.specs.declared.reading.Judged.TheVariants as judged_as;
+ghost use Rattle.swift_calls.specs.Limits.{IsRange};
 ghost use Rattle.s3_machine.specs.declared.operation.Label.{Label};
 ghost use Rattle.s3_machine.specs.declared.operation.Op.TheVariants.{PutObject, GetObject, HeadObject, DeleteObject};
 ghost use Rattle.recovery.specs.Calls.{always, Any, Given, TellsBucket};
@@ -11,12 +15,15 @@ ghost use Rattle.recovery.specs.Lent.{Stays};
 ghost use Rattle.recovery.specs.declared.fault.PlanFault.TheVariants.{Failed};
 ghost use Rattle.recovery.specs.declared.state.Known.TheVariants as known;
 ghost use Rattle.planner.specs.Plan.{Plans, IsOwnReply};
-ghost use Rattle.planner.specs.Objects.{TellsReadable, headed_reply, whole_end};
+ghost use Rattle.planner.specs.Objects.{TellsReadable, headed_reply, part_end, range_of};
 
 use crate::end::reply_after;
 use gate_base::Bytes;
 use recovery::{PlanFault, Settled, head_bucket};
-use s3_machine::{Code, Label, ObjectHead, Reply, body_etag, is_other_acl, may_read};
+use s3_machine::{
+    Code, Conditions, Judged, Label, ObjectHead, Range, Reply, Span, body_etag, is_other_acl,
+    judge, may_read,
+};
 use s3_names::{Acl, Meta};
 use std::alloc::Global;
 use swift_calls::Swift;
@@ -102,23 +109,26 @@ fn put_into<W: Swift>(
 }
 
 /// GetObject: HEAD of the bucket's container, HEAD of the object's file, then its GET. At most three calls, none of
-/// which commits. The faults are those of the calls.
+/// which commits. Conditions and range are decided by the head: where a condition doesn't hold, or the object has no byte
+/// of the range, there is no GET, and else it asks for the bytes that are replied alone. The faults are those of the calls.
 pub(crate) fn get_object<W: Swift>(
     alloc: Global,
     state: &mut Settled<'_, W>,
     bucket: Bytes,
     key: Bytes,
+    range: Option<Range>,
+    conditions: &Conditions,
     label: &Label,
 ) -> Result<Reply, PlanFault>
     requires place { IsPlace bucket key }
     ensures stays { Stays state.old state.new }
     ensures plans { Plans (always 3) (W.history state.old.store.now) (W.history state.new.store.now) state.old.settings.now
-        (Given Any) (GetObject bucket key) label.now known.Settled result }
+        (Given Any) (GetObject bucket key range conditions.now) label.now known.Settled result }
 {
     let Some(list) = head_bucket(state, &bucket)? else {
         return Ok(Reply::Refused(Code::NoSuchBucket));
     };
-    get_within(alloc, state, bucket, key, list, label)
+    get_within(alloc, state, bucket, key, range, conditions, list, label)
 }
 
 /// The rest of GetObject, in a bucket that has this access control list.
@@ -127,13 +137,15 @@ fn get_within<W: Swift>(
     state: &mut Settled<'_, W>,
     bucket: Bytes,
     key: Bytes,
+    range: Option<Range>,
+    conditions: &Conditions,
     list: Acl,
     label: &Label,
 ) -> Result<Reply, PlanFault>
     requires place { IsPlace bucket key }
     ensures stays { Stays state.old state.new }
     ensures plans { Plans (always 2) (W.history state.old.store.now) (W.history state.new.store.now) state.old.settings.now
-        (Given (λ s. TellsBucket bucket s (Some list))) (GetObject bucket key) label.now known.Settled result }
+        (Given (λ s. TellsBucket bucket s (Some list))) (GetObject bucket key range conditions.now) label.now known.Settled result }
 {
     if !may_read(label.caller, list) {
         return Ok(Reply::Refused(Code::AccessDenied));
@@ -141,44 +153,88 @@ fn get_within<W: Swift>(
     let Some(head) = recovery::head_object(alloc, state, &bucket, &key)? else {
         return Ok(Reply::Refused(Code::NoSuchKey));
     };
-    get_bytes(state, bucket, key, head)
+    get_judged(state, bucket, key, range, conditions, head)
 }
 
 /// The rest of GetObject, for an object that is there and may be read, whatever list its bucket has and whoever asks.
-fn get_bytes<W: Swift>(
+fn get_judged<W: Swift>(
     state: &mut Settled<'_, W>,
     bucket: Bytes,
     key: Bytes,
+    range: Option<Range>,
+    conditions: &Conditions,
     head: ObjectHead,
 ) -> Result<Reply, PlanFault>
     requires place { IsPlace bucket key }
     requires shown { IsShownHead (Some head) }
     ensures stays { Stays state.old state.new }
     ensures plans { (list : Acl) (label : Label) → Plans (always 1) (W.history state.old.store.now) (W.history state.new.store.now) state.old.settings.now
-        (Given (TellsReadable bucket key label.caller list head)) (GetObject bucket key) label known.Settled result }
+        (Given (TellsReadable bucket key label.caller list head)) (GetObject bucket key range conditions.now) label known.Settled result }
 {
-    let Some(body) = recovery::get_object(state, bucket, key)? else {
-        return Err(PlanFault::Inconsistent);
-    };
-    whole(head, body)
+    match judge(range, conditions, &head) {
+        Judged::PreconditionFailed => Ok(Reply::Refused(Code::PreconditionFailed)),
+        Judged::NotModified => Ok(Reply::NotModified(head)),
+        Judged::InvalidRange => Ok(Reply::Refused(Code::InvalidRange)),
+        Judged::Bytes { span, partial } => get_span(
+            state, bucket, key, range, conditions, head, span, partial,
+        ),
+    }
 }
 
-/// The reply to GetObject. A store whose GET gives another number of bytes than its HEAD said is inconsistent.
-fn whole(head: ObjectHead, body: Bytes) -> Result<Reply, PlanFault>
+/// The rest of GetObject, where these bytes are asked for.
+fn get_span<W: Swift>(
+    state: &mut Settled<'_, W>,
+    bucket: Bytes,
+    key: Bytes,
+    range: Option<Range>,
+    conditions: &Conditions,
+    head: ObjectHead,
+    span: Span,
+    partial: bool,
+) -> Result<Reply, PlanFault>
+    requires place { IsPlace bucket key }
     requires shown { IsShownHead (Some head) }
+    requires judged { judged range conditions.now head ≡ judged_as.Bytes span partial }
+    ensures stays { Stays state.old state.new }
+    ensures plans { (list : Acl) (label : Label) → Plans (always 1) (W.history state.old.store.now) (W.history state.new.store.now) state.old.settings.now
+        (Given (TellsReadable bucket key label.caller list head)) (GetObject bucket key range conditions.now) label known.Settled result }
+{
+    let asked = range_of(span, partial);
+    let Some(body) = recovery::get_object(state, bucket, key, asked)? else {
+        return Err(PlanFault::Inconsistent);
+    };
+    part(head, span, partial, body)
+}
+
+/// The range that is asked of the store for these bytes, by the numbers of the first and the last: none where they are all
+/// of the object, which may be empty.
+fn range_of(span: Span, partial: bool) -> Option<(u64, u64)>
+    requires filled { partial ≡ true → 0 < span.length }
+    requires ends { span.from + span.length < 2 ^ 63 }
+    ensures value { result ≡ range_of span partial }
+    ensures fits { IfSome result IsRange }
+{
+    if !partial {
+        return None;
+    }
+    Some((span.from, span.from + (span.length - 1)))
+}
+
+/// The reply to GetObject. A store whose GET gives another number of bytes than were asked for is inconsistent.
+fn part(head: ObjectHead, span: Span, partial: bool, body: Bytes) -> Result<Reply, PlanFault>
+    requires shown { IsShown head span.from span.length partial }
     ensures own { IfOk result IsOwnReply }
     ensures no_failure { result ≢ Err Failed }
-    ensures end { result ≡ whole_end head body }
+    ensures end { result ≡ part_end head span partial body }
 {
-    let length = head.size;
-    if body.len() as u64 != length {
+    if body.len() as u64 != span.length {
         return Err(PlanFault::Inconsistent);
     }
     Ok(Reply::Object {
         head,
-        from: 0,
-        length,
-        partial: false,
+        from: span.from,
+        length: span.length,
+        partial,
         body,
     })
 }
@@ -190,17 +246,19 @@ pub(crate) fn head_object<W: Swift>(
     state: &mut Settled<'_, W>,
     bucket: &Bytes,
     key: &Bytes,
+    range: Option<Range>,
+    conditions: &Conditions,
     label: &Label,
 ) -> Result<Reply, PlanFault>
     requires place { IsPlace bucket.now key.now }
     ensures stays { Stays state.old state.new }
     ensures plans { Plans (always 2) (W.history state.old.store.now) (W.history state.new.store.now) state.old.settings.now
-        (Given Any) (HeadObject bucket.now key.now) label.now known.Settled result }
+        (Given Any) (HeadObject bucket.now key.now range conditions.now) label.now known.Settled result }
 {
     let Some(list) = head_bucket(state, bucket)? else {
         return Ok(Reply::Refused(Code::NoSuchBucket));
     };
-    head_within(alloc, state, bucket, key, list, label)
+    head_within(alloc, state, bucket, key, range, conditions, list, label)
 }
 
 /// The rest of HeadObject, in a bucket that has this access control list.
@@ -209,13 +267,15 @@ fn head_within<W: Swift>(
     state: &mut Settled<'_, W>,
     bucket: &Bytes,
     key: &Bytes,
+    range: Option<Range>,
+    conditions: &Conditions,
     list: Acl,
     label: &Label,
 ) -> Result<Reply, PlanFault>
     requires place { IsPlace bucket.now key.now }
     ensures stays { Stays state.old state.new }
     ensures plans { Plans (always 1) (W.history state.old.store.now) (W.history state.new.store.now) state.old.settings.now
-        (Given (λ s. TellsBucket bucket.now s (Some list))) (HeadObject bucket.now key.now) label.now known.Settled result }
+        (Given (λ s. TellsBucket bucket.now s (Some list))) (HeadObject bucket.now key.now range conditions.now) label.now known.Settled result }
 {
     if !may_read(label.caller, list) {
         return Ok(Reply::Refused(Code::AccessDenied));
@@ -223,22 +283,26 @@ fn head_within<W: Swift>(
     let Some(head) = recovery::head_object(alloc, state, bucket, key)? else {
         return Ok(Reply::Refused(Code::NoSuchKey));
     };
-    Ok(headed(alloc, head))
+    Ok(headed(alloc, range, conditions, head))
 }
 
 /// The reply to HeadObject for an object with this head: what GetObject is answered, without the bytes.
-fn headed(alloc: Global, head: ObjectHead) -> Reply
+fn headed(alloc: Global, range: Option<Range>, conditions: &Conditions, head: ObjectHead) -> Reply
     requires shown { IsShownHead (Some head) }
     ensures own { IsOwnReply result }
-    ensures reply { result ≡ headed_reply head }
+    ensures reply { result ≡ headed_reply range conditions.now head }
 {
-    let length = head.size;
-    Reply::Object {
-        head,
-        from: 0,
-        length,
-        partial: false,
-        body: Bytes::new(alloc),
+    match judge(range, conditions, &head) {
+        Judged::PreconditionFailed => Reply::Refused(Code::PreconditionFailed),
+        Judged::NotModified => Reply::NotModified(head),
+        Judged::InvalidRange => Reply::Refused(Code::InvalidRange),
+        Judged::Bytes { span, partial } => Reply::Object {
+            head,
+            from: span.from,
+            length: span.length,
+            partial,
+            body: Bytes::new(alloc),
+        },
     }
 }
 

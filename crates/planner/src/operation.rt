@@ -51,6 +51,7 @@ fn plan<W: Swift>(
         Op::GetLocation { bucket } => get_location(state, &bucket),
         Op::GetBucketAcl { bucket } => get_bucket_acl(state, &bucket),
         Op::PutBucketAcl { bucket, acl } => put_bucket_acl(state, bucket, acl),
+        Op::ListObjects { bucket, asked } => Err(PlanFault::Memory),
         Op::PutObject {
             bucket,
             key,
@@ -69,8 +70,18 @@ fn plan<W: Swift>(
             body,
             label,
         ),
-        Op::GetObject { bucket, key } => get_object(alloc, state, bucket, key, label),
-        Op::HeadObject { bucket, key } => head_object(alloc, state, &bucket, &key, label),
+        Op::GetObject {
+            bucket,
+            key,
+            range,
+            conditions,
+        } => get_object(alloc, state, bucket, key, range, &conditions, label),
+        Op::HeadObject {
+            bucket,
+            key,
+            range,
+            conditions,
+        } => head_object(alloc, state, &bucket, &key, range, &conditions, label),
         Op::DeleteObject { bucket, key } => delete_object(state, bucket, key),
         Op::GetObjectAcl { bucket, key } => get_object_acl(alloc, state, &bucket, &key),
     }

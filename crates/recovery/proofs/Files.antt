@@ -1,7 +1,7 @@
 -- What the calls on an object's file tell of the object, and do to it.
 use Rattle.std.proofs.lemmas.Bool.{and_from, le-leb}
 use Rattle.std.specs.Prelude.{◌≡◌, ◌<◌, ◌≤◌, ℕ, ◌&&◌, cond, nat_le, List, length, bytes_eq, true, Option, Some, None, Ok, Err, is_some}
-use Rattle.std.specs.Option.{option_map}
+use Rattle.std.specs.Option.{option_and_then, option_map}
 use Rattle.std.specs.FinMap.{get}
 use Rattle.std.proofs.Common.{refl, sym, ap, subst, ◌∙◌, arith}
 use Rattle.gate_base.proofs.lemmas.Maps.{some_value}
@@ -16,13 +16,14 @@ use Rattle.s3_machine.specs.ETag.{body_etag}
 use Rattle.s3_machine.specs.Limits.{most_body_bytes}
 use Rattle.s3_machine.specs.Step.{IsProperContent, head_of}
 use Rattle.swift_calls.specs.Account.{SwiftObject, SwiftContainer, SwiftAccount, files, find_object}
-use Rattle.swift_calls.specs.Bodies.{bytes_of, etag_text}
+use Rattle.swift_calls.specs.Bodies.{bytes_of, etag_text, ranged}
 use Rattle.swift_calls.specs.Bodies as bodies
-use Rattle.swift_calls.specs.Step.{Answer, swift_step, head_reply, get_reply, body_reply, delete_object}
+use Rattle.swift_calls.specs.Step.{Answer, swift_step, head_reply, get_reply, body_reply, part_reply, delete_object}
 use Rattle.swift_calls.specs.Step as store
 use Rattle.swift_calls.specs.declared.calls.SwiftRequest.{SwiftRequest}
 use Rattle.swift_calls.specs.declared.calls.SwiftRequest.TheVariants.{HeadObject, GetObject, DeleteObject}
 use Rattle.swift_calls.specs.declared.calls.SwiftReply.{SwiftReply}
+use Rattle.swift_calls.specs.declared.heads.StoredHead.{StoredHead}
 use Rattle.swift_marks.specs.Tag.{tag_text}
 use Rattle.swift_marks.specs.Pack.{pack_of}
 use Rattle.swift_marks.proofs.lemmas.TagLaws.{tag_text_reads}
@@ -48,6 +49,11 @@ use Rattle.recovery.proofs.One.{IsReading, Effect, IsWriting}
 plain_agrees : (body : List ℕ) → length body ≤ most_body_bytes → bytes_eq (etag_text body) (body_etag body) && nat_le (length body) most_body_bytes ≡ true
 plain_agrees body sized = and_from _ _ (etag_agrees body) (le-leb (length body) most_body_bytes sized)
 
+-- the bytes of a range, of which there may be none
+part_due : (head : StoredHead) (part : Option (List ℕ)) → bytes_due (part_reply head part) ≡ Ok part
+part_due head None = refl
+part_due head (Some bytes) = refl
+
 module _ (tree : SwiftAccount) (bucket key : List ℕ) where
   head_told_by : (o : Option SwiftObject) → FindsObject tree bucket key o → (reply : SwiftReply) → reply ≡ head_reply o
       → (told : Option ObjectHead) × (head_due reply ≡ Ok told) × TellsObject bucket key (s3_state tree) told
@@ -60,13 +66,13 @@ module _ (tree : SwiftAccount) (bucket key : List ℕ) where
     ap (option_map head_of) (is ∙ sym reads ∙ plain_object (files tree (segments_name bucket)) key file plain),
   )
 
-  bytes_told_by : (o : Option SwiftObject) → FindsObject tree bucket key o → (reply : SwiftReply) → reply ≡ get_reply (find_object tree) None o
-      → (told : Option (List ℕ)) × (bytes_due reply ≡ Ok told) × TellsBytes bucket key (s3_state tree) told
-  bytes_told_by None none reply e = (None, ap bytes_due e, ap (option_map bytes_in) none)
-  bytes_told_by (Some file) (in_one_piece keyed plain, o, reads, is) reply e = (
-    Some plain.bytes,
-    ap bytes_due e ∙ (λ i. bytes_due (body_reply (bodies.head_of file) None (bytes_of (find_object tree) (plain.own i)))),
-    ap (option_map bytes_in) (is ∙ sym reads ∙ plain_object (files tree (segments_name bucket)) key file plain),
+  bytes_told_by : (range : Option (ℕ × ℕ)) (o : Option SwiftObject) → FindsObject tree bucket key o → (reply : SwiftReply) → reply ≡ get_reply (find_object tree) range o
+      → (told : Option (List ℕ)) × (bytes_due reply ≡ Ok told) × TellsBytes bucket key range (s3_state tree) told
+  bytes_told_by range None none reply e = (None, ap bytes_due e, ap (λ o. option_and_then (ranged range) (option_map bytes_in o)) none)
+  bytes_told_by range (Some file) (in_one_piece keyed plain, o, reads, is) reply e = (
+    ranged range plain.bytes,
+    ap bytes_due e ∙ (λ i. bytes_due (body_reply (bodies.head_of file) range (bytes_of (find_object tree) (plain.own i)))) ∙ part_due (bodies.head_of file) (ranged range plain.bytes),
+    ap (λ o. option_and_then (ranged range) (option_map bytes_in o)) (is ∙ sym reads ∙ plain_object (files tree (segments_name bucket)) key file plain),
   )
 
 module _ (tree : SwiftAccount) (container name bucket key : List ℕ) (named : container ≡ bucket) (under : name ≡ key) (is : is_bucket bucket ≡ true) (sound : IsConsistent tree) (settled : IsSettled tree) where
@@ -76,8 +82,10 @@ module _ (tree : SwiftAccount) (container name bucket key : List ℕ) (named : c
   head_tells : (reply : SwiftReply) → reply ≡ (swift_step (HeadObject container name) tree).reply → (told : Option ObjectHead) × (head_due reply ≡ Ok told) × TellsObject bucket key (s3_state tree) told
   head_tells reply replied = head_told_by tree bucket key (find_object tree bucket key) (found tree bucket key is sound settled) reply (replied ∙ ap head_reply same_file)
 
-  get_tells : (reply : SwiftReply) → reply ≡ (swift_step (GetObject container name None) tree).reply → (told : Option (List ℕ)) × (bytes_due reply ≡ Ok told) × TellsBytes bucket key (s3_state tree) told
-  get_tells reply replied = bytes_told_by tree bucket key (find_object tree bucket key) (found tree bucket key is sound settled) reply (replied ∙ ap (get_reply (find_object tree) None) same_file)
+  get_tells : (range : Option (ℕ × ℕ)) (reply : SwiftReply) → reply ≡ (swift_step (GetObject container name range) tree).reply
+      → (told : Option (List ℕ)) × (bytes_due reply ≡ Ok told) × TellsBytes bucket key range (s3_state tree) told
+  get_tells range reply replied =
+      bytes_told_by tree bucket key range (find_object tree bucket key) (found tree bucket key is sound settled) reply (replied ∙ ap (get_reply (find_object tree) range) same_file)
 
 module _ {container name bucket key : List ℕ} (named : container ≡ bucket) (under : name ≡ key) (is : is_bucket bucket ≡ true) where
   -- HEAD of an object's file tells of its head
@@ -87,11 +95,11 @@ module _ {container name bucket key : List ℕ} (named : container ≡ bucket) (
     tells = λ tree sound settled reply replied. head_tells tree container name bucket key named under is sound settled reply replied;
   }
 
-  -- GET of it tells of its bytes
-  pub get_reads : IsReading (GetObject container name None) bytes_due (TellsBytes bucket key)
-  get_reads = record {
+  -- GET of it tells of its bytes, or of those of a range
+  pub get_reads : {range : Option (ℕ × ℕ)} → IsReading (GetObject container name range) bytes_due (TellsBytes bucket key range)
+  get_reads {range = range} = record {
     leaves = λ tree. refl;
-    tells = λ tree sound settled reply replied. get_tells tree container name bucket key named under is sound settled reply replied;
+    tells = λ tree sound settled reply replied. get_tells tree container name bucket key named under is sound settled range reply replied;
   }
 
 -- ---- PUT

@@ -14,6 +14,7 @@ use Rattle.s3_machine.specs.declared.operation.Op.TheVariants.{
   GetLocation,
   GetBucketAcl,
   PutBucketAcl,
+  ListObjects,
   PutObject,
   GetObject,
   HeadObject,
@@ -24,7 +25,7 @@ use Rattle.s3_machine.specs.declared.operation.Reply.{Reply}
 use Rattle.s3_machine.specs.declared.operation.Reply.TheVariants.{Refused, Memory}
 use Rattle.s3_machine.specs.State.{State}
 use Rattle.s3_machine.specs.Step.{S3Step}
-use Rattle.swift_calls.specs.Account.{SwiftAccount}
+use Rattle.swift_calls.specs.Account.{SwiftAccount, files}
 use Rattle.swift_calls.specs.History.{History, budget, FaultFree}
 use Rattle.upload_records.specs.Native.{s3_state}
 use Rattle.upload_records.specs.Consistent.{IsConsistent}
@@ -120,9 +121,10 @@ most_calls (HeadBucket bucket) tree = always 1
 most_calls (GetLocation bucket) tree = always 1
 most_calls (GetBucketAcl bucket) tree = always 1
 most_calls (PutBucketAcl bucket acl) tree = always 1
+most_calls (ListObjects bucket asked) tree = by_account (1 + pages (len (files tree bucket)))
 most_calls (PutObject bucket key acl content_type meta body) tree = always 2
-most_calls (GetObject bucket key) tree = always 3
-most_calls (HeadObject bucket key) tree = always 2
+most_calls (GetObject bucket key range conditions) tree = always 3
+most_calls (HeadObject bucket key range conditions) tree = always 2
 most_calls (DeleteObject bucket key) tree = always 2
 most_calls (GetObjectAcl bucket key) tree = always 2
 

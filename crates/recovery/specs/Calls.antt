@@ -1,6 +1,6 @@
 -- What the calls of an operation mean for the S3 state: some leave it and tell of it, and one changes it. Source: this profile.
 use Rattle.std.specs.Prelude.{◌≡◌, ◌⊎◌, ◌≤◌, ℕ, ◌+◌, Bool, true, false, IsTrue, is_some, List, Option, None, Some, Result, Ok, Err}
-use Rattle.std.specs.Option.{option_map}
+use Rattle.std.specs.Option.{option_and_then, option_map}
 use Rattle.std.specs.FinMap.{get, insert, remove}
 use Rattle.gate_base.specs.Causes.{Rose}
 use Rattle.gate_base.specs.Maps.{adjust}
@@ -10,6 +10,7 @@ use Rattle.s3_machine.specs.declared.operation.ObjectHead.{ObjectHead}
 use Rattle.s3_machine.specs.State.{Object, Bucket, State}
 use Rattle.s3_machine.specs.Step.{new_bucket, is_bare, with_acl, new_object, head_of, put_object, drop_object}
 use Rattle.swift_calls.specs.Account.{SwiftAccount}
+use Rattle.swift_calls.specs.Bodies.{ranged}
 use Rattle.swift_calls.specs.History.{History, present, Extends}
 use Rattle.upload_records.specs.Native.{object_at, IsSettled, s3_state}
 use Rattle.upload_records.specs.Consistent.{IsConsistent}
@@ -128,9 +129,9 @@ TellsObject bucket key state told = option_map head_of (object_at (get state buc
 abbrev pub bytes_in : Object → List ℕ
 bytes_in object = object.bytes
 
--- the bytes of an object, if it is there
-abbrev pub TellsBytes : List ℕ → List ℕ → State → Option (List ℕ) → Type 0
-TellsBytes bucket key state told = option_map bytes_in (object_at (get state bucket) key) ≡ told
+-- the bytes of an object, or those of a range by its first and its last, if the object is there and has one of them
+abbrev pub TellsBytes : List ℕ → List ℕ → Option (ℕ × ℕ) → State → Option (List ℕ) → Type 0
+TellsBytes bucket key range state told = option_and_then (ranged range) (option_map bytes_in (object_at (get state bucket) key)) ≡ told
 
 -- nothing is given of the state
 abbrev pub Any : State → Type 0

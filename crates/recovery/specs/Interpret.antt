@@ -10,7 +10,7 @@ use Rattle.s3_machine.specs.Limits.{most_body_bytes}
 use Rattle.swift_calls.specs.declared.calls.SwiftRequest.{SwiftRequest}
 use Rattle.swift_calls.specs.declared.calls.SwiftRequest.TheVariants.{PutObject}
 use Rattle.swift_calls.specs.declared.calls.SwiftReply.{SwiftReply}
-use Rattle.swift_calls.specs.declared.calls.SwiftReply.TheVariants.{Made, Gone, Stored, NotFound, NotEmpty, Readers, Head, Bytes}
+use Rattle.swift_calls.specs.declared.calls.SwiftReply.TheVariants.{Made, Gone, Stored, NotFound, NotEmpty, Readers, Head, Bytes, Unsatisfiable}
 use Rattle.swift_calls.specs.declared.heads.StoredHead.{StoredHead}
 use Rattle.swift_marks.specs.declared.tag.Tag.{Tag}
 use Rattle.swift_marks.specs.Tag.{read_tag, tag_text}
@@ -62,9 +62,10 @@ head_due (Head head) = known (head_from head)
 head_due NotFound = Ok None
 head_due _ = Err fault.Inconsistent
 
--- GET of an object's file
+-- GET of an object's file, or of a range of it, of which it may have no byte
 abbrev pub bytes_due : SwiftReply → Result (Option (List ℕ)) PlanFault
 bytes_due (Bytes head body) = Ok (Some body)
+bytes_due Unsatisfiable = Ok None
 bytes_due NotFound = Ok None
 bytes_due _ = Err fault.Inconsistent
 

@@ -73,14 +73,14 @@ fn agrees(head: &StoredHead, tag: &Tag) -> bool
         && head.size <= MOST_BODY_BYTES
 }
 
-/// The answer to GET of an object's file.
+/// The answer to GET of an object's file, or of a range of it, of which it may have no byte.
 pub(crate) fn bytes_in(reply: SwiftReply) -> Result<Option<Bytes>, PlanFault>
     ensures due { result ≡ bytes_due reply }
     ensures own { result ≢ Err fault.Failed }
 {
     match reply {
         SwiftReply::Bytes { body, .. } => Ok(Some(body)),
-        SwiftReply::NotFound => Ok(None),
+        SwiftReply::Unsatisfiable | SwiftReply::NotFound => Ok(None),
         _ => Err(PlanFault::Inconsistent),
     }
 }

@@ -1,10 +1,11 @@
 //! The calls on the files of a bucket's container, one function a call.
-ghost use Rattle.std.specs.Prelude.{◌≡◌, ◌<◌, true, IfOk, OnOk};
+ghost use Rattle.std.specs.Prelude.{◌≡◌, ◌<◌, true, IfOk, IfSome, OnOk};
 ghost use Rattle.gate_base.specs.Told.{moment_limit};
 ghost use Rattle.s3_names.specs.Bucket.{is_bucket};
 ghost use Rattle.s3_names.specs.Key.{is_key};
 ghost use Rattle.s3_machine.specs.ETag.{body_etag};
 ghost use Rattle.s3_machine.specs.Step.{IsProperContent};
+ghost use Rattle.swift_calls.specs.Limits.{IsRange};
 ghost use Rattle.swift_calls.specs.Step.{Fit};
 ghost use Rattle.swift_marks.specs.Tag.{has_text, tag_text};
 ghost use Rattle.s3_names.specs.Meta.{names_ascend};
@@ -46,23 +47,27 @@ pub fn head_object<W: Swift>(
     head_in(alloc, &reply)
 }
 
-/// The bytes of an object, and `None` where it is missing, by GET of its file (Object Storage API v1, "Get object content
-/// and metadata"). At most one call, and the S3 state stays. The faults are those of [`head_object`].
+/// The bytes of an object, or those of a range, by GET of its file (Object Storage API v1, "Get object content and
+/// metadata"). A range has the number of its first byte and that of its last, which may be past the end of the object. `None`
+/// where the object is missing, or has no byte of the range. At most one call, and the S3 state stays. The faults are those
+/// of [`head_object`].
 #[tactic(auto, using(crate::proofs::Names::container_name, crate::proofs::Names::object_name))]
 pub fn get_object<W: Swift>(
     state: &mut Settled<'_, W>,
     bucket: Bytes,
     key: Bytes,
+    range: Option<(u64, u64)>,
 ) -> Result<Option<Bytes>, PlanFault>
     requires name { is_bucket bucket ≡ true }
     requires key { is_key key ≡ true }
+    requires range { IfSome range IsRange }
     ensures stays { Stays state.old state.new }
-    ensures asks { Asks (always 1) (W.history state.old.store.now) (W.history state.new.store.now) IsSettled (Tells (TellsBytes bucket key)) result }
+    ensures asks { Asks (always 1) (W.history state.old.store.now) (W.history state.new.store.now) IsSettled (Tells (TellsBytes bucket key range)) result }
 {
     let request = SwiftRequest::GetObject {
         container: bucket,
         name: key,
-        range: None,
+        range,
     };
     let reply = state.store.call(&request)?;
     bytes_in(reply)

@@ -7,7 +7,7 @@ use Rattle.xml_forms.specs.Openings.{Document}
 use Rattle.xml_forms.specs.Runs.{has, Element, Sized, Spaced}
 use Rattle.xml_forms.specs.declared.class.Class.TheVariants.{Digit, LetterOrDigit, Dashed, Text}
 use Rattle.s3_machine.specs.declared.operation.Listed.{Listed}
-use Rattle.s3_bodies.specs.declared.completion.TheConstants.{MOST_PARTS}
+use Rattle.s3_machine.specs.declared.limits.TheConstants.{MOST_PARTS}
 use Rattle.s3_bodies.specs.declared.fault.BodyFault.{BodyFault}
 use Rattle.s3_bodies.specs.declared.fault.BodyFault.TheVariants.{NotTheBody, TooMany, Memory}
 

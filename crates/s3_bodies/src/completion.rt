@@ -10,12 +10,9 @@ ghost use Rattle.s3_bodies.specs.declared.fault.BodyFault.{BodyFault};
 use crate::BodyFault;
 use crate::part::part;
 use gate_base::{Bytes, List, Memory};
-use s3_machine::Listed;
+use s3_machine::{Listed, MOST_PARTS};
 use std::alloc::Global;
 use xml_forms::{nearer, only_space, opening, skip_space, word};
-
-/// The most parts that a completion may list (this profile; S3 has more).
-pub const MOST_PARTS: usize = 1000;
 
 /// The parts that the body of a CompleteMultipartUpload lists (Amazon S3 API Reference, CompleteMultipartUpload).
 pub fn read_completion(alloc: Global, bytes: &[u8]) -> Result<List<Listed>, BodyFault>

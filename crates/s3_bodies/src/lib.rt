@@ -15,7 +15,7 @@ mod texts;
 mod uploads;
 mod xml;
 
-pub use completion::{MOST_PARTS, read_completion};
+pub use completion::read_completion;
 pub use fault::BodyFault;
 pub use location::read_location;
 pub use pages::page;

@@ -1,6 +1,7 @@
 -- A GetObject after a change of the key.
-use Rattle.std.specs.Prelude.{◌≡◌, ℕ, Bool, true, false, List, Option, Some, None}
+use Rattle.std.specs.Prelude.{◌≡◌, ℕ, Bool, true, false, List, length, Option, Some, None}
 use Rattle.std.proofs.Common.{refl, ap, ◌∙◌}
+use Rattle.std.proofs.Math.Seq.{take-length}
 use Rattle.std.specs.Option.{option_map}
 use Rattle.std.specs.FinMap.{get}
 use Rattle.gate_base.specs.Maps.{adjust}
@@ -14,9 +15,13 @@ use Rattle.s3_machine.specs.declared.operation.Label.{Label}
 use Rattle.s3_machine.specs.declared.operation.Settings.{Settings}
 use Rattle.s3_machine.specs.declared.operation.Op.TheVariants.{PutObject, GetObject, DeleteObject}
 use Rattle.s3_machine.specs.declared.operation.Reply.{Reply}
+use Rattle.s3_machine.specs.declared.operation.Reply.TheVariants as reply
 use Rattle.s3_machine.specs.declared.operation.Reply.TheVariants.{Refused, Stored, Gone}
+use Rattle.s3_machine.specs.declared.reading.Conditions.{Conditions}
+use Rattle.s3_machine.specs.declared.reading.Range.{Range}
+use Rattle.s3_machine.specs.Conditions.{no_conditions}
 use Rattle.s3_machine.specs.State.{Object, Bucket, State}
-use Rattle.s3_machine.specs.Step.{Outcome, S3Step, unless, gives, in_bucket_by, in_object_by, in_readable, is_other_acl, puts, deletes, reads, whole, new_object, put_object, drop_object}
+use Rattle.s3_machine.specs.Step.{Outcome, S3Step, unless, gives, in_bucket_by, in_object_by, in_readable, is_other_acl, puts, deletes, reads, head_of, got, whole, new_object, put_object, drop_object}
 
 -- a change of a bucket that is there
 changed : (old : State) (bucket : List ℕ) (f : Bucket → Bucket) (b : Bucket) → get old bucket ≡ Some b → get (adjust bucket f old) bucket ≡ Some (f b)
@@ -44,24 +49,29 @@ left_by_delete old new bucket key None is e f = cc
 left_by_delete old new bucket key (Some b) is e f = (drop_object key b, ap (λ s. get s bucket) f ∙ changed old bucket (drop_object key) b is, at_remove by_name b.objects key)
 
 -- what an owner is answered
-owner_reads : (old : State) (bucket key : List ℕ) (caller : Caller) (b : Bucket) (v : Option Object) → caller ≡ Owner → get old bucket ≡ Some b → get b.objects key ≡ v
-    → in_bucket_by (get old bucket) old (in_readable old caller key (reads old whole)) ≡ in_object_by v old (reads old whole)
-owner_reads old bucket key caller b v owner found is =
-    ap (λ w. in_bucket_by w old (in_readable old caller key (reads old whole))) found ∙ ap (λ c. in_readable old c key (reads old whole) b) owner ∙ ap (λ w. in_object_by w old (reads old whole)) is
+owner_reads : (old : State) (bucket key : List ℕ) (caller : Caller) (answer : Object → Reply) (b : Bucket) (v : Option Object) → caller ≡ Owner
+    → get old bucket ≡ Some b → get b.objects key ≡ v → in_bucket_by (get old bucket) old (in_readable old caller key (reads old answer)) ≡ in_object_by v old (reads old answer)
+owner_reads old bucket key caller answer b v owner found is =
+    ap (λ w. in_bucket_by w old (in_readable old caller key (reads old answer))) found ∙ ap (λ c. in_readable old c key (reads old answer) b) owner
+    ∙ ap (λ w. in_object_by w old (reads old answer)) is
+
+-- all of an object is got where nothing else is asked
+got_whole : (o : Object) → got None no_conditions o ≡ whole o
+got_whole o = ap (λ bytes. reply.Object (head_of o) 0 (length o.bytes) false bytes) (take-length o.bytes)
 
 pub get_after_put : (settings : Settings) (old new after : State) (bucket key content_type body etag : List ℕ) (acl : Option Acl) (meta : List Pair) (first second : Label) (reply : Reply)
     → S3Step settings old (PutObject bucket key acl content_type meta body) first (Stored etag) new
-    → second.caller ≡ Owner → S3Step settings new (GetObject bucket key) second reply after
+    → second.caller ≡ Owner → S3Step settings new (GetObject bucket key None no_conditions) second reply after
     → reply ≡ whole (new_object first.moment content_type meta body)
-get_after_put settings old new after bucket key content_type body etag acl meta first second reply put owner got =
+get_after_put settings old new after bucket key content_type body etag acl meta first second reply put owner goes =
     let o : Object = new_object first.moment content_type meta body in
     let left = left_by_put old new bucket key acl o etag (get old bucket) refl put.replies put.goes in
-    got.replies ∙ ap (λ (w : Outcome). w.reply) (owner_reads new bucket key second.caller left.0 (Some o) owner left.1 left.2)
+    goes.replies ∙ ap (λ (w : Outcome). w.reply) (owner_reads new bucket key second.caller (got None no_conditions) left.0 (Some o) owner left.1 left.2) ∙ got_whole o
 
-pub get_after_delete : (settings : Settings) (old new after : State) (bucket key : List ℕ) (first second : Label) (reply : Reply)
+pub get_after_delete : (settings : Settings) (old new after : State) (bucket key : List ℕ) (range : Option Range) (conditions : Conditions) (first second : Label) (reply : Reply)
     → S3Step settings old (DeleteObject bucket key) first Gone new
-    → second.caller ≡ Owner → S3Step settings new (GetObject bucket key) second reply after
+    → second.caller ≡ Owner → S3Step settings new (GetObject bucket key range conditions) second reply after
     → reply ≡ Refused NoSuchKey
-get_after_delete settings old new after bucket key first second reply deleted owner got =
+get_after_delete settings old new after bucket key range conditions first second reply deleted owner goes =
     let left = left_by_delete old new bucket key (get old bucket) refl deleted.replies deleted.goes in
-    got.replies ∙ ap (λ (w : Outcome). w.reply) (owner_reads new bucket key second.caller left.0 None owner left.1 left.2)
+    goes.replies ∙ ap (λ (w : Outcome). w.reply) (owner_reads new bucket key second.caller (got range conditions) left.0 None owner left.1 left.2)

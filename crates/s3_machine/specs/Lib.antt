@@ -1,9 +1,12 @@
+pub mod Conditions
 pub mod ETag
 pub mod Finish
 pub mod Items
 pub mod Laws
 pub mod Limits
 pub mod Native
+pub mod Ranges
+pub mod Reading
 pub mod Shown
 pub mod State
 pub mod Step

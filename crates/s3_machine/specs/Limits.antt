@@ -1,4 +1,4 @@
--- The limits of what an object is put with. Source: Amazon S3 User Guide, "Working with object metadata", and RFC 9110,
+-- The limits of what an object is put with, and of what is asked for. Source: Amazon S3 User Guide, "Working with object metadata", and RFC 9110,
 -- section 5.6.2, for tokens; the numbers are this profile's.
 use Rattle.std.specs.Prelude.{ℕ, Bool, false, ◌&&◌, ◌||◌, ◌==◌, ◌+◌, ◌-◌, nat_le, if◌then◌else◌, List, length, drop, slice_get, sum_by, codes, bytes_eq}
 use Rattle.std.specs.List.{list_all, list_any}
@@ -6,7 +6,8 @@ use Rattle.std.specs.Option.{option_map_or}
 use Rattle.gate_base.specs.Ascii.{is_visible}
 use Rattle.gate_base.specs.declared.page.Pair.{Pair}
 use Rattle.s3_names.specs.Bucket.{is_lower_or_digit}
-use Rattle.s3_machine.specs.declared.limits.TheConstants.{MOST_BODY_BYTES, MOST_CONTENT_TYPE_BYTES, MOST_ENTRIES, MOST_META_BYTES}
+use Rattle.s3_names.specs.Key.{is_key}
+use Rattle.s3_machine.specs.declared.limits.TheConstants.{MOST_BODY_BYTES, MOST_CONTENT_TYPE_BYTES, MOST_ENTRIES, MOST_ITEMS, MOST_META_BYTES, RANGE_LIMIT}
 
 -- the most bytes of the body of a request
 abbrev pub most_body_bytes : ℕ
@@ -59,3 +60,15 @@ is_proper_pair pair = is_meta_name pair.name && is_meta_value pair.value
 -- at most 64 entries, and at most 2048 bytes of names and values
 unfoldable pub is_proper_meta : List Pair → Bool
 is_proper_meta meta = nat_le (length meta) MOST_ENTRIES && list_all is_proper_pair meta && nat_le (sum_by pair_bytes meta) MOST_META_BYTES
+
+-- the most items of a listing
+abbrev pub most_items : ℕ
+most_items = MOST_ITEMS
+
+-- the least number of more than 18 digits
+abbrev pub range_limit : ℕ
+range_limit = RANGE_LIMIT
+
+-- a text of a listing, as its prefix or its delimiter: nothing, or what a key may be
+unfoldable pub is_listing_text : List ℕ → Bool
+is_listing_text text = length text == 0 || is_key text

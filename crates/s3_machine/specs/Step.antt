@@ -1,19 +1,38 @@
 -- One step of the S3 service: what an operation is answered, and the state after it. The refusals are tried in
 -- the order given, and a refused step leaves the state. Source: Amazon S3 API Reference and this profile.
-use Rattle.std.specs.Prelude.{◌≡◌, ◌<◌, ◌≤◌, ℕ, nat_eq, Bool, true, false, not, List, [], map, length, Option, Some, None}
+use Rattle.std.specs.Prelude.{◌≡◌, ◌<◌, ◌≤◌, ◌==◌, ℕ, nat_eq, Bool, true, false, not, if◌then◌else◌, List, [], map, length, Option, Some, None, IfSome}
+use Rattle.std.specs.Option.{unwrap_or}
 use Rattle.std.specs.FinMap.{entries, get, insert, remove, empty, len}
 use Rattle.gate_base.specs.declared.caller.Caller.{Caller}
 use Rattle.gate_base.specs.declared.caller.Caller.TheVariants.{Owner, Anonymous}
 use Rattle.gate_base.specs.declared.page.Pair.{Pair}
-use Rattle.gate_base.specs.Maps.{adjust}
+use Rattle.gate_base.specs.Maps.{adjust, Names}
 use Rattle.gate_base.specs.Told.{moment_limit}
 use Rattle.s3_names.specs.declared.acl.Acl.{Acl}
 use Rattle.s3_names.specs.declared.acl.Acl.TheVariants.{Private, PublicRead}
 use Rattle.s3_names.specs.Bucket.{is_bucket}
 use Rattle.s3_names.specs.Key.{is_key}
 use Rattle.s3_machine.specs.declared.code.Code.{Code}
-use Rattle.s3_machine.specs.declared.code.Code.TheVariants.{AccessDenied, BucketAlreadyOwnedByYou, BucketNotEmpty, NoSuchBucket, NoSuchKey, NotImplemented}
+use Rattle.s3_machine.specs.declared.code.Code.TheVariants.{
+  AccessDenied,
+  BucketAlreadyOwnedByYou,
+  BucketNotEmpty,
+  InvalidRange,
+  NoSuchBucket,
+  NoSuchKey,
+  NotImplemented,
+  PreconditionFailed,
+}
+use Rattle.s3_machine.specs.declared.items.Asked.{Asked}
 use Rattle.s3_machine.specs.declared.items.BucketItem.{BucketItem}
+use Rattle.s3_machine.specs.declared.items.Item.{Item}
+use Rattle.s3_machine.specs.declared.items.ItemHead.{ItemHead}
+use Rattle.s3_machine.specs.declared.reading.Conditions.{Conditions}
+use Rattle.s3_machine.specs.declared.reading.Judged.{Judged}
+use Rattle.s3_machine.specs.declared.reading.Judged.TheVariants as judged_as
+use Rattle.s3_machine.specs.declared.reading.Range.{Range}
+use Rattle.s3_machine.specs.declared.reading.Range.TheVariants.{FromTo, From, Last}
+use Rattle.s3_machine.specs.declared.reading.Span.{Span}
 use Rattle.s3_machine.specs.declared.operation.Label.{Label}
 use Rattle.s3_machine.specs.declared.operation.Settings.{Settings}
 use Rattle.s3_machine.specs.declared.operation.Op.{Op}
@@ -25,6 +44,7 @@ use Rattle.s3_machine.specs.declared.operation.Op.TheVariants.{
   GetLocation,
   GetBucketAcl,
   PutBucketAcl,
+  ListObjects,
   PutObject,
   GetObject,
   HeadObject,
@@ -35,7 +55,9 @@ use Rattle.s3_machine.specs.declared.operation.ObjectHead.{ObjectHead}
 use Rattle.s3_machine.specs.declared.operation.Reply.{Reply}
 use Rattle.s3_machine.specs.declared.operation.Reply.TheVariants as reply
 use Rattle.s3_machine.specs.ETag.{body_etag}
-use Rattle.s3_machine.specs.Limits.{is_content_type, is_proper_meta, most_body_bytes}
+use Rattle.s3_machine.specs.Items.{items}
+use Rattle.s3_machine.specs.Limits.{is_content_type, is_listing_text, is_proper_meta, most_body_bytes, most_items, range_limit}
+use Rattle.s3_machine.specs.Reading.{judged, all_of, taken}
 use Rattle.s3_machine.specs.State.{Object, Bucket, State}
 
 pub record Outcome : Type 0 where
@@ -154,13 +176,24 @@ puts old bucket key acl o b = unless (is_other_acl acl b.acl) NotImplemented old
 abbrev pub head_of : Object → ObjectHead
 head_of o = record { etag = o.etag; modified = o.modified; size = length o.bytes; content_type = o.content_type; meta = o.meta }
 
--- GetObject of an object: all of its bytes
+-- the reply of an object with this head, with what is said of the bytes of a span
+abbrev pub read_by : ObjectHead → (Span → List ℕ) → Judged → Reply
+read_by head bytes judged_as.PreconditionFailed = reply.Refused PreconditionFailed
+read_by head bytes judged_as.NotModified = reply.NotModified head
+read_by head bytes judged_as.InvalidRange = reply.Refused InvalidRange
+read_by head bytes (judged_as.Bytes span partial) = reply.Object head span.from span.length partial (bytes span)
+
+-- all of an object
 abbrev pub whole : Object → Reply
 whole o = reply.Object (head_of o) 0 (length o.bytes) false o.bytes
 
+-- GetObject of an object: the bytes that are asked for, where the conditions hold
+abbrev pub got : Option Range → Conditions → Object → Reply
+got range conditions o = read_by (head_of o) (λ span. taken span o.bytes) (judged range conditions (head_of o))
+
 -- HeadObject of an object: the same without the bytes
-abbrev pub headed : Object → Reply
-headed o = reply.Object (head_of o) 0 (length o.bytes) false []
+abbrev pub headed : Option Range → Conditions → Object → Reply
+headed range conditions o = read_by (head_of o) (λ span. []) (judged range conditions (head_of o))
 
 -- GetObject and HeadObject: this answer, and the state stays
 abbrev pub reads : State → (Object → Reply) → Object → Outcome
@@ -169,6 +202,34 @@ reads old answer o = gives (answer o) old
 -- DeleteObject in a bucket, also where nothing stands under the key
 abbrev pub deletes : State → List ℕ → List ℕ → Bucket → Outcome
 deletes old bucket key b = gives reply.Gone (adjust bucket (drop_object key) old)
+
+-- ---- listings
+
+-- an object as a listing tells of it
+abbrev pub item_head : Object → ItemHead
+item_head o = record { etag = o.etag; modified = o.modified; size = length o.bytes }
+
+abbrev pub listed_key : List ℕ × Object → List ℕ × ItemHead
+listed_key entry = (entry.0, item_head entry.1)
+
+-- an item by its text and the object of a key that didn't roll up
+abbrev pub item_of : List ℕ × Option ItemHead → Item
+item_of row = record { text = row.0; object = row.1 }
+
+-- where a listing starts: version 2 has a token, which goes before what it is to start after
+abbrev pub marker_of : Asked → List ℕ
+marker_of asked = if asked.version == 2 then unwrap_or asked.token asked.start_after else asked.marker
+
+-- the items of these objects, and whether one is left over
+abbrev pub listing : Asked → Names Object → List (List ℕ × Option ItemHead) × Bool
+listing asked objects = items (map listed_key (entries objects)) asked.prefix asked.delimiter (marker_of asked) asked.max
+
+abbrev pub listing_reply : List ℕ → Asked → List (List ℕ × Option ItemHead) × Bool → Reply
+listing_reply name asked listed = reply.Objects name asked (map item_of listed.0) listed.1
+
+-- ListObjects in a bucket, for one who asks to read it
+abbrev pub lists : State → Caller → List ℕ → Asked → Bucket → Outcome
+lists old caller name asked b = unless (not (may_read caller b.acl)) AccessDenied old (gives (listing_reply name asked (listing asked b.objects)) old)
 
 -- ---- the step
 
@@ -181,10 +242,11 @@ step settings old (HeadBucket bucket) label id = in_bucket old bucket (shows old
 step settings old (GetLocation bucket) label id = in_bucket old bucket (locates settings old)
 step settings old (GetBucketAcl bucket) label id = in_bucket old bucket (shows_acl old)
 step settings old (PutBucketAcl bucket acl) label id = in_bucket old bucket (sets_acl old bucket acl)
+step settings old (ListObjects bucket asked) label id = in_bucket old bucket (lists old label.caller bucket asked)
 step settings old (PutObject bucket key acl content_type meta body) label id =
     in_bucket old bucket (puts old bucket key acl (new_object label.moment content_type meta body))
-step settings old (GetObject bucket key) label id = in_bucket old bucket (in_readable old label.caller key (reads old whole))
-step settings old (HeadObject bucket key) label id = in_bucket old bucket (in_readable old label.caller key (reads old headed))
+step settings old (GetObject bucket key range conditions) label id = in_bucket old bucket (in_readable old label.caller key (reads old (got range conditions)))
+step settings old (HeadObject bucket key range conditions) label id = in_bucket old bucket (in_readable old label.caller key (reads old (headed range conditions)))
 step settings old (DeleteObject bucket key) label id = in_bucket old bucket (deletes old bucket key)
 step settings old (GetObjectAcl bucket key) label id = in_bucket old bucket (shows_object_acl old key)
 
@@ -197,9 +259,10 @@ IsFree old (HeadBucket bucket) id = Unit {0}
 IsFree old (GetLocation bucket) id = Unit {0}
 IsFree old (GetBucketAcl bucket) id = Unit {0}
 IsFree old (PutBucketAcl bucket acl) id = Unit {0}
+IsFree old (ListObjects bucket asked) id = Unit {0}
 IsFree old (PutObject bucket key acl content_type meta body) id = Unit {0}
-IsFree old (GetObject bucket key) id = Unit {0}
-IsFree old (HeadObject bucket key) id = Unit {0}
+IsFree old (GetObject bucket key range conditions) id = Unit {0}
+IsFree old (HeadObject bucket key range conditions) id = Unit {0}
 IsFree old (DeleteObject bucket key) id = Unit {0}
 IsFree old (GetObjectAcl bucket key) id = Unit {0}
 
@@ -223,6 +286,21 @@ pub record IsProperContent (content_type : List ℕ) (meta : List Pair) (body : 
   pub described : is_proper_meta meta ≡ true
   pub sized : length body ≤ most_body_bytes
 
+-- a range that a request can have: its numbers have at most 18 digits, and it doesn't end before it begins
+abbrev pub IsProperRange : Range → Type 0
+IsProperRange (FromTo first last) = (first ≤ last) × (last < range_limit)
+IsProperRange (From first) = first < range_limit
+IsProperRange (Last count) = count < range_limit
+
+-- what a listing is asked for
+pub record IsProperAsked (asked : Asked) : Type 0 where
+  pub prefix : is_listing_text asked.prefix ≡ true
+  pub delimiter : is_listing_text asked.delimiter ≡ true
+  pub marker : is_listing_text asked.marker ≡ true
+  pub start_after : is_listing_text asked.start_after ≡ true
+  pub token : IfSome asked.token (λ text. is_listing_text text ≡ true)
+  pub few : asked.max ≤ most_items
+
 -- an operation that keeps the limits of this profile, at a moment that a clock can give
 abbrev pub IsProperOp : Op → Type 0
 IsProperOp ListBuckets = Unit {0}
@@ -232,9 +310,10 @@ IsProperOp (HeadBucket bucket) = is_bucket bucket ≡ true
 IsProperOp (GetLocation bucket) = is_bucket bucket ≡ true
 IsProperOp (GetBucketAcl bucket) = is_bucket bucket ≡ true
 IsProperOp (PutBucketAcl bucket acl) = is_bucket bucket ≡ true
+IsProperOp (ListObjects bucket asked) = (is_bucket bucket ≡ true) × IsProperAsked asked
 IsProperOp (PutObject bucket key acl content_type meta body) = IsPlace bucket key × IsProperContent content_type meta body
-IsProperOp (GetObject bucket key) = IsPlace bucket key
-IsProperOp (HeadObject bucket key) = IsPlace bucket key
+IsProperOp (GetObject bucket key range conditions) = IsPlace bucket key × IfSome range IsProperRange
+IsProperOp (HeadObject bucket key range conditions) = IsPlace bucket key × IfSome range IsProperRange
 IsProperOp (DeleteObject bucket key) = IsPlace bucket key
 IsProperOp (GetObjectAcl bucket key) = IsPlace bucket key
 

@@ -123,7 +123,7 @@ impl Copying for UploadItem {
     }
 }
 
-fn copy_option<T: Copying>(value: &Option<T>) -> Result<Option<T>, Memory>
+pub(crate) fn copy_option<T: Copying>(value: &Option<T>) -> Result<Option<T>, Memory>
     ensures { IfOk result (λ copied. copied ≡ value.now) }
 {
     match value {

@@ -1,12 +1,12 @@
-//! The limits of what an object is put with.
+//! The limits of what an object is put with, and of what is asked for.
 ghost use Rattle.std.specs.Prelude.{◌≡◌, ◌&&◌, ◌||◌, ◌==◌, ◌+◌, length, drop, nat_le, sum_by, codes};
 ghost use Rattle.std.specs.List.{list_all, list_any};
 ghost use Rattle.gate_base.specs.Ascii.{is_visible};
 ghost use Rattle.s3_names.specs.Bucket.{is_lower_or_digit};
-ghost use Rattle.s3_machine.specs.Limits.{bare_name, has_visible_ends, is_content_type, is_kept_header, is_lower_token_byte, is_meta_name, is_meta_value, is_own_name, is_printed, is_proper_meta, is_proper_pair, pair_bytes};
+ghost use Rattle.s3_machine.specs.Limits.{bare_name, has_visible_ends, is_content_type, is_kept_header, is_listing_text, is_lower_token_byte, is_meta_name, is_meta_value, is_own_name, is_printed, is_proper_meta, is_proper_pair, pair_bytes};
 
 use gate_base::Pair;
-use s3_names::Meta;
+use s3_names::{Meta, is_key};
 
 /// The most bytes of the body of a request.
 pub const MOST_BODY_BYTES: u64 = 16_777_216;
@@ -19,6 +19,15 @@ pub(crate) const MOST_ENTRIES: usize = 64;
 
 /// The most bytes of the names and values of user metadata, without the `-` before a name of the user's own.
 pub(crate) const MOST_META_BYTES: usize = 2048;
+
+/// The most items of one reply that lists.
+pub const MOST_ITEMS: u32 = 1000;
+
+/// The most parts of an upload.
+pub const MOST_PARTS: usize = 1000;
+
+/// The least number of more than 18 digits, which no range has.
+pub const RANGE_LIMIT: u64 = 1_000_000_000_000_000_000;
 
 /// The marks of a token that are neither letters nor digits (RFC 9110, section 5.6.2).
 const TOKEN_MARKS: &[u8] = b"!#$%&'*+-.^_`|~";
@@ -58,6 +67,15 @@ pub fn is_proper_meta(meta: &Meta) -> bool
 {
     let pairs = meta.pairs();
     pairs.len() <= MOST_ENTRIES && are_proper_pairs(pairs) && is_small(pairs)
+}
+
+/// Whether these bytes may be a text of a listing, as its prefix or its delimiter: at most 1024 bytes of UTF-8 without byte
+/// 0. It takes no memory.
+#[tactic(auto, unfolding(crate::specs::Limits::is_listing_text))]
+pub fn is_listing_text(text: &[u8]) -> bool
+    ensures { result ≡ is_listing_text text.now }
+{
+    text.len() == 0 || is_key(text)
 }
 
 fn is_visible(byte: u8) -> bool

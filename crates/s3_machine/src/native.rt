@@ -9,6 +9,7 @@ ghost use Rattle.s3_machine.specs.declared.operation.Op.TheVariants.{
   GetLocation,
   GetBucketAcl,
   PutBucketAcl,
+  ListObjects,
   PutObject,
   GetObject,
   HeadObject,
@@ -18,7 +19,10 @@ ghost use Rattle.s3_machine.specs.declared.operation.Op.TheVariants.{
 ghost use Rattle.s3_machine.specs.Step.{IsProper, S3Step, may_read, is_other_acl};
 
 use crate::table::Table;
-use crate::{BucketItem, Code, Label, ObjectHead, Op, Reply, Settings, body_etag};
+use crate::{
+    Asked, BucketItem, Code, Conditions, Item, ItemHead, Judged, Label, ObjectHead, Op, Range,
+    Reply, Settings, Span, body_etag, judge,
+};
 use gate_base::{Bytes, Caller, Copying, List, Memory};
 use s3_names::{Acl, Meta};
 use std::alloc::Global;
@@ -47,9 +51,9 @@ impl Model for NativeObject {
 }
 
 impl NativeObject {
-    ghost use Rattle.std.specs.Prelude.{false, length};
-    ghost use Rattle.s3_machine.specs.declared.operation.Reply.TheVariants as answer;
-    ghost use Rattle.s3_machine.specs.Step.{head_of, headed, new_object, whole};
+    ghost use Rattle.std.specs.Prelude.{◌+◌, ◌≤◌, length};
+    ghost use Rattle.s3_machine.specs.Reading.{taken};
+    ghost use Rattle.s3_machine.specs.Step.{got, head_of, headed, item_head, new_object};
 
     fn new(
         alloc: Global,
@@ -81,31 +85,73 @@ impl NativeObject {
         })
     }
 
-    /// The answer with this body: all of the bytes, or none.
-    fn answer(&self, body: Bytes) -> Result<Reply, Memory>
-        ensures { IfOk result (λ reply. reply ≡ answer.Object (head_of self.now) 0 (length self.now.bytes) false body) }
+    /// What a listing tells of it.
+    pub(crate) fn item_head(&self) -> Result<ItemHead, Memory>
+        ensures { IfOk result (λ head. head ≡ item_head self.now) }
     {
-        Ok(Reply::Object {
-            head: self.head()?,
-            from: 0,
-            length: self.bytes.len() as u64,
-            partial: false,
-            body,
+        Ok(ItemHead {
+            etag: self.etag.copy()?,
+            modified: self.modified,
+            size: self.bytes.len() as u64,
         })
     }
 
     /// The answer to GetObject.
-    fn whole(&self) -> Result<Reply, Memory>
-        ensures { IfOk result (λ reply. reply ≡ whole self.now) }
+    fn got(
+        &self,
+        alloc: Global,
+        range: Option<Range>,
+        conditions: &Conditions,
+    ) -> Result<Reply, Memory>
+        ensures { IfOk result (λ reply. reply ≡ got range conditions.now self.now) }
     {
-        self.answer(self.bytes.copy()?)
+        let head = self.head()?;
+        match judge(range, conditions, &head) {
+            Judged::PreconditionFailed => Ok(Reply::Refused(Code::PreconditionFailed)),
+            Judged::NotModified => Ok(Reply::NotModified(head)),
+            Judged::InvalidRange => Ok(Reply::Refused(Code::InvalidRange)),
+            Judged::Bytes { span, partial } => Ok(Reply::Object {
+                head,
+                from: span.from,
+                length: span.length,
+                partial,
+                body: self.taken(alloc, span)?,
+            }),
+        }
     }
 
     /// The answer to HeadObject.
-    fn headed(&self, alloc: Global) -> Result<Reply, Memory>
-        ensures { IfOk result (λ reply. reply ≡ headed self.now) }
+    fn headed(
+        &self,
+        alloc: Global,
+        range: Option<Range>,
+        conditions: &Conditions,
+    ) -> Result<Reply, Memory>
+        ensures { IfOk result (λ reply. reply ≡ headed range conditions.now self.now) }
     {
-        self.answer(Bytes::new(alloc))
+        let head = self.head()?;
+        match judge(range, conditions, &head) {
+            Judged::PreconditionFailed => Ok(Reply::Refused(Code::PreconditionFailed)),
+            Judged::NotModified => Ok(Reply::NotModified(head)),
+            Judged::InvalidRange => Ok(Reply::Refused(Code::InvalidRange)),
+            Judged::Bytes { span, partial } => Ok(Reply::Object {
+                head,
+                from: span.from,
+                length: span.length,
+                partial,
+                body: Bytes::new(alloc),
+            }),
+        }
+    }
+
+    /// The bytes of a span.
+    fn taken(&self, alloc: Global, span: Span) -> Result<Bytes, Memory>
+        requires { span.from + span.length ≤ length self.now.bytes }
+        ensures { IfOk result (λ bytes. bytes ≡ taken span self.now.bytes) }
+    {
+        let (_, rest) = self.bytes.as_slice().split_at(span.from as usize);
+        let (bytes, _) = rest.split_at(span.length as usize);
+        Bytes::from_slice(alloc, bytes)
     }
 }
 
@@ -132,7 +178,8 @@ impl Model for NativeBucket {
 impl NativeBucket {
     ghost use Rattle.std.specs.Prelude.{OnOk, option_copied};
     ghost use Rattle.std.specs.FinMap.{get};
-    ghost use Rattle.s3_machine.specs.Step.{drop_object, is_bare, new_bucket, put_object, with_acl};
+    ghost use Rattle.s3_machine.specs.Native.{shown};
+    ghost use Rattle.s3_machine.specs.Step.{drop_object, is_bare, listing, new_bucket, put_object, with_acl};
 
     fn new(alloc: Global, moment: u64, acl: Acl) -> NativeBucket
         ensures { result ≡ new_bucket moment acl }
@@ -184,6 +231,12 @@ impl NativeBucket {
         ensures { option_copied result ≡ get self.now.objects key.now }
     {
         self.objects.get(key)
+    }
+
+    fn listing(&self, alloc: Global, asked: &Asked) -> Result<(List<Item>, bool), Memory>
+        ensures { IfOk result (λ listed. listed ≡ shown (listing asked.now self.now.objects)) }
+    {
+        self.objects.listing(alloc, asked)
     }
 
     fn put(&mut self, key: &[u8], object: NativeObject) -> Result<(), Memory>
@@ -306,8 +359,19 @@ impl Native {
                 meta,
                 body,
             } => self.put_object(bucket, key, *acl, content_type, meta, body, label),
-            Op::GetObject { bucket, key } => self.get_object(bucket, key, label),
-            Op::HeadObject { bucket, key } => self.head_object(bucket, key, label),
+            Op::ListObjects { bucket, asked } => self.list_objects(bucket, asked, label),
+            Op::GetObject {
+                bucket,
+                key,
+                range,
+                conditions,
+            } => self.get_object(bucket, key, *range, conditions, label),
+            Op::HeadObject {
+                bucket,
+                key,
+                range,
+                conditions,
+            } => self.head_object(bucket, key, *range, conditions, label),
             Op::DeleteObject { bucket, key } => self.delete_object(bucket, key, label),
             Op::GetObjectAcl { bucket, key } => Ok(self.get_object_acl(bucket, key, label)),
         }
@@ -393,6 +457,24 @@ impl Native {
         Reply::Done
     }
 
+    fn list_objects(&self, bucket: &Bytes, asked: &Asked, label: &Label) -> Result<Reply, Memory>
+        ensures { IfOk result (λ reply. S3Step self.now.settings self.now.state (ListObjects bucket.now asked.now) label.now reply self.now.state) }
+    {
+        let Some(found) = self.buckets.get(bucket.as_slice()) else {
+            return Ok(Reply::Refused(Code::NoSuchBucket));
+        };
+        if !found.may_be_read(label.caller) {
+            return Ok(Reply::Refused(Code::AccessDenied));
+        }
+        let (items, truncated) = found.listing(self.alloc, asked)?;
+        Ok(Reply::Objects {
+            bucket: bucket.copy()?,
+            asked: asked.copy()?,
+            items,
+            truncated,
+        })
+    }
+
     fn get_object_acl(&self, bucket: &Bytes, key: &Bytes, label: &Label) -> Reply
         ensures { S3Step self.now.settings self.now.state (GetObjectAcl bucket.now key.now) label.now result self.now.state }
     {
@@ -436,8 +518,16 @@ impl Native {
         Ok(reply)
     }
 
-    fn get_object(&self, bucket: &Bytes, key: &Bytes, label: &Label) -> Result<Reply, Memory>
-        ensures { IfOk result (λ reply. S3Step self.now.settings self.now.state (GetObject bucket.now key.now) label.now reply self.now.state) }
+    fn get_object(
+        &self,
+        bucket: &Bytes,
+        key: &Bytes,
+        range: Option<Range>,
+        conditions: &Conditions,
+        label: &Label,
+    ) -> Result<Reply, Memory>
+        ensures { IfOk result (λ reply.
+            S3Step self.now.settings self.now.state (GetObject bucket.now key.now range conditions.now) label.now reply self.now.state) }
     {
         let Some(found) = self.buckets.get(bucket.as_slice()) else {
             return Ok(Reply::Refused(Code::NoSuchBucket));
@@ -448,11 +538,19 @@ impl Native {
         let Some(object) = found.object(key.as_slice()) else {
             return Ok(Reply::Refused(Code::NoSuchKey));
         };
-        object.whole()
+        object.got(self.alloc, range, conditions)
     }
 
-    fn head_object(&self, bucket: &Bytes, key: &Bytes, label: &Label) -> Result<Reply, Memory>
-        ensures { IfOk result (λ reply. S3Step self.now.settings self.now.state (HeadObject bucket.now key.now) label.now reply self.now.state) }
+    fn head_object(
+        &self,
+        bucket: &Bytes,
+        key: &Bytes,
+        range: Option<Range>,
+        conditions: &Conditions,
+        label: &Label,
+    ) -> Result<Reply, Memory>
+        ensures { IfOk result (λ reply.
+            S3Step self.now.settings self.now.state (HeadObject bucket.now key.now range conditions.now) label.now reply self.now.state) }
     {
         let Some(found) = self.buckets.get(bucket.as_slice()) else {
             return Ok(Reply::Refused(Code::NoSuchBucket));
@@ -463,7 +561,7 @@ impl Native {
         let Some(object) = found.object(key.as_slice()) else {
             return Ok(Reply::Refused(Code::NoSuchKey));
         };
-        object.headed(self.alloc)
+        object.headed(self.alloc, range, conditions)
     }
 
     fn delete_object(&mut self, bucket: &Bytes, key: &Bytes, label: &Label) -> Result<Reply, Memory>

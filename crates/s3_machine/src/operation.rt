@@ -1,5 +1,6 @@
 use crate::Code;
 use crate::items::{Asked, BucketItem, Item, PartItem, UploadItem};
+use crate::reading::{Conditions, Range};
 use gate_base::{Bytes, Caller, Copying, List, Memory};
 use s3_names::{Acl, Meta};
 
@@ -75,6 +76,10 @@ pub enum Op {
         bucket: Bytes,
         acl: Acl,
     },
+    ListObjects {
+        bucket: Bytes,
+        asked: Asked,
+    },
     PutObject {
         bucket: Bytes,
         key: Bytes,
@@ -86,10 +91,14 @@ pub enum Op {
     GetObject {
         bucket: Bytes,
         key: Bytes,
+        range: Option<Range>,
+        conditions: Conditions,
     },
     HeadObject {
         bucket: Bytes,
         key: Bytes,
+        range: Option<Range>,
+        conditions: Conditions,
     },
     DeleteObject {
         bucket: Bytes,
@@ -125,6 +134,10 @@ impl Copying for Op {
                 bucket: bucket.copy()?,
                 acl: *acl,
             }),
+            Op::ListObjects { bucket, asked } => Ok(Op::ListObjects {
+                bucket: bucket.copy()?,
+                asked: asked.copy()?,
+            }),
             Op::PutObject {
                 bucket,
                 key,
@@ -140,13 +153,27 @@ impl Copying for Op {
                 meta: meta.copy()?,
                 body: body.copy()?,
             }),
-            Op::GetObject { bucket, key } => Ok(Op::GetObject {
+            Op::GetObject {
+                bucket,
+                key,
+                range,
+                conditions,
+            } => Ok(Op::GetObject {
                 bucket: bucket.copy()?,
                 key: key.copy()?,
+                range: *range,
+                conditions: conditions.copy()?,
             }),
-            Op::HeadObject { bucket, key } => Ok(Op::HeadObject {
+            Op::HeadObject {
+                bucket,
+                key,
+                range,
+                conditions,
+            } => Ok(Op::HeadObject {
                 bucket: bucket.copy()?,
                 key: key.copy()?,
+                range: *range,
+                conditions: conditions.copy()?,
             }),
             Op::DeleteObject { bucket, key } => Ok(Op::DeleteObject {
                 bucket: bucket.copy()?,

@@ -1,7 +1,7 @@
 -- Laws of the step, for the crates above: what each operation does by what is found in the state and in the bucket, and
 -- the replies that the machine never gives.
-use Rattle.std.specs.Prelude.{◌≡◌, ◌≢◌, ℕ, Bool, true, false, not, List, Option, Some, None, is_some}
-use Rattle.std.proofs.Common.{refl, sym, ap, ◌∙◌, true≢false}
+use Rattle.std.specs.Prelude.{◌≡◌, ◌≢◌, ℕ, Bool, true, false, not, List, [], Option, Some, None, is_some}
+use Rattle.std.proofs.Common.{refl, sym, ap, subst, ◌∙◌, true≢false}
 use Rattle.std.specs.FinMap.{get, insert, remove}
 use Rattle.gate_base.specs.Maps.{adjust}
 use Rattle.gate_base.specs.declared.page.Pair.{Pair}
@@ -17,7 +17,9 @@ use Rattle.s3_machine.specs.declared.code.Code.TheVariants.{
   NotImplemented,
   ServiceUnavailable,
 }
+use Rattle.s3_machine.specs.declared.items.Asked.{Asked}
 use Rattle.s3_machine.specs.declared.items.BucketItem.{BucketItem}
+use Rattle.s3_machine.specs.declared.items.ItemHead.{ItemHead}
 use Rattle.s3_machine.specs.declared.operation.Label.{Label}
 use Rattle.s3_machine.specs.declared.operation.Settings.{Settings}
 use Rattle.s3_machine.specs.declared.operation.Op.{Op}
@@ -29,15 +31,23 @@ use Rattle.s3_machine.specs.declared.operation.Op.TheVariants.{
   GetLocation,
   GetBucketAcl,
   PutBucketAcl,
+  ListObjects,
   PutObject,
   GetObject,
   HeadObject,
   DeleteObject,
   GetObjectAcl,
 }
+use Rattle.s3_machine.specs.declared.operation.ObjectHead.{ObjectHead}
 use Rattle.s3_machine.specs.declared.operation.Reply.{Reply}
 use Rattle.s3_machine.specs.declared.operation.Reply.TheVariants.{Refused, Done, Made, Memory, Stored, Gone, Buckets, Location, AclOf}
+use Rattle.s3_machine.specs.declared.reading.Conditions.{Conditions}
+use Rattle.s3_machine.specs.declared.reading.Judged.{Judged}
+use Rattle.s3_machine.specs.declared.reading.Judged.TheVariants.{PreconditionFailed, NotModified, InvalidRange, Bytes}
+use Rattle.s3_machine.specs.declared.reading.Range.{Range}
+use Rattle.s3_machine.specs.declared.reading.Span.{Span}
 use Rattle.s3_machine.specs.ETag.{body_etag}
+use Rattle.s3_machine.specs.Reading.{judged, taken}
 use Rattle.s3_machine.specs.State.{Object, Bucket, State}
 use Rattle.s3_machine.specs.Step.{
   Outcome,
@@ -56,8 +66,13 @@ use Rattle.s3_machine.specs.Step.{
   puts,
   deletes,
   reads,
-  whole,
+  head_of,
+  read_by,
+  got,
   headed,
+  listing,
+  listing_reply,
+  lists,
   new_bucket,
   new_object,
   put_object,
@@ -135,6 +150,9 @@ module _ (settings : Settings) (old : State) (bucket : List ℕ) (label : Label)
     pub set_without_bucket : (acl : Acl) → S3Step settings old (PutBucketAcl bucket acl) label (Refused NoSuchBucket) old
     set_without_bucket acl = steps _ _ 0 tt (in_missing old bucket none (sets_acl old bucket acl))
 
+    pub list_without_bucket : (asked : Asked) → S3Step settings old (ListObjects bucket asked) label (Refused NoSuchBucket) old
+    list_without_bucket asked = steps _ _ 0 tt (in_missing old bucket none (lists old label.caller bucket asked))
+
     pub object_acl_without_bucket : (key : List ℕ) → S3Step settings old (GetObjectAcl bucket key) label (Refused NoSuchBucket) old
     object_acl_without_bucket key = steps _ _ 0 tt (in_missing old bucket none (shows_object_acl old key))
 
@@ -160,6 +178,13 @@ module _ (settings : Settings) (old : State) (bucket : List ℕ) (label : Label)
 
     pub step_acl_set : (acl : Acl) → S3Step settings old (PutBucketAcl bucket acl) label Done (adjust bucket (with_acl acl) old)
     step_acl_set acl = steps _ _ 0 tt (in_found old bucket b found (sets_acl old bucket acl))
+
+    pub list_denied : (asked : Asked) → may_read label.caller b.acl ≡ false → S3Step settings old (ListObjects bucket asked) label (Refused AccessDenied) old
+    list_denied asked e = steps _ _ 0 tt (in_found old bucket b found (lists old label.caller bucket asked) ∙ unless_true _ _ _ _ (ap not e))
+
+    pub step_items : (asked : Asked) → may_read label.caller b.acl ≡ true
+        → S3Step settings old (ListObjects bucket asked) label (listing_reply bucket asked (listing asked b.objects)) old
+    step_items asked e = steps _ _ 0 tt (in_found old bucket b found (lists old label.caller bucket asked) ∙ unless_false _ _ _ _ (ap not e))
 
     pub object_acl_without_key : (key : List ℕ) → get b.objects key ≡ None → S3Step settings old (GetObjectAcl bucket key) label (Refused NoSuchKey) old
     object_acl_without_key key none = steps _ _ 0 tt (in_found old bucket b found (shows_object_acl old key)
@@ -191,11 +216,11 @@ module _ (settings : Settings) (old : State) (bucket key : List ℕ) (label : La
         → S3Step settings old (PutObject bucket key acl content_type meta body) label (Refused NoSuchBucket) old
     put_without_bucket acl content_type meta body = steps _ _ 0 tt (missing (puts old bucket key acl (new_object label.moment content_type meta body)))
 
-    pub get_without_bucket : S3Step settings old (GetObject bucket key) label (Refused NoSuchBucket) old
-    get_without_bucket = steps _ _ 0 tt (missing (in_readable old label.caller key (reads old whole)))
+    pub get_without_bucket : (range : Option Range) (conditions : Conditions) → S3Step settings old (GetObject bucket key range conditions) label (Refused NoSuchBucket) old
+    get_without_bucket range conditions = steps _ _ 0 tt (missing (in_readable old label.caller key (reads old (got range conditions))))
 
-    pub head_without_bucket : S3Step settings old (HeadObject bucket key) label (Refused NoSuchBucket) old
-    head_without_bucket = steps _ _ 0 tt (missing (in_readable old label.caller key (reads old headed)))
+    pub head_without_bucket : (range : Option Range) (conditions : Conditions) → S3Step settings old (HeadObject bucket key range conditions) label (Refused NoSuchBucket) old
+    head_without_bucket range conditions = steps _ _ 0 tt (missing (in_readable old label.caller key (reads old (headed range conditions))))
 
     pub delete_without_bucket : S3Step settings old (DeleteObject bucket key) label (Refused NoSuchBucket) old
     delete_without_bucket = steps _ _ 0 tt (missing (deletes old bucket key))
@@ -215,29 +240,35 @@ module _ (settings : Settings) (old : State) (bucket key : List ℕ) (label : La
     step_stored acl content_type meta body e = steps _ _ 0 tt (there (puts old bucket key acl (new_object label.moment content_type meta body))
         ∙ unless_false _ _ _ _ e)
 
-    pub get_denied : may_read label.caller b.acl ≡ false → S3Step settings old (GetObject bucket key) label (Refused AccessDenied) old
-    get_denied e = steps _ _ 0 tt (there (in_readable old label.caller key (reads old whole)) ∙ readable_denied old label key (reads old whole) b e)
+    pub get_denied : (range : Option Range) (conditions : Conditions) → may_read label.caller b.acl ≡ false
+        → S3Step settings old (GetObject bucket key range conditions) label (Refused AccessDenied) old
+    get_denied range conditions e = steps _ _ 0 tt (there (in_readable old label.caller key (reads old (got range conditions)))
+        ∙ readable_denied old label key (reads old (got range conditions)) b e)
 
-    pub head_denied : may_read label.caller b.acl ≡ false → S3Step settings old (HeadObject bucket key) label (Refused AccessDenied) old
-    head_denied e = steps _ _ 0 tt (there (in_readable old label.caller key (reads old headed)) ∙ readable_denied old label key (reads old headed) b e)
+    pub head_denied : (range : Option Range) (conditions : Conditions) → may_read label.caller b.acl ≡ false
+        → S3Step settings old (HeadObject bucket key range conditions) label (Refused AccessDenied) old
+    head_denied range conditions e = steps _ _ 0 tt (there (in_readable old label.caller key (reads old (headed range conditions)))
+        ∙ readable_denied old label key (reads old (headed range conditions)) b e)
 
-    pub get_without_key : may_read label.caller b.acl ≡ true → get b.objects key ≡ None
-        → S3Step settings old (GetObject bucket key) label (Refused NoSuchKey) old
-    get_without_key e none = steps _ _ 0 tt (there (in_readable old label.caller key (reads old whole))
-        ∙ readable_none old label key (reads old whole) b e none)
+    pub get_without_key : (range : Option Range) (conditions : Conditions) → may_read label.caller b.acl ≡ true → get b.objects key ≡ None
+        → S3Step settings old (GetObject bucket key range conditions) label (Refused NoSuchKey) old
+    get_without_key range conditions e none = steps _ _ 0 tt (there (in_readable old label.caller key (reads old (got range conditions)))
+        ∙ readable_none old label key (reads old (got range conditions)) b e none)
 
-    pub head_without_key : may_read label.caller b.acl ≡ true → get b.objects key ≡ None
-        → S3Step settings old (HeadObject bucket key) label (Refused NoSuchKey) old
-    head_without_key e none = steps _ _ 0 tt (there (in_readable old label.caller key (reads old headed))
-        ∙ readable_none old label key (reads old headed) b e none)
+    pub head_without_key : (range : Option Range) (conditions : Conditions) → may_read label.caller b.acl ≡ true → get b.objects key ≡ None
+        → S3Step settings old (HeadObject bucket key range conditions) label (Refused NoSuchKey) old
+    head_without_key range conditions e none = steps _ _ 0 tt (there (in_readable old label.caller key (reads old (headed range conditions)))
+        ∙ readable_none old label key (reads old (headed range conditions)) b e none)
 
-    pub step_read : (o : Object) → may_read label.caller b.acl ≡ true → get b.objects key ≡ Some o
-        → S3Step settings old (GetObject bucket key) label (whole o) old
-    step_read o e is = steps _ _ 0 tt (there (in_readable old label.caller key (reads old whole)) ∙ readable_there old label key (reads old whole) b o e is)
+    pub step_read : (range : Option Range) (conditions : Conditions) (o : Object) → may_read label.caller b.acl ≡ true → get b.objects key ≡ Some o
+        → S3Step settings old (GetObject bucket key range conditions) label (got range conditions o) old
+    step_read range conditions o e is = steps _ _ 0 tt (there (in_readable old label.caller key (reads old (got range conditions)))
+        ∙ readable_there old label key (reads old (got range conditions)) b o e is)
 
-    pub step_headed : (o : Object) → may_read label.caller b.acl ≡ true → get b.objects key ≡ Some o
-        → S3Step settings old (HeadObject bucket key) label (headed o) old
-    step_headed o e is = steps _ _ 0 tt (there (in_readable old label.caller key (reads old headed)) ∙ readable_there old label key (reads old headed) b o e is)
+    pub step_headed : (range : Option Range) (conditions : Conditions) (o : Object) → may_read label.caller b.acl ≡ true → get b.objects key ≡ Some o
+        → S3Step settings old (HeadObject bucket key range conditions) label (headed range conditions o) old
+    step_headed range conditions o e is = steps _ _ 0 tt (there (in_readable old label.caller key (reads old (headed range conditions)))
+        ∙ readable_there old label key (reads old (headed range conditions)) b o e is)
 
     -- also where nothing stands under the key
     pub step_gone : S3Step settings old (DeleteObject bucket key) label Gone (adjust bucket (drop_object key) old)
@@ -275,6 +306,16 @@ module _ (old : State) (reply : Reply) where
   show_reply None label e = ((λ f. cc), (λ f. cc), (λ f. cc))
   show_reply (Some b) label e = shows_reply (not (may_read label.caller b.acl)) e
 
+  lists_reply : (t : Bool) (name : List ℕ) (asked : Asked) (listed : List (List ℕ × Option ItemHead) × Bool)
+      → reply ≡ (unless t AccessDenied old (gives (listing_reply name asked listed) old)).reply → IsMachineReply reply
+  lists_reply true name asked listed e = ((λ f. cc), (λ f. cc), (λ f. cc))
+  lists_reply false name asked listed e = ((λ f. cc), (λ f. cc), (λ f. cc))
+
+  list_reply : (v : Option Bucket) (label : Label) (name : List ℕ) (asked : Asked) → reply ≡ (in_bucket_by v old (lists old label.caller name asked)).reply
+      → IsMachineReply reply
+  list_reply None label name asked e = ((λ f. cc), (λ f. cc), (λ f. cc))
+  list_reply (Some b) label name asked e = lists_reply (not (may_read label.caller b.acl)) name asked (listing asked b.objects) e
+
   locate_reply : (v : Option Bucket) (settings : Settings) → reply ≡ (in_bucket_by v old (locates settings old)).reply → IsMachineReply reply
   locate_reply None settings e = ((λ f. cc), (λ f. cc), (λ f. cc))
   locate_reply (Some b) settings e = ((λ f. cc), (λ f. cc), (λ f. cc))
@@ -295,6 +336,19 @@ module _ (old : State) (reply : Reply) where
   object_acl_reply None key e = ((λ f. cc), (λ f. cc), (λ f. cc))
   object_acl_reply (Some b) key e = object_acl_by (get b.objects key) b.acl e
 
+-- the replies of the operations that read an object
+read_by_reply : (head : ObjectHead) (bytes : Span → List ℕ) (j : Judged) → IsMachineReply (read_by head bytes j)
+read_by_reply head bytes PreconditionFailed = ((λ f. cc), (λ f. cc), (λ f. cc))
+read_by_reply head bytes NotModified = ((λ f. cc), (λ f. cc), (λ f. cc))
+read_by_reply head bytes InvalidRange = ((λ f. cc), (λ f. cc), (λ f. cc))
+read_by_reply head bytes (Bytes span partial) = ((λ f. cc), (λ f. cc), (λ f. cc))
+
+got_reply : (range : Option Range) (conditions : Conditions) (o : Object) → IsMachineReply (got range conditions o)
+got_reply range conditions o = read_by_reply (head_of o) (λ span. taken span o.bytes) (judged range conditions (head_of o))
+
+headed_reply : (range : Option Range) (conditions : Conditions) (o : Object) → IsMachineReply (headed range conditions o)
+headed_reply range conditions o = read_by_reply (head_of o) (λ span. []) (judged range conditions (head_of o))
+
 -- the replies of the operations on objects
 module _ (old : State) (reply : Reply) where
   puts_reply : (t : Bool) (etag : List ℕ) (new : State) → reply ≡ (unless t NotImplemented old (gives (Stored etag) new)).reply → IsMachineReply reply
@@ -306,28 +360,20 @@ module _ (old : State) (reply : Reply) where
   put_reply None bucket key acl o e = ((λ f. cc), (λ f. cc), (λ f. cc))
   put_reply (Some b) bucket key acl o e = puts_reply (is_other_acl acl b.acl) _ _ e
 
-  whole_reply : (v : Option Object) → reply ≡ (in_object_by v old (reads old whole)).reply → IsMachineReply reply
-  whole_reply None e = ((λ f. cc), (λ f. cc), (λ f. cc))
-  whole_reply (Some o) e = ((λ f. cc), (λ f. cc), (λ f. cc))
-
-  headed_reply : (v : Option Object) → reply ≡ (in_object_by v old (reads old headed)).reply → IsMachineReply reply
-  headed_reply None e = ((λ f. cc), (λ f. cc), (λ f. cc))
-  headed_reply (Some o) e = ((λ f. cc), (λ f. cc), (λ f. cc))
+  answered_reply : (v : Option Object) (answer : Object → Reply) → ((o : Object) → IsMachineReply (answer o)) → reply ≡ (in_object_by v old (reads old answer)).reply
+      → IsMachineReply reply
+  answered_reply None answer own e = ((λ f. cc), (λ f. cc), (λ f. cc))
+  answered_reply (Some o) answer own e = subst IsMachineReply (sym e) (own o)
 
   readable_reply : (t : Bool) (rest : Outcome) → (reply ≡ rest.reply → IsMachineReply reply) → reply ≡ (unless t AccessDenied old rest).reply
       → IsMachineReply reply
   readable_reply true rest own e = ((λ f. cc), (λ f. cc), (λ f. cc))
   readable_reply false rest own e = own e
 
-  get_reply : (v : Option Bucket) (label : Label) (key : List ℕ)
-      → reply ≡ (in_bucket_by v old (in_readable old label.caller key (reads old whole))).reply → IsMachineReply reply
-  get_reply None label key e = ((λ f. cc), (λ f. cc), (λ f. cc))
-  get_reply (Some b) label key e = readable_reply (not (may_read label.caller b.acl)) _ (whole_reply (get b.objects key)) e
-
-  head_reply : (v : Option Bucket) (label : Label) (key : List ℕ)
-      → reply ≡ (in_bucket_by v old (in_readable old label.caller key (reads old headed))).reply → IsMachineReply reply
-  head_reply None label key e = ((λ f. cc), (λ f. cc), (λ f. cc))
-  head_reply (Some b) label key e = readable_reply (not (may_read label.caller b.acl)) _ (headed_reply (get b.objects key)) e
+  read_reply : (v : Option Bucket) (label : Label) (key : List ℕ) (answer : Object → Reply) → ((o : Object) → IsMachineReply (answer o))
+      → reply ≡ (in_bucket_by v old (in_readable old label.caller key (reads old answer))).reply → IsMachineReply reply
+  read_reply None label key answer own e = ((λ f. cc), (λ f. cc), (λ f. cc))
+  read_reply (Some b) label key answer own e = readable_reply (not (may_read label.caller b.acl)) _ (answered_reply (get b.objects key) answer own) e
 
   delete_reply : (v : Option Bucket) (bucket key : List ℕ) → reply ≡ (in_bucket_by v old (deletes old bucket key)).reply → IsMachineReply reply
   delete_reply None bucket key e = ((λ f. cc), (λ f. cc), (λ f. cc))
@@ -345,6 +391,7 @@ machine_reply settings old (GetBucketAcl bucket) label reply new s = acl_reply o
 machine_reply settings old (PutBucketAcl bucket acl) label reply new s = set_reply old reply (get old bucket) bucket acl s.replies
 machine_reply settings old (GetObjectAcl bucket key) label reply new s = object_acl_reply old reply (get old bucket) key s.replies
 machine_reply settings old (PutObject bucket key acl content_type meta body) label reply new s = put_reply old reply (get old bucket) bucket key acl (new_object label.moment content_type meta body) s.replies
-machine_reply settings old (GetObject bucket key) label reply new s = get_reply old reply (get old bucket) label key s.replies
-machine_reply settings old (HeadObject bucket key) label reply new s = head_reply old reply (get old bucket) label key s.replies
+machine_reply settings old (GetObject bucket key range conditions) label reply new s = read_reply old reply (get old bucket) label key (got range conditions) (got_reply range conditions) s.replies
+machine_reply settings old (HeadObject bucket key range conditions) label reply new s = read_reply old reply (get old bucket) label key (headed range conditions) (headed_reply range conditions) s.replies
+machine_reply settings old (ListObjects bucket asked) label reply new s = list_reply old reply (get old bucket) label bucket asked s.replies
 machine_reply settings old (DeleteObject bucket key) label reply new s = delete_reply old reply (get old bucket) bucket key s.replies

@@ -1,0 +1,178 @@
+-- The steps of the operations that read an object, from what the calls told.
+use Rattle.std.specs.Prelude.{◌≡◌, ◌≤◌, ◌<◌, ◌+◌, ◌-◌, ◌^◌, ℕ, Bool, true, false, cond, nat_lt, min, List, [], length, take, drop, Option, Some, None, Ok, Err, IsTrue}
+use Rattle.std.specs.Option.{option_and_then, option_map}
+use Rattle.std.specs.FinMap.{get}
+use Rattle.std.proofs.Common.{refl, sym, ap, subst, ◌∙◌, arith}
+use Rattle.std.proofs.lemmas.Bool.{cond-true, eq-eqb}
+use Rattle.std.proofs.lemmas.Bool.Decides.{nat_tests}
+use Rattle.std.proofs.lemmas.List.{length-drop, length-take-le}
+use Rattle.std.proofs.Math.Seq.{take-length}
+use Rattle.s3_names.specs.declared.acl.Acl.{Acl}
+use Rattle.s3_machine.specs.declared.code.Code.TheVariants.{AccessDenied, NoSuchBucket, NoSuchKey}
+use Rattle.s3_machine.specs.declared.code.Code.TheVariants as code
+use Rattle.s3_machine.specs.declared.operation.Label.{Label}
+use Rattle.s3_machine.specs.declared.operation.ObjectHead.{ObjectHead}
+use Rattle.s3_machine.specs.declared.operation.Settings.{Settings}
+use Rattle.s3_machine.specs.declared.operation.Op.TheVariants.{GetObject, HeadObject}
+use Rattle.s3_machine.specs.declared.operation.Reply.{Reply}
+use Rattle.s3_machine.specs.declared.operation.Reply.TheVariants as reply
+use Rattle.s3_machine.specs.declared.reading.Conditions.{Conditions}
+use Rattle.s3_machine.specs.declared.reading.Judged.{Judged}
+use Rattle.s3_machine.specs.declared.reading.Judged.TheVariants.{PreconditionFailed, NotModified, InvalidRange, Bytes}
+use Rattle.s3_machine.specs.declared.reading.Range.{Range}
+use Rattle.s3_machine.specs.declared.reading.Span.{Span}
+use Rattle.s3_machine.specs.Reading.{judged, taken}
+use Rattle.s3_machine.specs.Shown.{IsShown}
+use Rattle.s3_machine.specs.State.{Object, Bucket, State}
+use Rattle.s3_machine.specs.Step.{S3Step, may_read, head_of, read_by}
+use Rattle.s3_machine.proofs.lemmas.Reading.{IsWithin, Fits, judged_fits}
+use Rattle.s3_machine.proofs.lemmas.StepLemmas.{get_without_bucket, head_without_bucket, get_denied, head_denied, get_without_key, head_without_key, step_read, step_headed}
+use Rattle.swift_calls.specs.Bodies.{ranged}
+use Rattle.upload_records.specs.Native.{object_at}
+use Rattle.recovery.specs.Calls.{TellsBucket, TellsObject, TellsBytes, bytes_in}
+use Rattle.recovery.specs.Interpret.{IsShownHead}
+use Rattle.recovery.specs.declared.fault.PlanFault.TheVariants.{Inconsistent}
+use Rattle.planner.specs.Objects.{TellsReadable, headed_reply, part_end, range_of}
+use Rattle.planner.specs.Plan.{IsOwnReply}
+use Rattle.planner.proofs.CreateBucket.{missing_of}
+use Rattle.planner.proofs.Steps.{bucket_by, no_object, object_by_head}
+
+some_same : {x y : List ℕ} → Some x ≡ Some y → x ≡ y
+some_same e = cc
+
+never : {x : List ℕ} → Some x ≡ None → ⊥
+never e = cc
+
+-- the bytes of a span are as many as it says
+taken_size : (bytes : List ℕ) (span : Span) → span.from + span.length ≤ length bytes → length (taken span bytes) ≡ span.length
+taken_size bytes span ends = length-take-le span.length (drop span.from bytes) (omega (arith, ends, length-drop span.from bytes))
+
+-- what a store has of the range that is asked for a span
+part_by : (bytes : List ℕ) (span : Span) (partial : Bool) → IsWithin (length bytes) partial span → ranged (range_of span partial) bytes ≡ Some (taken span bytes)
+part_by bytes span false within = ap (λ b. Some b) (sym (take-length bytes) ∙ ap (λ s. taken s bytes) (sym (within.whole refl)))
+part_by bytes span true within =
+    let ends = within.ends in
+    let filled = within.filled refl in
+    let first : nat_lt span.from (length bytes) ≡ true = grind (arith, nat_tests) in
+    let last : min (span.from + span.length - 1 + 1) (length bytes) - span.from ≡ span.length = omega (arith, ends, filled) in
+    cond-true _ _ _ first ∙ ap (λ n. Some (take n (drop span.from bytes))) last
+
+module _ (settings : Settings) (state : State) (bucket key : List ℕ) (range : Option Range) (conditions : Conditions) (label : Label) where
+  -- the bucket is missing
+  module _ (told : TellsBucket bucket state None) where
+    pub get_missing : S3Step settings state (GetObject bucket key range conditions) label (reply.Refused NoSuchBucket) state
+    get_missing = get_without_bucket settings state bucket key label (missing_of bucket state told) range conditions
+
+    pub head_missing : S3Step settings state (HeadObject bucket key range conditions) label (reply.Refused NoSuchBucket) state
+    head_missing = head_without_bucket settings state bucket key label (missing_of bucket state told) range conditions
+
+  -- it has this list
+  module _ (list : Acl) (told : TellsBucket bucket state (Some list)) where
+    it : (b : Bucket) × (get state bucket ≡ Some b) × (b.acl ≡ list)
+    it = bucket_by (get state bucket) list told
+
+    may : (t : Bool) → may_read label.caller list ≡ t → may_read label.caller it.0.acl ≡ t
+    may t e = ap (may_read label.caller) it.2 ∙ e
+
+    pub get_refused : may_read label.caller list ≡ false → S3Step settings state (GetObject bucket key range conditions) label (reply.Refused AccessDenied) state
+    get_refused e = get_denied settings state bucket key label it.0 it.1 range conditions (may false e)
+
+    pub head_refused : may_read label.caller list ≡ false → S3Step settings state (HeadObject bucket key range conditions) label (reply.Refused AccessDenied) state
+    head_refused e = head_denied settings state bucket key label it.0 it.1 range conditions (may false e)
+
+    under : object_at (get state bucket) key ≡ get it.0.objects key
+    under = ap (λ o. object_at o key) it.1
+
+    pub get_none : may_read label.caller list ≡ true → TellsObject bucket key state None → S3Step settings state (GetObject bucket key range conditions) label (reply.Refused NoSuchKey) state
+    get_none e none = get_without_key settings state bucket key label it.0 it.1 range conditions (may true e) (sym under ∙ no_object (object_at (get state bucket) key) none)
+
+    pub head_none : may_read label.caller list ≡ true → TellsObject bucket key state None → S3Step settings state (HeadObject bucket key range conditions) label (reply.Refused NoSuchKey) state
+    head_none e none = head_without_key settings state bucket key label it.0 it.1 range conditions (may true e) (sym under ∙ no_object (object_at (get state bucket) key) none)
+
+    pub head_there : may_read label.caller list ≡ true → (head : ObjectHead) → TellsObject bucket key state (Some head)
+        → S3Step settings state (HeadObject bucket key range conditions) label (headed_reply range conditions head) state
+    head_there e head there =
+        let x = object_by_head (object_at (get state bucket) key) head there in
+        subst (λ h. S3Step settings state (HeadObject bucket key range conditions) label (headed_reply range conditions h) state) x.2
+        (step_headed settings state bucket key label it.0 it.1 range conditions x.0 (may true e) (sym under ∙ x.1))
+
+  module _ (list : Acl) (head : ObjectHead) (readable : TellsReadable bucket key label.caller list head state) where
+    pub found : (x : Object) × (object_at (get state bucket) key ≡ Some x) × (head_of x ≡ head)
+    found = object_by_head (object_at (get state bucket) key) head readable.there
+
+    -- what is answered by the bytes of the object
+    pub get_there : S3Step settings state (GetObject bucket key range conditions) label (read_by head (λ span. taken span found.0.bytes) (judged range conditions head)) state
+    get_there =
+        let b = bucket_by (get state bucket) list readable.in_bucket in
+        subst (λ h. S3Step settings state (GetObject bucket key range conditions) label (read_by h (λ span. taken span found.0.bytes) (judged range conditions h)) state) found.2
+        (step_read settings state bucket key label b.0 b.1 range conditions found.0 (ap (may_read label.caller) b.2 ∙ readable.allowed) (sym (ap (λ o. object_at o key) b.1) ∙ found.1))
+
+    -- a reply without bytes, or with none of the object
+    pub get_judged : (j : Judged) → judged range conditions head ≡ j → S3Step settings state (GetObject bucket key range conditions) label (read_by head (λ span. taken span found.0.bytes) j) state
+    get_judged j is = subst (λ j. S3Step settings state (GetObject bucket key range conditions) label (read_by head (λ span. taken span found.0.bytes) j) state) is get_there
+
+    size_is : length found.0.bytes ≡ head.size
+    size_is = ap (λ (h : ObjectHead). h.size) found.2
+
+    module _ (span : Span) (partial : Bool) (is : judged range conditions head ≡ Bytes span partial) where
+      fits : IsWithin head.size partial span
+      fits = subst (Fits head.size) is (judged_fits range conditions head)
+
+      -- the store tells the bytes of the span
+      told_part : option_and_then (ranged (range_of span partial)) (option_map bytes_in (object_at (get state bucket) key)) ≡ Some (taken span found.0.bytes)
+      told_part =
+          ap (λ o. option_and_then (ranged (range_of span partial)) (option_map bytes_in o)) found.1
+          ∙ part_by found.0.bytes span partial (subst (λ size. IsWithin size partial span) (sym size_is) fits)
+
+      pub part_there : (body : List ℕ) → TellsBytes bucket key (range_of span partial) state (Some body)
+          → S3Step settings state (GetObject bucket key range conditions) label (reply.Object head span.from span.length partial body) state
+      part_there body told =
+          let same : taken span found.0.bytes ≡ body = some_same (sym told_part ∙ told) in
+          subst (λ bytes. S3Step settings state (GetObject bucket key range conditions) label (reply.Object head span.from span.length partial bytes) state) same (get_judged (Bytes span partial) is)
+
+      -- they are as many as were asked for
+      pub part_is : (body : List ℕ) → TellsBytes bucket key (range_of span partial) state (Some body) → part_end head span partial body ≡ Ok (reply.Object head span.from span.length partial body)
+      part_is body told =
+          let same : taken span found.0.bytes ≡ body = some_same (sym told_part ∙ told) in
+          let sized : length body ≡ span.length = ap length (sym same) ∙ taken_size found.0.bytes span (subst (λ size. span.from + span.length ≤ size) (sym size_is) fits.ends) in
+          ap (λ t. cond t (Ok (reply.Object head span.from span.length partial body)) (Err Inconsistent)) (eq-eqb (length body) span.length sized)
+
+      -- the object that was there is there, with these bytes
+      pub not_gone : TellsBytes bucket key (range_of span partial) state None → ⊥
+      not_gone none = never (sym told_part ∙ none)
+
+-- ---- the replies are the service's own, and have a page
+
+span_shown : (head : ObjectHead) (span : Span) (partial : Bool) → IsShownHead (Some head) → IsWithin head.size partial span → IsShown head span.from span.length partial
+span_shown head span partial shown within =
+    let ends = within.ends in
+    let least = shown.1 in
+    record { dated = shown.0; ends = omega (arith, ends, least); filled = within.filled }
+
+-- the bytes of a span have a page, and the store can be asked for them
+pub judged_shown : (range : Option Range) (conditions : Conditions) (head : ObjectHead) (span : Span) (partial : Bool) → IsShownHead (Some head)
+    → judged range conditions head ≡ Bytes span partial → IsShown head span.from span.length partial
+judged_shown range conditions head span partial shown is = span_shown head span partial shown (subst (Fits head.size) is (judged_fits range conditions head))
+
+pub judged_filled : (range : Option Range) (conditions : Conditions) (head : ObjectHead) (span : Span) (partial : Bool) → judged range conditions head ≡ Bytes span partial → partial ≡ true → 0 < span.length
+judged_filled range conditions head span partial is = (subst (Fits head.size) is (judged_fits range conditions head)).filled
+
+pub judged_below : (range : Option Range) (conditions : Conditions) (head : ObjectHead) (span : Span) (partial : Bool) → IsShownHead (Some head)
+    → judged range conditions head ≡ Bytes span partial → span.from + span.length < 2 ^ 63
+judged_below range conditions head span partial shown is =
+    let ends = (subst (Fits head.size) is (judged_fits range conditions head)).ends in
+    let least = shown.1 in
+    omega (arith, ends, least)
+
+pub object_is_own : (head : ObjectHead) (span : Span) (partial : Bool) (body : List ℕ) → IsShown head span.from span.length partial
+    → IsOwnReply (reply.Object head span.from span.length partial body)
+object_is_own head span partial body shown = record { showable = shown; no_memory = λ e. cc; no_failure = λ e. cc; no_inconsistency = λ e. cc }
+
+pub not_modified_is_own : (head : ObjectHead) → IsShownHead (Some head) → IsOwnReply (reply.NotModified head)
+not_modified_is_own head shown = record { showable = shown.0; no_memory = λ e. cc; no_failure = λ e. cc; no_inconsistency = λ e. cc }
+
+pub failed_is_own : IsOwnReply (reply.Refused code.PreconditionFailed)
+failed_is_own = record { showable = tt; no_memory = λ e. cc; no_failure = λ e. cc; no_inconsistency = λ e. cc }
+
+pub beyond_is_own : IsOwnReply (reply.Refused code.InvalidRange)
+beyond_is_own = record { showable = tt; no_memory = λ e. cc; no_failure = λ e. cc; no_inconsistency = λ e. cc }
