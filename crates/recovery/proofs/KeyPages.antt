@@ -15,6 +15,7 @@ use Rattle.s3_names.specs.Bucket.{is_bucket}
 use Rattle.s3_names.specs.Key.{is_key}
 use Rattle.s3_machine.specs.Items.{begins, behind, with_prefix}
 use Rattle.s3_machine.specs.State.{Object, Bucket}
+use Rattle.s3_machine.specs.Step.{listed_key}
 use Rattle.s3_machine.specs.declared.items.ItemHead.{ItemHead}
 use Rattle.swift_calls.specs.Account.{SwiftObject, SwiftAccount, files, size_of}
 use Rattle.swift_calls.specs.Bodies.{item_of}
@@ -37,7 +38,7 @@ use Rattle.list_pages.proofs.lemmas.Pushing.{is_less}
 use Rattle.list_pages.proofs.lemmas.Sorted.{sorted_filter}
 use Rattle.list_pages.proofs.lemmas.Starting.{not_behind}
 use Rattle.list_pages.proofs.lemmas.Starts.{starts_begins}
-use Rattle.recovery.specs.Keys.{item_head, listed_key, objects_in, keys_with, TellsKeys}
+use Rattle.recovery.specs.Keys.{objects_in, keys_with, TellsKeys}
 use Rattle.recovery.proofs.Marks.{entries_are}
 use Rattle.recovery.proofs.Names.{container_name}
 

@@ -1,5 +1,6 @@
 pub mod Ask
 pub mod Ascending
+pub mod AskedMarks
 pub mod Calm
 pub mod Created
 pub mod Dates

@@ -9,8 +9,10 @@ use Rattle.std.proofs.lemmas.Bool.Decides.{nat_tests}
 use Rattle.std.proofs.lemmas.List.{append-nil, length-map, length-take, length-append, take-append-drop}
 use Rattle.std.proofs.lemmas.List.Folds.{list_all-append}
 use Rattle.gate_base.specs.Maps.{name_cmp}
+use Rattle.s3_names.specs.Key.{is_key}
 use Rattle.s3_machine.specs.Items.{begins, behind, with_prefix}
 use Rattle.s3_machine.specs.State.{Object}
+use Rattle.s3_machine.specs.Step.{listed_key}
 use Rattle.s3_machine.specs.declared.items.ItemHead.{ItemHead}
 use Rattle.swift_calls.specs.Account.{SwiftAccount}
 use Rattle.swift_calls.specs.Limits.{IsMark}
@@ -22,7 +24,7 @@ use Rattle.list_pages.specs.Rolls.{Rolls, rows_of, seen_of}
 use Rattle.list_pages.proofs.lemmas.Pages.{parts, roll_rest}
 use Rattle.list_pages.proofs.lemmas.Sorted.{both, sorted_filter, rises_sorted, rises_front, with_prefix_behind}
 use Rattle.list_pages.proofs.lemmas.Turning.{page_turned, split_at_marker}
-use Rattle.recovery.specs.Keys.{listed_key, objects_in, keys_with, TellsKeys, up_to, HasRolled, GoesOnWith, TellsTaken}
+use Rattle.recovery.specs.Keys.{objects_in, keys_with, TellsKeys, up_to, HasRolled, GoesOnWith, TellsTaken}
 use Rattle.recovery.proofs.Names.{object_name}
 
 -- ---- the keys of a bucket are sorted
@@ -71,14 +73,19 @@ short zero xs near = absurd (omega (arith, near))
 short (suc n) [] near = refl
 short (suc n) (x ∷ xs) near = ap (λ ys. x ∷ ys) (short n xs (omega (arith, near)))
 
+-- a key may be a marker
+pub key_is_mark : (name : List ℕ) → is_key name ≡ true → IsMark name
+key_is_mark name is =
+    let text = (object_name name is).1 in
+    let within = text.within in
+    record { within = omega (arith, within); utf8 = text.utf8; no_zero = text.no_zero }
+
 -- the last name of a page may be a marker
 pub last_mark : (prefix marker : List ℕ) (names : List (List ℕ)) → IsMark marker → list_all (is_name_with prefix) names ≡ true → IsMark (last_of marker names)
 last_mark prefix marker [] mark all = mark
 last_mark prefix marker (name ∷ names) mark all =
     let a = and_parts (is_name_with prefix name) (list_all (is_name_with prefix) names) all in
-    let text = (object_name name (and_parts _ (begins prefix name) a.0).0).1 in
-    let within = text.within in
-    last_mark prefix name names (record { within = omega (arith, within); utf8 = text.utf8; no_zero = text.no_zero }) a.1
+    last_mark prefix name names (key_is_mark name (and_parts (is_key name) (begins prefix name) a.0).0) a.1
 
 -- ---- what was taken
 

@@ -7,6 +7,7 @@ use Rattle.std.specs.FinMap.{entries, get, empty}
 use Rattle.gate_base.specs.Maps.{Names, name_cmp}
 use Rattle.s3_machine.specs.Items.{behind, with_prefix}
 use Rattle.s3_machine.specs.State.{Object, Bucket, State}
+use Rattle.s3_machine.specs.Step.{listed_key}
 use Rattle.s3_machine.specs.declared.items.Asked.{Asked}
 use Rattle.s3_machine.specs.declared.items.Item.{Item}
 use Rattle.s3_machine.specs.declared.items.ItemHead.{ItemHead}
@@ -16,13 +17,6 @@ use Rattle.upload_records.specs.Native.{s3_state}
 use Rattle.list_pages.specs.Rolling.{Rolled, first_rows}
 use Rattle.list_pages.specs.Rolls.{Rolls, HasUntagged, rows_of, seen_of, wanted}
 use Rattle.list_pages.specs.declared.page.TheConstants.{MOST_NAMES}
-
--- an object as a listing tells of it
-abbrev pub item_head : Object → ItemHead
-item_head o = record { etag = o.etag; modified = o.modified; size = length o.bytes }
-
-abbrev pub listed_key : List ℕ × Object → List ℕ × ItemHead
-listed_key entry = (entry.0, item_head entry.1)
 
 -- the objects of a bucket, none where it is missing
 abbrev pub objects_in : Option Bucket → Names Object

@@ -4,12 +4,12 @@ ghost use Rattle.std.specs.List.{All};
 ghost use Rattle.std.specs.FinMap.{len};
 ghost use Rattle.s3_names.specs.Bucket.{is_bucket};
 ghost use Rattle.s3_machine.specs.Shown.{IsShownItem};
+ghost use Rattle.s3_machine.specs.Step.{IsProperAsked};
 ghost use Rattle.swift_calls.specs.Account.{files};
 ghost use Rattle.swift_calls.specs.History.{budget, present};
 ghost use Rattle.swift_calls.specs.Limits.{IsMark};
 ghost use Rattle.upload_records.specs.Native.{IsSettled};
 ghost use Rattle.list_pages.specs.Listing.{name_in, IsPageOf};
-ghost use Rattle.list_pages.specs.Rolls.{wanted};
 ghost use Rattle.recovery.specs.Answers.{pages};
 ghost use Rattle.recovery.specs.Calls.{always, by_account, Asks, Tells};
 ghost use Rattle.recovery.specs.Keys.{TellsKeys, TellsListing, TellsTaken};
@@ -86,6 +86,7 @@ fn take_page<W: Swift>(
 /// most as many calls as there are pages of the bucket's objects, where the store is observable and its account
 /// consistent; and the S3 state stays. One page is held at a time. Failed comes only where the store's count of faults
 /// rose; Memory where memory ran out; Inconsistent never over an observable consistent account.
+#[tactic(auto, using(crate::proofs::AskedMarks::prefix_mark))]
 pub fn list_objects<W: Swift>(
     alloc: Global,
     state: &mut Settled<'_, W>,
@@ -93,8 +94,7 @@ pub fn list_objects<W: Swift>(
     asked: &Asked,
 ) -> Result<(List<Item>, bool), PlanFault>
     requires name { is_bucket bucket.now ≡ true }
-    requires prefix { IsMark asked.now.prefix }
-    requires marker { IsMark (wanted asked.now).marker }
+    requires asked { IsProperAsked asked.now }
     ensures stays { Stays state.old state.new }
     ensures dated { IfOk result (λ told. All IsShownItem told.0) }
     ensures asks { Asks (by_account (pages (len (files (present (W.history state.old.store.now)) bucket.now)))) (W.history state.old.store.now) (W.history state.new.store.now)
