@@ -167,13 +167,13 @@ ascends_start marker (name ∷ names) = refl
 at_place : (marker : List ℕ) (names : List (List ℕ)) (i : ℕ) (d : List ℕ) → i < length names → ascends marker (drop i names) ≡ (is_lt (name_cmp marker (get_or names i d)) && ascends (get_or names i d) (drop (i + 1) names))
 at_place marker names i d near = ap (ascends marker) (drop-cons names i d near ∙ ap (λ n. get_or names i d ∷ drop n names) (sym (add-one i)))
 
-pub ascends_on : {last name : List ℕ} {names : List (List ℕ)} {i : ℕ} {whole : Bool} → whole ≡ ascends last (drop i names) → i < length names → name ≡ get_or names i name → is_lt (name_cmp last name) ≡ true → whole ≡ ascends name (drop (i + 1) names)
-ascends_on {last = last} {name = name} {names = names} {i = i} so near is less =
+pub ascends_on : (last name : List ℕ) (names : List (List ℕ)) (i : ℕ) {whole : Bool} → whole ≡ ascends last (drop i names) → i < length names → name ≡ get_or names i name → is_lt (name_cmp last name) ≡ true → whole ≡ ascends name (drop (i + 1) names)
+ascends_on last name names i so near is less =
     so ∙ at_place last names i name near ∙ ap (λ n. is_lt (name_cmp last n) && ascends n (drop (i + 1) names)) (sym is) ∙ ap (λ t. t && ascends name (drop (i + 1) names)) less
 
-pub ascends_stop : {last name : List ℕ} {names : List (List ℕ)} {i : ℕ} {whole : Bool} → whole ≡ ascends last (drop i names) → i < length names → name ≡ get_or names i name → is_lt (name_cmp last name) ≡ false → whole ≡ false
-ascends_stop {last = last} {name = name} {names = names} {i = i} so near is not =
+pub ascends_stop : (last name : List ℕ) (names : List (List ℕ)) (i : ℕ) {whole : Bool} → whole ≡ ascends last (drop i names) → i < length names → name ≡ get_or names i name → is_lt (name_cmp last name) ≡ false → whole ≡ false
+ascends_stop last name names i so near is not =
     so ∙ at_place last names i name near ∙ ap (λ n. is_lt (name_cmp last n) && ascends n (drop (i + 1) names)) (sym is) ∙ ap (λ t. t && ascends name (drop (i + 1) names)) not
 
-pub ascends_end : {last : List ℕ} {names : List (List ℕ)} {i : ℕ} {whole : Bool} → whole ≡ ascends last (drop i names) → length names ≤ i → whole ≡ true
-ascends_end {last = last} {names = names} {i = i} so far = so ∙ ap (ascends last) (drop_all i names far)
+pub ascends_end : (last : List ℕ) (names : List (List ℕ)) (i : ℕ) {whole : Bool} → whole ≡ ascends last (drop i names) → length names ≤ i → whole ≡ true
+ascends_end last names i so far = so ∙ ap (ascends last) (drop_all i names far)

@@ -78,7 +78,6 @@ fn names_in(marker: &[u8], reply: SwiftReply) -> Result<List<Bytes>, PlanFault>
 }
 
 /// Whether each name comes after the one before it, and the first after the marker.
-#[tactic(auto, using(crate::proofs::Pages::ascends_start, crate::proofs::Pages::ascends_on, crate::proofs::Pages::ascends_stop, crate::proofs::Pages::ascends_end))]
 fn ascends(marker: &[u8], names: &[Bytes]) -> bool
     ensures { result ≡ ascends marker.now names.now }
 {
