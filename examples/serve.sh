@@ -1,39 +1,53 @@
 #!/usr/bin/env bash
-# Starts the program that examples/run.sh or `rt run` in crates/s3gate left, on the loopback interface with the example key,
-# makes a bucket by curl, puts an object there and gets it, and serves on until it is stopped by Ctrl-C.
+# Starts swiftd, the small store, and s3gate before it, both on the loopback interface, with the example key; makes a bucket, puts an
+# object there, lists it and gets it, by the `aws` command where it is installed and else by curl; and serves on until it is
+# stopped by Ctrl-C. The programs are those that `rt run` leaves in crates/s3gate and crates/swiftd (README.md, "Run it").
 #
-#   S3GATE_STORE=HOST:PORT S3GATE_ACCOUNT=ACCOUNT S3GATE_TOKEN=TOKEN examples/serve.sh [PORT]
+#   examples/serve.sh [PORT]
 #
-# The three variables name a Swift store, an account of it and a token. Nothing else may write to the account.
+# s3gate listens at PORT, 8080 unless given, and swiftd at the next one.
 set -euo pipefail
-: "${S3GATE_STORE:?names no store}" "${S3GATE_ACCOUNT:?names no account}" "${S3GATE_TOKEN:?is no token}"
-export S3GATE_STORE S3GATE_ACCOUNT S3GATE_TOKEN
 port="${1:-8080}"
 cd "$(dirname "$0")/.."
-program=crates/s3gate/out/s3gate
-[ -x "$program" ] || { echo "serve.sh: no program yet; examples/run.sh examples/create-bucket.http builds it" >&2; exit 1; }
+for name in s3gate swiftd; do
+    [ -x "crates/$name/out/$name" ] || { echo "serve.sh: no program $name yet; (cd crates/$name && rt run) builds it" >&2; exit 1; }
+done
 place="http://127.0.0.1:$port"
+store="127.0.0.1:$((port + 1))"
 read -r id secret <examples/keys.txt
-S3GATE_KEYS=examples/keys.txt S3GATE_LISTEN="127.0.0.1:$port" "$program" serve --connections 1000000000 &
-server=$!
-trap 'kill "$server" 2>/dev/null || true' EXIT
+servers=()
+trap 'kill "${servers[@]}" 2>/dev/null || true' EXIT
+SWIFTD_LISTEN="$store" crates/swiftd/out/swiftd --token example --account example --connections 1000000000 &
+servers+=($!)
+S3GATE_KEYS=examples/keys.txt S3GATE_LISTEN="127.0.0.1:$port" S3GATE_STORE="$store" S3GATE_ACCOUNT=example S3GATE_TOKEN=example \
+    crates/s3gate/out/s3gate serve --connections 1000000000 &
+servers+=($!)
 ask() {
     curl --silent --show-error --fail-with-body --retry 5 --retry-connrefused --retry-delay 1 --user "$id:$secret" \
         --aws-sigv4 aws:amz:us-east-1:s3 -H 'x-amz-content-sha256: UNSIGNED-PAYLOAD' "$@"
 }
 ask -X PUT --data-binary '' "$place/photos"
-ask -X PUT --data-binary 'hello from s3gate' -H 'Content-Type: text/plain' "$place/photos/hello.txt"
-ask "$place/photos/hello.txt"
+if command -v aws >/dev/null; then
+    export AWS_ACCESS_KEY_ID=$id AWS_SECRET_ACCESS_KEY=$secret AWS_CONFIG_FILE=examples/clients/aws-config AWS_ENDPOINT_URL="$place"
+    aws s3 cp README.md s3://photos/docs/README.md
+    aws s3 ls s3://photos --recursive
+    aws s3 cp s3://photos/docs/README.md - | head -n 1
+else
+    ask -X PUT --data-binary @README.md -H 'Content-Type: text/markdown' "$place/photos/docs/README.md"
+    ask "$place/photos?list-type=2"
+    ask "$place/photos/docs/README.md" | head -n 1
+fi
 cat <<END
 
-s3gate serves at $place. In another shell:
+s3gate serves at $place, over swiftd at $store. In another shell:
 
-  export AWS_ACCESS_KEY_ID=$id AWS_SECRET_ACCESS_KEY=$secret AWS_DEFAULT_REGION=us-east-1
-  export AWS_REQUEST_CHECKSUM_CALCULATION=when_required AWS_RESPONSE_CHECKSUM_VALIDATION=when_required
-  aws --endpoint-url $place s3api create-bucket --bucket music
-  aws --endpoint-url $place s3api put-object --bucket music --key a.txt --body README.md
-  aws --endpoint-url $place s3api get-object --bucket music --key a.txt /dev/stdout
+  export AWS_ACCESS_KEY_ID=$id AWS_SECRET_ACCESS_KEY=$secret
+  export AWS_CONFIG_FILE=$PWD/examples/clients/aws-config AWS_ENDPOINT_URL=$place
+  aws s3 mb s3://music
+  aws s3 cp README.md s3://music/a.txt
+  aws s3 ls s3://music
 
-What works: buckets and their access control lists, and single objects; not yet a listing of objects.
+examples/clients has what boto3, rclone and s3cmd want. What is stored is gone when this ends. Before a real Swift, set
+S3GATE_STORE, S3GATE_ACCOUNT and S3GATE_TOKEN to its place, an account of its own and an owner's token (docs/OPERATING.md).
 END
-wait "$server"
+wait "${servers[@]}"

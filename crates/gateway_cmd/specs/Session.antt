@@ -132,4 +132,5 @@ pub record RunSigns (id region keys : List ℕ) (at : ℕ) (ended : RunOutcome) 
   pub other : ended ≢ Plain Done
   pub line : SignsOn (is_failed_run ended) at old new
   pub effect : (secret : List ℕ) → are_keys (keys_of keys) ≡ true → secret_of id (keys_of keys) ≡ Some secret → IsTrue old.observable → ended ≢ Plain Memory
-      → (signing : Signing) × AnswersFirst secret region old.transcript.waiting signing × SendsFirst at old.transcript signing new.transcript × (ended ≡ end_of signing)
+      → (signing : Signing) × AnswersFirst secret region old.transcript.waiting signing × SendsFirst at old.transcript signing new.transcript
+      × (ended ≡ end_of signing)

@@ -96,6 +96,7 @@ page_request container prefix marker = ListNames container prefix marker MOST_NA
 
 -- a page was asked for by one call of the store; or memory ran out before it
 pub data AsksPage (old new : History) (container prefix marker : List ℕ) (result : Result (List NameItem) PageFault) : Type 0 where
-  asked : (answered : Result SwiftReply SwiftFault) → Calls old new (page_request container prefix marker) answered → EndsWith container prefix marker answered result
+  asked : (answered : Result SwiftReply SwiftFault) → Calls old new (page_request container prefix marker) answered
+      → EndsWith container prefix marker answered result
       → AsksPage old new container prefix marker result
   not_asked : new ≡ old → result ≡ Err Memory → AsksPage old new container prefix marker result

@@ -50,7 +50,8 @@ under_of false h = Some h
 
 -- a row comes after the marker, behind the rows so far, and there is room for it
 abbrev pub is_new : Rolls → List ℕ × Option ItemHead → Bool
-is_new rolls row = not rolls.more && is_lt (name_cmp rolls.wanted.marker row.0) && not (ends row.0 (rows_of rolls.items)) && nat_lt (length rolls.items) rolls.wanted.max
+is_new rolls row = not rolls.more && is_lt (name_cmp rolls.wanted.marker row.0) && not (ends row.0 (rows_of rolls.items))
+    && nat_lt (length rolls.items) rolls.wanted.max
 
 abbrev pub is_single : List ℕ × Option ItemHead → Bool
 is_single row = not (is_none row.1)

@@ -106,7 +106,12 @@ fn key(alloc: Global, at: u32) -> Result<Bytes, Memory> {
 }
 
 /// What is written where the requests are served, and how many calls were made.
-fn written(alloc: Global, keys: u32, lost: u64, requests: &'static [u8]) -> Result<(Bytes, u64), Memory> {
+fn written(
+    alloc: Global,
+    keys: u32,
+    lost: u64,
+    requests: &'static [u8],
+) -> Result<(Bytes, u64), Memory> {
     let words = session_words(alloc)?;
     let mut line = OwnLine::new(alloc, requests);
     let mut store = ManyKeys {
@@ -118,7 +123,16 @@ fn written(alloc: Global, keys: u32, lost: u64, requests: &'static [u8]) -> Resu
     };
     let mut report = OwnSink { size: 0 };
     let mut draws = OwnDraws { last: 0 };
-    run(alloc, &words, "", &mut line, &mut report, &mut store, &mut OwnClock, &mut draws);
+    run(
+        alloc,
+        &words,
+        "",
+        &mut line,
+        &mut report,
+        &mut store,
+        &mut OwnClock,
+        &mut draws,
+    );
     Ok((Bytes::from_slice(alloc, line.sent())?, store.calls()))
 }
 
@@ -138,10 +152,20 @@ fn a_thousand_keys_are_a_reply(rt: HostRuntime) -> Result<(), Memory> {
     assert_eq!(rt; count(&reply, "<Contents>"), 1000);
     assert_eq!(rt; count(&reply, "<MaxKeys>1000</MaxKeys>"), 1);
     assert_eq!(rt; count(&reply, "<IsTruncated>true</IsTruncated>"), 1);
-    let (same, calls) = written(alloc, 1001, 0, b"GET /photos?max-keys=5000 HTTP/1.1\r\n\r\n")?;
+    let (same, calls) = written(
+        alloc,
+        1001,
+        0,
+        b"GET /photos?max-keys=5000 HTTP/1.1\r\n\r\n",
+    )?;
     assert_eq!(rt; calls, 3);
     assert!(rt; same.as_slice() == reply.as_slice());
-    let (last, calls) = written(alloc, 1001, 0, b"GET /photos?marker=d%2F0999 HTTP/1.1\r\n\r\n")?;
+    let (last, calls) = written(
+        alloc,
+        1001,
+        0,
+        b"GET /photos?marker=d%2F0999 HTTP/1.1\r\n\r\n",
+    )?;
     assert_eq!(rt; calls, 2);
     assert_eq!(rt; count(&last, "<Contents><Key>d/1000</Key>"), 1);
     assert_eq!(rt; count(&last, "<IsTruncated>false</IsTruncated>"), 1);
@@ -149,7 +173,8 @@ fn a_thousand_keys_are_a_reply(rt: HostRuntime) -> Result<(), Memory> {
 }
 
 /// The same request twice.
-const ROLLED: &[u8] = b"GET /photos?list-type=2&delimiter=%2F HTTP/1.1\r\n\r\nGET /photos?list-type=2&delimiter=%2F HTTP/1.1\r\n\r\n";
+const ROLLED: &[u8] =
+    b"GET /photos?list-type=2&delimiter=%2F HTTP/1.1\r\n\r\nGET /photos?list-type=2&delimiter=%2F HTTP/1.1\r\n\r\n";
 
 #[test]
 fn each_page_of_three_is_lost(rt: HostRuntime) -> Result<(), Memory> {
@@ -157,7 +182,13 @@ fn each_page_of_three_is_lost(rt: HostRuntime) -> Result<(), Memory> {
     let (both, calls) = written(alloc, 2500, 0, ROLLED)?;
     assert_eq!(rt; calls, 8);
     assert_eq!(rt; count(&both, "<KeyCount>1</KeyCount>"), 2);
-    assert_eq!(rt; count(&both, "<CommonPrefixes><Prefix>d/</Prefix></CommonPrefixes>"), 2);
+    assert_eq!(rt;
+        count(
+            &both,
+            "<CommonPrefixes><Prefix>d/</Prefix></CommonPrefixes>"
+        ),
+        2
+    );
     for lost in 1..5u64 {
         let (reply, calls) = written(alloc, 2500, lost, ROLLED)?;
         assert_eq!(rt; calls, lost + 4);

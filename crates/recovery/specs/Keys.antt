@@ -52,4 +52,5 @@ pub record GoesOnWith (keys : List (List ℕ × ItemHead)) (old new : Rolls) : T
 -- a page was taken; what is told is whether another is wanted
 abbrev pub TellsTaken : List ℕ → List ℕ → Rolls → Rolls → SwiftAccount → Bool → Type 0
 TellsTaken bucket prefix old new tree true = GoesOnWith (keys_with bucket prefix (s3_state tree)) old new
-TellsTaken bucket prefix old new tree false = HasRolled old (up_to old.last (keys_with bucket prefix (s3_state tree))) → HasRolled new (keys_with bucket prefix (s3_state tree))
+TellsTaken bucket prefix old new tree false = HasRolled old (up_to old.last (keys_with bucket prefix (s3_state tree)))
+    → HasRolled new (keys_with bucket prefix (s3_state tree))

@@ -1,4 +1,3 @@
-pub mod EscapeLemmas
 pub mod QueryLemmas
 pub mod TargetLemmas
 pub mod Texts

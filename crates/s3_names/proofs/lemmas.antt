@@ -1,4 +1,5 @@
 pub mod BucketLemmas
 pub mod Dots
+pub mod EscapeLemmas
 pub mod KeyLemmas
 pub mod MetaLemmas

@@ -51,7 +51,7 @@ fn encode(alloc: Global, bytes: &[u8], set: AsciiSet) -> Result<Bytes, Memory>
 /// The bytes that a text stands for: `%` and two hexadecimal digits of either case stand for a byte, each other byte
 /// for itself, `+` too. `BadEscape` exactly where a `%` isn't followed by two hexadecimal digits; memory runs out
 /// only where there is none.
-#[tactic(auto, using(crate::proofs::EscapeLemmas::decoded_reads))]
+#[tactic(auto, using(crate::proofs::lemmas::EscapeLemmas::decoded_reads))]
 pub fn decode(alloc: Global, bytes: &[u8]) -> Result<Bytes, NameFault>
     ensures answer { Gives result (decoded bytes.now) }
     ensures bad_escape { IsErrOf result NameFault.BadEscape ↔ (has_bad_escape bytes.now ≡ true) }

@@ -1,8 +1,30 @@
 -- The Authorization header of Signature Version 4. Source: Amazon S3 API Reference, "Authenticating requests: using the
 -- Authorization header"; that spaces may stand behind the commas, and which bytes the parts may have, is this profile.
 use Rattle.std.specs.Prelude.{
-  ◌≡◌, ℕ, Bool, true, not, ◌&&◌, ◌||◌, ◌==◌, nat_eq, nat_lt, nat_le, if◌then◌else◌, List, [], ◌∷◌, ◌++◌, length, drop, codes, replicate,
-  bytes_eq, Option, Some, None
+  ◌≡◌,
+  ℕ,
+  Bool,
+  true,
+  not,
+  ◌&&◌,
+  ◌||◌,
+  ◌==◌,
+  nat_eq,
+  nat_lt,
+  nat_le,
+  if◌then◌else◌,
+  List,
+  [],
+  ◌∷◌,
+  ◌++◌,
+  length,
+  drop,
+  codes,
+  replicate,
+  bytes_eq,
+  Option,
+  Some,
+  None,
 }
 use Rattle.std.specs.List.{list_all, starts_with, slice_split, before_first, after_first, join_with_byte}
 use Rattle.std.specs.Cmp.Lexicographic.{slice_cmp}

@@ -13,7 +13,7 @@ use Rattle.http1.specs.Fields.{Header}
 use Rattle.http1.specs.Head.{starts_visible, is_trimmed_value, is_header, are_headers, is_target, is_request_line, head_refusal}
 use Rattle.httparse.specs.Grammar.{is_token, is_token_byte, is_value_byte, is_ows}
 use Rattle.s3_names.specs.Escapes.{is_unreserved, stays_in_path, is_escaped_byte, escaped_all, escaped_path}
-use Rattle.s3_names.proofs.EscapeLemmas.{escaped_bytes_all, escaped_bytes_path}
+use Rattle.s3_names.proofs.lemmas.EscapeLemmas.{escaped_bytes_all, escaped_bytes_path}
 use Rattle.swift_calls.specs.Limits.{is_value_byte as is_printable, is_value, is_meta, IsRange}
 use Rattle.swift_calls.specs.Step.{IsMoment, Fit}
 use Rattle.swift_calls.specs.declared.account.ReadList.{ReadList}

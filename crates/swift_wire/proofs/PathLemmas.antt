@@ -8,7 +8,7 @@ use Rattle.gate_base.specs.Ascii.{is_slash, is_digit}
 use Rattle.s3_names.specs.Escapes.{is_unreserved, stays_in_path, is_escaped_byte, escaped_all, escaped_path, decoded}
 use Rattle.s3_names.specs.Query.{is_ampersand, is_equals}
 use Rattle.s3_names.specs.Target.{is_question, path_text, query_text}
-use Rattle.s3_names.proofs.EscapeLemmas.{escaped_bytes_all, escaped_bytes_path, decoded_all, decoded_path}
+use Rattle.s3_names.proofs.lemmas.EscapeLemmas.{escaped_bytes_all, escaped_bytes_path, decoded_all, decoded_path}
 use Rattle.swift_wire.specs.Paths.{value_of, unescaped, is_nested, first_part, other_parts, object_path, path_below, path_in, has_version, path_of}
 use Rattle.swift_wire.specs.Answers.{both}
 use Rattle.swift_wire.specs.declared.paths.Path.{Path}

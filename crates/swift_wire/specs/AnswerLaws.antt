@@ -48,12 +48,14 @@ is_bare (Bytes head body) = false
 
 -- what is written for a reply that has a spelling, and says its status alone, spells it
 abbrev pub BareReadsBack : Type 0
-BareReadsBack = (call : SwiftRequest) (reply : SwiftReply) → is_bare reply ≡ true → is_spelled call reply ≡ true → SpellsAnswer call reply (answer_text call reply)
+BareReadsBack = (call : SwiftRequest) (reply : SwiftReply) → is_bare reply ≡ true → is_spelled call reply ≡ true
+    → SpellsAnswer call reply (answer_text call reply)
 
 -- the same for an ETag
 abbrev pub StoredReadsBack : Type 0
 StoredReadsBack =
-    (container name content_type : List ℕ) (meta : List (List ℕ)) (body etag : List ℕ) → is_spelled (PutObject container name content_type meta body) (Stored etag) ≡ true
+    (container name content_type : List ℕ) (meta : List (List ℕ)) (body etag : List ℕ)
+    → is_spelled (PutObject container name content_type meta body) (Stored etag) ≡ true
     → SpellsAnswer (PutObject container name content_type meta body) (Stored etag) (answer_text (PutObject container name content_type meta body) (Stored etag))
 
 -- the same for a read list and a creation time

@@ -42,4 +42,5 @@ pub record Exchanges (place : Place) (old : History) (request reply : List ℕ) 
   pub faults : CountsLinkFaults old.faults new.faults result
   pub observable : IsTrue old.observable → IsTrue new.observable
   pub kept : IsTrue old.observable → Extends old.called old new
-  pub effect : IsTrue old.observable → (call : SwiftRequest) → Fit call → SpellsRequest place call request → Exchanged new old.called new.called call reply result
+  pub effect : IsTrue old.observable → (call : SwiftRequest) → Fit call → SpellsRequest place call request
+      → Exchanged new old.called new.called call reply result

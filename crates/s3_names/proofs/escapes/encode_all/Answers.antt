@@ -1,7 +1,7 @@
 use Rattle.std.proofs.Common.{arith}
 use Rattle.std.proofs.lemmas.List.Elements.{All-from_get_or}
 use Rattle.percent_encoding.proofs.PercentLemmas.{IsByte}
-use Rattle.s3_names.proofs.EscapeLemmas.{encoded_is_all, escaped_bytes_all, decoded_all}
+use Rattle.s3_names.proofs.lemmas.EscapeLemmas.{encoded_is_all, escaped_bytes_all, decoded_all}
 use Rattle.s3_names.proofs.escapes.encode_all.Goals as goal
 
 pub returns-clause-escaped : goal.returns-clause-escaped

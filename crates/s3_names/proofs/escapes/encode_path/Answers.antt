@@ -1,7 +1,7 @@
 use Rattle.std.proofs.Common.{arith}
 use Rattle.std.proofs.lemmas.List.Elements.{All-from_get_or}
 use Rattle.percent_encoding.proofs.PercentLemmas.{IsByte}
-use Rattle.s3_names.proofs.EscapeLemmas.{encoded_is_path, escaped_bytes_path, decoded_path}
+use Rattle.s3_names.proofs.lemmas.EscapeLemmas.{encoded_is_path, escaped_bytes_path, decoded_path}
 use Rattle.s3_names.proofs.escapes.encode_path.Goals as goal
 
 pub returns-clause-escaped : goal.returns-clause-escaped
