@@ -1,8 +1,10 @@
+pub mod Fronts
 pub mod Pages
 pub mod PickedEntries
 pub mod Pushing
 pub mod Rising
 pub mod Rolling
+pub mod Sorted
 pub mod Starting
 pub mod Starts
 pub mod Texts

@@ -1,10 +1,10 @@
 -- What is kept while names are rolled up, and what a name of a listing tells. Source: this profile.
-use Rattle.std.specs.Prelude.{◌≡◌, ℕ, nat_lt, Bool, true, false, if◌then◌else◌, not, ◌&&◌, ◌==◌, is_none, List, [], length, map, Option, None, Some}
+use Rattle.std.specs.Prelude.{◌≡◌, ℕ, nat_lt, Bool, true, false, not, ◌&&◌, is_none, List, [], length, map, Option, None, Some}
 use Rattle.std.specs.List.{Contains}
 use Rattle.std.specs.Ordering.{is_lt}
-use Rattle.std.specs.Option.{unwrap_or}
 use Rattle.gate_base.specs.Maps.{name_cmp}
 use Rattle.s3_machine.specs.Items.{row_of}
+use Rattle.s3_machine.specs.Step.{marker_of}
 use Rattle.list_pages.specs.Rolling.{Wanted}
 use Rattle.s3_machine.specs.declared.items.Item.{Item}
 use Rattle.s3_machine.specs.declared.items.ItemHead.{ItemHead}
@@ -14,10 +14,9 @@ use Rattle.swift_marks.specs.declared.tag.Stamp.{Stamp}
 use Rattle.list_pages.specs.Rolling.{ends}
 use Rattle.s3_machine.specs.declared.items.Asked.{Asked}
 
--- what ListObjects wants: version 1 goes on behind its marker; version 2 behind its token, which goes before what it is to
--- start after
+-- what ListObjects wants
 abbrev pub wanted : Asked → Wanted
-wanted asked = record { prefix = asked.prefix; delimiter = asked.delimiter; marker = if asked.version == 2 then unwrap_or asked.token asked.start_after else asked.marker; max = asked.max }
+wanted asked = record { prefix = asked.prefix; delimiter = asked.delimiter; marker = marker_of asked; max = asked.max }
 
 -- what is wanted, the items so far, whether one more is left over, and the last name
 pub record Rolls : Type 0 where

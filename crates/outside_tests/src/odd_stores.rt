@@ -69,9 +69,10 @@ const FOR_LOCATION: [&[Answer]; 2] = [&[Answer::There], &[Answer::Untimed]];
 /// Those of PutBucketAcl: POST of the container.
 const FOR_SET_ACL: [&[Answer]; 2] = [&[Answer::Made], &[Answer::Public]];
 
-/// Those of ListBuckets: the containers, and HEAD of each that is a bucket.
-const FOR_LIST: [&[Answer]; 4] = [
+/// Those of ListBuckets: the containers, whose names are in order, and HEAD of each that is a bucket.
+const FOR_LIST: [&[Answer]; 5] = [
     &[Answer::Made],
+    &[Answer::Containers(&["zoo", "photos"])],
     &[Answer::Containers(&["photos"]), Answer::Missing],
     &[Answer::Containers(&["photos"]), Answer::Untimed],
     &[

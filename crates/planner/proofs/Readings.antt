@@ -1,5 +1,5 @@
 -- The steps of the operations that read an object, from what the calls told.
-use Rattle.std.specs.Prelude.{◌≡◌, ◌≤◌, ◌<◌, ◌+◌, ◌-◌, ◌^◌, ℕ, Bool, true, false, cond, nat_lt, min, List, [], length, take, drop, Option, Some, None, Ok, Err, IsTrue}
+use Rattle.std.specs.Prelude.{◌≡◌, ◌≤◌, ◌<◌, ◌+◌, ◌-◌, ◌^◌, ℕ, Bool, true, false, cond, nat_lt, min, List, length, take, drop, Option, Some, None, Ok, Err}
 use Rattle.std.specs.Option.{option_and_then, option_map}
 use Rattle.std.specs.FinMap.{get}
 use Rattle.std.proofs.Common.{refl, sym, ap, subst, ◌∙◌, arith}
@@ -14,11 +14,10 @@ use Rattle.s3_machine.specs.declared.operation.Label.{Label}
 use Rattle.s3_machine.specs.declared.operation.ObjectHead.{ObjectHead}
 use Rattle.s3_machine.specs.declared.operation.Settings.{Settings}
 use Rattle.s3_machine.specs.declared.operation.Op.TheVariants.{GetObject, HeadObject}
-use Rattle.s3_machine.specs.declared.operation.Reply.{Reply}
 use Rattle.s3_machine.specs.declared.operation.Reply.TheVariants as reply
 use Rattle.s3_machine.specs.declared.reading.Conditions.{Conditions}
 use Rattle.s3_machine.specs.declared.reading.Judged.{Judged}
-use Rattle.s3_machine.specs.declared.reading.Judged.TheVariants.{PreconditionFailed, NotModified, InvalidRange, Bytes}
+use Rattle.s3_machine.specs.declared.reading.Judged.TheVariants.{Bytes}
 use Rattle.s3_machine.specs.declared.reading.Range.{Range}
 use Rattle.s3_machine.specs.declared.reading.Span.{Span}
 use Rattle.s3_machine.specs.Reading.{judged, taken}

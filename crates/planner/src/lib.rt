@@ -5,6 +5,7 @@
 mod acls;
 mod buckets;
 mod end;
+mod listing;
 mod objects;
 mod operation;
 

@@ -10,6 +10,7 @@ ghost use Rattle.planner.specs.Plan.{reply_of, Plans, Answered};
 
 use crate::acls::{get_bucket_acl, get_object_acl, put_bucket_acl};
 use crate::buckets::{create_bucket, delete_bucket, get_location, list_buckets, show_bucket};
+use crate::listing::list_objects;
 use crate::objects::{delete_object, get_object, head_object, put_object};
 use recovery::{PlanFault, Settled};
 use s3_machine::{Code, Label, Op, Reply};
@@ -51,7 +52,7 @@ fn plan<W: Swift>(
         Op::GetLocation { bucket } => get_location(state, &bucket),
         Op::GetBucketAcl { bucket } => get_bucket_acl(state, &bucket),
         Op::PutBucketAcl { bucket, acl } => put_bucket_acl(state, bucket, acl),
-        Op::ListObjects { bucket, asked } => Err(PlanFault::Memory),
+        Op::ListObjects { bucket, asked } => list_objects(alloc, state, bucket, asked, label),
         Op::PutObject {
             bucket,
             key,

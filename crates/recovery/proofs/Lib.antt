@@ -1,5 +1,6 @@
 pub mod Ask
 pub mod Ascending
+pub mod AskedMarks
 pub mod Calm
 pub mod Created
 pub mod Dates
@@ -9,6 +10,9 @@ pub mod FaultFree
 pub mod Files
 pub mod Fits
 pub mod Head
+pub mod KeyAsks
+pub mod KeyPages
+pub mod KeyWalk
 pub mod Listed
 pub mod Made
 pub mod Marks
@@ -17,5 +21,6 @@ pub mod One
 pub mod Pages
 pub mod Put
 pub mod Settling
+pub mod Taken
 pub mod Walk
 pub mod lemmas

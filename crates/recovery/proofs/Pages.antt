@@ -1,10 +1,12 @@
 -- The pages of an account's names.
-use Rattle.std.proofs.Common.{◌≡◌, ℕ, zero, suc, ◌-◌, ◌<◌, ◌≤◌, Bool, true, false, cond, ◌&&◌, List, [], ◌∷◌, ◌++◌, map, length, take, drop, get_or, nat_eq, nat_lt, slice_get, Option, None, Some, refl, sym, ap, subst, ◌∙◌, arith, append_assoc}
+use Rattle.std.proofs.Common.{◌≡◌, ℕ, zero, suc, ◌+◌, ◌-◌, ◌<◌, ◌≤◌, add-one, Bool, true, false, cond, ◌&&◌, List, [], ◌∷◌, ◌++◌, map, length, take, drop, get_or, nat_eq, nat_le, nat_lt, slice_get, Ok, Err, Option, None, Some, refl, sym, ap, subst, ◌∙◌, arith, append_assoc}
 use Rattle.std.specs.List.{filter, starts_with, AllByRecursion}
-use Rattle.std.specs.Ordering.{is_gt}
-use Rattle.std.specs.FinMap.{entries, keys}
+use Rattle.std.specs.Ordering.{is_gt, is_lt}
+use Rattle.std.specs.FinMap.{entries, entries_sorted, keys}
+use Rattle.std.proofs.lemmas.Bool.{and_from, le-leb}
 use Rattle.std.proofs.lemmas.Bool.Decides.{nat_tests}
-use Rattle.std.proofs.lemmas.List.{length-take, take-append-drop, length-drop}
+use Rattle.std.proofs.lemmas.List.{drop_all, length-take, take-append-drop, length-drop}
+use Rattle.std.proofs.Math.Seq.{drop-cons}
 use Rattle.std.proofs.lemmas.Option.{slice_get-get_or}
 use Rattle.gate_base.specs.Maps.{name_cmp}
 use Rattle.swift_calls.specs.Account.{SwiftAccount}
@@ -12,9 +14,13 @@ use Rattle.swift_calls.specs.Limits.{IsMark}
 use Rattle.swift_calls.specs.Step.{page, is_listed}
 use Rattle.swift_calls.specs.declared.calls.SwiftRequest.TheVariants.{ListContainers}
 use Rattle.upload_records.specs.Consistent.{IsConsistent}
-use Rattle.recovery.specs.Listing.{after, most_names, names_due, next_marker, IsMarked, GoesOnAfter, TellsPage, TellsNext}
+use Rattle.recovery.specs.Listing.{after, ascends, most_names, names_due, next_marker, IsMarked, GoesOnAfter, TellsPage, TellsNext}
 use Rattle.recovery.proofs.Ascending.{after_at, after_later, filter_ascends, keys_ascend}
 use Rattle.recovery.proofs.Ask.{IsReadingOf}
+use Rattle.list_pages.specs.Listing.{Ascends}
+use Rattle.list_pages.proofs.lemmas.Sorted.{sorted_filter}
+use Rattle.recovery.specs.declared.fault.PlanFault.TheVariants.{Inconsistent}
+use Rattle.recovery.proofs.KeyPages.{below_chosen, ascends_by, ascends_take}
 use Rattle.recovery.proofs.Marks.{IsKey, keys_are, key_mark}
 
 -- ---- what a page is
@@ -44,13 +50,30 @@ page_is : (marker : List ℕ) (tree : SwiftAccount) → page 1000 (λ e. e.0) (�
 unfolding page
 page_is marker tree = ap (take most_names) (names_after marker (entries tree))
 
+-- names that ascend pass the test
+ascending : (marker : List ℕ) (names : List (List ℕ)) → Ascends marker names → ascends marker names ≡ true
+ascending marker [] h = refl
+ascending marker (name ∷ names) h = ap (λ o. is_lt o && ascends name names) h.0 ∙ ascending name names h.1
+
+page_passes : (marker : List ℕ) (tree : SwiftAccount) → ascends marker (page 1000 (λ e. e.0) (λ e. is_listed [] marker e.0) (entries tree)) ≡ true
+unfolding page
+page_passes marker tree =
+    let chosen = filter (λ e. is_listed [] marker e.0) (entries tree) in
+    ascending marker (take 1000 (map (λ e. e.0) chosen))
+    (ascends_take marker 1000 (map (λ e. e.0) chosen) (ascends_by marker chosen (below_chosen [] marker (entries tree)) (sorted_filter (λ e. is_listed [] marker e.0) (entries tree) (entries_sorted tree))))
+
+page_within : (marker : List ℕ) (tree : SwiftAccount) → nat_le (length (page 1000 (λ e. e.0) (λ e. is_listed [] marker e.0) (entries tree))) most_names ≡ true
+unfolding page
+page_within marker tree = let chosen = filter (λ e. is_listed [] marker e.0) (entries tree) in le-leb (length (take 1000 (map (λ e. e.0) chosen))) 1000 (omega (arith, length-take 1000 (map (λ e. e.0) chosen)))
+
 -- GET of the account tells a page
-pub page_reads : {name marker : List ℕ} → name ≡ marker → IsReadingOf (IsMarked marker) (ListContainers name 1000) names_due (TellsPage marker)
+pub page_reads : {name marker : List ℕ} → name ≡ marker → IsReadingOf (IsMarked marker) (ListContainers name 1000) (names_due marker) (TellsPage marker)
 page_reads {name = name} {marker = marker} is = record {
   leaves = λ tree. refl;
   tells = λ tree sound marked reply replied. (
     page 1000 (λ e. e.0) (λ e. is_listed [] name e.0) (entries tree),
-    ap names_due replied,
+    ap (names_due marker) replied ∙ ap (λ t. cond t (Ok (page 1000 (λ e. e.0) (λ e. is_listed [] name e.0) (entries tree))) (Err Inconsistent))
+        (and_from _ _ (page_within name tree) (ap (λ m. ascends m (page 1000 (λ e. e.0) (λ e. is_listed [] name e.0) (entries tree))) (sym is) ∙ page_passes name tree)),
     page_is name tree ∙ ap (λ m. take most_names (after m (keys tree))) is,
   );
 }
@@ -134,3 +157,23 @@ module _ (marker : List ℕ) (old new told : List (List ℕ)) (tree : SwiftAccou
 
   pub tells_next : (marker' : Option (List ℕ)) → marker' ≡ next_marker told → TellsNext marker old new tree marker'
   tells_next marker' is = subst (TellsNext marker old new tree) (sym is) (next_by (nat_lt (length told) most_names) refl (slice_get told (length told - 1)) refl)
+
+-- ---- the test of a page
+
+pub ascends_start : (marker : List ℕ) (names : List (List ℕ)) → ascends marker names ≡ ascends marker (drop 0 names)
+ascends_start marker [] = refl
+ascends_start marker (name ∷ names) = refl
+
+at_place : (marker : List ℕ) (names : List (List ℕ)) (i : ℕ) (d : List ℕ) → i < length names → ascends marker (drop i names) ≡ (is_lt (name_cmp marker (get_or names i d)) && ascends (get_or names i d) (drop (i + 1) names))
+at_place marker names i d near = ap (ascends marker) (drop-cons names i d near ∙ ap (λ n. get_or names i d ∷ drop n names) (sym (add-one i)))
+
+pub ascends_on : (last name : List ℕ) (names : List (List ℕ)) (i : ℕ) {whole : Bool} → whole ≡ ascends last (drop i names) → i < length names → name ≡ get_or names i name → is_lt (name_cmp last name) ≡ true → whole ≡ ascends name (drop (i + 1) names)
+ascends_on last name names i so near is less =
+    so ∙ at_place last names i name near ∙ ap (λ n. is_lt (name_cmp last n) && ascends n (drop (i + 1) names)) (sym is) ∙ ap (λ t. t && ascends name (drop (i + 1) names)) less
+
+pub ascends_stop : (last name : List ℕ) (names : List (List ℕ)) (i : ℕ) {whole : Bool} → whole ≡ ascends last (drop i names) → i < length names → name ≡ get_or names i name → is_lt (name_cmp last name) ≡ false → whole ≡ false
+ascends_stop last name names i so near is not =
+    so ∙ at_place last names i name near ∙ ap (λ n. is_lt (name_cmp last n) && ascends n (drop (i + 1) names)) (sym is) ∙ ap (λ t. t && ascends name (drop (i + 1) names)) not
+
+pub ascends_end : (last : List ℕ) (names : List (List ℕ)) (i : ℕ) {whole : Bool} → whole ≡ ascends last (drop i names) → length names ≤ i → whole ≡ true
+ascends_end last names i so far = so ∙ ap (ascends last) (drop_all i names far)

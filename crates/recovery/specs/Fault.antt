@@ -5,6 +5,10 @@ use Rattle.swift_calls.specs.declared.calls.SwiftFault.{SwiftFault}
 use Rattle.swift_calls.specs.declared.calls.SwiftFault.TheVariants as swift
 use Rattle.swift_marks.specs.declared.fault.MarkFault.{MarkFault}
 use Rattle.swift_marks.specs.declared.fault.MarkFault.TheVariants as mark
+use Rattle.list_pages.specs.declared.fault.PageFault.{PageFault}
+use Rattle.list_pages.specs.declared.fault.PageFault.TheVariants as page
+use Rattle.list_pages.specs.declared.fault.RollFault.{RollFault}
+use Rattle.list_pages.specs.declared.fault.RollFault.TheVariants as roll
 use Rattle.recovery.specs.declared.fault.PlanFault.{PlanFault}
 use Rattle.recovery.specs.declared.fault.PlanFault.TheVariants.{Failed, Memory, Inconsistent}
 
@@ -17,6 +21,17 @@ abbrev pub mark_fault : MarkFault → PlanFault
 mark_fault mark.NoTag = Inconsistent
 mark_fault mark.BadPack = Inconsistent
 mark_fault mark.Memory = Memory
+
+-- a page of names that wasn't had; what it names is dropped
+abbrev pub of_page : PageFault → PlanFault
+of_page page.Failed = Failed
+of_page page.Memory = Memory
+of_page (page.Inconsistent container name) = Inconsistent
+
+-- an object without a tag
+abbrev pub of_roll : RollFault → PlanFault
+of_roll roll.NoTag = Inconsistent
+of_roll roll.Memory = Memory
 
 -- the store's count of faults rose where the fault is Failed, and else stayed
 abbrev pub CausesFault : {T : Type 0} → ℕ → ℕ → Result T PlanFault → Type 0

@@ -2,6 +2,7 @@ pub mod Answers
 pub mod Calls
 pub mod Fault
 pub mod Interpret
+pub mod Keys
 pub mod Lent
 pub mod Listing
 pub mod Settling

@@ -6,8 +6,11 @@ use Rattle.std.specs.Prelude.{
   ◌+◌,
   ◌-◌,
   ℕ,
+  nat_le,
   nat_lt,
+  Bool,
   true,
+  ◌&&◌,
   cond,
   List,
   [],
@@ -26,7 +29,7 @@ use Rattle.std.specs.Prelude.{
   Err,
 }
 use Rattle.std.specs.List.{filter}
-use Rattle.std.specs.Ordering.{is_gt}
+use Rattle.std.specs.Ordering.{is_gt, is_lt}
 use Rattle.std.specs.Option.{unwrap_or}
 use Rattle.std.specs.FinMap.{get, keys}
 use Rattle.gate_base.specs.Maps.{name_cmp}
@@ -40,6 +43,7 @@ use Rattle.swift_calls.specs.Limits.{IsMark}
 use Rattle.swift_calls.specs.declared.calls.SwiftReply.{SwiftReply}
 use Rattle.swift_calls.specs.declared.calls.SwiftReply.TheVariants.{Containers, Readers}
 use Rattle.upload_records.specs.Native.{IsSettled}
+use Rattle.recovery.specs.declared.listing.TheConstants.{MOST_NAMES}
 use Rattle.recovery.specs.declared.fault.PlanFault.{PlanFault}
 use Rattle.recovery.specs.declared.fault.PlanFault.TheVariants.{Inconsistent}
 
@@ -56,7 +60,7 @@ TellsBuckets state told = told ≡ bucket_items state
 
 -- how many names a page has at most
 abbrev pub most_names : ℕ
-most_names = 1000
+most_names = MOST_NAMES
 
 -- the names after a marker
 abbrev pub after : List ℕ → List (List ℕ) → List (List ℕ)
@@ -127,10 +131,15 @@ TellsItems names tree told = told ≡ map (item_at tree) (filter is_bucket names
 
 -- ---- what an answer comes to
 
--- GET of the account
-abbrev pub names_due : SwiftReply → Result (List (List ℕ)) PlanFault
-names_due (Containers names) = Ok names
-names_due _ = Err Inconsistent
+-- whether names ascend strictly in the order of their bytes, and come after a marker
+abbrev pub ascends : List ℕ → List (List ℕ) → Bool
+ascends marker [] = true
+ascends marker (name ∷ names) = is_lt (name_cmp marker name) && ascends name names
+
+-- GET of the account: names after the marker in their order, no more than a page has
+abbrev pub names_due : List ℕ → SwiftReply → Result (List (List ℕ)) PlanFault
+names_due marker (Containers names) = cond (nat_le (length names) most_names && ascends marker names) (Ok names) (Err Inconsistent)
+names_due marker _ = Err Inconsistent
 
 -- HEAD of a container that is there: the moment at which it was made, which has a date
 abbrev pub created_due : SwiftReply → Result ℕ PlanFault

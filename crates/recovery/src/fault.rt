@@ -1,8 +1,9 @@
 ghost use Rattle.std.specs.Prelude.{◌≡◌};
-ghost use Rattle.recovery.specs.Fault.{mark_fault, plan_fault};
+ghost use Rattle.recovery.specs.Fault.{mark_fault, of_page, of_roll, plan_fault};
 ghost use Rattle.recovery.specs.declared.fault.PlanFault.TheVariants as plan;
 
 use gate_base::Memory;
+use list_pages::{PageFault, RollFault};
 use swift_calls::SwiftFault;
 use swift_marks::MarkFault;
 
@@ -43,6 +44,29 @@ impl From<MarkFault> for PlanFault {
         match fault {
             MarkFault::NoTag | MarkFault::BadPack => PlanFault::Inconsistent,
             MarkFault::Memory => PlanFault::Memory,
+        }
+    }
+}
+
+impl From<PageFault> for PlanFault {
+    ghost from_gives = { λ fault e. e ≡ of_page fault };
+
+    fn from(fault: PageFault) -> PlanFault {
+        match fault {
+            PageFault::Failed => PlanFault::Failed,
+            PageFault::Memory => PlanFault::Memory,
+            PageFault::Inconsistent { .. } => PlanFault::Inconsistent,
+        }
+    }
+}
+
+impl From<RollFault> for PlanFault {
+    ghost from_gives = { λ fault e. e ≡ of_roll fault };
+
+    fn from(fault: RollFault) -> PlanFault {
+        match fault {
+            RollFault::NoTag => PlanFault::Inconsistent,
+            RollFault::Memory => PlanFault::Memory,
         }
     }
 }

@@ -5,6 +5,7 @@
 mod bucket;
 mod fault;
 mod interpret;
+mod keys;
 mod laws;
 mod listing;
 mod object;
@@ -12,6 +13,7 @@ mod state;
 
 pub use bucket::{Dropped, drop_bucket, head_bucket, make_bucket, set_acl};
 pub use fault::PlanFault;
+pub use keys::list_objects;
 pub use laws::{law_answered_fault_free, law_never_unavailable};
 pub use listing::list_buckets;
 pub use object::{delete_object, get_object, head_object, put_object};

@@ -11,6 +11,7 @@ ghost use Rattle.recovery.specs.Answers.{pages};
 ghost use Rattle.recovery.specs.Calls.{always, by_account, Asks, Tells};
 ghost use Rattle.recovery.specs.Lent.{Stays};
 ghost use Rattle.recovery.specs.Listing.{
+  ascends,
   created_due,
   Has,
   HasNames,
@@ -56,18 +57,38 @@ fn page<W: Swift>(state: &mut Settled<'_, W>, marker: &Bytes) -> Result<List<Byt
         return Err(PlanFault::Inconsistent);
     }
     let reply = state.store.call(&request)?;
-    names_in(reply)
+    names_in(marker.as_slice(), reply)
 }
 
-/// The answer to GET of the account.
-fn names_in(reply: SwiftReply) -> Result<List<Bytes>, PlanFault>
-    ensures due { result ≡ names_due reply }
+/// The answer to GET of the account: at most as many names as a page has, which ascend strictly in the order of their bytes
+/// and come after the marker. Any other answer is inconsistent.
+fn names_in(marker: &[u8], reply: SwiftReply) -> Result<List<Bytes>, PlanFault>
+    ensures due { result ≡ names_due marker.now reply }
     ensures own { result ≢ Err fault.Failed }
 {
     match reply {
-        SwiftReply::Containers(names) => Ok(names),
+        SwiftReply::Containers(names) => {
+            if names.len() > MOST_NAMES as usize || !ascends(marker, names.as_slice()) {
+                return Err(PlanFault::Inconsistent);
+            }
+            Ok(names)
+        }
         _ => Err(PlanFault::Inconsistent),
     }
+}
+
+/// Whether each name comes after the one before it, and the first after the marker.
+fn ascends(marker: &[u8], names: &[Bytes]) -> bool
+    ensures { result ≡ ascends marker.now names.now }
+{
+    let mut last = marker;
+    for name in names {
+        if !last.cmp(name.as_slice()).is_lt() {
+            return false;
+        }
+        last = name.as_slice();
+    }
+    true
 }
 
 /// Adds a page of names. What is told is the marker of the next page, and `None` after the last one.

@@ -1,13 +1,11 @@
 -- What bytes spell, by the head that was found in them.
-use Rattle.std.proofs.Common.{◌≡◌, ℕ, ◌+◌, ◌≤◌, Bool, true, false, cond, List, length, drop, ◌++◌, Option, Some, None, refl, sym, ap, subst, ◌∙◌, arith, length-append, length-drop}
-use Rattle.std.specs.Prelude.{◌==◌, ⊤, Result, Ok, Err}
-use Rattle.std.proofs.lemmas.Bool.{false≢true}
+use Rattle.std.proofs.Common.{◌≡◌, ℕ, ◌+◌, ◌≤◌, Bool, true, false, cond, List, length, drop, Option, Some, None, refl, sym, ap, subst, ◌∙◌, arith, length-append, length-drop}
+use Rattle.std.specs.Prelude.{◌==◌, ⊤}
 use Rattle.std.proofs.lemmas.Bool.Decides.{nat_tests}
-use Rattle.gate_base.specs.declared.page.Pair.{Pair}
 use Rattle.httparse.specs.Grammar.{ResponseHead, print_response, status_code}
 use Rattle.swift_calls.specs.declared.calls.SwiftRequest.{SwiftRequest}
 use Rattle.swift_calls.specs.declared.calls.SwiftReply.{SwiftReply}
-use Rattle.swift_wire.specs.Framing.{HasHead, IsAnswer, expected, expected_of, headers_in}
+use Rattle.swift_wire.specs.Framing.{HasHead, expected, expected_of, headers_in}
 use Rattle.swift_wire.specs.Head.{IsDead, IsOpen, Shows}
 use Rattle.swift_wire.specs.Answers.{Said, asks_head, body_by, reply_of, said, SpellsAnswer, SpellsNone}
 use Rattle.swift_wire.specs.declared.head.Head.{Head}

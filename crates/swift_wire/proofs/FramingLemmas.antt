@@ -1,14 +1,12 @@
 -- Where an answer ends, by the head that was found; and bytes begin with at most one head.
-use Rattle.std.proofs.Common.{◌≡◌, ℕ, ◌+◌, ◌<◌, ◌≤◌, Bool, true, false, List, length, drop, Option, Some, None, refl, sym, ap, subst, ◌∙◌, arith, inl, inr}
+use Rattle.std.proofs.Common.{◌≡◌, ℕ, ◌+◌, ◌<◌, Bool, true, false, List, length, drop, Option, Some, None, refl, sym, ap, subst, ◌∙◌, arith, inl, inr}
 use Rattle.std.specs.Prelude.{nat_le, if◌then◌else◌, ⊤}
 use Rattle.std.proofs.lemmas.Bool.{leb-true}
 use Rattle.std.proofs.lemmas.Bool.Decides.{nat_tests}
-use Rattle.gate_base.specs.declared.page.Pair.{Pair}
 use Rattle.httparse.specs.Grammar.{ResponseHead, print_response, status_code}
 use Rattle.httparse.proofs.GrammarLemmas.{response_unique}
-use Rattle.swift_wire.specs.Framing.{HasHead, BeginsAnswer, IsHopeless, Ends, end_by, expected, expected_of, headers_in}
+use Rattle.swift_wire.specs.Framing.{HasHead, BeginsAnswer, IsHopeless, Ends, end_by, expected, expected_of}
 use Rattle.swift_wire.specs.Head.{IsDead, IsOpen, Shows}
-use Rattle.swift_wire.specs.declared.framing.End.{End}
 use Rattle.swift_wire.specs.declared.framing.End.TheVariants.{More, At, Bad}
 use Rattle.swift_wire.specs.declared.head.Head.{Head}
 use Rattle.swift_wire.specs.declared.head.Front.TheVariants as front

@@ -1,11 +1,11 @@
 -- What a look at bytes shows of the head of an answer, and that 65,536 bytes have room for no more than 21,846 header lines.
-use Rattle.std.proofs.Common.{◌≡◌, ℕ, ◌+◌, ◌*◌, ◌<◌, ◌≤◌, List, [], ◌∷◌, ◌++◌, length, take, drop, refl, sym, ap, subst, ◌∙◌, All, map, append_assoc, length-append, arith, inl, inr}
+use Rattle.std.proofs.Common.{◌≡◌, ℕ, ◌*◌, ◌<◌, ◌≤◌, List, [], ◌∷◌, ◌++◌, length, take, drop, refl, sym, ap, subst, ◌∙◌, All, map, length-append, arith, inl, inr}
 use Rattle.std.specs.Prelude.{flat_map}
 use Rattle.std.specs.Char.{to_ascii_lowercase}
 use Rattle.std.proofs.lemmas.List.Elements.{All-head, All-tail}
 use Rattle.httparse.specs.declared.spans.HeaderSpan.{HeaderSpan}
 use Rattle.httparse.specs.declared.spans.ResponseSpans.{ResponseSpans}
-use Rattle.httparse.specs.Grammar.{LineEnd, crlf, lf, print_end, print_blank, print_version, print_reason, Field, print_field, IsField, print_section, ResponseHead, print_response, IsResponseHead, ReadsResponse, HasNoResponse, NeverHasResponse, MayBecomeResponse}
+use Rattle.httparse.specs.Grammar.{LineEnd, crlf, lf, print_end, print_blank, print_version, print_reason, Field, print_field, IsField, print_section, ResponseHead, print_response, IsResponseHead, HasNoResponse, NeverHasResponse, MayBecomeResponse}
 use Rattle.httparse.specs.Spans.{AreFieldsAt, header_bytes, name_and_value, IsResponseOf, IsResponseWithin, ResponseOverflows, ResponseExceeds}
 use Rattle.httparse.proofs.GrammarLemmas.{response_unique, ReadsResponse-append}
 use Rattle.swift_wire.specs.Framing.{HasHead, HasNoHead}

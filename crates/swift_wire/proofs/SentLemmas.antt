@@ -1,5 +1,5 @@
 -- The text of an answer, part by part.
-use Rattle.std.proofs.Common.{◌≡◌, ℕ, suc, zero, ◌+◌, ◌-◌, ◌<◌, Bool, true, false, Option, Some, None, ◌≤◌, List, [], ◌∷◌, ◌++◌, length, take, get_or, codes, refl, sym, ap, ◌∙◌, append_assoc, append-nil, arith}
+use Rattle.std.proofs.Common.{◌≡◌, ℕ, ◌+◌, ◌-◌, ◌<◌, Bool, true, false, Option, Some, None, ◌≤◌, List, [], ◌∷◌, ◌++◌, length, take, get_or, codes, refl, sym, ap, ◌∙◌, append_assoc, append-nil, arith}
 use Rattle.std.specs.Prelude.{decimal, nat_le, nat_lt, min, if◌then◌else◌}
 use Rattle.std.proofs.lemmas.Bool.{and_parts, ltb-true, eqb-true}
 use Rattle.std.proofs.lemmas.Bool.Decides.{nat_tests}
@@ -7,10 +7,10 @@ use Rattle.swift_calls.specs.declared.account.ReadList.{ReadList}
 use Rattle.swift_calls.specs.declared.heads.StoredHead.{StoredHead}
 use Rattle.swift_wire.specs.Answers.{is_part}
 use Rattle.std.proofs.lemmas.Grind.{flat_map-append}
-use Rattle.std.proofs.lemmas.List.{take_more, take_all, length-take-le}
+use Rattle.std.proofs.lemmas.List.{take_more, length-take-le}
 use Rattle.httparse.proofs.GrammarLemmas.{cons-append}
 use Rattle.http1.specs.Head.{print_header, print_headers, section_text, status_digits}
-use Rattle.swift_wire.specs.AnswerText.{Field, Sent, meta_fields, sent_text, head_text, line_of, status_line, phrase_of, within_limit, text_by, refusal, length_field, readers_text, readers_fields, readers_sent, created_fields, is_created, etag_field, is_tag, stored_by, stored_sent, manifest_fields, object_fields, is_head, head_by, head_sent, bytes_by, range_text, range_field}
+use Rattle.swift_wire.specs.AnswerText.{Field, Sent, meta_fields, head_text, line_of, status_line, phrase_of, within_limit, text_by, refusal, length_field, readers_text, readers_fields, readers_sent, created_fields, is_created, etag_field, is_tag, stored_by, stored_sent, manifest_fields, object_fields, is_head, head_by, head_sent, bytes_by, range_text, range_field}
 
 -- one header behind a text
 pub one_header : (text : List ℕ) (h : Field) → text ++ print_header h ≡ text ++ print_headers (h ∷ [])

@@ -34,7 +34,6 @@ use Rattle.serde_json.specs.Data.{Data, Items, no_items, item}
 use Rattle.serde_json.specs.Find.{as_array}
 use Rattle.slo_manifest.specs.Entry.{text_at, number_at}
 use Rattle.slo_manifest.specs.Manifest.{json_of}
-use Rattle.swift_calls.specs.declared.account.ReadList.{ReadList}
 use Rattle.swift_calls.specs.declared.heads.StoredHead.{StoredHead}
 use Rattle.swift_calls.specs.declared.heads.NameItem.{NameItem}
 use Rattle.swift_calls.specs.declared.calls.SwiftRequest.{SwiftRequest}

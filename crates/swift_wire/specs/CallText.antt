@@ -1,7 +1,11 @@
 -- The request that is written for a call. Source: Object Storage API v1; RFC 9112, section 3, for its form.
-use Rattle.std.specs.Prelude.{ℕ, List, [], ◌∷◌, ◌++◌, length, codes, decimal}
+use Rattle.std.specs.Prelude.{ℕ, false, List, [], ◌∷◌, ◌++◌, length, map, codes, decimal}
+use Rattle.std.specs.Char.{to_ascii_lowercase}
+use Rattle.gate_base.specs.declared.page.Pair.{Pair}
+use Rattle.http_wire.specs.declared.message.Message.{Message}
 use Rattle.std.specs.Prelude.{Option, None, Some}
 use Rattle.s3_names.specs.Escapes.{escaped_all, escaped_path}
+use Rattle.httparse.specs.Ascii.{crlf_bytes}
 use Rattle.http1.specs.Head.{request_text}
 use Rattle.http1.specs.Fields.{Header}
 use Rattle.swift_calls.specs.declared.account.ReadList.{ReadList}
@@ -69,9 +73,12 @@ target_text place (DeleteObject container name) = object_text place container na
 abbrev pub readers_field : ReadList → Header
 readers_field readers = (codes "X-Container-Read", readers_text readers)
 
+abbrev pub range_field : ℕ → ℕ → Header
+range_field first last = (codes "Range", codes "bytes=" ++ decimal first ++ codes "-" ++ decimal last)
+
 abbrev pub range_fields : Option (ℕ × ℕ) → List Header
 range_fields None = []
-range_fields (Some range) = (codes "Range", codes "bytes=" ++ decimal range.0 ++ codes "-" ++ decimal range.1) ∷ []
+range_fields (Some range) = range_field range.0 range.1 ∷ []
 
 -- those of the call's own
 abbrev pub own_fields : SwiftRequest → List Header
@@ -103,6 +110,28 @@ abbrev pub call_fields : Place → SwiftRequest → List Header
 call_fields place call =
     (codes "Host", place.host) ∷ (codes "X-Auth-Token", place.token) ∷ own_fields call ++ (codes "Content-Length", decimal (length (body_of call))) ∷ []
 
--- the bytes of the request: the request line, the header fields, an empty line, the body
+-- `METHOD TARGET HTTP/1.1` and CR LF
+abbrev pub line_text : Place → SwiftRequest → List ℕ
+line_text place call = method_text call ++ codes " " ++ target_text place call ++ codes " HTTP/1.1" ++ crlf_bytes
+
+-- the head of the request: the request line, the header fields, an empty line
+abbrev pub call_head : Place → SwiftRequest → List ℕ
+call_head place call = request_text (method_text call) (target_text place call) 1 (call_fields place call)
+
+-- the bytes of the request
 abbrev pub call_text : Place → SwiftRequest → List ℕ
-call_text place call = request_text (method_text call) (target_text place call) 1 (call_fields place call) ++ body_of call
+call_text place call = call_head place call ++ body_of call
+
+-- a header field as a message has it, its name in lower case
+abbrev pub header_pair : Header → Pair
+header_pair h = record { name = map to_ascii_lowercase h.0; value = h.1 }
+
+-- the message of the request
+abbrev pub call_message : Place → SwiftRequest → Message
+call_message place call = record {
+  method = method_text call;
+  target = target_text place call;
+  old = false;
+  headers = map header_pair (call_fields place call);
+  body = body_of call;
+}

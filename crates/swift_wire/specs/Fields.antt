@@ -1,38 +1,6 @@
 -- The values of headers, each as it is read. A header that is repeated says nothing. Source: Object Storage API v1; RFC 9110, section 5.
-use Rattle.std.specs.Prelude.{
-  ℕ,
-  Bool,
-  true,
-  false,
-  not,
-  ◌&&◌,
-  ◌||◌,
-  ◌==◌,
-  nat_lt,
-  nat_le,
-  if◌then◌else◌,
-  ◌+◌,
-  ◌-◌,
-  suc,
-  zero,
-  min,
-  List,
-  [],
-  ◌∷◌,
-  ◌++◌,
-  length,
-  codes,
-  decimal,
-  bytes_eq,
-  slice_index,
-  slice_range,
-  Option,
-  Some,
-  None,
-  option_map,
-  option_and_then,
-}
-use Rattle.std.specs.List.{list_all, list_any, after_first}
+use Rattle.std.specs.Prelude.{ℕ, Bool, true, false, not, ◌&&◌, ◌==◌, nat_lt, nat_le, if◌then◌else◌, ◌+◌, ◌-◌, suc, zero, List, [], ◌∷◌, ◌++◌, length, codes, decimal, bytes_eq, slice_index, slice_range, Option, Some, None, option_map, option_and_then}
+use Rattle.std.specs.List.{list_all, after_first}
 use Rattle.std.specs.Str.Parse.{digits_value}
 use Rattle.gate_base.specs.Ascii.{is_slash}
 use Rattle.gate_base.specs.Told.{moment_limit}

@@ -1,26 +1,5 @@
 -- Where an answer ends in the bytes of a connection: its head and its body (RFC 9112, sections 4 to 6, and this profile's limits).
-use Rattle.std.specs.Prelude.{
-  ◌≡◌,
-  ◌⊎◌,
-  ℕ,
-  ◌+◌,
-  ◌≤◌,
-  Bool,
-  ◌||◌,
-  ◌==◌,
-  nat_le,
-  if◌then◌else◌,
-  List,
-  [],
-  ◌∷◌,
-  length,
-  drop,
-  map,
-  codes,
-  Option,
-  Some,
-  None,
-}
+use Rattle.std.specs.Prelude.{◌≡◌, ◌⊎◌, ℕ, ◌+◌, ◌≤◌, Bool, ◌||◌, ◌==◌, nat_le, if◌then◌else◌, List, length, drop, map, codes, Option, Some, None}
 use Rattle.gate_base.specs.declared.page.Pair.{Pair}
 use Rattle.httparse.specs.Grammar.{ResponseHead, ReadsResponse, NeverHasResponse, print_response, status_code}
 use Rattle.http_wire.specs.FirstMessage.{header_of}

@@ -1,6 +1,5 @@
 -- Bytes spell one reply to a call at most, and are one whole answer then.
-use Rattle.std.proofs.Common.{◌≡◌, ℕ, ◌+◌, ◌≤◌, List, length, drop, Option, Some, None, refl, sym, ap, ◌∙◌, arith}
-use Rattle.httparse.specs.Grammar.{ResponseHead}
+use Rattle.std.proofs.Common.{◌≡◌, drop, Option, Some, None, sym, ap, ◌∙◌, arith}
 use Rattle.swift_calls.specs.declared.calls.SwiftReply.{SwiftReply}
 use Rattle.swift_wire.specs.Answers.{reply_of, said}
 use Rattle.swift_wire.specs.AnswerLaws.{OneReply, OneAnswer}

@@ -1,23 +1,22 @@
 -- What is written is read back: the head, its headers and its body, and then each row.
-use Rattle.std.proofs.Common.{◌≡◌, ℕ, ◌+◌, ◌<◌, ◌≤◌, ◌^◌, Bool, true, false, List, [], ◌∷◌, ◌++◌, length, drop, map, codes, Option, Some, None, refl, sym, ap, subst, ◌∙◌, append_assoc, length-append, arith}
-use Rattle.std.specs.Prelude.{decimal, nat_le, if◌then◌else◌}
+use Rattle.std.proofs.Common.{◌≡◌, ℕ, ◌+◌, ◌≤◌, Bool, true, List, [], ◌∷◌, ◌++◌, length, drop, map, Some, None, refl, sym, ap, ◌∙◌, length-append, arith}
+use Rattle.std.specs.Prelude.{if◌then◌else◌}
 use Rattle.std.specs.Char.{to_ascii_lowercase}
-use Rattle.std.proofs.lemmas.Bool.{leb-true}
 use Rattle.std.proofs.Math.Seq.{drop-append_seam}
 use Rattle.gate_base.specs.declared.page.Pair.{Pair}
-use Rattle.httparse.specs.Grammar.{Field, ResponseHead, ReadsResponse, print_response, status_code}
+use Rattle.httparse.specs.Grammar.{ResponseHead, ReadsResponse, print_response}
 use Rattle.httparse.specs.Spans.{name_and_value}
 use Rattle.http1.specs.Fields.{Header}
-use Rattle.http1.specs.Head.{are_headers, is_status_line, head_refusal, field_of, response_head, response_text, section_text}
+use Rattle.http1.specs.Head.{are_headers, is_status_line, head_refusal, field_of, response_head, response_text}
 use Rattle.http1.specs.declared.error.WriteError.TheVariants.{InvalidStartLine, InvalidHeader}
 use Rattle.http1.proofs.HeadLemmas.{response_text_is}
 use Rattle.http1.proofs.HeadRoundTrip.{response_reads_back, ResponseReadsBack}
 use Rattle.http_wire.specs.FirstMessage.{header_of}
 use Rattle.swift_calls.specs.declared.calls.SwiftRequest.{SwiftRequest}
 use Rattle.swift_calls.specs.declared.calls.SwiftReply.{SwiftReply}
-use Rattle.swift_wire.specs.Framing.{HasHead, IsAnswer, expected, expected_of, headers_in}
+use Rattle.swift_wire.specs.Framing.{expected, expected_of, headers_in}
 use Rattle.swift_wire.specs.Answers.{Said, asks_head, reply_of, said, SpellsAnswer}
-use Rattle.swift_wire.specs.AnswerText.{Sent, head_text, sent_text, status_line, phrase_of}
+use Rattle.swift_wire.specs.AnswerText.{Sent, head_text, sent_text, phrase_of}
 
 -- a header as it is read
 abbrev pub lowered : Header → Pair

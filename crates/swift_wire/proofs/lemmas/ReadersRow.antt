@@ -1,5 +1,5 @@
 -- The row of a read list and a creation time is read back.
-use Rattle.std.proofs.Common.{◌≡◌, ℕ, ◌+◌, ◌^◌, ◌<◌, ◌≤◌, Bool, true, false, List, [], ◌∷◌, ◌++◌, length, map, Option, Some, None, option_map, option_and_then, refl, sym, ap, ◌∙◌, length-append, arith}
+use Rattle.std.proofs.Common.{◌≡◌, ℕ, ◌+◌, ◌<◌, ◌≤◌, Bool, true, false, List, [], ◌∷◌, ◌++◌, length, map, Option, Some, None, option_map, option_and_then, refl, ap, ◌∙◌, length-append, arith}
 use Rattle.std.specs.Prelude.{◌&&◌, codes, decimal, nat_lt, is_some, if◌then◌else◌}
 use Rattle.std.proofs.lemmas.Bool.{and_from, ltb-true, false≢true}
 use Rattle.std.proofs.lemmas.Fmt.{length-decimal-le}
@@ -14,7 +14,7 @@ use Rattle.swift_calls.specs.declared.calls.SwiftReply.TheVariants.{Readers}
 use Rattle.swift_wire.specs.Fields.{before_limit, moment_in, readers_by}
 use Rattle.swift_wire.specs.Framing.{expected}
 use Rattle.swift_wire.specs.Answers.{SpellsAnswer, both, reply_of}
-use Rattle.swift_wire.specs.AnswerText.{Field, Sent, created_fields, head_text, is_created, length_field, readers_fields, readers_sent, readers_text, sent_text, status_line, text_by}
+use Rattle.swift_wire.specs.AnswerText.{Sent, created_fields, head_text, is_created, length_field, readers_fields, readers_sent, readers_text, status_line, text_by}
 use Rattle.swift_wire.proofs.lemmas.BareRows.{zero_text}
 use Rattle.swift_wire.proofs.lemmas.ReadBack.{lowered, said_by, written_spells}
 use Rattle.swift_wire.proofs.lemmas.ValueRows.{decimal_trimmed, plain_back}

@@ -1,5 +1,5 @@
 -- Values as they are written and read: numbers, ETags, read lists; and the rows of an ETag and of a read list.
-use Rattle.std.proofs.Common.{◌≡◌, ℕ, suc, ◌+◌, ◌-◌, ◌^◌, ◌<◌, ◌≤◌, Bool, true, false, cond, List, [], ◌∷◌, ◌++◌, length, map, reverse, get_or, Option, Some, None, refl, sym, ap, ◌∙◌, rules, arith}
+use Rattle.std.proofs.Common.{◌≡◌, ℕ, ◌-◌, ◌^◌, ◌<◌, ◌≤◌, Bool, true, false, List, [], ◌∷◌, length, map, reverse, Some, None, refl, sym, ap, ◌∙◌, rules, arith}
 use Rattle.std.specs.Prelude.{◌&&◌, ◌==◌, not, codes, decimal, nat_le, nat_lt, bytes_eq, slice_index, slice_range, option_map, is_some, if◌then◌else◌}
 use Rattle.std.specs.List.{list_all}
 use Rattle.std.specs.Str.Parse.{digits_value}
@@ -13,18 +13,17 @@ use Rattle.std.proofs.lemmas.Str.Parse.{IsNumeralModel, IsDigitsTest, numerals_b
 use Rattle.gate_base.specs.Ascii.{is_digit}
 use Rattle.httparse.specs.Grammar.{AllPass, is_ows, is_value_byte, is_token_byte}
 use Rattle.httparse.proofs.TrimLemmas.{AllPass-reverse}
-use Rattle.http1.specs.Head.{are_headers, is_status_line, is_trimmed_value, starts_visible}
+use Rattle.http1.specs.Head.{are_headers, is_trimmed_value, starts_visible}
 use Rattle.http_wire.specs.FirstMessage.{is_length}
 use Rattle.swift_calls.specs.declared.calls.SwiftRequest.{SwiftRequest}
 use Rattle.swift_calls.specs.declared.calls.SwiftRequest.TheVariants.{PutObject}
-use Rattle.swift_calls.specs.declared.calls.SwiftReply.{SwiftReply}
 use Rattle.swift_calls.specs.declared.calls.SwiftReply.TheVariants.{Stored}
-use Rattle.swift_wire.specs.Fields.{number_in, plain_number, is_tag_byte, is_quoted, unquoted, tag_in, tag_only}
+use Rattle.swift_wire.specs.Fields.{number_in, plain_number, is_tag_byte, is_quoted, tag_in, tag_only}
 use Rattle.swift_wire.specs.Framing.{expected}
-use Rattle.swift_wire.specs.Answers.{SpellsAnswer, reply_of}
-use Rattle.swift_wire.specs.AnswerText.{Field, Sent, head_text, is_tag, sent_text, stored_by, stored_sent, text_by, within_limit, length_field, etag_field}
+use Rattle.swift_wire.specs.Answers.{SpellsAnswer}
+use Rattle.swift_wire.specs.AnswerText.{Sent, head_text, is_tag, sent_text, stored_by, stored_sent, text_by, within_limit, length_field, etag_field}
 use Rattle.swift_wire.proofs.lemmas.BareRows.{zero_text}
-use Rattle.swift_wire.proofs.lemmas.ReadBack.{lowered, said_by, written_spells}
+use Rattle.swift_wire.proofs.lemmas.ReadBack.{lowered, written_spells}
 
 -- ---- values without white space
 

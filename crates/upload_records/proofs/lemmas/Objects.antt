@@ -34,6 +34,10 @@ reads_as segments folder key file (in_one_piece keyed plain) = (object_in plain,
 pub object_reads : (tree : SwiftAccount) (b key : List ℕ) (file : SwiftObject) → IsConsistent tree → is_bucket b ≡ true → find_object tree b key ≡ Some file → is_some (object_of (files tree (segments_name b)) key file) ≡ true
 object_reads tree b key file sound is found = ap is_some (reads_as (files tree (segments_name b)) (segments_name b) key file (sound_object tree b key file sound is found)).1
 
+-- a file of a bucket's container is an object's
+pub file_is_object : (tree : SwiftAccount) (b key : List ℕ) (file : SwiftObject) → IsConsistent tree → is_bucket b ≡ true → find_object tree b key ≡ Some file → IsObject (files tree (segments_name b)) (segments_name b) key file
+file_is_object tree b key file sound is found = sound_object tree b key file sound is found
+
 -- ---- what is found
 
 -- over a settled account an object of the state is what the file of its key represents

@@ -1,5 +1,3 @@
-use Rattle.std.proofs.Common.{refl}
-use Rattle.planner.proofs.Ends.{wants_memory}
 use Rattle.planner.proofs.operation.plan.Goals as goal
 
 pub returns-in-DeleteObject-clause-plans : goal.returns-in-DeleteObject-clause-plans
@@ -22,6 +20,3 @@ returns-in-GetObjectAcl-clause-plans g c = rw c.in-GetObjectAcl.is (c.get_object
 
 pub returns-in-ListBuckets-clause-plans : goal.returns-in-ListBuckets-clause-plans
 returns-in-ListBuckets-clause-plans g c = rw c.in-ListBuckets.is (c.list_buckets.ensures.plans c.args.label.now)
-
-pub returns-in-ListObjects-clause-plans : goal.returns-in-ListObjects-clause-plans
-returns-in-ListObjects-clause-plans g c = wants_memory _ _ refl

@@ -1,4 +1,4 @@
-use Rattle.std.proofs.Common.{ap, sym, rules, ◌∙◌}
+use Rattle.std.proofs.Common.{rules}
 use Rattle.swift_wire.proofs.AnswerLemmas.{shows_within, reads_reply, reads_none, reads_no_body}
 use Rattle.swift_wire.proofs.answers.read_found.Goals as goal
 

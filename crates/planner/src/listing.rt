@@ -1,0 +1,80 @@
+//! The plan of ListObjects.
+ghost use Rattle.std.specs.Prelude.{◌≡◌, ◌+◌, true, Some};
+ghost use Rattle.std.specs.List.{All};
+ghost use Rattle.std.specs.FinMap.{len};
+ghost use Rattle.s3_names.specs.Bucket.{is_bucket};
+ghost use Rattle.s3_machine.specs.Shown.{IsShownItem};
+ghost use Rattle.s3_machine.specs.Step.{IsProperAsked};
+ghost use Rattle.s3_machine.specs.declared.operation.Op.TheVariants.{ListObjects};
+ghost use Rattle.swift_calls.specs.Account.{files};
+ghost use Rattle.swift_calls.specs.History.{present};
+ghost use Rattle.recovery.specs.Answers.{pages};
+ghost use Rattle.recovery.specs.Calls.{by_account, Any, Given, TellsBucket};
+ghost use Rattle.recovery.specs.Lent.{Stays};
+ghost use Rattle.recovery.specs.declared.state.Known.TheVariants as known;
+ghost use Rattle.planner.specs.Plan.{Plans};
+ghost use Rattle.planner.specs.Listing.{objects_reply};
+
+use gate_base::{Bytes, List};
+use recovery::{PlanFault, Settled, head_bucket};
+use s3_machine::{Asked, Code, Item, Label, Reply, may_read};
+use s3_names::Acl;
+use std::alloc::Global;
+use swift_calls::Swift;
+
+/// ListObjects: HEAD of the bucket's container, then its keys page by page, until the answer is full or a page is short;
+/// where no item is wanted, no page. None of the calls commits. Over an observable consistent account at most one call
+/// more than there are pages of the bucket's objects. The faults are those of the calls.
+pub(crate) fn list_objects<W: Swift>(
+    alloc: Global,
+    state: &mut Settled<'_, W>,
+    bucket: Bytes,
+    asked: Asked,
+    label: &Label,
+) -> Result<Reply, PlanFault>
+    requires name { is_bucket bucket ≡ true }
+    requires asked { IsProperAsked asked }
+    ensures stays { Stays state.old state.new }
+    ensures plans { Plans (by_account (1 + pages (len (files (present (W.history state.old.store.now)) bucket)))) (W.history state.old.store.now) (W.history state.new.store.now)
+        state.old.settings.now (Given Any) (ListObjects bucket asked) label.now known.Settled result }
+{
+    let Some(list) = head_bucket(state, &bucket)? else {
+        return Ok(Reply::Refused(Code::NoSuchBucket));
+    };
+    list_within(alloc, state, bucket, asked, list, label)
+}
+
+/// The rest of ListObjects, in a bucket that has this access control list.
+fn list_within<W: Swift>(
+    alloc: Global,
+    state: &mut Settled<'_, W>,
+    bucket: Bytes,
+    asked: Asked,
+    list: Acl,
+    label: &Label,
+) -> Result<Reply, PlanFault>
+    requires name { is_bucket bucket ≡ true }
+    requires asked { IsProperAsked asked }
+    ensures stays { Stays state.old state.new }
+    ensures plans { Plans (by_account (pages (len (files (present (W.history state.old.store.now)) bucket)))) (W.history state.old.store.now) (W.history state.new.store.now)
+        state.old.settings.now (Given (λ s. TellsBucket bucket s (Some list))) (ListObjects bucket asked) label.now known.Settled result }
+{
+    if !may_read(label.caller, list) {
+        return Ok(Reply::Refused(Code::AccessDenied));
+    }
+    let listed = recovery::list_objects(alloc, state, &bucket, &asked)?;
+    Ok(objects(bucket, asked, listed))
+}
+
+/// The reply of the items, and whether one is left over.
+fn objects(bucket: Bytes, asked: Asked, listed: (List<Item>, bool)) -> Reply
+    ensures { result ≡ objects_reply bucket asked listed }
+{
+    let (items, truncated) = listed;
+    Reply::Objects {
+        bucket,
+        asked,
+        items,
+        truncated,
+    }
+}

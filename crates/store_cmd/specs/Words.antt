@@ -1,0 +1,95 @@
+-- What the words that follow the program's name ask for (this profile).
+use Rattle.std.specs.Prelude.{◌≡◌, ◌≢◌, ℕ, Bool, true, ◌&&◌, ◌||◌, ◌==◌, nat_le, if◌then◌else◌, List, length, map, codes, Option, Some, None}
+use Rattle.std.specs.Prelude.{option_and_then, Result, Ok, Err, String, string_bytes}
+use Rattle.std.specs.List.{list_all}
+use Rattle.std.specs.Str.Parse.{digits_value}
+use Rattle.std.specs.declared.alloc.Global.{Global}
+use Rattle.clap.specs.Walk.{Row, Rule, Text, first_of, is_empty, rows_of}
+use Rattle.clap.specs.Matches.{found_of}
+use Rattle.clap.specs.Simple.{App, Shape, matches_of, new_app, new_rule, on_top, with_rule}
+use Rattle.clap.specs.Faults.{fault_of}
+use Rattle.clap.specs.declared.builder.action.ArgAction.TheVariants.{Set}
+use Rattle.clap.specs.declared.error.kind.ErrorKind.{ErrorKind}
+use Rattle.clap.specs.declared.error.kind.ErrorKind.TheVariants.{OutOfMemory}
+use Rattle.clap.specs.declared.parser.matches.ArgMatches.{ArgMatches}
+use Rattle.gate_base.specs.Ascii.{is_digit, is_letter_or_digit}
+use Rattle.store_cmd.specs.declared.words.Asked.{Asked}
+use Rattle.store_cmd.specs.declared.words.WordsFault.{WordsFault}
+use Rattle.store_cmd.specs.declared.words.WordsFault.TheVariants.{Refused, Memory}
+
+-- ---- as `clap` is told of them
+
+abbrev pub needed_rule : Text → Rule
+needed_rule name = record (new_rule name) { long = Some name; action = Some Set; required = true }
+
+-- the words begin behind the program's name
+abbrev pub with_settings : Shape → Shape
+with_settings s = record s { no_binary_name = true }
+
+-- `--token T --account A --connections N`, all of them required
+unfoldable pub store_app : App
+store_app =
+    with_rule (with_rule (with_rule (on_top with_settings (new_app (codes "swiftd"))) (needed_rule (codes "token"))) (needed_rule (codes "account")))
+    (needed_rule (codes "connections"))
+
+-- ---- as texts
+
+-- 1 to 64 letters, digits or `_`
+abbrev pub is_name_byte : ℕ → Bool
+is_name_byte byte = is_letter_or_digit byte || (byte == 95)
+
+abbrev pub is_name : List ℕ → Bool
+is_name text = nat_le 1 (length text) && nat_le (length text) 64 && list_all is_name_byte text
+
+-- 1 to 20 decimal digits
+abbrev pub is_number : List ℕ → Bool
+is_number text = nat_le 1 (length text) && nat_le (length text) 20 && list_all is_digit text
+
+-- 1 to 1000000000
+abbrev pub is_count : ℕ → Bool
+is_count n = nat_le 1 n && nat_le n 1000000000
+
+abbrev pub count_in : List ℕ → Option ℕ
+count_in text = if is_number text && is_count (digits_value 10 text) then Some (digits_value 10 text) else None
+
+-- ---- what they ask for
+
+abbrev pub asked_with : List ℕ → List ℕ → Option ℕ → Option Asked
+asked_with token account None = None
+asked_with token account (Some connections) =
+    if is_name token && is_name account then Some (record { token = token; account = account; connections = connections }) else None
+
+abbrev pub asked_by : Option (List ℕ) → Option (List ℕ) → Option (List ℕ) → Option Asked
+asked_by None account connections = None
+asked_by (Some token) None connections = None
+asked_by (Some token) (Some account) None = None
+asked_by (Some token) (Some account) (Some connections) = asked_with token account (count_in connections)
+
+-- by what `clap` found
+abbrev pub asked_in : List Row → Option Asked
+asked_in rows = asked_by (first_of (codes "token") rows) (first_of (codes "account") rows) (first_of (codes "connections") rows)
+
+-- what `clap` finds in the words, where it takes them
+unfoldable pub met_in : List Text → Option (List Row)
+met_in words = if is_empty (fault_of store_app words) then Some (matches_of store_app words) else None
+
+-- what the words ask for; none where they are refused
+abbrev pub asked_of : List (String Global) → Option Asked
+asked_of words = option_and_then asked_in (met_in (map string_bytes words))
+
+-- what reading words of that meaning answers; memory may run out for any words
+abbrev pub ReadsWords : Option Asked → Result Asked WordsFault → Type 0
+ReadsWords meant (Ok asked) = meant ≡ Some asked
+ReadsWords meant (Err Refused) = meant ≡ None
+ReadsWords meant (Err Memory) = Unit {0}
+
+-- what `clap` makes of the words
+abbrev pub Parses : List Text → Result ArgMatches WordsFault → Type 0
+Parses words (Ok matches) = met_in words ≡ Some (rows_of (found_of matches))
+Parses words (Err Refused) = met_in words ≡ None
+Parses words (Err Memory) = Unit {0}
+
+-- the fault of an error of that kind
+abbrev pub FaultOf : ErrorKind → WordsFault → Type 0
+FaultOf kind Refused = kind ≢ OutOfMemory
+FaultOf kind Memory = kind ≡ OutOfMemory

@@ -1,0 +1,108 @@
+//! A whole run.
+ghost use Rattle.std.specs.Prelude.{◌≡◌, IfOk, None};
+ghost use Rattle.swift_wire.specs.Place.{IsPlace};
+ghost use Rattle.store_cmd.specs.Report.{Reports, code_of, line_of};
+ghost use Rattle.store_cmd.specs.Run.{Performs, Runs, place_by, shelf_model};
+ghost use Rattle.store_cmd.specs.Words.{asked_of};
+ghost use Rattle.store_cmd.specs.declared.status.Status.{Status as how};
+
+use crate::refusals::Refusals;
+use crate::session::serve_all;
+use crate::status::Status;
+use crate::words::{Asked, WordsFault, read_words};
+use gate_base::{Bytes, Line, Memory, NoCount, Sink};
+use std::alloc::Global;
+use swift_store::Shelf;
+use swift_wire::Place;
+
+/// The host of the store's place. No request is asked for it.
+const HOST: &[u8] = b"swiftd";
+
+/// A whole run of `swiftd` with these words, which follow the program's name: it serves the connections of the line, no
+/// more of them than the words say, from the shelf. The answer is the exit status: 0 where no connection is left to serve,
+/// or their number was reached; 2 where the words are refused; 3 where the line failed to give another connection; 5
+/// where memory ran out before.
+pub fn run_store<N: Line<NoCount>, R: Sink, S: Shelf>(
+    alloc: Global,
+    words: &[String],
+    line: &mut N,
+    report: &mut R,
+    shelf: &mut S,
+) -> u8
+    // Words that are refused touch nothing but the report.
+    ensures idle { asked_of words.now ≡ None → (line.new ≡ line.old) × (shelf.new ≡ shelf.old) }
+
+    // How the run ended: its status, what it did, and what it reports. Where the line is observable, its connections were
+    // served in order, none skipped, and of each the requests in order, each by one answer: that of Object Storage API
+    // v1, or 401 or 400. A 503 comes only with a higher count of faults of the shelf, and a 500 that has no reply only
+    // where memory ran out; either ends its connection. What is told of the account holds where the shelf is observable.
+    ensures run { (status : how) × (result ≡ code_of status)
+        × Runs (asked_of words.now) status (N.model line.old) (N.model line.new)
+        (shelf_model (S.observable shelf.old) (S.account shelf.old) (S.faults shelf.old)) (shelf_model (S.observable shelf.new) (S.account shelf.new) (S.faults shelf.new))
+        × Reports (line_of status) (R.model report.old) (R.model report.new) }
+{
+    let status = attempt(alloc, words, line, shelf);
+    tell(status, report)
+}
+
+/// A run but for its report.
+fn attempt<N: Line<NoCount>, S: Shelf>(
+    alloc: Global,
+    words: &[String],
+    line: &mut N,
+    shelf: &mut S,
+) -> Status
+    ensures idle { asked_of words.now ≡ None → (line.new ≡ line.old) × (shelf.new ≡ shelf.old) }
+    ensures runs { Runs (asked_of words.now) result (N.model line.old) (N.model line.new)
+        (shelf_model (S.observable shelf.old) (S.account shelf.old) (S.faults shelf.old)) (shelf_model (S.observable shelf.new) (S.account shelf.new) (S.faults shelf.new)) }
+{
+    match read_words(alloc, words) {
+        Ok(asked) => perform(alloc, asked, line, shelf),
+        Err(WordsFault::Refused) => Status::Usage,
+        Err(WordsFault::Memory) => Status::Memory,
+    }
+}
+
+/// Serves as the words ask.
+fn perform<N: Line<NoCount>, S: Shelf>(
+    alloc: Global,
+    asked: Asked,
+    line: &mut N,
+    shelf: &mut S,
+) -> Status
+    requires { IsPlace (place_by asked) }
+    ensures { Performs asked result (N.model line.old) (N.model line.new)
+        (shelf_model (S.observable shelf.old) (S.account shelf.old) (S.faults shelf.old)) (shelf_model (S.observable shelf.new) (S.account shelf.new) (S.faults shelf.new)) }
+{
+    let most = asked.connections;
+    let Ok(place) = place_of(alloc, asked) else {
+        return Status::Memory;
+    };
+    let Ok(refusals) = Refusals::new(alloc) else {
+        return Status::Memory;
+    };
+    serve_all(alloc, &place, &refusals, most, shelf, line)
+}
+
+/// The place of the store.
+fn place_of(alloc: Global, asked: Asked) -> Result<Place, Memory>
+    ensures { IfOk result (λ place. place ≡ place_by asked) }
+{
+    Ok(Place {
+        host: Bytes::from_slice(alloc, HOST)?,
+        account: asked.account,
+        token: asked.token,
+    })
+}
+
+/// Reports how a run ended. The answer is its exit status.
+fn tell<R: Sink>(status: Status, report: &mut R) -> u8
+    ensures code { result ≡ code_of status }
+    ensures reports { Reports (line_of status) (R.model report.old) (R.model report.new) }
+{
+    if let Status::Done = status {
+        return 0;
+    }
+    let _ = report.put(status.line());
+    status.code()
+}

@@ -1,0 +1,16 @@
+//! The top call of `swiftd`: the words, the connections of the line in turn, the status and the report.
+#![tactic(auto)]
+
+mod closing;
+mod command;
+mod ended;
+mod refusals;
+mod serve;
+mod session;
+mod status;
+mod words;
+
+pub use command::run_store;
+pub use ended::Ended;
+pub use refusals::Refusals;
+pub use serve::serve_connection;

@@ -1,0 +1,226 @@
+//! The words that follow the program's name.
+ghost use Rattle.std.specs.Prelude.{◌≡◌, false, codes, map, option_and_then, option_map, string_bytes, IfOk, Some};
+ghost use Rattle.std.specs.List.{list_all};
+ghost use Rattle.clap.specs.Words.{app_of, found_of, kind_of, rows_of, rule_of};
+ghost use Rattle.clap.specs.Simple.{new_app, on_top};
+ghost use Rattle.gate_base.specs.Ascii.{is_digit};
+ghost use Rattle.swift_wire.specs.Place.{IsPlace};
+ghost use Rattle.store_cmd.specs.Run.{place_by};
+ghost use Rattle.store_cmd.specs.Words.{FaultOf, Parses, ReadsWords, asked_by, asked_in, asked_of, asked_with, count_in, is_count, is_name, is_name_byte, is_number, needed_rule, store_app, with_settings};
+ghost use Rattle.store_cmd.specs.declared.words.WordsFault.TheVariants as faults;
+
+use clap::error::ErrorKind;
+use clap::{Arg, ArgAction, ArgMatches, Command, Error};
+use gate_base::{Bytes, Memory};
+use std::alloc::{AllocError, Global};
+
+/// The longest token or account, in bytes.
+const LONGEST_NAME: usize = 64;
+
+/// The longest number, in digits.
+const LONGEST_NUMBER: usize = 20;
+
+/// The most connections that may be asked for.
+const MOST_CONNECTIONS: u64 = 1_000_000_000;
+
+/// What the words ask for: the token and the account of the store, and how many connections are served.
+#[derive(Debug, Drop)]
+pub(crate) struct Asked {
+    pub(crate) token: Bytes,
+    pub(crate) account: Bytes,
+    pub(crate) connections: u64,
+}
+
+/// Why there is nothing asked for. `Refused`: by the words. `Memory`: memory ran out.
+#[derive(Clone, Copy, Debug, PartialEq, Eq)]
+pub(crate) enum WordsFault {
+    Refused,
+    Memory,
+}
+
+impl From<Memory> for WordsFault {
+    ghost from_gives = { λ _ fault. fault ≡ faults.Memory };
+
+    fn from(_: Memory) -> WordsFault {
+        WordsFault::Memory
+    }
+}
+
+impl From<AllocError> for WordsFault {
+    ghost from_gives = { λ _ fault. fault ≡ faults.Memory };
+
+    fn from(_: AllocError) -> WordsFault {
+        WordsFault::Memory
+    }
+}
+
+/// What the words behind the program's name ask for. They are refused where `clap` refuses them or answers with a help
+/// text, where the token or the account isn't 1 to 64 letters, digits or `_`, and where the number of connections isn't
+/// 1 to 1000000000 in at most 20 digits.
+pub(crate) fn read_words(alloc: Global, words: &[String]) -> Result<Asked, WordsFault>
+    ensures reads { ReadsWords (asked_of words.now) result }
+    ensures place { IfOk result (λ asked. IsPlace (place_by asked)) }
+{
+    let matches = parse(alloc, words)?;
+    asked_in(alloc, &matches)
+}
+
+fn parse<'a>(alloc: Global, words: &'a [String]) -> Result<ArgMatches<'a>, WordsFault>
+    ensures { Parses (map string_bytes words.entry.now) result }
+{
+    let command = described(alloc)?;
+    match command.try_get_matches_from(words) {
+        Ok(matches) => Ok(matches),
+        Err(error) => Err(fault_of(&error)),
+    }
+}
+
+/// The words as `clap` takes them.
+fn described<'a>(alloc: Global) -> Result<Command<'a>, AllocError>
+    ensures { IfOk result (λ command. app_of command ≡ store_app) }
+{
+    let token = needed(alloc, "token");
+    let account = needed(alloc, "account");
+    let connections = needed(alloc, "connections");
+    named(alloc).arg(token)?.arg(account)?.arg(connections)
+}
+
+/// The program, whose words begin behind its name.
+fn named<'a>(alloc: Global) -> Command<'a>
+    ensures { app_of result ≡ on_top with_settings (new_app (codes "swiftd")) }
+{
+    Command::new(alloc, "swiftd").no_binary_name(true)
+}
+
+/// An option that has to be given.
+fn needed<'a>(alloc: Global, name: &'a str) -> Arg<'a>
+    ensures rule { rule_of result ≡ needed_rule name.entry.now }
+    ensures local { result.global ≡ false }
+{
+    Arg::new(alloc, name)
+        .long(name)
+        .action(ArgAction::Set)
+        .required(true)
+}
+
+fn fault_of(error: &Error) -> WordsFault
+    ensures { FaultOf (kind_of error.now) result }
+{
+    match error.kind() {
+        ErrorKind::OutOfMemory => WordsFault::Memory,
+        _ => WordsFault::Refused,
+    }
+}
+
+fn asked_in(alloc: Global, matches: &ArgMatches) -> Result<Asked, WordsFault>
+    ensures reads { ReadsWords (asked_in (rows_of (found_of matches.now))) result }
+    ensures place { IfOk result (λ asked. IsPlace (place_by asked)) }
+{
+    asked_by(
+        alloc,
+        matches.get_str("token"),
+        matches.get_str("account"),
+        matches.get_str("connections"),
+    )
+}
+
+fn asked_by(
+    alloc: Global,
+    token: Option<&str>,
+    account: Option<&str>,
+    connections: Option<&str>,
+) -> Result<Asked, WordsFault>
+    ensures reads { ReadsWords (asked_by (option_map (λ text. text.now) token.entry) (option_map (λ text. text.now) account.entry) (option_map (λ text. text.now) connections.entry)) result }
+    ensures place { IfOk result (λ asked. IsPlace (place_by asked)) }
+{
+    let Some(token) = token else {
+        return Err(WordsFault::Refused);
+    };
+    let Some(account) = account else {
+        return Err(WordsFault::Refused);
+    };
+    let Some(connections) = connections else {
+        return Err(WordsFault::Refused);
+    };
+    match count_in(connections) {
+        Some(connections) => asked_with(alloc, token.as_bytes(), account.as_bytes(), connections),
+        None => Err(WordsFault::Refused),
+    }
+}
+
+fn asked_with(
+    alloc: Global,
+    token: &[u8],
+    account: &[u8],
+    connections: u64,
+) -> Result<Asked, WordsFault>
+    ensures reads { ReadsWords (asked_with token.now account.now (Some connections)) result }
+    ensures place { IfOk result (λ asked. IsPlace (place_by asked)) }
+{
+    if !is_name(token) {
+        return Err(WordsFault::Refused);
+    }
+    if !is_name(account) {
+        return Err(WordsFault::Refused);
+    }
+    Ok(Asked {
+        token: Bytes::from_slice(alloc, token)?,
+        account: Bytes::from_slice(alloc, account)?,
+        connections,
+    })
+}
+
+fn is_name(text: &[u8]) -> bool
+    ensures { result ≡ is_name text.now }
+{
+    1 <= text.len() && text.len() <= LONGEST_NAME && all_name_bytes(text)
+}
+
+fn all_name_bytes(text: &[u8]) -> bool
+    ensures { result ≡ list_all is_name_byte text.now }
+{
+    text.iter().all(|byte| is_name_byte(*byte))
+}
+
+fn is_name_byte(byte: u8) -> bool
+    ensures { result ≡ is_name_byte byte }
+{
+    byte.is_ascii_digit() || byte.is_ascii_uppercase() || byte.is_ascii_lowercase() || byte == b'_'
+}
+
+/// The number that the text writes, where it is one of connections.
+fn count_in(text: &str) -> Option<u64>
+    ensures { result ≡ count_in text.now }
+{
+    if !is_number(text.as_bytes()) {
+        return None;
+    }
+    match text.parse::<u64>() {
+        Ok(count) if is_count(count) => Some(count),
+        _ => None,
+    }
+}
+
+fn is_count(count: u64) -> bool
+    ensures { result ≡ is_count count }
+{
+    1 <= count && count <= MOST_CONNECTIONS
+}
+
+fn is_number(text: &[u8]) -> bool
+    ensures { result ≡ is_number text.now }
+{
+    1 <= text.len() && text.len() <= LONGEST_NUMBER && all_digits(text)
+}
+
+fn all_digits(text: &[u8]) -> bool
+    ensures { result ≡ list_all is_digit text.now }
+{
+    text.iter().all(|byte| is_digit(*byte))
+}
+
+fn is_digit(byte: u8) -> bool
+    ensures { result ≡ is_digit byte }
+{
+    byte.is_ascii_digit()
+}

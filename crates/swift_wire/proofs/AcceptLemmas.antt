@@ -1,0 +1,204 @@
+-- The head of a call that is written is accepted.
+use Rattle.std.proofs.Common.{◌≡◌, ℕ, zero, suc, ◌+◌, ◌-◌, ◌^◌, ◌<◌, ◌≤◌, Bool, true, false, not, ◌&&◌, ◌||◌, cond, List, [], ◌∷◌, ◌++◌, length, get_or, reverse, All, Some, None, Option, refl, ap, sym, subst, ◌∙◌, arith}
+use Rattle.std.specs.Prelude.{codes, decimal, nat_lt, nat_le, nat_eq, IfSome, IsTrue}
+use Rattle.std.specs.List.{list_all}
+use Rattle.std.specs.Char.{is_ascii_graphic, is_ascii_alphanumeric}
+use Rattle.std.proofs.lemmas.Bool.{and_parts, and_from, or_left}
+use Rattle.std.proofs.lemmas.Bool.Decides.{nat_tests}
+use Rattle.std.proofs.lemmas.List.{get_or-reverse, length-reverse}
+use Rattle.std.proofs.lemmas.List.Folds.{list_all-append}
+use Rattle.gate_base.specs.Ascii.{is_visible, is_digit}
+use Rattle.gate_base.specs.Told.{moment_limit}
+use Rattle.http1.specs.Fields.{Header}
+use Rattle.http1.specs.Head.{starts_visible, is_trimmed_value, is_header, are_headers, is_target, is_request_line, head_refusal}
+use Rattle.httparse.specs.Grammar.{is_token, is_token_byte, is_value_byte, is_ows}
+use Rattle.s3_names.specs.Escapes.{is_unreserved, stays_in_path, is_escaped_byte, escaped_all, escaped_path}
+use Rattle.s3_names.proofs.EscapeLemmas.{escaped_bytes_all, escaped_bytes_path}
+use Rattle.swift_calls.specs.Limits.{is_value_byte as is_printable, is_value, is_meta, IsRange}
+use Rattle.swift_calls.specs.Step.{IsMoment, Fit}
+use Rattle.swift_calls.specs.declared.account.ReadList.{ReadList}
+use Rattle.swift_calls.specs.declared.account.ReadList.TheVariants.{Nobody, Everybody}
+use Rattle.swift_calls.specs.declared.calls.SwiftRequest.{SwiftRequest}
+use Rattle.swift_calls.specs.declared.calls.SwiftRequest.TheVariants.{
+  ListContainers,
+  HeadContainer,
+  PutContainer,
+  PostContainer,
+  DeleteContainer,
+  ListNames,
+  PutObject,
+  HeadObject,
+  GetObject,
+  DeleteObject,
+}
+use Rattle.swift_wire.specs.AnswerText.{readers_text, created_fields, meta_fields}
+use Rattle.swift_wire.specs.CallText.{method_text, target_text, account_text, container_text, object_text, listing_text, own_fields, call_fields, body_of, range_fields}
+use Rattle.swift_wire.specs.Place.{IsPlace, is_place_text}
+use Rattle.swift_wire.specs.declared.place.Place.{Place}
+use Rattle.swift_wire.proofs.CallLemmas.{few}
+use Rattle.swift_wire.proofs.CutLemmas.{IsByte, weaker}
+use Rattle.swift_wire.proofs.QueryLemmas.{decimal_digits}
+
+-- ---- values without white space at an end
+
+printable_value : (b : ℕ) → is_printable b ≡ true → is_value_byte b ≡ true
+printable_value b h = grind (arith, nat_tests)
+
+shows : (b : ℕ) → is_printable b ≡ true → not (nat_eq b 32) ≡ true → not (is_ows b) ≡ true
+shows b h other = grind (arith, nat_tests)
+
+front_shows : (text : List ℕ) → (0 < length text → not (is_ows (get_or text 0 0)) ≡ true) → starts_visible text ≡ true
+front_shows [] shown = refl
+front_shows (b ∷ text) shown = shown (omega arith)
+
+printable_at : (text : List ℕ) (i : ℕ) → list_all is_printable text ≡ true → i < length text → is_printable (get_or text i 0) ≡ true
+printable_at [] i all within = absurd (omega (arith, within))
+printable_at (b ∷ text) zero all within = (and_parts (is_printable b) (list_all is_printable text) all).0
+printable_at (b ∷ text) (suc i) all within =
+    printable_at text i (and_parts (is_printable b) (list_all is_printable text) all).1 (omega (arith, within))
+
+pub trimmed : (text : List ℕ) → list_all is_printable text ≡ true → not (nat_eq (get_or text 0 0) 32) ≡ true
+    → not (nat_eq (get_or text (length text - 1) 0) 32) ≡ true → is_trimmed_value text ≡ true
+trimmed text all first last =
+    and_from (starts_visible text) _ (front_shows text (λ some. shows (get_or text 0 0) (printable_at text 0 all some) first))
+    (and_from (starts_visible (reverse text)) _ (front_shows (reverse text) back) (weaker is_printable is_value_byte printable_value text all))
+  where
+    back : 0 < length (reverse text) → not (is_ows (get_or (reverse text) 0 0)) ≡ true
+    back some =
+        let size : 0 < length text = omega (arith, some, length-reverse text) in
+        let place : length text - 1 - 0 ≡ length text - 1 = omega arith in
+        let within : length text - 1 < length text = omega (arith, size) in
+        let e : get_or (reverse text) 0 0 ≡ get_or text (length text - 1) 0 = get_or-reverse text 0 0 size ∙ ap (λ i. get_or text i 0) place in
+        ap (λ b. not (is_ows b)) e ∙ shows (get_or text (length text - 1) 0) (printable_at text (length text - 1) all within) last
+
+visible_printable : (b : ℕ) → is_visible b ≡ true → is_printable b ≡ true
+visible_printable b h = grind (arith, nat_tests)
+
+no_space : (b : ℕ) → is_visible b ≡ true → not (nat_eq b 32) ≡ true
+no_space b h = grind (arith, nat_tests)
+
+no_space_at : (text : List ℕ) (i : ℕ) → list_all is_visible text ≡ true → not (nat_eq (get_or text i 0) 32) ≡ true
+no_space_at [] i all = refl
+no_space_at (b ∷ text) zero all = no_space b (and_parts (is_visible b) (list_all is_visible text) all).0
+no_space_at (b ∷ text) (suc i) all = no_space_at text i (and_parts (is_visible b) (list_all is_visible text) all).1
+
+pub visible_trimmed : (text : List ℕ) → list_all is_visible text ≡ true → is_trimmed_value text ≡ true
+visible_trimmed text all = trimmed text (weaker is_visible is_printable visible_printable text all) (no_space_at text 0 all) (no_space_at text (length text - 1) all)
+
+pub value_trimmed : (most : ℕ) (text : List ℕ) → is_value most text ≡ true → is_trimmed_value text ≡ true
+value_trimmed most text is =
+    let last = and_parts _ (not (nat_eq (get_or text (length text - 1) 0) 32)) is in
+    let first = and_parts _ (not (nat_eq (get_or text 0 0) 32)) last.0 in
+    let all = and_parts _ (list_all is_printable text) first.0 in
+    trimmed text all.1 first.1 last.1
+
+digit_visible : (b : ℕ) → is_digit b ≡ true → is_visible b ≡ true
+digit_visible b h = grind (arith, nat_tests)
+
+pub decimal_visible : (n : ℕ) → n < 2 ^ 64 → list_all is_visible (decimal n) ≡ true
+decimal_visible n fits = weaker is_digit is_visible digit_visible (decimal n) (decimal_digits n fits)
+
+-- ---- fields
+
+named_ok : (name value : List ℕ) → is_token name ≡ true → is_trimmed_value value ≡ true → is_header (name, value) ≡ true
+named_ok name value token fit = and_from (is_token name) (is_trimmed_value value) token fit
+
+abbrev AreGood : List Header → Type 0
+AreGood fields = list_all is_header fields ≡ true
+
+good-append : (front back : List Header) → AreGood front → AreGood back → AreGood (front ++ back)
+good-append front back one two = list_all-append is_header front back ∙ and_from _ _ one two
+
+digit_token : (b : ℕ) → is_digit b ≡ true → is_token_byte b ≡ true
+unfolding is_token_byte
+digit_token b h = or_left (is_ascii_alphanumeric b) _ (grind (arith, nat_tests))
+
+meta_token : (index : ℕ) → index < 2 ^ 64 → is_token (codes "X-Object-Meta-S3-" ++ decimal index) ≡ true
+unfolding is_token_byte
+meta_token index fits =
+    let filled : nat_lt 0 (length (codes "X-Object-Meta-S3-" ++ decimal index)) ≡ true = grind (arith, nat_tests) in
+    and_from _ _ filled
+    (list_all-append is_token_byte (codes "X-Object-Meta-S3-") (decimal index)
+    ∙ and_from _ _ refl (weaker is_digit is_token_byte digit_token (decimal index) (decimal_digits index fits)))
+
+meta_good : (index : ℕ) (pieces : List (List ℕ)) → index + length pieces < 2 ^ 63 → list_all (is_value 256) pieces ≡ true → AreGood (meta_fields index pieces)
+meta_good index [] fits all = refl
+meta_good index (piece ∷ pieces) fits all =
+    let parts = and_parts (is_value 256 piece) (list_all (is_value 256) pieces) all in
+    and_from _ _ (named_ok (codes "X-Object-Meta-S3-" ++ decimal index) piece (meta_token index (omega (arith, fits))) (value_trimmed 256 piece parts.0))
+    (meta_good (index + 1) pieces (omega (arith, fits)) parts.1)
+
+record Tokens : Type 0 where
+  host : is_token (codes "Host") ≡ true
+  token : is_token (codes "X-Auth-Token") ≡ true
+  size : is_token (codes "Content-Length") ≡ true
+  readers : is_token (codes "X-Container-Read") ≡ true
+  created : is_token (codes "X-Container-Meta-S3-Created") ≡ true
+  type : is_token (codes "Content-Type") ≡ true
+  range : is_token (codes "Range") ≡ true
+
+tokens : Tokens
+unfolding is_token_byte
+tokens = record { host = refl; token = refl; size = refl; readers = refl; created = refl; type = refl; range = refl }
+
+readers_good : (readers : ReadList) → is_trimmed_value (readers_text readers) ≡ true
+readers_good Nobody = refl
+readers_good Everybody = visible_trimmed (readers_text Everybody) refl
+
+created_good : (created : Option ℕ) → IfSome created IsMoment → AreGood (created_fields created)
+created_good None moment = refl
+created_good (Some created) moment =
+    and_from _ _ (named_ok (codes "X-Container-Meta-S3-Created") (decimal created) tokens.created (visible_trimmed (decimal created) (decimal_visible created (omega (arith, moment))))) refl
+
+range_good : (range : Option (ℕ × ℕ)) → IfSome range IsRange → AreGood (range_fields range)
+range_good None within = refl
+range_good (Some range) within =
+    let first = decimal_visible range.0 (omega (arith, within.0, within.1)) in
+    let last = decimal_visible range.1 (omega (arith, within.1)) in
+    let all : list_all is_visible (codes "bytes=" ++ decimal range.0 ++ codes "-" ++ decimal range.1) ≡ true =
+    list_all-append is_visible (codes "bytes=" ++ decimal range.0 ++ codes "-") (decimal range.1)
+    ∙ and_from _ _ (list_all-append is_visible (codes "bytes=" ++ decimal range.0) (codes "-")
+    ∙ and_from _ _ (list_all-append is_visible (codes "bytes=") (decimal range.0) ∙ and_from _ _ refl first) refl) last in
+    and_from _ _ (named_ok (codes "Range") (codes "bytes=" ++ decimal range.0 ++ codes "-" ++ decimal range.1) tokens.range (visible_trimmed (codes "bytes=" ++ decimal range.0 ++ codes "-" ++ decimal range.1) all)) refl
+
+own_good : (call : SwiftRequest) → Fit call → AreGood (own_fields call)
+own_good (ListContainers marker limit) fit = refl
+own_good (HeadContainer container) fit = refl
+own_good (PutContainer container readers created) fit =
+    and_from _ _ (named_ok (codes "X-Container-Read") (readers_text readers) tokens.readers (readers_good readers)) (created_good created fit.1)
+own_good (PostContainer container readers) fit =
+    and_from _ _ (named_ok (codes "X-Container-Read") (readers_text readers) tokens.readers (readers_good readers)) refl
+own_good (DeleteContainer container) fit = refl
+own_good (ListNames container prefix marker limit) fit = refl
+own_good (PutObject container name content_type meta body) fit =
+    and_from _ _ (named_ok (codes "Content-Type") content_type tokens.type (value_trimmed 512 content_type fit.2))
+    (meta_good 0 meta (omega (arith, few meta fit.3)) (and_parts _ (list_all (is_value 256) meta) fit.3).1)
+own_good (HeadObject container name) fit = refl
+own_good (GetObject container name range) fit = range_good range fit.2
+own_good (DeleteObject container name) fit = refl
+
+place_visible : (text : List ℕ) → is_place_text text ≡ true → list_all is_visible text ≡ true
+place_visible text is = (and_parts _ (list_all is_visible text) is).1
+
+pub body_small : (call : SwiftRequest) → Fit call → length (body_of call) ≤ 16777216
+body_small (ListContainers marker limit) fit = omega arith
+body_small (HeadContainer container) fit = omega arith
+body_small (PutContainer container readers created) fit = omega arith
+body_small (PostContainer container readers) fit = omega arith
+body_small (DeleteContainer container) fit = omega arith
+body_small (ListNames container prefix marker limit) fit = omega arith
+body_small (PutObject container name content_type meta body) fit = fit.4
+body_small (HeadObject container name) fit = omega arith
+body_small (GetObject container name range) fit = omega arith
+body_small (DeleteObject container name) fit = omega arith
+
+pub fields_good : (place : Place) (call : SwiftRequest) → IsPlace place → Fit call → are_headers (call_fields place call) ≡ true
+unfolding are_headers
+fields_good place call is fit =
+    let outer = and_parts (is_place_text place.host && is_place_text place.account) (is_place_text place.token) is in
+    let inner = and_parts (is_place_text place.host) (is_place_text place.account) outer.0 in
+    let size = decimal_visible (length (body_of call)) (omega (arith, body_small call fit)) in
+    and_from _ _ (named_ok (codes "Host") place.host tokens.host (visible_trimmed place.host (place_visible place.host inner.0)))
+    (and_from _ _ (named_ok (codes "X-Auth-Token") place.token tokens.token (visible_trimmed place.token (place_visible place.token outer.1)))
+    (good-append (own_fields call) ((codes "Content-Length", decimal (length (body_of call))) ∷ []) (own_good call fit)
+    (and_from _ _ (named_ok (codes "Content-Length") (decimal (length (body_of call))) tokens.size (visible_trimmed (decimal (length (body_of call))) size)) refl)))

@@ -1,0 +1,140 @@
+-- The query of a listing that is written has the values that it was written of.
+use Rattle.std.proofs.Common.{◌≡◌, ℕ, suc, ◌+◌, ◌^◌, ◌<◌, ◌≤◌, Bool, true, false, not, ◌&&◌, ◌||◌, cond, eqb, leb, List, [], ◌∷◌, ◌++◌, length, All, Ok, Some, None, Option, refl, ap, ap₂, sym, subst, ◌∙◌, arith, rules}
+use Rattle.std.specs.Prelude.{codes, decimal, bytes_eq, option_map, option_and_then, nat_lt, nat_le}
+use Rattle.std.specs.List.{list_all, before_first, after_first, flat_map}
+use Rattle.std.specs.Str.Parse.{digits_value}
+use Rattle.std.proofs.lemmas.Bool.{and_parts, and_from, cond-true, cond-false}
+use Rattle.std.proofs.lemmas.Bool.Decides.{nat_tests}
+use Rattle.std.proofs.lemmas.List.Elements.{All-nil, All-cons}
+use Rattle.std.proofs.lemmas.Str.Parse.{IsNumeralModel, IsDigitsTest, numerals_by_value}
+use Rattle.std.proofs.lemmas.Fmt.{length-decimal-le, digits_decimal, digits_value-decimal, decimal_is_IsNumeral}
+use Rattle.gate_base.specs.Ascii.{is_digit}
+use Rattle.http_wire.specs.FirstMessage.{is_length}
+use Rattle.s3_names.specs.Escapes.{is_unreserved, escaped_unless, escaped_all}
+use Rattle.s3_names.specs.Query.{is_ampersand, is_equals}
+use Rattle.swift_wire.specs.Fields.{plain_number}
+use Rattle.swift_wire.specs.Paths.{unescaped, has_more, value_named, first_value, last_value, values_named}
+use Rattle.swift_wire.proofs.CutLemmas.{IsByte, Lacks, weaker, Lacks-append, before_at, after_at, any_none, any_at}
+use Rattle.swift_wire.proofs.PathLemmas.{unescaped_all, no_ampersand}
+
+-- ---- numbers
+
+tells : IsDigitsTest (λ ds. list_all is_digit ds ≡ true)
+tells = search rules
+
+pub own : IsNumeralModel (λ ds. list_all is_digit ds ≡ true) (digits_value 10)
+own = numerals_by_value _ tells
+
+pub same_bytes : (text : List ℕ) → bytes_eq text text ≡ true
+same_bytes [] = refl
+same_bytes (b ∷ text) =
+    let here : eqb b b ≡ true = grind (arith, nat_tests) in and_from (eqb b b) (bytes_eq text text) here (same_bytes text)
+
+pub decimal_digits : (n : ℕ) → n < 2 ^ 64 → list_all is_digit (decimal n) ≡ true
+decimal_digits n fits = digits_decimal own n fits
+
+pub decimal_length : (n : ℕ) → n < 10 ^ 19 → is_length (decimal n) ≡ true
+decimal_length n small =
+    let fits : n < 2 ^ 64 = omega arith in
+    let numeral = decimal_is_IsNumeral n fits in
+    let filled : nat_lt 0 (length (decimal n)) ≡ true = grind (arith, nat_tests, numeral.0.0) in
+    let short : leb (length (decimal n)) 19 ≡ true = grind (arith, nat_tests, length-decimal-le 19 n (omega arith) small fits) in
+    and_from _ _ filled (and_from _ _ short (decimal_digits n fits))
+
+pub plain_decimal : (n : ℕ) → n < 10 ^ 19 → plain_number (decimal n) ≡ Some n
+plain_decimal n small =
+    let fits : n < 2 ^ 64 = omega arith in
+    let value : digits_value 10 (decimal n) ≡ n = digits_value-decimal own n fits in
+    let same : bytes_eq (decimal n) (decimal (digits_value 10 (decimal n))) ≡ true =
+    ap (λ k. bytes_eq (decimal n) (decimal k)) value ∙ same_bytes (decimal n) in
+    cond-true (is_length (decimal n) && bytes_eq (decimal n) (decimal (digits_value 10 (decimal n)))) (Some (digits_value 10 (decimal n))) None
+    (and_from _ _ (decimal_length n small) same)
+    ∙ ap (λ k. Some k) value
+
+-- ---- texts that are escaped to themselves
+
+unreserved_same : (text : List ℕ) → list_all is_unreserved text ≡ true → escaped_all text ≡ text
+unfolding escaped_all
+unreserved_same [] all = refl
+unreserved_same (b ∷ text) all =
+    let parts = and_parts (is_unreserved b) (list_all is_unreserved text) all in
+    ap₂ (λ front rest. front ++ rest) (cond-true (is_unreserved b) (b ∷ []) _ parts.0) (unreserved_same text parts.1)
+
+unreserved_byte : (b : ℕ) → is_unreserved b ≡ true → b < 256
+unreserved_byte b h = grind (arith, nat_tests)
+
+unreserved_bytes : (text : List ℕ) → list_all is_unreserved text ≡ true → All IsByte text
+unreserved_bytes [] all = All-nil IsByte
+unreserved_bytes (b ∷ text) all =
+    let parts = and_parts (is_unreserved b) (list_all is_unreserved text) all in
+    All-cons IsByte b text (unreserved_byte b parts.0) (unreserved_bytes text parts.1)
+
+pub itself : (text : List ℕ) → list_all is_unreserved text ≡ true → unescaped text ≡ Some text
+itself text all = ap unescaped (sym (unreserved_same text all)) ∙ unescaped_all text (unreserved_bytes text all)
+
+digit_stays : (b : ℕ) → is_digit b ≡ true → is_unreserved b ≡ true
+digit_stays b h = grind (arith, nat_tests)
+
+stays_no_ampersand : (b : ℕ) → is_unreserved b ≡ true → not (is_ampersand b) ≡ true
+stays_no_ampersand b h = grind (arith, nat_tests)
+
+pub decimal_stays : (n : ℕ) → n < 2 ^ 64 → list_all is_unreserved (decimal n) ≡ true
+decimal_stays n fits = weaker is_digit is_unreserved digit_stays (decimal n) (decimal_digits n fits)
+
+-- ---- the pieces of a query
+
+named_is : (name value v : List ℕ) → Lacks is_equals name → unescaped value ≡ Some v → value_named name (name ++ 61 ∷ value) ≡ Some v
+named_is name value v lacks read =
+    ap₂ (λ n t. cond (bytes_eq n name) (unescaped t) None) (before_at is_equals name value 61 refl lacks) (after_at is_equals name value 61 refl lacks)
+    ∙ cond-true (bytes_eq name name) (unescaped value) None (same_bytes name) ∙ read
+
+pub first_is : (name value rest v : List ℕ) → Lacks is_equals name → Lacks is_ampersand name → Lacks is_ampersand value → unescaped value ≡ Some v
+    → first_value name ((name ++ 61 ∷ value) ++ 38 ∷ rest) ≡ Some (v, rest)
+first_is name value rest v lacks free clear read =
+    let piece : Lacks is_ampersand (name ++ 61 ∷ value) = Lacks-append is_ampersand name (61 ∷ value) free clear in
+    cond-true (has_more ((name ++ 61 ∷ value) ++ 38 ∷ rest)) _ None (any_at is_ampersand (name ++ 61 ∷ value) rest 38 refl)
+    ∙ ap₂ (λ front more. option_map (λ x. (x, more)) (value_named name front)) (before_at is_ampersand (name ++ 61 ∷ value) rest 38 refl piece)
+    (after_at is_ampersand (name ++ 61 ∷ value) rest 38 refl piece)
+    ∙ ap (λ found. option_map (λ x. (x, rest)) found) (named_is name value v lacks read)
+
+pub last_is : (name value v : List ℕ) → Lacks is_equals name → Lacks is_ampersand name → Lacks is_ampersand value → unescaped value ≡ Some v
+    → last_value name (name ++ 61 ∷ value) ≡ Some v
+last_is name value v lacks free clear read =
+    let piece : Lacks is_ampersand (name ++ 61 ∷ value) = Lacks-append is_ampersand name (61 ∷ value) free clear in
+    cond-false (has_more (name ++ 61 ∷ value)) None _ (any_none is_ampersand (name ++ 61 ∷ value) piece) ∙ named_is name value v lacks read
+
+abbrev after : (names : List (List ℕ)) → Option (List ℕ × List ℕ) → Option (List (List ℕ))
+after names first = option_and_then (λ f. option_map (λ values. f.0 ∷ values) (values_named names f.1)) first
+
+abbrev pub account_query : ℕ → List ℕ → List ℕ
+account_query limit marker =
+    (codes "format" ++ 61 ∷ codes "json") ++ 38 ∷ ((codes "limit" ++ 61 ∷ decimal limit) ++ 38 ∷ (codes "marker" ++ 61 ∷ escaped_all marker))
+
+abbrev pub container_query : ℕ → List ℕ → List ℕ → List ℕ
+container_query limit marker prefix =
+    (codes "format" ++ 61 ∷ codes "json") ++ 38 ∷ ((codes "limit" ++ 61 ∷ decimal limit)
+    ++ 38 ∷ ((codes "marker" ++ 61 ∷ escaped_all marker) ++ 38 ∷ (codes "prefix" ++ 61 ∷ escaped_all prefix)))
+
+limit_lacks : (n : ℕ) → n < 2 ^ 64 → Lacks is_ampersand (decimal n)
+limit_lacks n fits = weaker is_unreserved (λ b. not (is_ampersand b)) stays_no_ampersand (decimal n) (decimal_stays n fits)
+
+pub account_values : (limit : ℕ) (marker : List ℕ) → limit < 2 ^ 64 → All IsByte marker
+    → values_named (codes "format" ∷ codes "limit" ∷ codes "marker" ∷ []) (account_query limit marker) ≡ Some (codes "json" ∷ decimal limit ∷ marker ∷ [])
+account_values limit marker fits small =
+    ap (after (codes "limit" ∷ codes "marker" ∷ [])) (first_is (codes "format") (codes "json") _ (codes "json") refl refl refl (itself (codes "json") refl))
+    ∙ ap (λ rest. option_map (λ values. codes "json" ∷ values) rest)
+    (ap (after (codes "marker" ∷ [])) (first_is (codes "limit") (decimal limit) _ (decimal limit) refl refl (limit_lacks limit fits) (itself (decimal limit) (decimal_stays limit fits)))
+    ∙ ap (λ rest. option_map (λ values. decimal limit ∷ values) (option_map (λ value. value ∷ []) rest))
+    (last_is (codes "marker") (escaped_all marker) marker refl refl (no_ampersand marker small) (unescaped_all marker small)))
+
+pub container_values : (limit : ℕ) (marker prefix : List ℕ) → limit < 2 ^ 64 → All IsByte marker → All IsByte prefix
+    → values_named (codes "format" ∷ codes "limit" ∷ codes "marker" ∷ codes "prefix" ∷ []) (container_query limit marker prefix)
+    ≡ Some (codes "json" ∷ decimal limit ∷ marker ∷ prefix ∷ [])
+container_values limit marker prefix fits small little =
+    ap (after (codes "limit" ∷ codes "marker" ∷ codes "prefix" ∷ [])) (first_is (codes "format") (codes "json") _ (codes "json") refl refl refl (itself (codes "json") refl))
+    ∙ ap (λ rest. option_map (λ values. codes "json" ∷ values) rest)
+    (ap (after (codes "marker" ∷ codes "prefix" ∷ [])) (first_is (codes "limit") (decimal limit) _ (decimal limit) refl refl (limit_lacks limit fits) (itself (decimal limit) (decimal_stays limit fits)))
+    ∙ ap (λ rest. option_map (λ values. decimal limit ∷ values) rest)
+    (ap (after (codes "prefix" ∷ [])) (first_is (codes "marker") (escaped_all marker) _ marker refl refl (no_ampersand marker small) (unescaped_all marker small))
+    ∙ ap (λ rest. option_map (λ values. marker ∷ values) (option_map (λ value. value ∷ []) rest))
+    (last_is (codes "prefix") (escaped_all prefix) prefix refl refl (no_ampersand prefix little) (unescaped_all prefix little))))
