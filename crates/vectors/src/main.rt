@@ -24,6 +24,7 @@ mod records;
 mod signatures;
 mod store;
 mod verbs;
+mod wire;
 mod words;
 
 use case_text::Fault;

@@ -368,6 +368,19 @@ fn message(alloc: Global, given: &[u8]) -> Result<Bytes, Fault> {
     Ok(shown)
 }
 
+/// The one request that the bytes are.
+pub(crate) fn first_message(alloc: Global, given: &[u8]) -> Result<Message, Fault> {
+    let mut talk = Talk::new(alloc, line_of(alloc, given, WHOLE, List::new(alloc))?)?;
+    let Ok(Got::Request(message)) = talk.next() else {
+        return Err(Fault::Unread("no request comes first"));
+    };
+    if is_end(&talk.next()) {
+        Ok(message)
+    } else {
+        Err(Fault::Unread("more than one request"))
+    }
+}
+
 fn show_first(alloc: Global, given: &[u8], to: &mut Bytes) -> Result<(), Fault> {
     let mut talk = Talk::new(alloc, line_of(alloc, given, 3, List::new(alloc))?)?;
     show_got(&talk.next(), to)

@@ -1,9 +1,9 @@
 //! Cases of `swift_calls`: conversations with a store in memory.
 ghost use Rattle.swift_calls.specs.Step.{Fit};
 
-mod asked;
+pub(crate) mod asked;
 mod start;
-mod told;
+pub(crate) mod told;
 
 use crate::answers::{NO_VERB, add_number, append_all, cut, yes_or_no};
 use asked::{named, number, request_of};
@@ -143,11 +143,50 @@ fn ask(
     store: &mut MemSwift,
     told: &mut Bytes,
 ) -> Result<(), Fault> {
+    let answer = answer_of(alloc, call, rest, store)?;
+    tell_answer(alloc, &answer, told)
+}
+
+fn answer_of(
+    alloc: Global,
+    call: &str,
+    rest: &str,
+    store: &mut MemSwift,
+) -> Result<Result<SwiftReply, SwiftFault>, Fault> {
     let request = request_of(alloc, call, rest)?;
     if !is_fit(&request) {
         return Err(Fault::Unread("a call isn't within the limits"));
     }
-    tell_answer(alloc, &sent(&mut &mut *store, &request), told)
+    Ok(sent(&mut &mut *store, &request))
+}
+
+/// The reply to the last of the calls that these lines make.
+pub(crate) fn last_reply(alloc: Global, given: &[u8]) -> Result<SwiftReply, Fault> {
+    let Ok(lines) = str::from_utf8(given) else {
+        return Err(Fault::Unread("a call isn't UTF-8"));
+    };
+    let mut start = Start::new(alloc);
+    begin(alloc, lines, &mut start)?;
+    let mut store = store_with(alloc, "", start)?;
+    let mut last = None;
+    for line in lines.lines() {
+        if !line.starts_with("has ") {
+            last = Some(reply_to(alloc, line, &mut store)?);
+        }
+    }
+    match last {
+        Some(reply) => Ok(reply),
+        None => Err(Fault::Unread("no call")),
+    }
+}
+
+fn reply_to(alloc: Global, line: &str, store: &mut MemSwift) -> Result<SwiftReply, Fault> {
+    let (call, rest) = cut(line);
+    match answer_of(alloc, call, rest, store)? {
+        Ok(reply) => Ok(reply),
+        Err(SwiftFault::Failed) => Err(Fault::Unread("a call failed")),
+        Err(SwiftFault::Memory) => Err(Fault::Memory),
+    }
 }
 
 /// A call, as the layers above make it of any store.

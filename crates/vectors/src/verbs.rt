@@ -1,6 +1,6 @@
 use crate::{
     first, machine, manifests, marks, meanings, messages, names, pages, records, signatures, store,
-    words,
+    wire, words,
 };
 use case_text::Fault;
 use gate_base::Bytes;
@@ -20,6 +20,7 @@ pub(crate) fn answer(
         "slo_manifest" => manifests::answer(alloc, verb, text, given),
         "swift_marks" => marks::answer(alloc, verb, text, given),
         "swift_calls" => store::answer(alloc, verb, text, given),
+        "swift_wire" => wire::answer(alloc, verb, text, given),
         "upload_records" => records::answer(alloc, verb, text, given),
         "s3_bodies" => pages::answer(alloc, verb, text, given),
         "http_wire" => messages::answer(alloc, verb, text, given),

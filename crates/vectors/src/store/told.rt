@@ -38,7 +38,7 @@ fn tell_word(before: &[u8], word: &Bytes, told: &mut Bytes) -> Result<(), Fault>
 }
 
 /// The number, with a space before it.
-fn tell_next_number(alloc: Global, number: u64, told: &mut Bytes) -> Result<(), Fault> {
+pub(crate) fn tell_next_number(alloc: Global, number: u64, told: &mut Bytes) -> Result<(), Fault> {
     told.push(b' ')?;
     tell_number(alloc, number, told)
 }
@@ -56,7 +56,7 @@ fn tell_containers(names: &List<Bytes>, told: &mut Bytes) -> Result<(), Fault> {
     Ok(())
 }
 
-fn tell_readers(
+pub(crate) fn tell_readers(
     alloc: Global,
     readers: ReadList,
     created: Option<u64>,
