@@ -15,7 +15,7 @@ returns-in-Err-clause-serves g c = λ told on observable.
     record {
       last = start;
       exchanges = none start;
-      ends = next_unread told c.args.place.now old.transcript.begun start stop c.end_with.result refl refl (subst (λ b. EndsWith old.transcript.begun b Memory old.transcript.sent c.end_with.result new.transcript.sent) (c.as_slice.ensures ∙ c.requires.refusals.out_of_memory) (c.end_with.ensures.effect observable));
+      ends = next_unread told c.args.place.now old.transcript.begun start stop old.transcript.sent c.end_with.result (inl refl) (record { account = refl; faults = refl }) (subst (λ b. EndsWith old.transcript.begun b Memory old.transcript.sent c.end_with.result new.transcript.sent) (c.as_slice.ensures ∙ c.requires.refusals.out_of_memory) (c.end_with.ensures.effect observable));
     }
 
 pub requests-init : goal.requests-init
