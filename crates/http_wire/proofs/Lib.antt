@@ -1,11 +1,9 @@
 pub mod DueLemmas
 pub mod FillLemmas
 pub mod FirstMessageLemmas
-pub mod HeadersLemmas
 pub mod InterimLemmas
 pub mod JoinLemmas
 pub mod LookLemmas
-pub mod MessageLemmas
 pub mod ScanLemmas
 pub mod SeenLemmas
 pub mod TakeLemmas

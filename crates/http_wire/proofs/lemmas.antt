@@ -1,2 +1,4 @@
+pub mod HeadersLemmas
+pub mod MessageLemmas
 pub mod OwedLemmas
 pub mod UniqueLemmas

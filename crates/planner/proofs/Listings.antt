@@ -83,7 +83,7 @@ same_after {a = a} asks met =
     keeps.2.same ∙ (asks.grows.on.kept met.observable).accounts a.called (omega arith)
 
 -- a call told of the state, and the rest is counted by the account
-pub counted_after : {T : Type 0} {P : State → T → Type 0} {given : State → Type 0} {a b c : History} {settings : Settings} {bucket : List ℕ} {op : Op} {label : Label} {after : Known} {end : Result Reply PlanFault} {value : T}
-    → (pages : ℕ → ℕ) → Asks (always 1) a b IsSettled (Tells P) (Ok value) → Plans (by_account (1 + pages (len (files (present b) bucket)))) a c settings (Given given) op label after end
+pub counted_after : {T : Type 0} {P : State → T → Type 0} {given : State → Type 0} {a b c : History} {settings : Settings} {op : Op} {label : Label} {after : Known} {end : Result Reply PlanFault} {value : T}
+    → (pages : ℕ → ℕ) (bucket : List ℕ) → Asks (always 1) a b IsSettled (Tells P) (Ok value) → Plans (by_account (1 + pages (len (files (present b) bucket)))) a c settings (Given given) op label after end
     → Plans (by_account (1 + pages (len (files (present a) bucket)))) a c settings (Given given) op label after end
-counted_after {a = a} {b = b} {bucket = bucket} pages asks plans = rebound (λ met. let same = ap (λ tree. 1 + pages (len (files tree bucket))) (same_after asks met) in omega (arith, same)) plans
+counted_after {a = a} {b = b} pages bucket asks plans = rebound (λ met. let same = ap (λ tree. 1 + pages (len (files tree bucket))) (same_after asks met) in omega (arith, same)) plans

@@ -4,7 +4,7 @@ use Rattle.std.specs.Prelude.{filter, ◌↔◌}
 use Rattle.std.proofs.lemmas.Bool.{eqb-true, eqb-false, false≢true}
 use Rattle.gate_base.specs.declared.page.Pair.{Pair}
 use Rattle.http_wire.specs.Headers.{value_of, has_name, has_one, has_header, first_value, values_of}
-use Rattle.http_wire.proofs.HeadersLemmas.{one_value, count_values}
+use Rattle.http_wire.proofs.lemmas.HeadersLemmas.{one_value, count_values}
 use Rattle.swift_wire.specs.Fields.{at_most_one, field, needed}
 
 pub one_field : (name : List ℕ) (headers : List Pair) → has_one name headers ≡ true → field name headers ≡ Some (Some (first_value name headers))

@@ -2,7 +2,7 @@ use Rattle.std.proofs.Common.{◌≡◌, codes, ap, sym, ◌∙◌, arith}
 use Rattle.std.specs.Prelude.{count_by}
 use Rattle.http_wire.specs.FirstMessage.{value_judged}
 use Rattle.http_wire.specs.Headers.{has_name}
-use Rattle.http_wire.proofs.MessageLemmas.{judged_many, judged_one, judged_wanting, judged_empty}
+use Rattle.http_wire.proofs.lemmas.MessageLemmas.{judged_many, judged_one, judged_wanting, judged_empty}
 use Rattle.http_wire.proofs.judge.judge_length.Goals as goal
 
 pub returns-then-given-gt1-clause-value : goal.returns-then-given-gt1-clause-value

@@ -1,7 +1,7 @@
 use Rattle.std.proofs.Common.{◌≡◌, map, ap, ◌∙◌}
 use Rattle.std.specs.Prelude.{◌==◌}
 use Rattle.http_wire.specs.FirstMessage.{header_of}
-use Rattle.http_wire.proofs.MessageLemmas.{headers_of}
+use Rattle.http_wire.proofs.lemmas.MessageLemmas.{headers_of}
 use Rattle.http_wire.proofs.message.message_at.Goals as goal
 
 pub returns : goal.returns

@@ -12,5 +12,5 @@ pub returns-in_default-clause-plans : goal.returns-in_default-clause-plans
 returns-in_default-clause-plans g c = answers (omega arith) None c.in_default.is _ c.in_ok-list.ensures.asks (search rules) (λ state any told. list_missing _ state _ _ _ told)
 
 pub returns-clause-plans : goal.returns-clause-plans
-returns-clause-plans g c = counted_after pages c.in_ok-list.ensures.asks
+returns-clause-plans g c = counted_after pages c.args.bucket c.in_ok-list.ensures.asks
     (goes_on (omega arith) (Some c.in-Some.list) c.in-Some.is c.head_bucket.ensures.stays.settings c.in_ok-list.ensures.asks c.list_within.ensures.plans (λ state any told. told))

@@ -1,5 +1,5 @@
 use Rattle.std.proofs.Common.{arith, ◌∙◌, ap, ◌+◌, ◌*◌}
-use Rattle.http_wire.proofs.MessageLemmas.{digit_is, next_fits, next_value, all_of_it}
+use Rattle.http_wire.proofs.lemmas.MessageLemmas.{digit_is, next_fits, next_value, all_of_it}
 use Rattle.swift_wire.proofs.numbers.number_of.Goals as goal
 
 pub overflow_mul-number : goal.overflow_mul-number

@@ -19,7 +19,7 @@ use Rattle.http_wire.specs.declared.message.Kind.TheVariants.{BadLength, NoLengt
 use Rattle.gate_base.specs.Ascii.{is_digit}
 use Rattle.http_wire.specs.FirstMessage.{header_of, is_length, value_judged, length_judged}
 use Rattle.http_wire.specs.Headers.{has_name, first_value, values_of, header_at}
-use Rattle.http_wire.proofs.HeadersLemmas.{count_values, one_value, none_given}
+use Rattle.http_wire.proofs.lemmas.HeadersLemmas.{count_values, one_value, none_given}
 
 -- the header of a name and a value
 abbrev pair_of : List ℕ × List ℕ → Pair
