@@ -24,7 +24,11 @@ abbrev pub shelf_model : Bool → SwiftAccount → ℕ → ShelfModel
 shelf_model observable account faults = record { observable = observable; account = account; faults = faults }
 
 abbrev pub run_cursor : LineModel → ShelfModel → RunCursor
-run_cursor line shelf = record { waiting = line.transcript.waiting; begun = line.transcript.begun; progress = progress shelf.account shelf.faults line.transcript.sent }
+run_cursor line shelf = record {
+  waiting = line.transcript.waiting;
+  begun = line.transcript.begun;
+  progress = progress shelf.account shelf.faults line.transcript.sent;
+}
 
 -- connections were served as the words ask, until the run ended
 pub record Performs (asked : Asked) (status : Status) (line line' : LineModel) (shelf shelf' : ShelfModel) : Type 0 where
@@ -33,7 +37,8 @@ pub record Performs (asked : Asked) (status : Status) (line line' : LineModel) (
   pub observable : IsTrue line.observable → IsTrue line'.observable
   pub done : IsTrue line.observable → status ≡ Done → IsServedOut asked.connections line.transcript line'.transcript
   pub within : IsTrue line.observable → line'.transcript.begun ≤ line.transcript.begun + asked.connections
-  pub serves : (told : Bool) → (IsTrue told → IsTrue shelf.observable) → IsTrue line.observable → RunTrace told (place_by asked) (run_cursor line shelf) (run_cursor line' shelf')
+  pub serves : (told : Bool) → (IsTrue told → IsTrue shelf.observable) → IsTrue line.observable
+      → RunTrace told (place_by asked) (run_cursor line shelf) (run_cursor line' shelf')
 
 -- a run: just where the words are refused it ends so, unless memory runs out, and else it serves as they ask
 pub record Runs (meant : Option Asked) (status : Status) (line line' : LineModel) (shelf shelf' : ShelfModel) : Type 0 where
