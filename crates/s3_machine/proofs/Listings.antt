@@ -1,11 +1,9 @@
 -- The rows of a listing, added one by one: the same as the set of all, and the items among them.
 use Rattle.std.proofs.Common.{◌≡◌, ℕ, Bool, true, false, cond, List, [], ◌∷◌, ◌++◌, map, length, take, nat_lt, ◌&&◌, Option, Some, None, is_some, refl, sym, ◌∙◌, ap, append_assoc}
-use Rattle.std.specs.FinMap.{empty, entries, find, from_entries, from_entries_push, get, get-from_entries, insert}
-use Rattle.std.specs.Global.{Vec}
+use Rattle.std.specs.FinMap.{empty, find, from_entries, from_entries_push, get-from_entries, insert}
 use Rattle.std.specs.Option.{option_or}
 use Rattle.std.specs.List.{take-map}
 use Rattle.std.specs.Ordering.{eq_by_cmp}
-use Rattle.std.proofs.lemmas.Bool.{cond-false, cond-true}
 use Rattle.std.proofs.lemmas.List.{append-nil, length-map}
 use Rattle.gate_base.specs.Maps.{name_cmp, Names}
 use Rattle.gate_base.proofs.lemmas.Maps.{by_name, name_antisymmetric, name_total, same_at_and_off}

@@ -1,6 +1,6 @@
 -- What a GET or a HEAD of an object comes to: the conditions first, then the range. Source: RFC 9110, section 13.2.2, and
 -- Amazon S3 API Reference, "GetObject".
-use Rattle.std.specs.Prelude.{◌≡◌, ◌≤◌, ◌+◌, ℕ, true, false, cond, List, take, drop, Option, Some, None}
+use Rattle.std.specs.Prelude.{ℕ, true, false, cond, List, take, drop, Option, Some, None}
 use Rattle.s3_machine.specs.declared.operation.ObjectHead.{ObjectHead}
 use Rattle.s3_machine.specs.declared.reading.Conditions.{Conditions}
 use Rattle.s3_machine.specs.declared.reading.Judged.{Judged}

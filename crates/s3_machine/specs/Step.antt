@@ -57,7 +57,7 @@ use Rattle.s3_machine.specs.declared.operation.Reply.TheVariants as reply
 use Rattle.s3_machine.specs.ETag.{body_etag}
 use Rattle.s3_machine.specs.Items.{items}
 use Rattle.s3_machine.specs.Limits.{is_content_type, is_listing_text, is_proper_meta, most_body_bytes, most_items, range_limit}
-use Rattle.s3_machine.specs.Reading.{judged, all_of, taken}
+use Rattle.s3_machine.specs.Reading.{judged, taken}
 use Rattle.s3_machine.specs.State.{Object, Bucket, State}
 
 pub record Outcome : Type 0 where
@@ -245,8 +245,10 @@ step settings old (PutBucketAcl bucket acl) label id = in_bucket old bucket (set
 step settings old (ListObjects bucket asked) label id = in_bucket old bucket (lists old label.caller bucket asked)
 step settings old (PutObject bucket key acl content_type meta body) label id =
     in_bucket old bucket (puts old bucket key acl (new_object label.moment content_type meta body))
-step settings old (GetObject bucket key range conditions) label id = in_bucket old bucket (in_readable old label.caller key (reads old (got range conditions)))
-step settings old (HeadObject bucket key range conditions) label id = in_bucket old bucket (in_readable old label.caller key (reads old (headed range conditions)))
+step settings old (GetObject bucket key range conditions) label id =
+    in_bucket old bucket (in_readable old label.caller key (reads old (got range conditions)))
+step settings old (HeadObject bucket key range conditions) label id =
+    in_bucket old bucket (in_readable old label.caller key (reads old (headed range conditions)))
 step settings old (DeleteObject bucket key) label id = in_bucket old bucket (deletes old bucket key)
 step settings old (GetObjectAcl bucket key) label id = in_bucket old bucket (shows_object_acl old key)
 

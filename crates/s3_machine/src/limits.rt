@@ -23,7 +23,7 @@ pub(crate) const MOST_META_BYTES: usize = 2048;
 /// The most items of one reply that lists.
 pub const MOST_ITEMS: u32 = 1000;
 
-/// The most parts of an upload.
+/// The most parts of an upload (this profile; S3 has more).
 pub const MOST_PARTS: usize = 1000;
 
 /// The least number of more than 18 digits, which no range has.

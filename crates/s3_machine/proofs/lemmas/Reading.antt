@@ -1,5 +1,5 @@
 -- The bytes that are asked for are bytes of the object: all of them, or those of a range, of which there is one.
-use Rattle.std.proofs.Common.{◌≡◌, ◌≤◌, ◌<◌, ◌+◌, ◌-◌, ℕ, Bool, true, false, cond, Option, Some, None, refl, ap, sym, ◌∙◌, arith, min, nat_lt}
+use Rattle.std.proofs.Common.{◌≡◌, ◌≤◌, ◌<◌, ◌+◌, ◌-◌, ℕ, Bool, true, false, cond, Option, Some, None, refl, arith, min, nat_lt}
 use Rattle.s3_machine.specs.declared.operation.ObjectHead.{ObjectHead}
 use Rattle.s3_machine.specs.declared.reading.Conditions.{Conditions}
 use Rattle.s3_machine.specs.declared.reading.Judged.{Judged}
@@ -8,7 +8,7 @@ use Rattle.s3_machine.specs.declared.reading.Range.{Range}
 use Rattle.s3_machine.specs.declared.reading.Range.TheVariants.{FromTo, From, Last}
 use Rattle.s3_machine.specs.declared.reading.Span.{Span}
 use Rattle.s3_machine.specs.Conditions.{fails, is_known}
-use Rattle.s3_machine.specs.Ranges.{between, span_of}
+use Rattle.s3_machine.specs.Ranges.{span_of}
 use Rattle.s3_machine.specs.Reading.{all_of, judged, ranged, ranged_by}
 
 -- bytes of an object of this size: all of them, or those of a range, of which there is one

@@ -1,4 +1,4 @@
-use Rattle.std.proofs.Common.{◌≡◌, ◌<◌, sym, ap, ◌∙◌, arith}
+use Rattle.std.proofs.Common.{sym, ap, ◌∙◌, arith}
 use Rattle.s3_machine.specs.Items.{begins}
 use Rattle.s3_machine.proofs.Rolls.{here_within, past_all, past_here, past_more, past_none, roll_filled}
 use Rattle.s3_machine.proofs.listing.roll_end.Goals as goal

@@ -1,6 +1,4 @@
-use Rattle.std.proofs.Common.{sym, ap, ◌∙◌}
-use Rattle.std.specs.Option.{option_map}
-use Rattle.s3_machine.proofs.Rolls.{begins_long, row_own, row_up}
+use Rattle.s3_machine.proofs.Rolls.{begins_long, row_up}
 use Rattle.s3_machine.proofs.listing.row_end.Goals as goal
 
 pub split_at-requires : goal.split_at-requires
