@@ -41,7 +41,7 @@ module _ {old now : Rolls} {page : List NameItem} {i : ℕ} (paged : Paged old n
   pub paged_fits : list_all (is_name_with old.wanted.prefix) (map name_in page) ≡ true → begins now.wanted.prefix item.name ≡ true
   paged_fits named =
       let cut = sym (list_all-append (is_name_with old.wanted.prefix) (map name_in (take i page)) (item.name ∷ map name_in (drop (suc i) page)))
-          ∙ ap (list_all (is_name_with old.wanted.prefix)) (sym (ap (map name_in) here ∙ map-append name_in (take i page) (item ∷ drop (suc i) page))) ∙ named in
+      ∙ ap (list_all (is_name_with old.wanted.prefix)) (sym (ap (map name_in) here ∙ map-append name_in (take i page) (item ∷ drop (suc i) page))) ∙ named in
       let rest = and_parts (list_all (is_name_with old.wanted.prefix) (map name_in (take i page))) (list_all (is_name_with old.wanted.prefix) (item.name ∷ map name_in (drop (suc i) page))) cut in
       let one = and_parts (is_name_with old.wanted.prefix item.name) (list_all (is_name_with old.wanted.prefix) (map name_in (drop (suc i) page))) rest.1 in
       ap (λ w. begins w item.name) (ap (λ w. w.prefix) paged.wanted) ∙ (and_parts _ (begins old.wanted.prefix item.name) one.0).1
@@ -52,10 +52,10 @@ module _ {old now : Rolls} {page : List NameItem} {i : ℕ} (paged : Paged old n
         → Rolled new.wanted (rows_of new.items) new.more (seen ++ map seen_of (take (i + 1) page))
     next seen r rises =
         let cut = rises_cut old.wanted.prefix seen (map seen_of (take i page)) (seen_of item ∷ map seen_of (drop (suc i) page))
-            (subst (λ l. Rises old.wanted.prefix seen l) (ap (map seen_of) here ∙ map-append seen_of (take i page) (item ∷ drop (suc i) page)) rises) in
+        (subst (λ l. Rises old.wanted.prefix seen l) (ap (map seen_of) here ∙ map-append seen_of (take i page) (item ∷ drop (suc i) page)) rises) in
         subst (λ l. Rolled new.wanted (rows_of new.items) new.more l)
-          (append_assoc seen (map seen_of (take i page)) (seen_of item ∷ []) ∙ ap (λ l. seen ++ l) (sym (ap (map seen_of) more ∙ map-append seen_of (take i page) (item ∷ []))))
-          (rolled (seen ++ map seen_of (take i page)) (paged.rolled seen r rises) cut.1)
+        (append_assoc seen (map seen_of (take i page)) (seen_of item ∷ []) ∙ ap (λ l. seen ++ l) (sym (ap (map seen_of) more ∙ map-append seen_of (take i page) (item ∷ []))))
+        (rolled (seen ++ map seen_of (take i page)) (paged.rolled seen r rises) cut.1)
 
     pub paged_more : new.more ≡ false → new.last ≡ item.name → Paged old new page (i + 1)
     paged_more room last = record {
@@ -72,10 +72,10 @@ module _ {old now : Rolls} {page : List NameItem} {i : ℕ} (paged : Paged old n
         let all = ap (map seen_of) (sym (take-append-drop (i + 1) page)) ∙ map-append seen_of (take (i + 1) page) (drop (i + 1) page) in
         let cut = rises_cut old.wanted.prefix seen (map seen_of (take (i + 1) page)) (map seen_of (drop (i + 1) page)) (subst (λ l. Rises old.wanted.prefix seen l) all rises) in
         subst (λ l. Rolled new.wanted (rows_of new.items) new.more l)
-          (append_assoc seen (map seen_of (take (i + 1) page)) (map seen_of (drop (i + 1) page)) ∙ ap (λ l. seen ++ l) (sym all))
-          (roll_rest new.wanted (rows_of new.items) new.more (seen ++ map seen_of (take (i + 1) page)) (map seen_of (drop (i + 1) page)) full
-            (subst (λ w. Rises w (seen ++ map seen_of (take (i + 1) page)) (map seen_of (drop (i + 1) page))) (sym (ap (λ w. w.prefix) (wanted ∙ paged.wanted))) cut)
-            (next seen r rises))
+        (append_assoc seen (map seen_of (take (i + 1) page)) (map seen_of (drop (i + 1) page)) ∙ ap (λ l. seen ++ l) (sym all))
+        (roll_rest new.wanted (rows_of new.items) new.more (seen ++ map seen_of (take (i + 1) page)) (map seen_of (drop (i + 1) page)) full
+        (subst (λ w. Rises w (seen ++ map seen_of (take (i + 1) page)) (map seen_of (drop (i + 1) page))) (sym (ap (λ w. w.prefix) (wanted ∙ paged.wanted))) cut)
+        (next seen r rises))
 
 -- whether it is full, where items are wanted
 pub is_full : (goes more : Bool) (max : ℕ) → 0 < max → goes ≡ (nat_lt 0 max && not more) → goes ≡ false → more ≡ true

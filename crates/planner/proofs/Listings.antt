@@ -54,8 +54,8 @@ module _ (settings : Settings) (state : State) (bucket : List ℕ) (asked : Aske
     list_told reader told tells =
         let same : (rows_of told.0, told.1) ≡ listing asked it.0.objects = tells ∙ ap (λ o. first_rows (wanted asked) (keys_of o)) it.1 in
         subst (λ r. S3Step settings state (ListObjects bucket asked) label r state)
-          (ap (listing_reply bucket asked) (sym same) ∙ ap (λ l. reply.Objects bucket asked l told.1) (items_again told.0))
-          (step_items settings state bucket label it.0 it.1 asked (ap (may_read label.caller) it.2 ∙ reader))
+        (ap (listing_reply bucket asked) (sym same) ∙ ap (λ l. reply.Objects bucket asked l told.1) (items_again told.0))
+        (step_items settings state bucket label it.0 it.1 asked (ap (may_read label.caller) it.2 ∙ reader))
       where
         keys_of : Option Bucket → List (List ℕ × ItemHead)
         keys_of o = with_prefix asked.prefix (map listed_key (entries (objects_in o)))

@@ -91,7 +91,7 @@ module _ (bucket prefix marker : List ℕ) (is : is_bucket bucket ≡ true) wher
     odd_by None e name odd = odd
     odd_by (Some folder) e name odd =
         breaks_nowhere prefix marker (map name_in (page 1000 (λ e. item_of e.0 e.1) (λ e. is_listed prefix marker e.0) (entries (files tree bucket)))) name (page_is_one tree bucket prefix marker is sound)
-          (subst (λ o. BreaksAt prefix marker (map name_in (page 1000 (λ e. item_of e.0 e.1) (λ e. is_listed prefix marker e.0) (entries (files_of o)))) name) (sym e) odd)
+        (subst (λ o. BreaksAt prefix marker (map name_in (page 1000 (λ e. item_of e.0 e.1) (λ e. is_listed prefix marker e.0) (entries (files_of o)))) name) (sym e) odd)
 
   keys_read : IsReadingOf IsSettled (page_request bucket prefix marker) page_due (TellsKeys bucket prefix marker)
   keys_read = record {

@@ -85,7 +85,7 @@ unfolding page
 seen_page prefix marker es =
     sym (take-map seen_of 1000 (map item (filter (λ e. is_listed prefix marker e.0) es)))
     ∙ ap (take 1000) (map_twice seen_of item (filter (λ e. is_listed prefix marker e.0) es)
-      ∙ chosen_twice seen (λ e. is_listed prefix marker e.0) (λ k. begins prefix k.0) (λ k. is_lt (name_cmp marker k.0)) (listed_is prefix marker) es)
+    ∙ chosen_twice seen (λ e. is_listed prefix marker e.0) (λ k. begins prefix k.0) (λ k. is_lt (name_cmp marker k.0)) (listed_is prefix marker) es)
 
 module _ (tree : SwiftAccount) (bucket : List ℕ) (is : is_bucket bucket ≡ true) (sound : IsConsistent tree) where
   abbrev segments : Names SwiftObject
@@ -163,7 +163,7 @@ module _ (tree : SwiftAccount) (bucket : List ℕ) (is : is_bucket bucket ≡ tr
       none (x ∷ xs) = refl
   named prefix marker (suc n) (e ∷ es) h =
       elim (is_listed prefix marker e.0) as (λ t. is_listed prefix marker e.0 ≡ t
-          → list_all (is_name_with prefix) (take (suc n) (map (λ e. e.0) (cond t (e ∷ filter (λ e. is_listed prefix marker e.0) es) (filter (λ e. is_listed prefix marker e.0) es)))) ≡ true) [
+      → list_all (is_name_with prefix) (take (suc n) (map (λ e. e.0) (cond t (e ∷ filter (λ e. is_listed prefix marker e.0) es) (filter (λ e. is_listed prefix marker e.0) es)))) ≡ true) [
         | true ↦ λ listed.
             let fits = (and_parts (is_lt (name_cmp marker e.0)) (begins prefix e.0) (sym (listed_is prefix marker e) ∙ listed)).1 in
             ap (λ t. t && list_all (is_name_with prefix) (take n (map (λ e. e.0) (filter (λ e. is_listed prefix marker e.0) es)))) (and_from _ _ (keyed_by e (object e h.0)) fits) ∙ named prefix marker n es h.1

@@ -52,8 +52,8 @@ module _ (bucket : List ℕ) (asked : Asked) (tree : SwiftAccount) where
   rolled_first =
       let m = (wanted asked).marker in
       rolled_before (wanted asked) [] false [] (up_to m keys) (up_to_kept m keys)
-        (rises_sorted asked.prefix [] (up_to m keys) (sorted_filter (λ k. not (is_lt (name_cmp m k.0))) keys (keys_sorted bucket asked.prefix tree)) (keys_fit bucket asked.prefix tree (λ k. not (is_lt (name_cmp m k.0)))))
-        (rolled_none ItemHead (wanted asked))
+      (rises_sorted asked.prefix [] (up_to m keys) (sorted_filter (λ k. not (is_lt (name_cmp m k.0))) keys (keys_sorted bucket asked.prefix tree)) (keys_fit bucket asked.prefix tree (λ k. not (is_lt (name_cmp m k.0)))))
+      (rolled_none ItemHead (wanted asked))
 
 -- ---- page by page
 
@@ -156,7 +156,7 @@ module _ {a b : History} {bucket prefix : List ℕ} {roll : Rolls} (walked : Rol
           let idles = idles_then met in
           let tells = subst (TellsTaken bucket prefix roll new (present a)) is (tells_then met) in
           let all : (rows_of result.0, result.1) ≡ first_rows (wanted asked) (keys_with bucket asked.prefix (s3_state (present a))) =
-            listed (keys_with bucket prefix (s3_state (present a))) (tells so.rolled) ∙ (λ i. first_rows (wants i) (keys_with bucket (sym same i) (s3_state (present a)))) in
+          listed (keys_with bucket prefix (s3_state (present a))) (tells so.rolled) ∙ (λ i. first_rows (wants i) (keys_with bucket (sym same i) (s3_state (present a)))) in
           let from : c.tree_at a.called ≡ present a = ((goes_trans walked.on asks.grows.on).kept met.observable).accounts a.called (omega arith) in
           (idles.quiet, idles.still, record { of_state = all ∙ ap (λ tree. first_rows (wanted asked) (keys_with bucket asked.prefix (s3_state tree))) (sym from); same = idles.same });
       settled = λ observable settled. asks.settled (walked.on.observable observable) (walked.settled observable settled);

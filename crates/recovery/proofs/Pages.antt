@@ -60,7 +60,7 @@ unfolding page
 page_passes marker tree =
     let chosen = filter (λ e. is_listed [] marker e.0) (entries tree) in
     ascending marker (take 1000 (map (λ e. e.0) chosen))
-      (ascends_take marker 1000 (map (λ e. e.0) chosen) (ascends_by marker chosen (below_chosen [] marker (entries tree)) (sorted_filter (λ e. is_listed [] marker e.0) (entries tree) (entries_sorted tree))))
+    (ascends_take marker 1000 (map (λ e. e.0) chosen) (ascends_by marker chosen (below_chosen [] marker (entries tree)) (sorted_filter (λ e. is_listed [] marker e.0) (entries tree) (entries_sorted tree))))
 
 page_within : (marker : List ℕ) (tree : SwiftAccount) → nat_le (length (page 1000 (λ e. e.0) (λ e. is_listed [] marker e.0) (entries tree))) most_names ≡ true
 unfolding page

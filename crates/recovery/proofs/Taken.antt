@@ -127,9 +127,9 @@ module _ (bucket prefix : List ℕ) (tree : SwiftAccount) (old new : Rolls) (pag
   pub taken_full : new.more ≡ true → HasRolled old before → HasRolled new ks
   taken_full full r = subst (HasRolled new) joined
       (roll_rest new.wanted (rows_of new.items) new.more (before ++ take 1000 rest) (drop 1000 rest) full
-        (subst (λ p. Rises p (before ++ take 1000 rest) (drop 1000 rest)) (sym (ap (λ w. w.prefix) kept ∙ same))
-          (rises_sorted prefix (before ++ take 1000 rest) (drop 1000 rest) (subst (λ l. T (is_sorted name_cmp l)) (sym joined) sorted) rest_fits))
-        (rolled r))
+      (subst (λ p. Rises p (before ++ take 1000 rest) (drop 1000 rest)) (sym (ap (λ w. w.prefix) kept ∙ same))
+      (rises_sorted prefix (before ++ take 1000 rest) (drop 1000 rest) (subst (λ l. T (is_sorted name_cmp l)) (sym joined) sorted) rest_fits))
+      (rolled r))
 
   length_page : length page ≡ length (take 1000 rest)
   length_page = sym (length-map page seen_of) ∙ ap length tells.keys

@@ -1,9 +1,9 @@
 -- The pieces of metadata that are written are read back.
-use Rattle.std.proofs.Common.{append_assoc, subst, ◌≡◌, ◌≢◌, ℕ, zero, suc, ◌+◌, ◌*◌, ◌^◌, ◌<◌, ◌≤◌, Bool, true, false, not, cond, List, [], ◌∷◌, ◌++◌, length, map, Some, None, Option, refl, ap, ap₂, sym, ◌∙◌, inl, inr, arith}
-use Rattle.std.specs.Prelude.{codes, decimal, bytes_eq, option_map}
+use Rattle.std.proofs.Common.{◌||◌, append_assoc, subst, ◌≡◌, ◌≢◌, ℕ, zero, suc, ◌+◌, ◌*◌, ◌^◌, ◌<◌, ◌≤◌, Bool, true, false, not, cond, List, [], ◌∷◌, ◌++◌, length, map, Some, None, Option, refl, ap, ap₂, sym, ◌∙◌, inl, inr, arith}
+use Rattle.std.specs.Prelude.{codes, decimal, bytes_eq, option_map, filter}
 use Rattle.std.specs.Char.{to_ascii_lowercase}
 use Rattle.std.specs.List.{list_all}
-use Rattle.std.proofs.lemmas.Bool.{and_parts, cases_Bool, false_from_ne_true}
+use Rattle.std.proofs.lemmas.Bool.{cond-false, and_parts, cases_Bool, false_from_ne_true}
 use Rattle.std.proofs.lemmas.Bool.Decides.{nat_tests}
 use Rattle.std.proofs.lemmas.Fmt.{decimal_injective}
 use Rattle.std.proofs.lemmas.Slice.Eq.{bytes_eq-Decides}
@@ -11,7 +11,7 @@ use Rattle.std.specs.Bool.{MatchBool}
 use Rattle.gate_base.specs.Ascii.{is_digit}
 use Rattle.gate_base.specs.declared.page.Pair.{Pair}
 use Rattle.http1.specs.Fields.{Header}
-use Rattle.http_wire.specs.Headers.{has_name, values_of}
+use Rattle.http_wire.specs.Headers.{value_of, has_name, has_header, values_of}
 use Rattle.swift_wire.specs.AnswerText.{meta_fields}
 use Rattle.swift_wire.specs.CallText.{header_pair}
 use Rattle.swift_wire.specs.Fields.{field, at_most_one, meta_name, meta_by, meta_from, meta_in}
@@ -57,9 +57,18 @@ At : List Pair → ℕ → List (List ℕ) → Type 0
 At headers i [] = values_of (meta_name i) headers ≡ []
 At headers i (piece ∷ pieces) = (values_of (meta_name i) headers ≡ piece ∷ []) × At headers (i + 1) pieces
 
+none_has : (name : List ℕ) (headers : List Pair) → values_of name headers ≡ [] → has_header name headers ≡ false
+none_has name [] none = refl
+none_has name (h ∷ headers) none = by_test (has_name name h) none (none_has name headers)
+  where
+    by_test : (b : Bool) → map value_of (cond b (h ∷ filter (has_name name) headers) (filter (has_name name) headers)) ≡ []
+        → (values_of name headers ≡ [] → has_header name headers ≡ false) → (b || has_header name headers) ≡ false
+    by_test true some more = absurd (omega (arith, ap length some))
+    by_test false some more = more some
+
 from_at : (headers : List Pair) (most i : ℕ) (pieces : List (List ℕ)) → length pieces ≤ most → At headers i pieces → meta_from most i headers ≡ Some pieces
 unfolding meta_from At
-from_at headers zero i [] few at = ap (λ values. meta_by (at_most_one values) None) at
+from_at headers zero i [] few at = cond-false (has_header (meta_name i) headers) None (Some []) (none_has (meta_name i) headers at)
 from_at headers (suc most) i [] few at = ap (λ values. meta_by (at_most_one values) (meta_from most (i + 1) headers)) at
 from_at headers zero i (piece ∷ pieces) few at = absurd (omega (arith, few))
 from_at headers (suc most) i (piece ∷ pieces) few at =

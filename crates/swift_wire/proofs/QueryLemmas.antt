@@ -1,11 +1,12 @@
 -- The query of a listing that is written has the values that it was written of.
-use Rattle.std.proofs.Common.{◌≡◌, ℕ, suc, ◌+◌, ◌^◌, ◌<◌, ◌≤◌, Bool, true, false, not, ◌&&◌, ◌||◌, cond, eqb, leb, List, [], ◌∷◌, ◌++◌, length, All, Ok, Some, None, Option, refl, ap, ap₂, sym, subst, ◌∙◌, arith}
+use Rattle.std.proofs.Common.{◌≡◌, ℕ, suc, ◌+◌, ◌^◌, ◌<◌, ◌≤◌, Bool, true, false, not, ◌&&◌, ◌||◌, cond, eqb, leb, List, [], ◌∷◌, ◌++◌, length, All, Ok, Some, None, Option, refl, ap, ap₂, sym, subst, ◌∙◌, arith, rules}
 use Rattle.std.specs.Prelude.{codes, decimal, bytes_eq, option_map, option_and_then, nat_lt, nat_le}
 use Rattle.std.specs.List.{list_all, before_first, after_first, flat_map}
 use Rattle.std.specs.Str.Parse.{digits_value}
 use Rattle.std.proofs.lemmas.Bool.{and_parts, and_from, cond-true, cond-false}
 use Rattle.std.proofs.lemmas.Bool.Decides.{nat_tests}
 use Rattle.std.proofs.lemmas.List.Elements.{All-nil, All-cons}
+use Rattle.std.proofs.lemmas.Str.Parse.{IsNumeralModel, IsDigitsTest, numerals_by_value}
 use Rattle.std.proofs.lemmas.Fmt.{length-decimal-le, digits_decimal, digits_value-decimal, decimal_is_IsNumeral}
 use Rattle.gate_base.specs.Ascii.{is_digit}
 use Rattle.http_wire.specs.FirstMessage.{is_length}
@@ -13,11 +14,16 @@ use Rattle.s3_names.specs.Escapes.{is_unreserved, escaped_unless, escaped_all}
 use Rattle.s3_names.specs.Query.{is_ampersand, is_equals}
 use Rattle.swift_wire.specs.Fields.{plain_number}
 use Rattle.swift_wire.specs.Paths.{unescaped, has_more, value_named, first_value, last_value, values_named}
-use Rattle.swift_wire.proofs.lemmas.ValueRows.{own}
 use Rattle.swift_wire.proofs.CutLemmas.{IsByte, Lacks, weaker, Lacks-append, before_at, after_at, any_none, any_at}
 use Rattle.swift_wire.proofs.PathLemmas.{unescaped_all, no_ampersand}
 
 -- ---- numbers
+
+tells : IsDigitsTest (λ ds. list_all is_digit ds ≡ true)
+tells = search rules
+
+pub own : IsNumeralModel (λ ds. list_all is_digit ds ≡ true) (digits_value 10)
+own = numerals_by_value _ tells
 
 pub same_bytes : (text : List ℕ) → bytes_eq text text ≡ true
 same_bytes [] = refl

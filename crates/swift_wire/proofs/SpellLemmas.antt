@@ -29,8 +29,7 @@ use Rattle.swift_wire.specs.declared.place.Place.{Place}
 use Rattle.swift_wire.proofs.AcceptLemmas.{fields_good, body_small}
 use Rattle.swift_wire.proofs.CallLemmas.{call_read}
 use Rattle.swift_wire.proofs.HeaderLemmas.{given, given_step, has_token, has_length, has_no_coding}
-use Rattle.swift_wire.proofs.lemmas.ValueRows.{own}
-use Rattle.swift_wire.proofs.QueryLemmas.{decimal_length}
+use Rattle.swift_wire.proofs.QueryLemmas.{own, decimal_length}
 use Rattle.swift_wire.proofs.SizeLemmas.{accepted, head_size, fields_count}
 
 -- ---- the headers of the message

@@ -59,7 +59,7 @@ fn is_visible(byte: u8) -> bool
 
 /// Whether the message has exactly one `X-Auth-Token`, and it is the place's. A store answers 401 where it isn't,
 /// before it asks what call the message spells.
-#[tactic(auto, using(crate::proofs::TokenLemmas::has_only, crate::proofs::TokenLemmas::has_none))]
+#[tactic(auto, using(crate::proofs::lemmas::FieldLemmas::has_only, crate::proofs::lemmas::FieldLemmas::has_none))]
 pub fn has_token(place: &Place, message: &Message) -> bool
     ensures { IsTrue result ↔ HasToken place.now message.now }
 {

@@ -49,7 +49,7 @@ trimmed text all =
 tells : IsDigitsTest (λ ds. list_all is_digit ds ≡ true)
 tells = search rules
 
-pub own : IsNumeralModel (λ ds. list_all is_digit ds ≡ true) (digits_value 10)
+own : IsNumeralModel (λ ds. list_all is_digit ds ≡ true) (digits_value 10)
 own = numerals_by_value _ tells
 
 digit_visible : (b : ℕ) → is_digit b ≡ true → is_visible b ≡ true

@@ -16,18 +16,18 @@ returns-in_err-push_page-clause-asks g c = asks_rolled c.in_ok-page.ensures.asks
 pub returns-then-not-branch-clause-asks : goal.returns-then-not-branch-clause-asks
 returns-then-not-branch-clause-asks g c = asks_told (λ tree has. has) false
     (λ tree sound has tells. taken_full c.args.bucket.now c.args.prefix.now tree c.args.roll.now c.push_page.new.self c.as_slice.result.now c.requires.same c.in_ok-push_page.ensures.wanted
-      (subst {A = List ℕ × List NameItem} (λ x. TellsKeys c.args.bucket.now c.args.prefix.now x.0 tree x.1) (λ i. (c.next_marker.ensures i, sym c.as_slice.ensures i)) tells)
-      c.in_ok-push_page.ensures.rolled (not_false c.push_page.new.self.more (sym c.in_ok-push_page.ensures.goes ∙ c.if-not-branch.true)))
+    (subst {A = List ℕ × List NameItem} (λ x. TellsKeys c.args.bucket.now c.args.prefix.now x.0 tree x.1) (λ i. (c.next_marker.ensures i, sym c.as_slice.ensures i)) tells)
+    c.in_ok-push_page.ensures.rolled (not_false c.push_page.new.self.more (sym c.in_ok-push_page.ensures.goes ∙ c.if-not-branch.true)))
     c.in_ok-page.ensures.asks
 
 pub returns-clause-mark : goal.returns-clause-mark
 returns-clause-mark g c = λ e. subst IsMark (sym (c.in_ok-push_page.ensures.last (ap Ok c.if-not-branch.false)))
     (last_mark c.args.prefix.now c.args.roll.now.last (map name_in c.as_slice.result.now) c.requires.marker
-      (ap (λ p. list_all (is_name_with c.args.prefix.now) (map name_in p)) c.as_slice.ensures ∙ c.in_ok-page.ensures.page.named))
+    (ap (λ p. list_all (is_name_with c.args.prefix.now) (map name_in p)) c.as_slice.ensures ∙ c.in_ok-page.ensures.page.named))
 
 pub returns-clause-asks : goal.returns-clause-asks
 returns-clause-asks g c = asks_told (λ tree has. has) (nat_eq c.len.result 1000)
     (λ tree sound has tells. taken_next c.args.bucket.now c.args.prefix.now tree c.args.roll.now c.push_page.new.self c.as_slice.result.now c.requires.same c.in_ok-push_page.ensures.wanted
-      (subst {A = List ℕ × List NameItem} (λ x. TellsKeys c.args.bucket.now c.args.prefix.now x.0 tree x.1) (λ i. (c.next_marker.ensures i, sym c.as_slice.ensures i)) tells)
-      c.in_ok-push_page.ensures.rolled c.len.result (c.len.ensures ∙ ap length (sym c.as_slice.ensures)) (subst (λ n. n ≤ 1000) (length-map c.in_ok-page.page name_in ∙ ap length (sym c.as_slice.ensures)) c.in_ok-page.ensures.page.within) (c.in_ok-push_page.ensures.last (ap Ok c.if-not-branch.false)))
+    (subst {A = List ℕ × List NameItem} (λ x. TellsKeys c.args.bucket.now c.args.prefix.now x.0 tree x.1) (λ i. (c.next_marker.ensures i, sym c.as_slice.ensures i)) tells)
+    c.in_ok-push_page.ensures.rolled c.len.result (c.len.ensures ∙ ap length (sym c.as_slice.ensures)) (subst (λ n. n ≤ 1000) (length-map c.in_ok-page.page name_in ∙ ap length (sym c.as_slice.ensures)) c.in_ok-page.ensures.page.within) (c.in_ok-push_page.ensures.last (ap Ok c.if-not-branch.false)))
     c.in_ok-page.ensures.asks
