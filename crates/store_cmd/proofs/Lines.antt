@@ -1,5 +1,5 @@
 -- A line that serves on, and its next connection.
-use Rattle.std.proofs.Common.{◌≡◌, ℕ, ◌+◌, Bool, true, false, ◌∷◌, slice_set, ◌-◌, None, Some, Ok, Err, refl, sym, subst, ap, ◌∙◌, arith}
+use Rattle.std.proofs.Common.{◌≡◌, ℕ, Bool, true, false, ◌∷◌, slice_set, ◌-◌, None, Some, Ok, Err, refl, sym, subst, ap, ◌∙◌, arith}
 use Rattle.std.proofs.lemmas.Option.{none-some}
 use Rattle.gate_base.specs.Causes.{RisesIf}
 use Rattle.gate_base.specs.Line.{LineModel, LineNext, LineServes, TranscriptServes}

@@ -9,14 +9,14 @@ use Rattle.http_wire.specs.declared.message.Message.{Message}
 use Rattle.http_wire.specs.declared.message.Kind.{Kind}
 use Rattle.http_wire.specs.FirstMessage.{BeginsWith, asks, refused}
 use Rattle.swift_calls.specs.Account.{SwiftAccount}
-use Rattle.swift_wire.specs.AnswerText.{answer_text, refusal}
+use Rattle.swift_wire.specs.AnswerText.{refusal}
 use Rattle.swift_wire.specs.declared.place.Place.{Place}
 use Rattle.swift_store.specs.Serving.{Served}
 use Rattle.swift_store.specs.declared.faults.StoreFault.TheVariants as fault
 use Rattle.store_cmd.specs.Connection.{Progress, Cursor, Answered, Ends, SendsPart, OnlySent, OwedIsSent, OwedMayBeSent, EndsWith, Sends, Handles, NextOne, end_after, heard_by, with_sent}
 use Rattle.store_cmd.specs.Connection as trace
 use Rattle.store_cmd.specs.declared.ended.Ended.{Ended}
-use Rattle.store_cmd.specs.declared.ended.Ended.TheVariants.{End, CutShort, Refused, StoreFailed, Memory, LineFailed}
+use Rattle.store_cmd.specs.declared.ended.Ended.TheVariants.{Refused, StoreFailed, Memory, LineFailed}
 
 -- ---- one write
 

@@ -1,4 +1,3 @@
-use Rattle.store_cmd.specs.Run.{shelf_model}
 use Rattle.store_cmd.proofs.Running.{runs_refused, runs_unread, runs_performed}
 use Rattle.store_cmd.specs.Words.{asked_of}
 use Rattle.store_cmd.proofs.command.attempt.Goals as goal

@@ -1,4 +1,4 @@
-use Rattle.std.proofs.Common.{◌≡◌, List, ℕ, [], None, Some, Ok, Err, if◌then◌else◌, sym, ap, subst, ◌∙◌}
+use Rattle.std.proofs.Common.{List, ℕ, [], None, Some, Ok, Err, if◌then◌else◌, sym, ap, subst, ◌∙◌}
 use Rattle.swift_wire.specs.AnswerText.{refusal}
 use Rattle.swift_store.specs.Serving.{Served}
 use Rattle.swift_store.specs.declared.faults.StoreFault.TheVariants as fault

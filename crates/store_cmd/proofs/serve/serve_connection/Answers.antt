@@ -1,6 +1,6 @@
-use Rattle.std.proofs.Common.{◌≡◌, ◌++◌, ℕ, List, None, Some, refl, sym, ap, subst, ◌∙◌, arith, inl, inr}
+use Rattle.std.proofs.Common.{◌++◌, None, Some, refl, sym, ap, subst, ◌∙◌, arith, inl}
 use Rattle.http_wire.specs.Gives.{Pending}
-use Rattle.store_cmd.specs.Connection.{EndsWith, Exchanges, ConnectionTrace, NextOne, none, more, cursor, progress}
+use Rattle.store_cmd.specs.Connection.{EndsWith, Exchanges, NextOne, none, more, cursor, progress}
 use Rattle.store_cmd.specs.declared.ended.Ended.TheVariants.{Memory}
 use Rattle.store_cmd.proofs.Traces.{next_unread}
 use Rattle.store_cmd.proofs.Lines.{line_serves_on}

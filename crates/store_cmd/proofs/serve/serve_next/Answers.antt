@@ -1,4 +1,4 @@
-use Rattle.std.proofs.Common.{◌≡◌, ◌++◌, [], List, ℕ, refl, ap, ◌∙◌}
+use Rattle.std.proofs.Common.{◌++◌, [], List, ℕ, drop, ap, ◌∙◌}
 use Rattle.store_cmd.proofs.Nexts.{request_next, rejected_next, unread_next, over_next, cut_next, end_begins, unheard_next}
 use Rattle.store_cmd.proofs.serve.serve_next.Goals as goal
 
@@ -11,7 +11,7 @@ returns-in-Ok-Request-clause-serves g c = λ told on observable.
     request_next told c.args.place.now (g.N.Line.model c.args.line.now).transcript (g.N.Line.model c.next_request.new.line).transcript (g.N.Line.model c.answer.new.line).transcript
     (g.S.Shelf.account c.args.shelf.now) (g.S.Shelf.account c.answer.new.shelf) (g.S.Shelf.faults c.args.shelf.now) (g.S.Shelf.faults c.answer.new.shelf)
     (c.args.reader.now.bytes ++ (g.N.Line.model c.args.line.now).transcript.rest) (c.next_request.new.self.bytes ++ (g.N.Line.model c.answer.new.line).transcript.rest) c.in-Ok-Request.message c.answer.result
-    gives.0 gives.2 (rest ∙ gives.3) (step.line.transcript observable).begun (step.sent c.requires.goes observable) (c.answer.ensures.handles told on goes)
+    gives.0 gives.2 (◌∙◌ {c = drop gives.0 (c.args.reader.now.bytes ++ (g.N.Line.model c.args.line.now).transcript.rest)} rest gives.3) (step.line.transcript observable).begun (step.sent c.requires.goes observable) (c.answer.ensures.handles told on goes)
 
 pub returns-in-Ok-Refused-clause-serves : goal.returns-in-Ok-Refused-clause-serves
 returns-in-Ok-Refused-clause-serves g c = λ told on observable.

@@ -1,6 +1,6 @@
-use Rattle.std.proofs.Common.{◌≡◌, ◌+◌, ℕ, Some, refl, sym, ap, subst, ◌∙◌, arith, inl, inr}
+use Rattle.std.proofs.Common.{Some, refl, sym, ap, subst, ◌∙◌, arith, inl}
 use Rattle.gate_base.specs.Causes.{RisesIf}
-use Rattle.store_cmd.specs.Connection.{RunCursor, RunTrace, none, more, progress}
+use Rattle.store_cmd.specs.Connection.{RunTrace, none, more}
 use Rattle.store_cmd.specs.Report.{is_failed_run}
 use Rattle.store_cmd.proofs.session.serve_all.Goals as goal
 
