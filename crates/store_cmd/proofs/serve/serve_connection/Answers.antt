@@ -57,7 +57,8 @@ requests-preserved g c =
           let middle = g.N.Line.model c.requests.line in
           let new = g.N.Line.model c.serve_next.new.line in
           let here = (i.line.transcript observable).begun in
+          let start = cursor (g.N.Line.model c.args.line.now).transcript.rest (progress (g.S.Shelf.account c.args.shelf.now) (g.S.Shelf.faults c.args.shelf.now) (g.N.Line.model c.args.line.now).transcript.sent) in
           let last = cursor (c.requests.reader.bytes ++ middle.transcript.rest) (progress (g.S.Shelf.account c.requests.shelf) (g.S.Shelf.faults c.requests.shelf) middle.transcript.sent) in
           let stop = cursor (c.serve_next.new.reader.bytes ++ new.transcript.rest) (progress (g.S.Shelf.account c.serve_next.new.shelf) (g.S.Shelf.faults c.serve_next.new.shelf) new.transcript.sent) in
-          more _ last stop (i.serves told on observable) (subst (λ n. NextOne told c.args.place.now n last None stop) here (c.in-None.ensures.serves told (λ t. i.observable (on t)) (i.line.observable observable)));
+          more start last stop (i.serves told on observable) (subst (λ n. NextOne told c.args.place.now n last None stop) here (c.in-None.ensures.serves told (λ t. i.observable (on t)) (i.line.observable observable)));
     }
