@@ -1,5 +1,5 @@
 -- A line that serves on, and its next connection.
-use Rattle.std.proofs.Common.{◌≡◌, ℕ, ◌+◌, Bool, true, false, ◌∷◌, slice_set, ◌-◌, None, Some, Ok, Err, refl, sym, subst, ap, ◌∙◌, arith}
+use Rattle.std.proofs.Common.{◌≡◌, ℕ, Bool, true, false, ◌∷◌, slice_set, ◌-◌, None, Some, Ok, Err, refl, sym, subst, ap, ◌∙◌, arith}
 use Rattle.std.proofs.lemmas.Option.{none-some}
 use Rattle.gate_base.specs.Causes.{RisesIf}
 use Rattle.gate_base.specs.Line.{LineModel, LineNext, LineServes, TranscriptServes}
@@ -7,7 +7,7 @@ use Rattle.gate_base.specs.Transcript.{Transcript, Begins}
 use Rattle.gate_base.specs.declared.faults.Failed.{Failed}
 use Rattle.swift_calls.specs.Account.{SwiftAccount}
 use Rattle.swift_wire.specs.declared.place.Place.{Place}
-use Rattle.store_cmd.specs.Connection.{ConnectionTrace, ServesNext, cursor, progress}
+use Rattle.store_cmd.specs.Connection.{ConnectionTrace, RunCursor, RunTrace, ServesNext, cursor, progress}
 use Rattle.store_cmd.specs.Report.{LineServesNext}
 use Rattle.store_cmd.specs.declared.ended.Ended.{Ended}
 use Rattle.store_cmd.specs.declared.status.Status.TheVariants.{Done, Line}
@@ -66,10 +66,18 @@ line_next_failed next = record {
   done = λ t is. absurd (let clash : Some Line ≡ Some Done = is in cc);
 }
 
+-- a point between two connections
+abbrev pub point : Transcript → SwiftAccount → ℕ → RunCursor
+point transcript account faults = record { waiting = transcript.waiting; begun = transcript.begun; progress = progress account faults transcript.sent }
+
+-- nothing came between
+pub trace_stays : (told : Bool) (place : Place) (start old new : RunCursor) → new ≡ old → RunTrace told place start old → RunTrace told place start new
+trace_stays told place start old new same trace = subst (RunTrace told place start) (sym same) trace
+
 module _ (told : Bool) (place : Place) (old middle new : Transcript) (account account' : SwiftAccount) (faults faults' : ℕ) where
   pub connection_next : {failed : Bool} (ended : Ended) → Begins true old middle → TranscriptServes failed middle new
       → ConnectionTrace told place middle.begun ended (cursor middle.rest (progress account faults middle.sent)) (progress account' faults' new.sent)
-      → ServesNext told place (record { waiting = old.waiting; begun = old.begun; progress = progress account faults old.sent }) (record { waiting = new.waiting; begun = new.begun; progress = progress account' faults' new.sent })
+      → ServesNext told place (point old account faults) (point new account' faults')
   connection_next ended begins serves trace = record {
     rest = middle.rest;
     ended = ended;

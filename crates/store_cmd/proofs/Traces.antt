@@ -1,5 +1,5 @@
 -- What was answered to a request and how a connection ended, by the calls that did it.
-use Rattle.std.specs.Prelude.{◌≡◌, ◌⊎◌, ℕ, Bool, IsTrue, List, [], ◌++◌, Option, None, Some, Result, Ok, Err, take, drop}
+use Rattle.std.specs.Prelude.{◌≡◌, ℕ, Bool, IsTrue, List, [], Option, None, Some, Ok, Err, take, drop}
 use Rattle.std.proofs.Common.{refl, sym, ap, subst, ◌∙◌, inl, inr}
 use Rattle.std.proofs.lemmas.Option.{none-some, same_Some}
 use Rattle.gate_base.specs.Causes.{Rose}
@@ -7,16 +7,16 @@ use Rattle.gate_base.specs.declared.outside.Piece.{Piece}
 use Rattle.gate_base.specs.Transcript.{Transcript, with_piece, SendsPrefix}
 use Rattle.http_wire.specs.declared.message.Message.{Message}
 use Rattle.http_wire.specs.declared.message.Kind.{Kind}
-use Rattle.http_wire.specs.FirstMessage.{BeginsWith, asks, nothing, cut_short, refused}
+use Rattle.http_wire.specs.FirstMessage.{BeginsWith, asks, refused}
 use Rattle.swift_calls.specs.Account.{SwiftAccount}
-use Rattle.swift_wire.specs.AnswerText.{answer_text, refusal}
+use Rattle.swift_wire.specs.AnswerText.{refusal}
 use Rattle.swift_wire.specs.declared.place.Place.{Place}
 use Rattle.swift_store.specs.Serving.{Served}
 use Rattle.swift_store.specs.declared.faults.StoreFault.TheVariants as fault
-use Rattle.store_cmd.specs.Connection.{Progress, Cursor, Answered, Serves, Ends, Exchanges, ConnectionTrace, SendsPart, SendsAlone, SendsPartAlone, Breaks, EndsWith, Sends, Written, Unwritten, Handles, NextOne, end_after, with_sent, progress, cursor}
+use Rattle.store_cmd.specs.Connection.{Progress, Cursor, Answered, Ends, SendsPart, OnlySent, OwedIsSent, OwedMayBeSent, EndsWith, Sends, Handles, NextOne, end_after, heard_by, with_sent}
 use Rattle.store_cmd.specs.Connection as trace
 use Rattle.store_cmd.specs.declared.ended.Ended.{Ended}
-use Rattle.store_cmd.specs.declared.ended.Ended.TheVariants.{End, CutShort, Refused, StoreFailed, Memory, LineFailed}
+use Rattle.store_cmd.specs.declared.ended.Ended.TheVariants.{Refused, StoreFailed, Memory, LineFailed}
 
 -- ---- one write
 
@@ -59,22 +59,23 @@ module _ (told : Bool) (place : Place) (connection : ℕ) (message : Message) (o
 
 -- ---- one request
 
-module _ (told : Bool) (place : Place) (connection : ℕ) (last : Cursor) (new : Cursor) where
-  pub next_handled : (message : Message) (size : ℕ) (result : Option Ended) → BeginsWith last.rest (asks message size) → new.rest ≡ drop size last.rest → Handles told place connection message last.progress result new.progress → NextOne told place connection last result new
-  next_handled message size None begins rest (inl written) = record { message = message; size = size; answer = written.answer; begins = begins; rest = rest; answered = written.answered; sent = written.sent }
-  next_handled message size None begins rest (inr (is, part)) = absurd (none-some _ is)
-  next_handled message size (Some ended) begins rest (inl written) =
-      trace.served ended new (record { message = message; size = size; answer = written.answer; begins = begins; rest = rest; answered = written.answered; sent = written.sent }) refl
-  next_handled message size (Some ended) begins rest (inr (is, part)) =
+module _ (told : Bool) (place : Place) (connection : ℕ) (last : Cursor) (new : Cursor) (heard : List Piece) where
+  pub next_handled : (message : Message) (size : ℕ) (result : Option Ended) → BeginsWith last.rest (asks message size) → new.rest ≡ drop size last.rest → OwedIsSent connection last heard
+      → Handles told place connection message (heard_by last.progress heard) result new.progress → NextOne told place connection last result new
+  next_handled message size None begins rest owed (inl written) = record { message = message; size = size; heard = heard; answer = written.answer; begins = begins; rest = rest; owed = owed; answered = written.answered; sent = written.sent }
+  next_handled message size None begins rest owed (inr (is, part)) = absurd (none-some _ is)
+  next_handled message size (Some ended) begins rest owed (inl written) =
+      trace.served ended new (record { message = message; size = size; heard = heard; answer = written.answer; begins = begins; rest = rest; owed = owed; answered = written.answered; sent = written.sent }) refl
+  next_handled message size (Some ended) begins rest owed (inr (is, part)) =
       subst (λ e. Ends told place connection last new.progress e) (sym (same_Some ended LineFailed is))
-      (trace.broken (record { message = message; size = size; answer = part.answer; end = part.end; begins = begins; answered = part.answered; sent = part.sent }))
+      (trace.broken (record { message = message; size = size; heard = heard; answer = part.answer; end = part.end; begins = begins; owed = owed; answered = part.answered; sent = part.sent }))
 
-  pub next_rejected : (kind : Kind) (head : Bool) (result : Ended) → BeginsWith last.rest (refused kind head) → new.progress.account ≡ last.progress.account → new.progress.faults ≡ last.progress.faults
-      → EndsWith connection (refusal 400) Refused last.progress.sent result new.progress.sent → Ends told place connection last new.progress result
-  next_rejected kind head result begins account faults (inl (is, sent)) = subst (λ e. Ends told place connection last new.progress e) (sym is) (trace.rejected kind head begins (record { account = account; faults = faults; sent = sent }))
-  next_rejected kind head result begins account faults (inr (is, part)) = subst (λ e. Ends told place connection last new.progress e) (sym is) (trace.unrejected kind head begins (record { account = account; faults = faults; sent = part }))
+  pub next_rejected : (kind : Kind) (head : Bool) (result : Ended) → BeginsWith last.rest (refused kind head) → OwedIsSent connection last heard → OnlySent last.progress new.progress
+      → EndsWith connection (refusal 400) Refused heard result new.progress.sent → Ends told place connection last new.progress result
+  next_rejected kind head result begins owed only (inl (is, sent)) = subst (λ e. Ends told place connection last new.progress e) (sym is) (trace.rejected kind head heard begins owed only sent)
+  next_rejected kind head result begins owed only (inr (is, part)) = subst (λ e. Ends told place connection last new.progress e) (sym is) (trace.unrejected kind head heard begins owed only part)
 
-  pub next_unread : (result : Ended) → new.progress.account ≡ last.progress.account → new.progress.faults ≡ last.progress.faults
-      → EndsWith connection (refusal 500) Memory last.progress.sent result new.progress.sent → Ends told place connection last new.progress result
-  next_unread result account faults (inl (is, sent)) = subst (λ e. Ends told place connection last new.progress e) (sym is) (trace.unread (record { account = account; faults = faults; sent = sent }))
-  next_unread result account faults (inr (is, part)) = subst (λ e. Ends told place connection last new.progress e) (sym is) (trace.untold (record { account = account; faults = faults; sent = part }))
+  pub next_unread : (result : Ended) → OwedMayBeSent connection last heard → OnlySent last.progress new.progress
+      → EndsWith connection (refusal 500) Memory heard result new.progress.sent → Ends told place connection last new.progress result
+  next_unread result owed only (inl (is, sent)) = subst (λ e. Ends told place connection last new.progress e) (sym is) (trace.unread heard owed only sent)
+  next_unread result owed only (inr (is, part)) = subst (λ e. Ends told place connection last new.progress e) (sym is) (trace.untold heard owed only part)

@@ -7,6 +7,7 @@ use Rattle.gate_base.specs.declared.outside.Piece.{Piece}
 use Rattle.http_wire.specs.declared.message.Message.{Message}
 use Rattle.http_wire.specs.declared.message.Kind.{Kind}
 use Rattle.http_wire.specs.FirstMessage.{BeginsWith, asks, nothing, cut_short, refused}
+use Rattle.http_wire.specs.Interim.{OwesInterim, SendsInterim, MaySendInterim, CutsInterim}
 use Rattle.swift_calls.specs.Account.{SwiftAccount}
 use Rattle.swift_calls.specs.Step.{swift_step}
 use Rattle.swift_calls.specs.declared.calls.SwiftRequest.{SwiftRequest}
@@ -40,35 +41,60 @@ abbrev pub end_after : Message → Option Ended
 end_after message = if is_closing message then Some Closed else None
 
 -- what is answered to a message, what it does, and whether the connection ends
-pub data Answered (told : Bool) (place : Place) (message : Message) (old new : SwiftAccount) (faults faults' : ℕ) : List ℕ → Option Ended → Type 0 where
+pub data Answered (told : Bool) (place : Place) (message : Message) (old new : SwiftAccount) (faults faults' : ℕ)
+    : List ℕ → Option Ended → Type 0 where
   -- a call; where the reply has no spelling, `answer_text` is a 500 that says nothing
   replied : (call : SwiftRequest) (reply : SwiftReply) → IsCall place call message → faults' ≡ faults
       → (IsTrue told → (reply ≡ (swift_step call old).reply) × (new ≡ (swift_step call old).tree))
       → Answered told place message old new faults faults' (answer_text call reply) (end_after message)
-  stranger : IsStranger place message → faults' ≡ faults → (IsTrue told → new ≡ old) → Answered told place message old new faults faults' (refusal 401) (end_after message)
-  no_call : IsNoCall place message → faults' ≡ faults → (IsTrue told → new ≡ old) → Answered told place message old new faults faults' (refusal 400) (end_after message)
-  failed : (call : SwiftRequest) → IsCall place call message → Rose faults faults' → (IsTrue told → (new ≡ old) ⊎ (new ≡ (swift_step call old).tree))
+  -- a message without the token
+  stranger : IsStranger place message → faults' ≡ faults → (IsTrue told → new ≡ old)
+      → Answered told place message old new faults faults' (refusal 401) (end_after message)
+  -- a message that isn't a call
+  no_call : IsNoCall place message → faults' ≡ faults → (IsTrue told → new ≡ old)
+      → Answered told place message old new faults faults' (refusal 400) (end_after message)
+  -- a call under which the shelf failed: it did all or nothing
+  failed : (call : SwiftRequest) → IsCall place call message → Rose faults faults'
+      → (IsTrue told → (new ≡ old) ⊎ (new ≡ (swift_step call old).tree))
       → Answered told place message old new faults faults' (refusal 503) (Some StoreFailed)
-  wanted : faults' ≡ faults → (IsTrue told → new ≡ old) → Answered told place message old new faults faults' (refusal 500) (Some Memory)
+  -- memory ran out, and nothing was done
+  wanted : faults' ≡ faults → (IsTrue told → new ≡ old)
+      → Answered told place message old new faults faults' (refusal 500) (Some Memory)
 
 -- the pieces with one more. No store counts calls here
 abbrev pub with_sent : ℕ → List ℕ → List Piece → List Piece
 with_sent connection bytes sent = sent ++ record { connection = connection; at = 0; bytes = bytes } ∷ []
 
+-- the interim line was sent for what comes first, before its answer, exactly where it is owed
+abbrev pub OwedIsSent : ℕ → Cursor → List Piece → Type 0
+OwedIsSent connection old heard = SendsInterim (OwesInterim old.rest) connection 0 old.progress.sent heard
+
+-- memory ran out while the first was read: the line was sent, or not, where it is owed
+abbrev pub OwedMayBeSent : ℕ → Cursor → List Piece → Type 0
+OwedMayBeSent connection old heard = MaySendInterim (OwesInterim old.rest) connection 0 old.progress.sent heard
+
+-- the line failed while the first was read: first bytes of the interim line were sent, or none, where it is owed
+abbrev pub OwedIsCut : ℕ → Cursor → List Piece → Type 0
+OwedIsCut connection old heard = CutsInterim (OwesInterim old.rest) connection 0 old.progress.sent heard
+
 -- the next request was answered in whole
 pub record Serves (told : Bool) (place : Place) (connection : ℕ) (end : Option Ended) (old new : Cursor) : Type 0 where
   pub message : Message
   pub size : ℕ
+  -- the pieces sent once it was read
+  pub heard : List Piece
   pub answer : List ℕ
   pub begins : BeginsWith old.rest (asks message size)
   pub rest : new.rest ≡ drop size old.rest
+  pub owed : OwedIsSent connection old heard
   pub answered : Answered told place message old.progress.account new.progress.account old.progress.faults new.progress.faults answer end
-  pub sent : new.progress.sent ≡ with_sent connection answer old.progress.sent
+  pub sent : new.progress.sent ≡ with_sent connection answer heard
 
 -- any number of requests, none of which ended the connection
 pub data Exchanges (told : Bool) (place : Place) (connection : ℕ) : Cursor → Cursor → Type 0 where
   none : (cursor : Cursor) → Exchanges told place connection cursor cursor
-  more : (old middle new : Cursor) → Exchanges told place connection old middle → Serves told place connection None middle new → Exchanges told place connection old new
+  more : (old middle new : Cursor) → Exchanges told place connection old middle → Serves told place connection None middle new
+      → Exchanges told place connection old new
 
 -- nothing was sent, or one piece with the first of the bytes
 abbrev pub SendsPart : ℕ → List ℕ → List Piece → List Piece → Type 0
@@ -78,22 +104,18 @@ SendsPart connection bytes old new = (new ≡ old) ⊎ ((n : ℕ) × (new ≡ wi
 pub record Breaks (told : Bool) (place : Place) (connection : ℕ) (old : Cursor) (new : Progress) : Type 0 where
   pub message : Message
   pub size : ℕ
+  pub heard : List Piece
   pub answer : List ℕ
   pub end : Option Ended
   pub begins : BeginsWith old.rest (asks message size)
+  pub owed : OwedIsSent connection old heard
   pub answered : Answered told place message old.progress.account new.account old.progress.faults new.faults answer end
-  pub sent : SendsPart connection answer old.progress.sent new.sent
+  pub sent : SendsPart connection answer heard new.sent
 
--- of the progress only the pieces sent may differ, by an answer that was written in whole or whose first bytes were
-pub record SendsAlone (connection : ℕ) (bytes : List ℕ) (old new : Progress) : Type 0 where
+-- of the progress only the pieces sent may differ
+pub record OnlySent (old new : Progress) : Type 0 where
   pub account : new.account ≡ old.account
   pub faults : new.faults ≡ old.faults
-  pub sent : new.sent ≡ with_sent connection bytes old.sent
-
-pub record SendsPartAlone (connection : ℕ) (bytes : List ℕ) (old new : Progress) : Type 0 where
-  pub account : new.account ≡ old.account
-  pub faults : new.faults ≡ old.faults
-  pub sent : SendsPart connection bytes old.sent new.sent
 
 -- how a connection ends, from the last point before its end
 pub data Ends (told : Bool) (place : Place) (connection : ℕ) (last : Cursor) (new : Progress) : Ended → Type 0 where
@@ -102,15 +124,23 @@ pub data Ends (told : Bool) (place : Place) (connection : ℕ) (last : Cursor) (
   -- the bytes end inside a head
   cut : BeginsWith last.rest cut_short → new ≡ last.progress → Ends told place connection last new CutShort
   -- what comes next is no request that is accepted
-  rejected : (kind : Kind) (head : Bool) → BeginsWith last.rest (refused kind head) → SendsAlone connection (refusal 400) last.progress new → Ends told place connection last new Refused
+  rejected : (kind : Kind) (head : Bool) (heard : List Piece) → BeginsWith last.rest (refused kind head) → OwedIsSent connection last heard
+      → OnlySent last.progress new → new.sent ≡ with_sent connection (refusal 400) heard → Ends told place connection last new Refused
   -- an answer ended it
-  served : (ended : Ended) (cursor : Cursor) → Serves told place connection (Some ended) last cursor → new ≡ cursor.progress → Ends told place connection last new ended
+  served : (ended : Ended) (cursor : Cursor) → Serves told place connection (Some ended) last cursor → new ≡ cursor.progress
+      → Ends told place connection last new ended
   -- memory ran out while a request was read
-  unread : SendsAlone connection (refusal 500) last.progress new → Ends told place connection last new Memory
-  -- the line failed while a request was read, or under an answer
-  unheard : new ≡ last.progress → Ends told place connection last new LineFailed
-  unrejected : (kind : Kind) (head : Bool) → BeginsWith last.rest (refused kind head) → SendsPartAlone connection (refusal 400) last.progress new → Ends told place connection last new LineFailed
-  untold : SendsPartAlone connection (refusal 500) last.progress new → Ends told place connection last new LineFailed
+  unread : (heard : List Piece) → OwedMayBeSent connection last heard → OnlySent last.progress new
+      → new.sent ≡ with_sent connection (refusal 500) heard → Ends told place connection last new Memory
+  -- the line failed while a request was read
+  unheard : OwedIsCut connection last new.sent → OnlySent last.progress new → Ends told place connection last new LineFailed
+  -- the line failed under the answer to what isn't accepted
+  unrejected : (kind : Kind) (head : Bool) (heard : List Piece) → BeginsWith last.rest (refused kind head) → OwedIsSent connection last heard
+      → OnlySent last.progress new → SendsPart connection (refusal 400) heard new.sent → Ends told place connection last new LineFailed
+  -- memory ran out while a request was read, and the line failed under the answer for that
+  untold : (heard : List Piece) → OwedMayBeSent connection last heard → OnlySent last.progress new
+      → SendsPart connection (refusal 500) heard new.sent → Ends told place connection last new LineFailed
+  -- the line failed under the answer to a request
   broken : Breaks told place connection last new → Ends told place connection last new LineFailed
 
 -- one connection: its requests in order, none skipped, and its end
@@ -142,11 +172,13 @@ cursor rest so_far = record { rest = rest; progress = so_far }
 
 -- bytes that end a connection were written, or the line failed under them
 abbrev pub EndsWith : ℕ → List ℕ → Ended → List Piece → Ended → List Piece → Type 0
-EndsWith connection bytes ended old result new = ((result ≡ ended) × (new ≡ with_sent connection bytes old)) ⊎ ((result ≡ LineFailed) × SendsPart connection bytes old new)
+EndsWith connection bytes ended old result new =
+    ((result ≡ ended) × (new ≡ with_sent connection bytes old)) ⊎ ((result ≡ LineFailed) × SendsPart connection bytes old new)
 
 -- an answer was written, behind which the connection ends or goes on, or the line failed under it
 abbrev pub Sends : ℕ → List ℕ → Option Ended → List Piece → Option Ended → List Piece → Type 0
-Sends connection bytes end old result new = ((result ≡ end) × (new ≡ with_sent connection bytes old)) ⊎ ((result ≡ Some LineFailed) × SendsPart connection bytes old new)
+Sends connection bytes end old result new =
+    ((result ≡ end) × (new ≡ with_sent connection bytes old)) ⊎ ((result ≡ Some LineFailed) × SendsPart connection bytes old new)
 
 -- a message was served and its answer was written, or the line failed under it
 pub record Written (told : Bool) (place : Place) (connection : ℕ) (message : Message) (end : Option Ended) (old new : Progress) : Type 0 where
@@ -162,7 +194,12 @@ pub record Unwritten (told : Bool) (place : Place) (connection : ℕ) (message :
 
 abbrev pub Handles : Bool → Place → ℕ → Message → Progress → Option Ended → Progress → Type 0
 Handles told place connection message old result new =
-    Written told place connection message result old new ⊎ ((result ≡ Some LineFailed) × Unwritten told place connection message old new)
+    Written told place connection message result old new
+    ⊎ ((result ≡ Some LineFailed) × Unwritten told place connection message old new)
+
+-- the progress with these pieces sent
+abbrev pub heard_by : Progress → List Piece → Progress
+heard_by so_far heard = record so_far { sent = heard }
 
 -- the next request was served, or the connection ended
 abbrev pub NextOne : Bool → Place → ℕ → Cursor → Option Ended → Cursor → Type 0

@@ -1,8 +1,8 @@
 -- The reply to each call, by what a shelf tells.
-use Rattle.std.specs.Prelude.{◌≡◌, ℕ, ◌+◌, ◌-◌, ◌<◌, ◌≤◌, min, Bool, true, false, ◌&&◌, cond, nat_le, nat_lt, List, [], ◌∷◌, ◌++◌, length, take, drop, slice_range, Option, None, Some, is_some}
+use Rattle.std.specs.Prelude.{◌≡◌, ℕ, ◌+◌, ◌-◌, ◌≤◌, min, true, false, ◌&&◌, nat_le, nat_lt, List, length, take, drop, slice_range, Option, None, Some, is_some}
 use Rattle.std.specs.Option.{option_map}
 use Rattle.std.specs.FinMap.{get}
-use Rattle.std.proofs.Common.{refl, sym, ap, subst, ◌∙◌, arith, inl, inr, true≢false}
+use Rattle.std.proofs.Common.{refl, sym, ap, ◌∙◌, arith, inl, inr, true≢false}
 use Rattle.std.proofs.lemmas.Bool.{cases_lt, cond-true, cond-false, le-leb, lt-leb}
 use Rattle.std.proofs.lemmas.Option.{none-some, same_Some}
 use Rattle.std.proofs.lemmas.List.{take_all}
@@ -16,7 +16,6 @@ use Rattle.swift_calls.specs.declared.account.Content.TheVariants.{Plain, Segmen
 use Rattle.swift_calls.specs.declared.heads.StoredHead.{StoredHead}
 use Rattle.swift_calls.specs.declared.heads.NameItem.{NameItem}
 use Rattle.swift_calls.specs.declared.calls.SwiftRequest.TheVariants.{HeadContainer, PutContainer, PostContainer, DeleteContainer, ListNames, PutObject, HeadObject, GetObject, DeleteObject}
-use Rattle.swift_calls.specs.declared.calls.SwiftReply.{SwiftReply}
 use Rattle.swift_calls.specs.declared.calls.SwiftReply.TheVariants.{Made, There, Gone, Stored, NotFound, NotEmpty, Unsatisfiable, Readers, Names, Head, Bytes}
 use Rattle.swift_store.specs.Shelf.{HasNoLists, container_head, object_page, part, part_of}
 use Rattle.swift_store.specs.Serving.{bounds}

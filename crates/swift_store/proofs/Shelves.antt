@@ -1,6 +1,6 @@
 -- What a shelf in memory finds and does, by what stands under a container's name.
 use Rattle.std.specs.Prelude.{◌≡◌, ℕ, zero, suc, Bool, List, [], ◌∷◌, length, Option, None, Some, is_some, true, false, Result, Ok, Err, OnOk, OnErr}
-use Rattle.std.specs.FinMap.{get, insert, remove, entries, empty, len-entries, len-empty}
+use Rattle.std.specs.FinMap.{get, insert, remove, empty, len-entries, len-empty}
 use Rattle.std.specs.Option.{option_map}
 use Rattle.std.proofs.lemmas.Option.{none-some, same_Some}
 use Rattle.std.proofs.Common.{inl, inr, subst, refl, sym, ap, ◌∙◌, true≢false}

@@ -1,10 +1,9 @@
 -- The account after each call, by what was written.
-use Rattle.std.specs.Prelude.{◌≡◌, ◌⊎◌, ℕ, ◌<◌, ◌≤◌, ◌^◌, Bool, true, false, List, length, Option, None, Some, Result, Ok, Err}
+use Rattle.std.specs.Prelude.{◌≡◌, ℕ, ◌<◌, ◌≤◌, ◌^◌, Bool, true, false, List, length, Option, None, Some, Result, Ok, Err}
 use Rattle.std.specs.Option.{option_map}
 use Rattle.std.specs.FinMap.{get, remove}
-use Rattle.std.proofs.Common.{refl, sym, ap, subst, ◌∙◌, inl, inr, arith, true≢false}
+use Rattle.std.proofs.Common.{refl, sym, ap, ◌∙◌, inl, inr, arith, true≢false}
 use Rattle.std.proofs.lemmas.Option.{none-some, same_Some}
-use Rattle.gate_base.specs.Maps.{adjust}
 use Rattle.gate_base.proofs.lemmas.Maps.{by_name, adjust_same}
 use Rattle.swift_calls.specs.Account.{SwiftAccount, SwiftContainer, SwiftObject, find_object, put_file, remove_file, with_head, with_readers, size_of}
 use Rattle.swift_calls.specs.Bodies.{etag_text, etag_of}
@@ -12,7 +11,7 @@ use Rattle.swift_calls.specs.Limits.{most_body}
 use Rattle.swift_calls.specs.Step.{swift_step, is_bare, head_container, put_container, post_container, delete_container, delete_by, put_object, delete_object}
 use Rattle.swift_calls.specs.declared.account.ReadList.{ReadList}
 use Rattle.swift_calls.specs.declared.account.Content.TheVariants.{Plain}
-use Rattle.swift_calls.specs.declared.calls.SwiftRequest.TheVariants.{HeadContainer, PutContainer, PostContainer, DeleteContainer, PutObject, DeleteObject}
+use Rattle.swift_calls.specs.declared.calls.SwiftRequest.TheVariants.{HeadContainer, PostContainer, DeleteContainer, PutObject, DeleteObject}
 use Rattle.swift_calls.specs.declared.calls.SwiftReply.{SwiftReply}
 use Rattle.swift_calls.specs.declared.calls.SwiftReply.TheVariants as replies
 use Rattle.swift_store.specs.Shelf.{Writes, container_head, with_container}

@@ -2,7 +2,6 @@
 use Rattle.std.specs.Prelude.{ℕ, zero, suc, Bool, cond, nat_eq, List, [], ◌∷◌}
 use Rattle.std.specs.List.{filter, starts_with}
 use Rattle.std.specs.FinMap.{entries}
-use Rattle.std.specs.Range.Bound.{bound_map}
 use Rattle.std.specs.declared.ops.Bound.{Bound}
 use Rattle.std.specs.BTreeMap.Range.{is_from_start}
 use Rattle.gate_base.specs.Maps.{Names, name_cmp}

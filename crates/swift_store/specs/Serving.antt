@@ -66,7 +66,8 @@ bounds (Some range) size = if nat_lt range.0 size then Some (range.0, min (range
 -- appended answers the call with some reply
 abbrev pub Answers : Bool → SwiftRequest → SwiftAccount → SwiftAccount → List ℕ → List ℕ → Result (Unit {0}) StoreFault → Type 0
 Answers told call old new before after (Ok done) =
-    (reply : SwiftReply) × (after ≡ before ++ answer_text call reply) × (IsTrue told → (reply ≡ (swift_step call old).reply) × (new ≡ (swift_step call old).tree))
+    (reply : SwiftReply) × (after ≡ before ++ answer_text call reply)
+    × (IsTrue told → (reply ≡ (swift_step call old).reply) × (new ≡ (swift_step call old).tree))
 Answers told call old new before after (Err Failed) = (after ≡ before) × (IsTrue told → (new ≡ old) ⊎ (new ≡ (swift_step call old).tree))
 Answers told call old new before after (Err Memory) = (after ≡ before) × (IsTrue told → new ≡ old)
 
@@ -92,5 +93,6 @@ Served told place message old new before after (Ok done) =
     (IsStranger place message × Refuses told 401 old new before after)
     ⊎ ((IsNoCall place message × Refuses told 400 old new before after)
     ⊎ ((call : SwiftRequest) × IsCall place call message × Answers told call old new before after (Ok done)))
-Served told place message old new before after (Err Failed) = (call : SwiftRequest) × IsCall place call message × Answers told call old new before after (Err Failed)
+Served told place message old new before after (Err Failed) =
+    (call : SwiftRequest) × IsCall place call message × Answers told call old new before after (Err Failed)
 Served told place message old new before after (Err Memory) = (after ≡ before) × (IsTrue told → new ≡ old)

@@ -63,4 +63,5 @@ object_of s = record { content_type = s.content_type; meta = s.meta; content = s
 
 -- no object lists segments, as none does that a call puts
 abbrev pub HasNoLists : SwiftAccount → Type 0
-HasNoLists account = (container : List ℕ) (c : SwiftContainer) → get account container ≡ Some c → (name : List ℕ) (object : SwiftObject) → get c.files name ≡ Some object → is_list object.content ≡ false
+HasNoLists account = (container : List ℕ) (c : SwiftContainer) → get account container ≡ Some c
+    → (name : List ℕ) (object : SwiftObject) → get c.files name ≡ Some object → is_list object.content ≡ false

@@ -1,6 +1,6 @@
-use Rattle.std.proofs.Common.{◌≡◌, ◌++◌, ℕ, List, None, Some, refl, sym, ap, subst, ◌∙◌, arith, inl, inr}
+use Rattle.std.proofs.Common.{◌++◌, None, Some, refl, sym, ap, subst, ◌∙◌, arith, inl}
 use Rattle.http_wire.specs.Gives.{Pending}
-use Rattle.store_cmd.specs.Connection.{EndsWith, Exchanges, ConnectionTrace, NextOne, none, more, cursor, progress}
+use Rattle.store_cmd.specs.Connection.{EndsWith, Exchanges, NextOne, none, more, cursor, progress}
 use Rattle.store_cmd.specs.declared.ended.Ended.TheVariants.{Memory}
 use Rattle.store_cmd.proofs.Traces.{next_unread}
 use Rattle.store_cmd.proofs.Lines.{line_serves_on}
@@ -15,7 +15,7 @@ returns-in-Err-clause-serves g c = λ told on observable.
     record {
       last = start;
       exchanges = none start;
-      ends = next_unread told c.args.place.now old.transcript.begun start stop c.end_with.result refl refl (subst (λ b. EndsWith old.transcript.begun b Memory old.transcript.sent c.end_with.result new.transcript.sent) (c.as_slice.ensures ∙ c.requires.refusals.out_of_memory) (c.end_with.ensures.effect observable));
+      ends = next_unread told c.args.place.now old.transcript.begun start stop old.transcript.sent c.end_with.result (inl refl) (record { account = refl; faults = refl }) (subst (λ b. EndsWith old.transcript.begun b Memory old.transcript.sent c.end_with.result new.transcript.sent) (c.as_slice.ensures ∙ c.requires.refusals.out_of_memory) (c.end_with.ensures.effect observable));
     }
 
 pub requests-init : goal.requests-init
@@ -57,7 +57,8 @@ requests-preserved g c =
           let middle = g.N.Line.model c.requests.line in
           let new = g.N.Line.model c.serve_next.new.line in
           let here = (i.line.transcript observable).begun in
+          let start = cursor (g.N.Line.model c.args.line.now).transcript.rest (progress (g.S.Shelf.account c.args.shelf.now) (g.S.Shelf.faults c.args.shelf.now) (g.N.Line.model c.args.line.now).transcript.sent) in
           let last = cursor (c.requests.reader.bytes ++ middle.transcript.rest) (progress (g.S.Shelf.account c.requests.shelf) (g.S.Shelf.faults c.requests.shelf) middle.transcript.sent) in
           let stop = cursor (c.serve_next.new.reader.bytes ++ new.transcript.rest) (progress (g.S.Shelf.account c.serve_next.new.shelf) (g.S.Shelf.faults c.serve_next.new.shelf) new.transcript.sent) in
-          more _ last stop (i.serves told on observable) (subst (λ n. NextOne told c.args.place.now n last None stop) here (c.in-None.ensures.serves told (λ t. i.observable (on t)) (i.line.observable observable)));
+          more start last stop (i.serves told on observable) (subst (λ n. NextOne told c.args.place.now n last None stop) here (c.in-None.ensures.serves told (λ t. i.observable (on t)) (i.line.observable observable)));
     }

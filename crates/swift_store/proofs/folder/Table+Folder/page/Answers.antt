@@ -1,8 +1,8 @@
 use Rattle.std.specs.Prelude.{nat_eq}
 use Rattle.std.specs.List.{starts_with}
 use Rattle.std.specs.declared.ops.Bound.TheVariants.{Excluded}
-use Rattle.std.proofs.Common.{[], refl, sym, ap, ◌∙◌}
-use Rattle.swift_store.proofs.Listing.{led_start, led_full, led_next, led_ends, run_seen, names_page}
+use Rattle.std.proofs.Common.{[], refl, sym, ◌∙◌}
+use Rattle.swift_store.proofs.Listing.{led_full, led_next, led_ends, run_seen, names_page}
 use Rattle.swift_store.proofs.folder.Table+Folder.page.Goals as goal
 
 pub returns-then-len-limit : goal.returns-then-len-limit

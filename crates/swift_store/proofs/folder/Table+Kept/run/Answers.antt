@@ -1,6 +1,6 @@
 use Rattle.std.specs.Prelude.{nat_eq}
 use Rattle.std.specs.List.{starts_with}
-use Rattle.std.proofs.Common.{[], sym, ap, ◌∙◌}
+use Rattle.std.proofs.Common.{sym, ap, ◌∙◌}
 use Rattle.swift_calls.specs.Bodies.{item_of}
 use Rattle.swift_store.proofs.Listing.{led_full, led_next, led_stops, led_ends, run_lent}
 use Rattle.swift_store.proofs.folder.Table+Kept.run.Goals as goal
