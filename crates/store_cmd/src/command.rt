@@ -34,8 +34,9 @@ pub fn run_store<N: Line<NoCount>, R: Sink, S: Shelf>(
 
     // How the run ended: its status, what it did, and what it reports. Where the line is observable, its connections were
     // served in order, none skipped, and of each the requests in order, each by one answer: that of Object Storage API
-    // v1, or 401 or 400. A 503 comes only with a higher count of faults of the shelf, and a 500 that has no reply only
-    // where memory ran out; either ends its connection. What is told of the account holds where the shelf is observable.
+    // v1, or 401 or 400, behind the interim line where that is owed. A 503 comes only with a higher count of faults of
+    // the shelf, and a 500 that has no reply only where memory ran out; either ends its connection. What is told of the
+    // account holds where the shelf is observable.
     ensures run { (status : how) × (result ≡ code_of status)
         × Runs (asked_of words.now) status (N.model line.old) (N.model line.new)
         (shelf_model (S.observable shelf.old) (S.account shelf.old) (S.faults shelf.old)) (shelf_model (S.observable shelf.new) (S.account shelf.new) (S.faults shelf.new))

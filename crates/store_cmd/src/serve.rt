@@ -17,7 +17,8 @@ use swift_wire::Place;
 
 /// Serves one open connection to its end: its requests are answered in order. A request that isn't accepted is answered
 /// `400 Bad Request` and ends it, a fault of the shelf is answered `503 Service Unavailable` and ends it, and where memory
-/// runs out the answer is `500 Internal Server Error`, which ends it too.
+/// runs out the answer is `500 Internal Server Error`, which ends it too. Before a body whose head expects it,
+/// `HTTP/1.1 100 Continue` is sent (RFC 9110, section 10.1.1).
 pub fn serve_connection<N: Line<NoCount>, S: Shelf>(
     alloc: Global,
     place: &Place,
@@ -49,7 +50,8 @@ pub fn serve_connection<N: Line<NoCount>, S: Shelf>(
     }
 }
 
-/// Reads the next request and answers it. `None` says that the connection goes on.
+/// Reads the next request, for whose body the reader sends the interim line where it is owed, and answers it. `None` says
+/// that the connection goes on.
 fn serve_next<N: Line<NoCount>, S: Shelf>(
     alloc: Global,
     place: &Place,
