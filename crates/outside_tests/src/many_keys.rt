@@ -1,7 +1,7 @@
 //! Listings of a bucket of more keys than a page has: the pages of the store behind one reply, and each of them lost in turn.
 ghost use Rattle.std.specs.Prelude.{◌≡◌, false, refl};
 ghost use Rattle.std.specs.FinMap.{empty};
-ghost use Rattle.std.proofs.Common.{lit≤};
+ghost use Rattle.std.proofs.Common.{lit≤, sym, true≢false};
 ghost use Rattle.gate_base.specs.Causes.{Rose};
 
 use crate::own_line::OwnLine;
@@ -52,7 +52,7 @@ impl Swift for ManyKeys {
 
     ghost counted = { λ store. refl };
 
-    ghost is_history = { λ store. record { last = λ observable left. absurd (false_is observable); rise = λ observable j k order within. lit≤ tt } };
+    ghost is_history = { λ store. record { last = λ observable left. absurd (true≢false (sym observable)); rise = λ observable j k order within. lit≤ tt } };
 
     fn call(&mut self, request: &SwiftRequest) -> Result<SwiftReply, SwiftFault> {
         if self.made >= 1000 {
