@@ -60,7 +60,7 @@ class Target:
 
     def headers(self, method, path, body):
         if self.swift:
-            return {"X-Auth-Token": TOKEN, "Content-Length": str(len(body)), "Content-Type": "binary/octet-stream"}
+            return {"X-Auth-Token": TOKEN, "X-Container-Read": "", "Content-Length": str(len(body)), "Content-Type": "binary/octet-stream"}
         head = f"{method} {path} HTTP/1.1\r\nhost: {self.place}"
         lines = sign.signed(head, *KEY, datetime.datetime.now(datetime.timezone.utc)).split("\r\n")[1:]
         return {**dict(line.split(": ", 1) for line in lines), "Content-Length": str(len(body))}
