@@ -1,8 +1,7 @@
 -- Laws of the answers: of the definitions alone, without code. Source: Object Storage API v1 and RFC 9112 as the definitions cite them.
-use Rattle.std.specs.Prelude.{◌≡◌, ℕ, ◌<◌, ◌^◌, Bool, true, false, List, length}
+use Rattle.std.specs.Prelude.{◌≡◌, ℕ, ◌<◌, ◌^◌, true, List, length}
 use Rattle.swift_calls.specs.declared.calls.SwiftRequest.{SwiftRequest}
 use Rattle.swift_calls.specs.declared.calls.SwiftReply.{SwiftReply}
-use Rattle.swift_calls.specs.declared.calls.SwiftReply.TheVariants.{Head, Bytes}
 use Rattle.swift_wire.specs.Framing.{Ends}
 use Rattle.swift_wire.specs.Answers.{asks_head, SpellsAnswer}
 use Rattle.swift_wire.specs.AnswerText.{answer_text, is_spelled}
@@ -16,13 +15,7 @@ OneReply = (call : SwiftRequest) (first second : SwiftReply) (bytes : List ℕ) 
 abbrev pub OneAnswer : Type 0
 OneAnswer = (call : SwiftRequest) (reply : SwiftReply) (bytes : List ℕ) → SpellsAnswer call reply bytes → Ends (asks_head call) bytes (At (length bytes))
 
--- a reply without the head of an object
-abbrev pub is_headless : SwiftReply → Bool
-is_headless (Head head) = false
-is_headless (Bytes head body) = false
-is_headless reply = true
-
 -- what is written for a reply that has a spelling spells it, where it is no longer than bytes can be
 abbrev pub ReadsBack : Type 0
-ReadsBack = (call : SwiftRequest) (reply : SwiftReply) → is_headless reply ≡ true → is_spelled call reply ≡ true
-    → length (answer_text call reply) < 2 ^ 63 → SpellsAnswer call reply (answer_text call reply)
+ReadsBack = (call : SwiftRequest) (reply : SwiftReply) → is_spelled call reply ≡ true → length (answer_text call reply) < 2 ^ 63
+    → SpellsAnswer call reply (answer_text call reply)
