@@ -1,6 +1,5 @@
 -- Each piece that says 503 has its rise of the shelf's count of faults, so none are without in a run.
-use Rattle.std.specs.Prelude.{◌≡◌, ℕ, nat_eq, ◌⊎◌, ◌≤◌, Bool, true, false, List, [], ◌∷◌, ◌++◌, length, take, drop, Option, codes}
-use Rattle.std.specs.List.{count_by, starts_with}
+use Rattle.std.specs.Prelude.{◌≡◌, ℕ, ◌⊎◌, ◌≤◌, Bool, true, false, List, [], ◌∷◌, ◌++◌, take, drop, Option, codes}
 use Rattle.std.proofs.Common.{◌+◌, cond, refl, sym, ap, subst, ◌∙◌, inl, inr, arith, append_assoc, append-nil}
 use Rattle.std.proofs.lemmas.Bool.Decides.{Decides-eqb}
 use Rattle.std.proofs.lemmas.List.{take-append-drop}
