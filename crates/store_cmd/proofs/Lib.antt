@@ -1,8 +1,10 @@
 pub mod CountLemmas
+pub mod Failing
 pub mod Lines
 pub mod Naming
 pub mod Nexts
 pub mod Pieces
+pub mod Plain
 pub mod Running
 pub mod Traces
 pub mod WordsLemmas

@@ -4,6 +4,7 @@
 mod closing;
 mod command;
 mod ended;
+mod laws;
 mod refusals;
 mod serve;
 mod session;
@@ -12,5 +13,6 @@ mod words;
 
 pub use command::run_store;
 pub use ended::Ended;
+pub use laws::{law_failed_is_counted, law_no_more_than_faults};
 pub use refusals::Refusals;
 pub use serve::serve_connection;
