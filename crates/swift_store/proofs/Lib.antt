@@ -1,8 +1,13 @@
 pub mod Entries
 pub mod Listing
+pub mod MadeChanges
+pub mod MadeEntries
+pub mod MadeEtags
+pub mod MadeReplies
 pub mod Ordered
 pub mod Replying
 pub mod Served
 pub mod Shelves
 pub mod Tables
 pub mod Writing
+pub mod lemmas

@@ -1,6 +1,8 @@
 pub mod Coded
 pub mod Kept
 pub mod Listing
+pub mod Made
+pub mod MadeLaws
 pub mod Serving
 pub mod Shelf
 pub mod Table

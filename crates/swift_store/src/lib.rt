@@ -5,6 +5,7 @@ mod effects;
 mod faults;
 mod folder;
 mod kept;
+mod laws;
 mod map_shelf;
 mod replies;
 mod shelf;
@@ -12,6 +13,7 @@ mod store;
 mod table;
 
 pub use faults::StoreFault;
+pub use laws::{law_has_spelling, law_stays_made};
 pub use map_shelf::MapShelf;
 pub use shelf::Shelf;
 pub use store::{Store, serve};
