@@ -10,6 +10,7 @@ mod account;
 mod cases;
 mod entry;
 mod given;
+mod left;
 mod machine;
 mod notation;
 mod pieces;
@@ -19,6 +20,7 @@ mod sweep;
 mod talk;
 mod tally;
 mod trial;
+mod wire;
 
 use case_text::Fault;
 use cases::try_text;
