@@ -6,12 +6,15 @@ mod faults;
 mod folder;
 mod kept;
 mod map_shelf;
+mod message_in;
 mod replies;
 mod shelf;
 mod store;
+mod store_link;
 mod table;
 
 pub use faults::StoreFault;
 pub use map_shelf::MapShelf;
 pub use shelf::Shelf;
 pub use store::{Store, serve};
+pub use store_link::StoreLink;
