@@ -12,6 +12,7 @@ use crate::trial::{LARGE, check_setup, compare_output};
 use case_text::Fault;
 use gate_base::{Bytes, Copying, Counted, List};
 use std::alloc::Global;
+use swift_calls::Swift;
 use swift_client::{SwiftClient, client_over};
 use swift_store::{MapShelf, Shelf, StoreLink};
 use swift_wire::{Place, is_place};
@@ -51,7 +52,11 @@ fn try_on(
 
 fn serve_setup<S: Shelf + Drop>(alloc: Global, setup: &Given, shelf: S) -> Result<(), Fault> {
     let mut store = client(alloc, shelf, List::new(alloc), List::new(alloc))?;
-    let out = run_over(alloc, setup, &mut store, LARGE)?;
+    serve_setup_over(alloc, setup, &mut store)
+}
+
+fn serve_setup_over<W: Swift>(alloc: Global, setup: &Given, store: &mut W) -> Result<(), Fault> {
+    let out = run_over(alloc, setup, store, LARGE)?;
     check_setup(setup, &out)
 }
 
@@ -65,7 +70,19 @@ fn serve_case<S: Shelf + Drop>(
     tally: &mut Tally,
 ) -> Result<(), Fault> {
     let mut store = client(alloc, shelf, given.before.copy()?, given.after.copy()?)?;
-    let out = run_over(alloc, given, &mut store, size)?;
+    serve_case_over(alloc, case, context, given, size, &mut store, tally)
+}
+
+fn serve_case_over<W: Swift>(
+    alloc: Global,
+    case: &Case,
+    context: &str,
+    given: &Given,
+    size: u64,
+    store: &mut W,
+    tally: &mut Tally,
+) -> Result<(), Fault> {
+    let out = run_over(alloc, given, store, size)?;
     compare_output(alloc, case, context, &out, store.calls(), tally)
 }
 
@@ -80,8 +97,18 @@ fn look_at_left<S: Shelf + Drop>(
         return Ok(());
     }
     let mut store = client(alloc, shelf, List::new(alloc), List::new(alloc))?;
+    compare_left(alloc, case, context, &mut store, tally)
+}
+
+fn compare_left<W: Swift>(
+    alloc: Global,
+    case: &Case,
+    context: &str,
+    store: &mut W,
+    tally: &mut Tally,
+) -> Result<(), Fault> {
     let mut left = Left::new(alloc);
-    read_left(alloc, &mut store, &mut left)?;
+    read_left(alloc, store, &mut left)?;
     left.compare(case, context, tally)
 }
 
