@@ -4,9 +4,121 @@ use crate::tally::Tally;
 use case_text::{Fault, unescaped};
 use gate_base::{Bytes, List};
 use std::alloc::Global;
-use swift_calls::{Account, Container, ReadList, Stored};
+use swift_calls::{Account, Container, ReadList};
 
-/// The containers and the objects are the expected ones, where the case says which.
+/// The containers and the objects that a run left, each as the line of a case that expects it, in the order of names.
+#[derive(Drop)]
+pub(crate) struct Left {
+    alloc: Global,
+    containers: List<Bytes>,
+    objects: List<Bytes>,
+}
+
+impl Left {
+    pub(crate) fn new(alloc: Global) -> Left {
+        Left {
+            alloc,
+            containers: List::new(alloc),
+            objects: List::new(alloc),
+        }
+    }
+
+    /// Adds a container by its name, who may read, the moment of its making and the number of its objects.
+    pub(crate) fn add_container(
+        &mut self,
+        name: &[u8],
+        readers: ReadList,
+        created: Option<u64>,
+        size: usize,
+    ) -> Result<(), Fault> {
+        let mut line = Bytes::from_slice(self.alloc, name)?;
+        line.append(match readers {
+            ReadList::Nobody => b" nobody ".as_slice(),
+            ReadList::Everybody => b" everybody ".as_slice(),
+        })?;
+        let rest = match created {
+            Some(created) => format!(in self.alloc; "{created} {size}")?,
+            None => format!(in self.alloc; "- {size}")?,
+        };
+        line.append(rest.as_bytes())?;
+        Ok(self.containers.push(line)?)
+    }
+
+    /// Adds an object by its name, the content type and the pieces of the metadata.
+    pub(crate) fn add_object(
+        &mut self,
+        container: &[u8],
+        name: &[u8],
+        content_type: &[u8],
+        meta: &[Bytes],
+    ) -> Result<(), Fault> {
+        let mut line = Bytes::from_slice(self.alloc, container)?;
+        line.append(b"/")?;
+        line.append(name)?;
+        line.append(b" ")?;
+        line.append(content_type)?;
+        for piece in meta {
+            line.append(b" ")?;
+            line.append(piece.as_slice())?;
+        }
+        Ok(self.objects.push(line)?)
+    }
+
+    fn add_account(&mut self, account: &Account) -> Result<(), Fault> {
+        for container in account.containers.as_slice() {
+            self.add_kept(container)?;
+        }
+        Ok(())
+    }
+
+    fn add_kept(&mut self, container: &Container) -> Result<(), Fault> {
+        let name = container.name.as_slice();
+        let objects = container.objects.as_slice();
+        self.add_container(name, container.readers, container.created, objects.len())?;
+        for object in objects {
+            self.add_object(
+                name,
+                object.name.as_slice(),
+                object.content_type.as_slice(),
+                object.meta.as_slice(),
+            )?;
+        }
+        Ok(())
+    }
+
+    /// They are the expected ones, where the case says which.
+    pub(crate) fn compare(
+        &self,
+        case: &Case,
+        context: &str,
+        tally: &mut Tally,
+    ) -> Result<(), Fault> {
+        if has_containers(case) {
+            let came = self.containers.as_slice();
+            compare_lines(self.alloc, case, context, "container", came, tally)?;
+        }
+        if has_objects(case) {
+            let came = self.objects.as_slice();
+            compare_lines(self.alloc, case, context, "object", came, tally)?;
+        }
+        Ok(())
+    }
+}
+
+fn has_containers(case: &Case) -> bool {
+    case.has("container") || case.has("containers")
+}
+
+fn has_objects(case: &Case) -> bool {
+    case.has("object") || case.has("objects")
+}
+
+/// Whether the case says what is left.
+pub(crate) fn tells_left(case: &Case) -> bool {
+    has_containers(case) || has_objects(case)
+}
+
+/// The account that is left, beside what is expected.
 pub(crate) fn compare_account(
     alloc: Global,
     case: &Case,
@@ -14,17 +126,12 @@ pub(crate) fn compare_account(
     account: &Account,
     tally: &mut Tally,
 ) -> Result<(), Fault> {
-    if case.has("container") || case.has("containers") {
-        let mut came = List::new(alloc);
-        tell_containers(alloc, account, &mut came)?;
-        compare_lines(alloc, case, context, "container", came.as_slice(), tally)?;
+    if !tells_left(case) {
+        return Ok(());
     }
-    if case.has("object") || case.has("objects") {
-        let mut came = List::new(alloc);
-        tell_objects(alloc, account, &mut came)?;
-        compare_lines(alloc, case, context, "object", came.as_slice(), tally)?;
-    }
-    Ok(())
+    let mut left = Left::new(alloc);
+    left.add_account(account)?;
+    left.compare(case, context, tally)
 }
 
 /// Tells of a line that is not as wanted.
@@ -96,54 +203,6 @@ fn compare_line(
     let wanted = unescaped(alloc, text)?;
     if wanted.as_slice() != came {
         tell(alloc, case, context, verb, wanted.as_slice(), came, tally)?;
-    }
-    Ok(())
-}
-
-fn tell_containers(alloc: Global, account: &Account, to: &mut List<Bytes>) -> Result<(), Fault> {
-    for container in account.containers.as_slice() {
-        let mut line = Bytes::new(alloc);
-        tell_container(alloc, container, &mut line)?;
-        to.push(line)?;
-    }
-    Ok(())
-}
-
-/// The name, who may read, the moment of its making and the number of its objects.
-fn tell_container(alloc: Global, container: &Container, to: &mut Bytes) -> Result<(), Fault> {
-    to.append(container.name.as_slice())?;
-    to.append(match container.readers {
-        ReadList::Nobody => b" nobody ".as_slice(),
-        ReadList::Everybody => b" everybody ".as_slice(),
-    })?;
-    let size = container.objects.len();
-    let rest = match container.created {
-        Some(created) => format!(in alloc; "{created} {size}")?,
-        None => format!(in alloc; "- {size}")?,
-    };
-    Ok(to.append(rest.as_bytes())?)
-}
-
-fn tell_objects(alloc: Global, account: &Account, to: &mut List<Bytes>) -> Result<(), Fault> {
-    for container in account.containers.as_slice() {
-        for object in container.objects.as_slice() {
-            let mut line = Bytes::from_slice(alloc, container.name.as_slice())?;
-            tell_object(object, &mut line)?;
-            to.push(line)?;
-        }
-    }
-    Ok(())
-}
-
-/// The name, the content type and the pieces of the metadata.
-fn tell_object(object: &Stored, to: &mut Bytes) -> Result<(), Fault> {
-    to.append(b"/")?;
-    to.append(object.name.as_slice())?;
-    to.append(b" ")?;
-    to.append(object.content_type.as_slice())?;
-    for piece in object.meta.as_slice() {
-        to.append(b" ")?;
-        to.append(piece.as_slice())?;
     }
     Ok(())
 }

@@ -1,5 +1,5 @@
 //! Tries the cases of data files: what clients send on their connections, and what a whole run of `s3gate` over memory writes
-//! to them, reports and leaves on its store. `docs/TESTING.md` has the notation.
+//! to them, reports and leaves on its store, which is at hand or across the wire. `docs/TESTING.md` has the notation.
 //!
 //! The words behind the program's name are the files. Each mismatch is told on standard output, and at the end how many
 //! cases and mismatches there were. The status is 0, 1 where there was a mismatch, and 2 where a file can't be read, or has a
@@ -10,6 +10,7 @@ mod account;
 mod cases;
 mod entry;
 mod given;
+mod left;
 mod machine;
 mod notation;
 mod pieces;
@@ -19,6 +20,7 @@ mod sweep;
 mod talk;
 mod tally;
 mod trial;
+mod wire;
 
 use case_text::Fault;
 use cases::try_text;

@@ -9,14 +9,20 @@ use case_text::Fault;
 use gate_base::{Copying, Counted, List, ListClock, ListDraws, MOMENT_LIMIT, MemLine, MemSink};
 use gateway_cmd::run;
 use std::alloc::Global;
-use swift_calls::{Account, MemSwift};
+use swift_calls::{Account, MemSwift, Swift};
 
-/// A run that has ended: its exit status, the line, the report and the store after it.
+/// What came of a run, beside its store: its exit status, the line and the report.
 #[derive(Drop)]
-pub(crate) struct Ran {
+pub(crate) struct Output {
     pub(crate) status: u8,
     pub(crate) line: MemLine,
     pub(crate) report: MemSink,
+}
+
+/// A run that has ended, and the store after it.
+#[derive(Drop)]
+pub(crate) struct Ran {
+    pub(crate) out: Output,
     pub(crate) store: MemSwift,
 }
 
@@ -50,23 +56,40 @@ pub(crate) fn empty_store(alloc: Global) -> Result<MemSwift, Fault> {
     Ok(MemSwift::new(alloc, account, List::new(alloc), List::new(alloc), 0)?)
 }
 
-/// The program is run on what is given, over the account that another store had after `at` calls.
+/// The program is run on what is given, over a store in memory.
 pub(crate) fn run_given(
     alloc: Global,
     given: &Given,
     store: MemSwift,
     piece: u64,
 ) -> Result<Ran, Fault> {
+    let out = start(alloc, given, piece)?;
+    let mut ran = Ran { out, store };
+    perform(alloc, given, &mut ran.out, &mut ran.store)?;
+    Ok(ran)
+}
+
+/// The program is run on what is given, over any store.
+pub(crate) fn run_over<W: Swift>(
+    alloc: Global,
+    given: &Given,
+    store: &mut W,
+    piece: u64,
+) -> Result<Output, Fault> {
+    let mut out = start(alloc, given, piece)?;
+    perform(alloc, given, &mut out, store)?;
+    Ok(out)
+}
+
+/// A run that hasn't begun.
+fn start(alloc: Global, given: &Given, piece: u64) -> Result<Output, Fault> {
     let line = line_of(alloc, given, piece)?;
     let report = MemSink::new(alloc, given.unreported.copy()?);
-    let mut ran = Ran {
+    Ok(Output {
         status: 0,
         line,
         report,
-        store,
-    };
-    perform(alloc, given, &mut ran)?;
-    Ok(ran)
+    })
 }
 
 /// A store with the account that another had after `at` calls, some of whose calls fail.
@@ -126,17 +149,23 @@ fn is_moment(moment: u64) -> bool
     moment < MOMENT_LIMIT
 }
 
-fn perform(alloc: Global, given: &Given, ran: &mut Ran) -> Result<(), Fault> {
+fn perform<W: Swift>(
+    alloc: Global,
+    given: &Given,
+    out: &mut Output,
+    store: &mut W,
+) -> Result<(), Fault> {
     let mut clock = clock_of(given)?;
     let mut draws = ListDraws::new(List::new(alloc));
-    ran.status = call(alloc, given, ran, &mut clock, &mut draws);
+    out.status = call(alloc, given, out, store, &mut clock, &mut draws);
     Ok(())
 }
 
-fn call(
+fn call<W: Swift>(
     alloc: Global,
     given: &Given,
-    ran: &mut Ran,
+    out: &mut Output,
+    store: &mut W,
     clock: &mut ListClock,
     draws: &mut ListDraws,
 ) -> u8 {
@@ -144,9 +173,9 @@ fn call(
         alloc,
         &given.words,
         given.keys.as_str(),
-        &mut ran.line,
-        &mut ran.report,
-        &mut ran.store,
+        &mut out.line,
+        &mut out.report,
+        store,
         clock,
         draws,
     )

@@ -104,14 +104,14 @@ fn sweep_by(
     after: &Ran,
     tally: &mut Tally,
 ) -> Result<(), Fault> {
-    if ran.line.pieces().len() != 1 {
+    if ran.out.line.pieces().len() != 1 {
         return Err(Fault::Unread("a sweep of more or less than one request"));
     }
     let commit = commit_of(alloc, probe, &ran.store, before, after)?;
     let ordinary = Ordinary {
-        reply: ran.line.pieces(),
-        before: before.line.pieces(),
-        after: after.line.pieces(),
+        reply: ran.out.line.pieces(),
+        before: before.out.line.pieces(),
+        after: after.out.line.pieces(),
         commit,
     };
     lose_calls(
@@ -155,7 +155,7 @@ fn follow_before(
     tally: &mut Tally,
 ) -> Result<(), Fault> {
     let mut machine = machine_after(alloc, case, first, tally)?;
-    let pieces = before.line.pieces();
+    let pieces = before.out.line.pieces();
     machine.follow(case, "probe-before, by the machine", probe, pieces, tally)
 }
 
@@ -168,9 +168,9 @@ fn follow_after(
     after: &Ran,
     tally: &mut Tally,
 ) -> Result<(), Fault> {
-    let pieces = ran.line.pieces();
+    let pieces = ran.out.line.pieces();
     machine.follow(case, "the request, by the machine", given, pieces, tally)?;
-    let pieces = after.line.pieces();
+    let pieces = after.out.line.pieces();
     machine.follow(case, "probe-after, by the machine", probe, pieces, tally)
 }
 
@@ -186,7 +186,7 @@ fn compare_probe(
         Some(text) => text,
         None => "",
     };
-    let mut rest = ran.line.pieces();
+    let mut rest = ran.out.line.pieces();
     for status in text.split(' ') {
         match rest.split_first() {
             Some((piece, next)) => {
@@ -212,12 +212,12 @@ fn commit_of(
     before: &Ran,
     after: &Ran,
 ) -> Result<u64, Fault> {
-    if are_same(before.line.pieces(), after.line.pieces()) {
+    if are_same(before.out.line.pieces(), after.out.line.pieces()) {
         return Ok(0);
     }
     for at in 0..=store.calls() {
         let seen = look(alloc, probe, store, at)?;
-        if are_same(seen.line.pieces(), after.line.pieces()) {
+        if are_same(seen.out.line.pieces(), after.out.line.pieces()) {
             return Ok(at);
         }
     }
@@ -345,9 +345,9 @@ fn compare_losing(
     ordinary: &Ordinary,
     tally: &mut Tally,
 ) -> Result<(), Fault> {
-    let pieces = ran.line.pieces();
+    let pieces = ran.out.line.pieces();
     let failed = call <= ran.store.calls();
-    if ran.status != 0 {
+    if ran.out.status != 0 {
         tally.mismatch(case, context, b"status 0", b"another status")?;
     }
     if failed && are_unavailable(alloc, pieces)? {
@@ -413,7 +413,7 @@ fn look_at(
     tally: &mut Tally,
 ) -> Result<(), Fault> {
     let seen = look(alloc, probe, store, at)?;
-    compare_seen(alloc, case, context, seen.line.pieces(), at, due, tally)
+    compare_seen(alloc, case, context, seen.out.line.pieces(), at, due, tally)
 }
 
 fn compare_seen(

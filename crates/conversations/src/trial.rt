@@ -1,15 +1,16 @@
-//! A case is tried: it is run once for each size of pieces, and what came is compared.
+//! A case is tried: it is run once for each size of pieces, and once over the wire, and what came is compared.
 use crate::account::compare_account;
 use crate::entry::Case;
 use crate::given::{Given, add_numbers, meets_fault};
 use crate::machine::Machine;
 use crate::notation::number;
 use crate::pieces::compare_pieces;
-use crate::running::{First, Losses, NO_LOSS, Ran, empty_store, run_given, store_at};
+use crate::running::{First, Losses, NO_LOSS, Output, Ran, empty_store, run_given, store_at};
 use crate::sweep::sweep;
 use crate::tally::Tally;
+use crate::wire::try_wire;
 use case_text::Fault;
-use gate_base::{Bytes, Counted, List};
+use gate_base::{Bytes, Counted, List, Piece};
 use std::alloc::Global;
 use swift_calls::MemSwift;
 
@@ -30,7 +31,7 @@ pub(crate) fn try_case(alloc: Global, case: &Case, tally: &mut Tally) -> Result<
 fn try_on(alloc: Global, case: &Case, first: &First, tally: &mut Tally) -> Result<(), Fault> {
     let mut given = Given::new(alloc);
     given.read_case(alloc, case)?;
-    try_runs(alloc, case, &given, &first.ran.store, tally)?;
+    try_runs(alloc, case, &given, first, tally)?;
     if !meets_fault(case) && !case.has("nomodel") {
         try_machine(alloc, case, &given, first, tally)?;
     }
@@ -49,11 +50,11 @@ fn try_machine(
     tally: &mut Tally,
 ) -> Result<(), Fault> {
     let ran = run_case(alloc, given, &first.ran.store, &NO_LOSS, LARGE)?;
-    if ran.line.pieces().is_empty() {
+    if ran.out.line.pieces().is_empty() {
         return Ok(());
     }
     let mut machine = machine_after(alloc, case, first, tally)?;
-    machine.follow(case, "by the machine", given, ran.line.pieces(), tally)
+    machine.follow(case, "by the machine", given, ran.out.line.pieces(), tally)
 }
 
 /// The machine that was asked what the run was that stands before a case.
@@ -64,7 +65,7 @@ pub(crate) fn machine_after(
     tally: &mut Tally,
 ) -> Result<Machine, Fault> {
     let mut machine = Machine::new(alloc, &first.given)?;
-    let pieces = first.ran.line.pieces();
+    let pieces = first.ran.out.line.pieces();
     machine.follow(case, "setup, by the machine", &first.given, pieces, tally)?;
     Ok(machine)
 }
@@ -72,26 +73,32 @@ pub(crate) fn machine_after(
 /// A run of the requests of `setup`, each of which it served.
 fn run_setup(alloc: Global, setup: &Given) -> Result<Ran, Fault> {
     let ran = run_given(alloc, setup, empty_store(alloc)?, LARGE)?;
-    let unheard = ran.line.pieces().is_empty() && !setup.connections.is_empty();
-    if ran.status != 0 || unheard || !are_done(&ran) {
-        return Err(Fault::Unread("a setup that is not served"));
-    }
+    check_setup(setup, &ran.out)?;
     Ok(ran)
 }
 
+/// Each request of a setup was served.
+pub(crate) fn check_setup(setup: &Given, out: &Output) -> Result<(), Fault> {
+    let unheard = out.line.pieces().is_empty() && !setup.connections.is_empty();
+    if out.status != 0 || unheard || !are_done(out.line.pieces()) {
+        return Err(Fault::Unread("a setup that is not served"));
+    }
+    Ok(())
+}
+
 /// Whether each reply has a status 2xx.
-fn are_done(ran: &Ran) -> bool {
-    ran.line
-        .pieces()
+fn are_done(pieces: &[Piece]) -> bool {
+    pieces
         .iter()
         .all(|piece| piece.bytes.as_slice().starts_with(b"HTTP/1.1 2"))
 }
 
+/// The case is run by each of its sizes, and by the last once more over the wire.
 fn try_runs(
     alloc: Global,
     case: &Case,
     given: &Given,
-    first: &MemSwift,
+    first: &First,
     tally: &mut Tally,
 ) -> Result<(), Fault> {
     let mut sizes = List::new(alloc);
@@ -103,6 +110,21 @@ fn try_runs(
 }
 
 fn try_sizes(
+    alloc: Global,
+    case: &Case,
+    given: &Given,
+    first: &First,
+    sizes: &[u64],
+    tally: &mut Tally,
+) -> Result<(), Fault> {
+    try_each(alloc, case, given, &first.ran.store, sizes, tally)?;
+    match sizes.last() {
+        Some(size) => try_wire(alloc, case, &first.given, given, *size, tally),
+        None => Ok(()),
+    }
+}
+
+fn try_each(
     alloc: Global,
     case: &Case,
     given: &Given,
@@ -142,11 +164,23 @@ fn compare(
     ran: &Ran,
     tally: &mut Tally,
 ) -> Result<(), Fault> {
-    compare_status(alloc, case, context, ran.status, tally)?;
-    compare_calls(alloc, case, context, ran.store.calls(), tally)?;
-    compare_report(alloc, case, context, ran.report.bytes(), tally)?;
-    compare_pieces(alloc, case, context, ran.line.pieces(), tally)?;
+    compare_output(alloc, case, context, &ran.out, ran.store.calls(), tally)?;
     compare_account(alloc, case, context, ran.store.account(), tally)
+}
+
+/// What came of a run that made so many calls, beside what is expected, but for what it left.
+pub(crate) fn compare_output(
+    alloc: Global,
+    case: &Case,
+    context: &str,
+    out: &Output,
+    calls: u64,
+    tally: &mut Tally,
+) -> Result<(), Fault> {
+    compare_status(alloc, case, context, out.status, tally)?;
+    compare_calls(alloc, case, context, calls, tally)?;
+    compare_report(alloc, case, context, out.report.bytes(), tally)?;
+    compare_pieces(alloc, case, context, out.line.pieces(), tally)
 }
 
 fn compare_status(

@@ -10,17 +10,16 @@
 mod input;
 
 use crate::input::InputLine;
-use gate_base::{Bytes, Line, List, Memory, RandomDraws, StdLine, StdSink, SystemClock};
+use gate_base::{Bytes, Line, RandomDraws, StdLine, StdSink, SystemClock};
 use gateway_cmd::run;
 use sockets::TcpLine;
-use std::alloc::Global;
 use std::env::VarError;
 use std::io::{ErrorKind, Write};
 use std::net::TcpListener;
 use std::process::ExitCode;
 use std::{env, fs, io};
-use swift_calls::{Account, MemSwift, Swift};
-use swift_client::{SwiftClient, TcpLink, over_tcp};
+use swift_calls::Swift;
+use swift_client::{SwiftClient, TcpLink, memory_store, over_tcp};
 use swift_wire::{Place, is_place};
 
 /// The exit status where memory ran out before the run began.
@@ -60,7 +59,7 @@ fn start(rt: &HostRuntime) -> io::Result<u8> {
         let mut store = swift_store(rt)?;
         run_over(rt, &words, keys.as_str(), &mut line, &mut store)
     } else {
-        let Ok(mut store) = empty_store(rt.alloc()) else {
+        let Ok(mut store) = memory_store(rt.alloc()) else {
             return Ok(MEMORY);
         };
         if begins_with(&words, b"session") {
@@ -192,12 +191,4 @@ fn begins_with(words: &[String], command: &[u8]) -> bool {
         Some(word) => word.as_bytes() == command,
         None => false,
     }
-}
-
-/// A store without a container.
-fn empty_store(alloc: Global) -> Result<MemSwift, Memory> {
-    let account = Account {
-        containers: List::new(alloc),
-    };
-    MemSwift::new(alloc, account, List::new(alloc), List::new(alloc), 0)
 }

@@ -1,10 +1,11 @@
-//! A store at the end of a TCP connection.
+//! A store at the end of a TCP connection, and one over a shelf that is at hand.
 ghost use Rattle.swift_wire.specs.Place.{IsPlace};
 
 use crate::{SwiftClient, TcpLink};
-use gate_base::{Copying, Memory};
+use gate_base::{Bytes, Copying, List, Memory};
 use std::alloc::Global;
 use std::net::Net;
+use swift_store::{MapShelf, Shelf, Store, StoreLink};
 use swift_wire::Place;
 
 /// The store at the address that the host of `place` gives, with the account and the token of `place`. The first call
@@ -20,4 +21,38 @@ pub fn over_tcp<R: Net + Drop>(
     let address = place.host.copy()?;
     let link = TcpLink::new(rt, alloc, address, limit);
     Ok(SwiftClient::new(alloc, link, place))
+}
+
+/// A store whose calls are served from the shelf, as requests and answers at `place`. The calls numbered in `before`, from
+/// 1, lose their request, and those in `after` their answer.
+pub fn client_over<S: Shelf + Drop>(
+    alloc: Global,
+    shelf: S,
+    place: Place,
+    before: List<u64>,
+    after: List<u64>,
+) -> Result<SwiftClient<StoreLink<S>>, Memory>
+    requires { IsPlace place }
+{
+    let store = Store::new(alloc, shelf, place.copy()?);
+    let link = StoreLink::new(store, before, after);
+    Ok(SwiftClient::new(alloc, link, place))
+}
+
+/// A store in memory without a container.
+pub fn memory_store(alloc: Global) -> Result<SwiftClient<StoreLink<MapShelf>>, Memory> {
+    let place = memory_place(alloc)?;
+    let shelf = MapShelf::new(alloc);
+    client_over(alloc, shelf, place, List::new(alloc), List::new(alloc))
+}
+
+/// The place of a store that is reached over no network.
+fn memory_place(alloc: Global) -> Result<Place, Memory>
+    ensures { IfOk result IsPlace }
+{
+    Ok(Place {
+        host: Bytes::from_slice(alloc, b"memory")?,
+        account: Bytes::from_slice(alloc, b"memory")?,
+        token: Bytes::from_slice(alloc, b"memory")?,
+    })
 }

@@ -1,5 +1,6 @@
 pub mod Entries
 pub mod Listing
+pub mod Logged
 pub mod MadeChanges
 pub mod MadeEntries
 pub mod MadeEtags

@@ -1,6 +1,8 @@
 pub mod Coded
+pub mod Handing
 pub mod Kept
 pub mod Listing
+pub mod Log
 pub mod Made
 pub mod MadeLaws
 pub mod Serving

@@ -7,9 +7,11 @@ mod folder;
 mod kept;
 mod laws;
 mod map_shelf;
+mod message_in;
 mod replies;
 mod shelf;
 mod store;
+mod store_link;
 mod table;
 
 pub use faults::StoreFault;
@@ -17,3 +19,4 @@ pub use laws::{law_has_spelling, law_stays_made};
 pub use map_shelf::MapShelf;
 pub use shelf::Shelf;
 pub use store::{Store, serve};
+pub use store_link::StoreLink;

@@ -1,13 +1,18 @@
 //! A store of one account: requests in, answers out.
-ghost use Rattle.std.specs.Prelude.{◌≡◌, ◌++◌, IsTrue, IfOk, IsErrOf};
+ghost use Rattle.std.specs.Prelude.{◌≡◌, [], ◌++◌, IsTrue, IfOk, OnErr, IsErrOf};
+ghost use Rattle.gate_base.specs.Causes.{RisesIf};
 ghost use Rattle.swift_calls.specs.Step.{Fit};
+ghost use Rattle.swift_calls.specs.declared.calls.SwiftRequest.{SwiftRequest};
 ghost use Rattle.swift_wire.specs.AnswerText.{answer_text, refusal};
+ghost use Rattle.swift_wire.specs.Calls.{SpellsRequest};
 ghost use Rattle.swift_wire.specs.Place.{IsPlace};
+ghost use Rattle.swift_store.specs.Handing.{Hands};
 ghost use Rattle.swift_store.specs.Shelf.{CountsStoreFaults};
 ghost use Rattle.swift_store.specs.Serving.{Answers, Served};
 ghost use Rattle.swift_store.specs.declared.faults.StoreFault.TheVariants as fault;
 
 use crate::effects::apply;
+use crate::message_in::message_in;
 use crate::replies::reply_to;
 use crate::{Shelf, StoreFault};
 use gate_base::{Bytes, Memory};
@@ -109,9 +114,9 @@ pub fn serve<S: Shelf>(
 /// A store of one account over a shelf.
 #[derive(Drop)]
 pub struct Store<S: Shelf> {
-    shelf: S,
-    place: Place,
-    alloc: Global,
+    pub(crate) shelf: S,
+    pub(crate) place: Place,
+    pub(crate) alloc: Global,
     ghost valid: { IsPlace place },
 }
 
@@ -139,5 +144,28 @@ impl<S: Shelf> Store<S> {
         ensures served { Served (S.observable self.old.shelf) self.old.place message (S.account self.old.shelf) (S.account self.new.shelf) out.old out.new result }
     {
         serve(self.alloc, &self.place, &mut self.shelf, message, out)
+    }
+
+    /// Appends the answer to the bytes of a request, as [`serve`] does where they are one whole message, and else `400 Bad
+    /// Request`. True where the shelf failed, and then nothing is appended.
+    pub(crate) fn hand(&mut self, bytes: &[u8], out: &mut Bytes) -> Result<bool, Memory>
+        ensures place { self.new.place ≡ self.old.place }
+        ensures faults { IfOk result (λ lost. RisesIf lost (S.faults self.old.shelf) (S.faults self.new.shelf)) }
+        ensures observable { IsTrue (S.observable self.old.shelf) → IsTrue (S.observable self.new.shelf) }
+        ensures same { IsTrue (S.observable self.old.shelf) → OnErr result (S.account self.new.shelf ≡ S.account self.old.shelf) }
+        ensures hands { out.old ≡ [] → IsTrue (S.observable self.old.shelf) → (call : SwiftRequest) → Fit call → SpellsRequest self.old.place call bytes.now
+            → Hands call (S.account self.old.shelf) (S.account self.new.shelf) out.new result }
+    {
+        match message_in(self.alloc, bytes)? {
+            Some(message) => match self.serve(message, out) {
+                Ok(()) => Ok(false),
+                Err(StoreFault::Failed) => Ok(true),
+                Err(StoreFault::Memory) => Err(Memory),
+            },
+            None => {
+                *out = refused(self.alloc, out, 400)?;
+                Ok(false)
+            }
+        }
     }
 }

@@ -21,6 +21,7 @@ mod names;
 mod pages;
 mod reads;
 mod records;
+mod served;
 mod signatures;
 mod store;
 mod verbs;

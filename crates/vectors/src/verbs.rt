@@ -1,6 +1,6 @@
 use crate::{
-    first, machine, manifests, marks, meanings, messages, names, pages, records, signatures, store,
-    wire, words,
+    first, machine, manifests, marks, meanings, messages, names, pages, records, served, signatures,
+    store, wire, words,
 };
 use case_text::Fault;
 use gate_base::Bytes;
@@ -26,6 +26,7 @@ pub(crate) fn answer(
         "http_wire" => messages::answer(alloc, verb, text, given),
         "sigv4" => signatures::answer(alloc, verb, text, given),
         "sign_cmd" => first::answer(alloc, verb, text, given),
+        "store_cmd" => served::answer(alloc, verb, text, given),
         "gateway" => meanings::answer(alloc, verb, text, given),
         "gateway_cli" => words::answer(alloc, verb, text, given),
         _ => Err(Fault::Unread("a file is named for a crate that has cases")),

@@ -24,7 +24,8 @@ fn read(alloc: Global, text: &str) -> Result<Bytes, Fault> {
     }
 }
 
-fn add_words(alloc: Global, text: &str, to: &mut Vec<String>) -> Result<(), Fault> {
+/// Adds the words of a text, with a space between them.
+pub(crate) fn add_words(alloc: Global, text: &str, to: &mut Vec<String>) -> Result<(), Fault> {
     for word in text.split(' ') {
         let word = if word == "''" { "" } else { word };
         to.push(String::from_str(alloc, word)?)?;

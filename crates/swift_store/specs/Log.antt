@@ -1,0 +1,25 @@
+-- What a link tells that wrote down what each exchange found, and whether it was lost. E is an entry of its log, and T what
+-- an exchange finds. Source: this profile.
+use Rattle.std.specs.Prelude.{ℕ, zero, suc, Bool, List, [], ◌∷◌, length, take, count_by}
+use Rattle.swift_calls.specs.Account.{SwiftAccount}
+use Rattle.swift_calls.specs.History.{History}
+
+-- what stood after so many of the exchanges: what the next one found, or what is there now
+abbrev pub state_at : {E T : Type 0} → (E → T) → List E → T → ℕ → T
+state_at was [] present k = present
+state_at was (e ∷ log) present zero = was e
+state_at was (e ∷ log) present (suc k) = state_at was log present k
+
+-- how many of the first exchanges were lost
+abbrev pub lost_after : {E : Type 0} → (E → Bool) → List E → ℕ → ℕ
+lost_after lost log k = count_by lost (take k log)
+
+-- the history of a link whose exchanges these are
+abbrev pub history_by : {E T : Type 0} → (T → Bool) → (T → SwiftAccount) → (E → T) → (E → Bool) → List E → T → History
+history_by told account was lost log present = record {
+  observable = told present;
+  called = length log;
+  faults = count_by lost log;
+  tree_at = λ k. account (state_at was log present k);
+  faults_at = λ k. lost_after lost log k;
+}

@@ -1,0 +1,137 @@
+//! A link to a store that is at hand.
+ghost use Rattle.std.specs.Prelude.{◌≡◌, ◌<◌, ◌+◌, ◌↔◌, false, [], ◌∷◌, ◌++◌, length, vec_len, vec_capacity, IsTrue, OnErr, IsErrOf};
+ghost use Rattle.std.proofs.Common.{refl};
+ghost use Rattle.gate_base.specs.Causes.{Rose};
+ghost use Rattle.swift_calls.specs.Replay.{outcome_at};
+ghost use Rattle.swift_calls.specs.Step.{Fit};
+ghost use Rattle.swift_calls.specs.declared.calls.SwiftRequest.{SwiftRequest};
+ghost use Rattle.swift_wire.specs.Calls.{SpellsRequest};
+ghost use Rattle.swift_wire.specs.Link.{Exchanges};
+ghost use Rattle.swift_store.specs.Handing.{Goes, Hands};
+ghost use Rattle.swift_store.specs.Log.{history_by};
+ghost use Rattle.swift_store.proofs.Logged.{is_history_by};
+
+use crate::{Shelf, Store};
+use gate_base::{Bytes, Counted, List, Memory};
+use std::snapshot::Snapshot;
+use swift_calls::Outcome;
+use swift_wire::{Link, LinkFault};
+
+/// The store as an exchange found it, which takes no memory, and whether the exchange was lost.
+#[derive(Drop)]
+pub(crate) struct Entry<S: Shelf> {
+    pub(crate) was: Snapshot<Store<S>>,
+    pub(crate) lost: bool,
+}
+
+/// A link that hands each request to a store, and loses messages by the numbers of their exchanges, from 1. It counts a
+/// fault where a message was lost and where the store failed. It is observable where the store's shelf is, and then it
+/// tells the account that each exchange found.
+#[derive(Drop)]
+pub struct StoreLink<S: Shelf> {
+    store: Store<S>,
+    log: Vec<Entry<S>>,
+    before: List<u64>,
+    after: List<u64>,
+}
+
+impl<S: Shelf> StoreLink<S> {
+    /// A link to the store. The exchanges numbered in `before` lose their request, and those in `after` their answer; a
+    /// number in both lists counts as one of `before`. No exchange was made.
+    pub fn new(store: Store<S>, before: List<u64>, after: List<u64>) -> StoreLink<S>
+        ensures store { result.store ≡ store }
+        ensures log { result.log.items ≡ [] }
+        ensures before { result.before ≡ before }
+        ensures after { result.after ≡ after }
+    {
+        StoreLink {
+            log: Vec::new(store.alloc),
+            store,
+            before,
+            after,
+        }
+    }
+
+    /// How the exchange of a number goes.
+    fn outcome(&self, number: u64) -> Outcome
+        ensures { result ≡ outcome_at self.now.before self.now.after 0 number }
+    {
+        if self.before.as_slice().contains(&number) {
+            Outcome::LostBefore
+        } else if self.after.as_slice().contains(&number) {
+            Outcome::LostAfter
+        } else {
+            Outcome::Answered
+        }
+    }
+
+    /// Writes down what an exchange found, and whether it was lost.
+    fn note(&mut self, was: Snapshot<Store<S>>, lost: bool)
+        requires { vec_len self.old.log < vec_capacity self.old.log }
+        ensures log { self.new.log.items ≡ self.old.log.items ++ record { was = was; lost = lost } ∷ [] }
+        ensures store { self.new.store ≡ self.old.store }
+        ensures before { self.new.before ≡ self.old.before }
+        ensures after { self.new.after ≡ self.old.after }
+    {
+        self.log.push_reserved(Entry { was, lost });
+    }
+}
+
+/// Hands a request to the store, as the outcome says. True where no answer comes.
+fn hand_by<S: Shelf>(
+    outcome: Outcome,
+    store: &mut Store<S>,
+    request: &[u8],
+    answer: &mut Bytes,
+) -> Result<bool, Memory>
+    ensures place { store.new.place ≡ store.old.place }
+    ensures observable { IsTrue (S.observable store.old.shelf) → IsTrue (S.observable store.new.shelf) }
+    ensures same { IsTrue (S.observable store.old.shelf) → OnErr result (S.account store.new.shelf ≡ S.account store.old.shelf) }
+    ensures goes { Goes (λ s. S.faults s.shelf) outcome store.old store.new result }
+    ensures hands { answer.old ≡ [] → IsTrue (S.observable store.old.shelf) → (call : SwiftRequest) → Fit call → SpellsRequest store.old.place call request.now
+        → Hands call (S.account store.old.shelf) (S.account store.new.shelf) answer.new result }
+{
+    match outcome {
+        Outcome::LostBefore => Ok(true),
+        Outcome::LostAfter => {
+            let _failed = store.hand(request, answer)?;
+            Ok(true)
+        }
+        Outcome::Answered => store.hand(request, answer),
+    }
+}
+
+impl<S: Shelf> Counted for StoreLink<S> {
+    ghost called = { λ l. length l.log.items };
+
+    fn calls(&self) -> u64 {
+        self.log.as_slice().len() as u64
+    }
+}
+
+impl<S: Shelf> Link for StoreLink<S> {
+    ghost history = { λ l. history_by (λ s. S.observable s.shelf) (λ s. S.account s.shelf) (λ e. e.was.value) (λ e. e.lost) l.log.items l.store };
+
+    ghost place = { λ l. l.store.place };
+
+    ghost counted = { λ l. refl };
+
+    ghost is_history = { λ l. is_history_by (λ s. S.observable s.shelf) (λ s. S.account s.shelf) (λ e. e.was.value) (λ e. e.lost) l.log.items l.store };
+
+    fn exchange(&mut self, request: &[u8], reply: &mut Bytes) -> Result<(), LinkFault> {
+        if self.log.reserve(1).is_err() {
+            return Err(LinkFault::Memory);
+        }
+        let number = self.log.as_slice().len() as u64 + 1;
+        let was = Snapshot::of(&self.store);
+        let mut answer = Bytes::new(self.store.alloc);
+        let outcome = self.outcome(number);
+        let lost = hand_by(outcome, &mut self.store, request, &mut answer)?;
+        self.note(was, lost);
+        if lost {
+            return Err(LinkFault::Failed);
+        }
+        *reply = answer;
+        Ok(())
+    }
+}
