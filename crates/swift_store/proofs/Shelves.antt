@@ -11,7 +11,7 @@ use Rattle.swift_calls.specs.Bodies.{item_of}
 use Rattle.swift_calls.specs.Step.{IsContainerName, IsMoment, page, is_listed, put_container}
 use Rattle.swift_calls.specs.declared.account.ReadList.{ReadList}
 use Rattle.swift_store.specs.Made.{IsMade, IsMadeObject}
-use Rattle.swift_store.specs.Shelf.{object_page, with_container}
+use Rattle.swift_store.specs.Shelf.{container_head, object_page, with_container}
 use Rattle.swift_store.proofs.MadeChanges.{made_head, made_new, made_removed, made_put, made_taken}
 
 -- nothing is found in a container that isn't there
@@ -54,8 +54,8 @@ listed_nowhere limit prefix marker c account none =
 
 module _ (c : List ℕ) (account : SwiftAccount) (made : IsMade account) where
   -- a creation time that is found is a moment
-  pub moment_found : (folder : SwiftContainer) → Some folder ≡ get account c → IfSome folder.created IsMoment
-  moment_found folder found = (made c folder (sym found)).created
+  pub moment_found : (head : ReadList × Option ℕ) (folder : SwiftContainer) → Some folder ≡ get account c → head ≡ container_head folder → IfSome head.1 IsMoment
+  moment_found head folder found is = subst (λ (h : ReadList × Option ℕ). IfSome h.1 IsMoment) (sym is) (made c folder (sym found)).created
 
   pub made_written : (readers : ReadList) (created : Option ℕ) (new : SwiftAccount) → IfSome created IsMoment → new ≡ adjust c (with_head readers created) account
       → IsMade new

@@ -1,13 +1,13 @@
 -- The account after each call, by what was written.
-use Rattle.std.specs.Prelude.{◌≡◌, ℕ, Bool, true, false, List, Option, None, Some, Result, Ok, Err}
+use Rattle.std.specs.Prelude.{◌≡◌, ℕ, Bool, true, false, List, Option, None, Some, IfSome, Result, Ok, Err}
 use Rattle.std.specs.Option.{option_map}
 use Rattle.std.specs.FinMap.{get, remove}
-use Rattle.std.proofs.Common.{refl, sym, ap, ◌∙◌, inl, inr, true≢false}
+use Rattle.std.proofs.Common.{subst, refl, sym, ap, ◌∙◌, inl, inr, true≢false}
 use Rattle.std.proofs.lemmas.Option.{none-some, same_Some}
 use Rattle.gate_base.proofs.lemmas.Maps.{by_name, adjust_same}
 use Rattle.swift_calls.specs.Account.{SwiftAccount, SwiftContainer, SwiftObject, find_object, put_file, remove_file, with_head, with_readers}
 use Rattle.swift_calls.specs.Bodies.{etag_text, etag_of}
-use Rattle.swift_calls.specs.Step.{Fit, swift_step, is_bare, head_container, put_container, post_container, delete_container, delete_by, put_object, delete_object}
+use Rattle.swift_calls.specs.Step.{Fit, IsMoment, swift_step, is_bare, head_container, put_container, post_container, delete_container, delete_by, put_object, delete_object}
 use Rattle.swift_calls.specs.declared.account.ReadList.{ReadList}
 use Rattle.swift_calls.specs.declared.account.Content.TheVariants.{Plain}
 use Rattle.swift_calls.specs.declared.calls.SwiftRequest.TheVariants.{HeadContainer, PostContainer, DeleteContainer, PutObject, DeleteObject}
@@ -42,6 +42,11 @@ posted n readers kept created account later e same = ap (with_container n reader
     by (Some c) at e =
         let given : created ≡ c.created = ap (λ (p : ReadList × Option ℕ). p.1) (same_Some (kept, created) (container_head c) e) in
         adjust_same by_name n (with_head readers created) (with_readers readers) account (λ x is. λ i. record x { readers = readers; created = (given ∙ ap (λ (y : SwiftContainer). y.created) (same_Some c x (sym at ∙ is))) i })
+
+-- the creation time that is told can be given again
+pub moment_told : (readers : ReadList) (created : Option ℕ) (head : Option (ReadList × Option ℕ)) → Some (readers, created) ≡ head
+    → IfSome head (λ told. IfSome told.1 IsMoment) → IfSome created IsMoment
+moment_told readers created head is told = subst (λ (h : Option (ReadList × Option ℕ)). IfSome h (λ t. IfSome t.1 IsMoment)) (sym is) told
 
 -- what was written of it, or failed
 pub posted_by : (n : List ℕ) (readers kept : ReadList) (created : Option ℕ) (account later new : SwiftAccount) (result : Result (Unit {0}) StoreFault) → Some (kept, created) ≡ option_map container_head (get account n) → later ≡ account

@@ -28,7 +28,7 @@ fn etag_in(reply: SwiftReply) -> Option<Bytes>
     }
 }
 
-#[tactic(auto, using(crate::proofs::Writing::posted_by, crate::proofs::Writing::not_posted, crate::proofs::Writing::unwritten))]
+#[tactic(auto, using(crate::proofs::Writing::posted_by, crate::proofs::Writing::not_posted, crate::proofs::Writing::moment_told, crate::proofs::Writing::unwritten))]
 fn post_container<S: Shelf>(shelf: &mut S, name: &[u8], readers: ReadList) -> Result<(), StoreFault>
     requires name { IsContainerName name.now }
     ensures faults { CountsStoreFaults (S.faults shelf.old) (S.faults shelf.new) result }
