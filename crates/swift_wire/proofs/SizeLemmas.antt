@@ -1,22 +1,19 @@
 -- The request line of a call is accepted, and the head of a call is short.
-use Rattle.std.proofs.Common.{◌≡◌, ℕ, zero, suc, ◌+◌, ◌-◌, ◌*◌, ◌/◌, ◌%◌, ◌^◌, ◌<◌, ◌≤◌, Bool, true, false, not, ◌&&◌, ◌||◌, cond, List, [], ◌∷◌, ◌++◌, length, map, All, Some, None, Option, refl, ap, sym, ◌∙◌, arith, length-append}
-use Rattle.std.specs.Prelude.{codes, decimal, nat_lt, nat_le, nat_eq, slice_index, IfSome, IsTrue, flat_map}
+use Rattle.std.proofs.Common.{◌≡◌, ℕ, suc, ◌+◌, ◌*◌, ◌/◌, ◌%◌, ◌^◌, ◌<◌, ◌≤◌, Bool, true, false, ◌&&◌, cond, List, [], ◌∷◌, ◌++◌, length, All, Some, None, Option, refl, ap, ◌∙◌, arith, length-append}
+use Rattle.std.specs.Prelude.{codes, decimal, nat_lt, nat_le, IfSome, flat_map}
 use Rattle.std.specs.List.{list_all}
 use Rattle.std.specs.Char.{is_ascii_graphic}
 use Rattle.std.proofs.lemmas.Bool.{and_parts, and_from, cond-true}
 use Rattle.std.proofs.lemmas.Bool.Decides.{nat_tests}
 use Rattle.std.proofs.lemmas.List.Folds.{list_all-append}
-use Rattle.std.proofs.lemmas.Fmt.{length-decimal-le}
 use Rattle.gate_base.specs.Ascii.{is_visible, is_digit}
-use Rattle.gate_base.specs.Told.{moment_limit}
-use Rattle.http1.specs.Fields.{Header}
-use Rattle.http1.specs.Head.{are_headers, is_target, is_request_line, head_refusal, request_text, print_header, print_headers}
+use Rattle.http1.specs.Head.{are_headers, is_request_line, head_refusal, request_text, print_header, print_headers}
 use Rattle.httparse.specs.Ascii.{crlf_bytes}
 use Rattle.httparse.specs.Grammar.{is_token, is_token_byte}
 use Rattle.s3_names.specs.Escapes.{is_unreserved, stays_in_path, is_escaped_byte, upper_digit, escaped_unless, escaped_all, escaped_path}
 use Rattle.s3_names.proofs.lemmas.EscapeLemmas.{escaped_bytes_all, escaped_bytes_path}
-use Rattle.swift_calls.specs.Limits.{is_value_byte as is_printable, IsMark, IsText, is_value, is_meta, IsRange}
-use Rattle.swift_calls.specs.Step.{IsMoment, IsContainerName, Fit}
+use Rattle.swift_calls.specs.Limits.{is_value, IsRange}
+use Rattle.swift_calls.specs.Step.{IsMoment, Fit}
 use Rattle.swift_calls.specs.declared.account.ReadList.{ReadList}
 use Rattle.swift_calls.specs.declared.account.ReadList.TheVariants.{Nobody, Everybody}
 use Rattle.swift_calls.specs.declared.calls.SwiftRequest.{SwiftRequest}

@@ -21,6 +21,7 @@ use Rattle.swift_calls.specs.declared.calls.SwiftRequest.TheVariants.{
 use Rattle.swift_store.specs.Made.{IsMade, IsMadeObject}
 use Rattle.swift_store.specs.MadeLaws.{HasSpelling, StaysMade}
 use Rattle.swift_store.proofs.MadeChanges.{made_head, made_readers, made_new, made_removed, made_put, made_taken}
+use Rattle.swift_store.proofs.Writing.{put_made}
 use Rattle.swift_store.proofs.MadeReplies.{containers_row, names_row, readers_row, head_row, get_row, put_row, post_row, delete_row, stored_row, remove_row}
 
 -- ---- what each call leaves
@@ -64,7 +65,7 @@ stays_made (DeleteContainer c) account fit made = after_delete account made (get
 stays_made (ListNames c prefix marker limit) account fit made = made
 stays_made (PutObject c n content_type meta body) account fit made =
     after_stored account made (get account c) c n (record { content_type = content_type; meta = meta; content = Plain body })
-    (record { named = fit.1; content_type = fit.2; meta = fit.3; own = refl; within = fit.4 })
+    (put_made c n content_type meta body fit)
 stays_made (HeadObject c n) account fit made = made
 stays_made (GetObject c n range) account fit made = made
 stays_made (DeleteObject c n) account fit made = after_removed account made (find_object account c n) c n
