@@ -6,7 +6,7 @@ mod faults;
 mod folder;
 mod kept;
 mod map_shelf;
-mod message_in;
+mod reading;
 mod replies;
 mod shelf;
 mod store;
