@@ -46,7 +46,15 @@ fn try_on(
 ) -> Result<(), Fault> {
     let context = format!(in alloc; "by {size} over the wire")?;
     serve_setup(alloc, setup, &mut *shelf)?;
-    serve_case(alloc, case, context.as_str(), given, size, &mut *shelf, tally)?;
+    serve_case(
+        alloc,
+        case,
+        context.as_str(),
+        given,
+        size,
+        &mut *shelf,
+        tally,
+    )?;
     look_at_left(alloc, case, context.as_str(), shelf, tally)
 }
 

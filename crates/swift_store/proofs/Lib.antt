@@ -1,4 +1,6 @@
+pub mod Alone
 pub mod Entries
+pub mod Handed
 pub mod Listing
 pub mod Logged
 pub mod MadeChanges

@@ -1,10 +1,142 @@
--- What a link's log says of its history.
-use Rattle.std.specs.Prelude.{◌≡◌, ℕ, ◌≤◌, Bool, List, length, take, count_by, IsTrue}
-use Rattle.std.proofs.Common.{sym, ap, subst, ◌∙◌}
+-- What a link tells that writes down what each exchange found: its history, and what one more exchange does to it.
+use Rattle.std.specs.Prelude.{◌≡◌, ◌⊎◌, ℕ, zero, suc, ◌≤◌, ◌+◌, Bool, true, false, cond, List, [], ◌∷◌, ◌++◌, length, take, count_by, IsTrue, Result, Ok, Err}
+use Rattle.std.proofs.Common.{refl, sym, ap, subst, ◌∙◌, inl, inr, arith, length-append}
+use Rattle.std.proofs.Math.Nat.{le_refl}
+use Rattle.std.proofs.Math.Seq.{take-length}
+use Rattle.std.proofs.lemmas.List.{take-append-le}
+use Rattle.std.proofs.lemmas.List.Sums.{sum_by_push}
+use Rattle.gate_base.specs.Causes.{Rose}
 use Rattle.swift_calls.specs.Account.{SwiftAccount}
-use Rattle.swift_calls.specs.History.{History, IsHistory}
-use Rattle.swift_store.specs.Log.{lost_after, history_by}
+use Rattle.swift_calls.specs.Step.{Fit, swift_step}
+use Rattle.swift_calls.specs.History.{Extends}
+use Rattle.swift_calls.specs.declared.calls.SwiftRequest.{SwiftRequest}
+use Rattle.swift_wire.specs.Answers.{SpellsAnswer}
+use Rattle.swift_wire.specs.Calls.{SpellsRequest}
+use Rattle.swift_wire.specs.Link.{Exchanges}
+use Rattle.swift_wire.specs.declared.place.Place.{Place}
+use Rattle.swift_wire.specs.declared.link.LinkFault.{LinkFault}
+use Rattle.swift_wire.specs.declared.link.LinkFault.TheVariants.{Failed as NoLink, Memory as NoMemory}
+use Rattle.swift_store.specs.Handing.{Hands}
+use Rattle.swift_store.specs.Log.{state_at, lost_after, history_by}
+
+-- ---- the states
+
+module _ {E T : Type 0} (was : E → T) where
+  state_last : (log : List E) (present : T) → state_at was log present (length log) ≡ present
+  state_last [] present = refl
+  state_last (e ∷ log) present = state_last log present
+
+  -- what one more exchange found was there before it
+  state_kept : (log : List E) (old new : T) (e : E) → was e ≡ old → (k : ℕ) → k ≤ length log → state_at was (log ++ e ∷ []) new k ≡ state_at was log old k
+  state_kept [] old new e is zero within = is
+  state_kept [] old new e is (suc k) within = absurd (omega (arith, within))
+  state_kept (x ∷ log) old new e is zero within = refl
+  state_kept (x ∷ log) old new e is (suc k) within = state_kept log old new e is k (omega (arith, within))
+
+  -- where what is there shows the same, each state does
+  state_same : {A : Type 0} (shown : T → A) (log : List E) (old new : T) → shown new ≡ shown old → (k : ℕ) → shown (state_at was log new k) ≡ shown (state_at was log old k)
+  state_same shown [] old new same k = same
+  state_same shown (x ∷ log) old new same zero = refl
+  state_same shown (x ∷ log) old new same (suc k) = state_same shown log old new same k
+
+-- ---- the counts
+
+module _ {E : Type 0} (lost : E → Bool) where
+  lost_kept : (log : List E) (e : E) (k : ℕ) → k ≤ length log → lost_after lost (log ++ e ∷ []) k ≡ lost_after lost log k
+  lost_kept log e k within = ap (count_by lost) (take-append-le k log (e ∷ []) within)
+
+  lost_of_all : (log : List E) → lost_after lost log (length log) ≡ count_by lost log
+  lost_of_all log = ap (count_by lost) (take-length log)
+
+  one_lost : (log : List E) (e : E) → lost e ≡ true → count_by lost (log ++ e ∷ []) ≡ count_by lost log + 1
+  one_lost log e is = sum_by_push _ log e ∙ ap (λ b. count_by lost log + cond b 1 0) is
+
+  none_lost : (log : List E) (e : E) → lost e ≡ false → count_by lost (log ++ e ∷ []) ≡ count_by lost log
+  none_lost log e is = sum_by_push _ log e ∙ ap (λ b. count_by lost log + cond b 1 0) is ∙ plus_none (count_by lost log)
+    where
+      plus_none : (n : ℕ) → n + 0 ≡ n
+      plus_none n = omega arith
+
+-- ---- one exchange more
+
+one_more : {E : Type 0} (log : List E) (e : E) → length (log ++ e ∷ []) ≡ length log + 1
+one_more log e = length-append log (e ∷ [])
+
+risen : (before now : ℕ) → now ≡ before + 1 → Rose before now
+risen before now e = omega (arith, e)
 
 module _ {E T : Type 0} (told : T → Bool) (account : T → SwiftAccount) (was : E → T) (lost : E → Bool) where
-  pub is_history_by : (log : List E) (present : T) → IsHistory (history_by told account was lost log present)
-  is_history_by log present = ?
+  module _ (place : Place) (request reply : List ℕ) (log : List E) (old new : T) (on : IsTrue (told old) → IsTrue (told new)) where
+    -- memory ran out, and nothing was written down
+    pub wanted : (log' : List E) → log' ≡ log → (IsTrue (told old) → account new ≡ account old)
+        → Exchanges place (history_by told account was lost log old) request reply (Err NoMemory) (history_by told account was lost log' new)
+    wanted log' e same = subst (λ (l : List E). Exchanges place (history_by told account was lost log old) request reply (Err NoMemory) (history_by told account was lost l new)) (sym e)
+        (record {
+          counts = inr refl;
+          faults = refl;
+          observable = on;
+          kept = λ o. record { accounts = λ k within. state_same was account log old new (same o) k; counts = λ k within. refl };
+          effect = λ o call fit spells. inr refl;
+        })
+
+    module _ (e : E) (is : was e ≡ old) where
+      kept_by : Extends (length log) (history_by told account was lost log old) (history_by told account was lost (log ++ e ∷ []) new)
+      kept_by = record { accounts = λ k within. ap account (state_kept was log old new e is k within); counts = λ k within. lost_kept lost log e k within }
+
+      -- the account before the exchange and after it
+      before : account (state_at was (log ++ e ∷ []) new (length log)) ≡ account old
+      before = ap account (state_kept was log old new e is (length log) (le_refl (length log)) ∙ state_last was log old)
+
+      after : account (state_at was (log ++ e ∷ []) new (length (log ++ e ∷ []))) ≡ account new
+      after = ap account (state_last was (log ++ e ∷ []) new)
+
+      stepped : (call : SwiftRequest) → account new ≡ (swift_step call (account old)).tree
+          → account (state_at was (log ++ e ∷ []) new (length (log ++ e ∷ []))) ≡ (swift_step call (account (state_at was (log ++ e ∷ []) new (length log)))).tree
+      stepped call done = after ∙ done ∙ ap (λ a. (swift_step call a).tree) (sym before)
+
+      either_by : (call : SwiftRequest) → (account new ≡ account old) ⊎ (account new ≡ (swift_step call (account old)).tree)
+          → (account (state_at was (log ++ e ∷ []) new (length (log ++ e ∷ []))) ≡ account (state_at was (log ++ e ∷ []) new (length log)))
+            ⊎ (account (state_at was (log ++ e ∷ []) new (length (log ++ e ∷ []))) ≡ (swift_step call (account (state_at was (log ++ e ∷ []) new (length log)))).tree)
+      either_by call (inl same) = inl (after ∙ same ∙ sym before)
+      either_by call (inr done) = inr (stepped call done)
+
+      lost_at_end : lost_after lost (log ++ e ∷ []) (length (log ++ e ∷ [])) ≡ count_by lost (log ++ e ∷ [])
+      lost_at_end = lost_of_all lost (log ++ e ∷ [])
+
+      lost_before : lost_after lost (log ++ e ∷ []) (length log) ≡ count_by lost log
+      lost_before = lost_kept lost log e (length log) (le_refl (length log)) ∙ lost_of_all lost log
+
+      -- the exchange was lost
+      pub noted_lost : (answer : List ℕ) (none : Bool) → none ≡ true → lost e ≡ none → (log' : List E) → log' ≡ log ++ e ∷ []
+          → (IsTrue (told old) → (call : SwiftRequest) → Fit call → SpellsRequest place call request → Hands call (account old) (account new) answer (Ok none))
+          → Exchanges place (history_by told account was lost log old) request reply (Err NoLink) (history_by told account was lost log' new)
+      noted_lost answer none is_none is_lost log' more hands = subst (λ (l : List E). Exchanges place (history_by told account was lost log old) request reply (Err NoLink) (history_by told account was lost l new)) (sym more)
+          (record {
+            counts = one_more log e;
+            faults = risen _ _ (one_lost lost log e (is_lost ∙ is_none));
+            observable = on;
+            kept = λ o. kept_by;
+            effect = λ o call fit spells.
+                (either_by call (subst (λ b. Hands call (account old) (account new) answer (Ok b)) is_none (hands o call fit spells)),
+                risen _ _ (lost_at_end ∙ one_lost lost log e (is_lost ∙ is_none) ∙ ap (λ n. n + 1) (sym lost_before)));
+          })
+
+      -- or answered
+      pub noted_answered : (none : Bool) → none ≡ false → lost e ≡ none → (log' : List E) → log' ≡ log ++ e ∷ []
+          → (IsTrue (told old) → (call : SwiftRequest) → Fit call → SpellsRequest place call request → Hands call (account old) (account new) reply (Ok none))
+          → Exchanges place (history_by told account was lost log old) request reply (Ok tt) (history_by told account was lost log' new)
+      noted_answered none is_none is_lost log' more hands = subst (λ (l : List E). Exchanges place (history_by told account was lost log old) request reply (Ok tt) (history_by told account was lost l new)) (sym more)
+          (record {
+            counts = one_more log e;
+            faults = none_lost lost log e (is_lost ∙ is_none);
+            observable = on;
+            kept = λ o. kept_by;
+            effect = λ o call fit spells.
+                let h = subst (λ b. Hands call (account old) (account new) reply (Ok b)) is_none (hands o call fit spells) in
+                record {
+                  next = one_more log e;
+                  spells = subst (λ a. SpellsAnswer call (swift_step call a).reply reply) (sym before) h.0;
+                  tree = stepped call h.1;
+                  quiet = lost_at_end ∙ none_lost lost log e (is_lost ∙ is_none) ∙ sym lost_before;
+                };
+          })

@@ -7,7 +7,7 @@ mod folder;
 mod kept;
 mod laws;
 mod map_shelf;
-mod message_in;
+mod reading;
 mod replies;
 mod shelf;
 mod store;

@@ -12,7 +12,7 @@ ghost use Rattle.swift_store.specs.Serving.{Answers, Served};
 ghost use Rattle.swift_store.specs.declared.faults.StoreFault.TheVariants as fault;
 
 use crate::effects::apply;
-use crate::message_in::message_in;
+use crate::reading::message_in;
 use crate::replies::reply_to;
 use crate::{Shelf, StoreFault};
 use gate_base::{Bytes, Memory};

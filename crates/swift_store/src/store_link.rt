@@ -1,15 +1,15 @@
 //! A link to a store that is at hand.
-ghost use Rattle.std.specs.Prelude.{◌≡◌, ◌<◌, ◌+◌, ◌↔◌, false, [], ◌∷◌, ◌++◌, length, vec_len, vec_capacity, IsTrue, OnErr, IsErrOf};
-ghost use Rattle.std.proofs.Common.{refl};
-ghost use Rattle.gate_base.specs.Causes.{Rose};
+ghost use Rattle.std.specs.Prelude.{◌≡◌, ◌<◌, ◌≤◌, [], ◌∷◌, ◌++◌, length, take, count_by, vec_len, vec_capacity, IsTrue, OnErr};
+ghost use Rattle.std.proofs.Common.{refl, ap, subst};
+ghost use Rattle.std.proofs.Math.Seq.{take-length};
+ghost use Rattle.std.proofs.lemmas.List.{take-take};
+ghost use Rattle.std.proofs.lemmas.List.Sums.{sum_by-take-le};
 ghost use Rattle.swift_calls.specs.Replay.{outcome_at};
 ghost use Rattle.swift_calls.specs.Step.{Fit};
 ghost use Rattle.swift_calls.specs.declared.calls.SwiftRequest.{SwiftRequest};
 ghost use Rattle.swift_wire.specs.Calls.{SpellsRequest};
-ghost use Rattle.swift_wire.specs.Link.{Exchanges};
 ghost use Rattle.swift_store.specs.Handing.{Goes, Hands};
-ghost use Rattle.swift_store.specs.Log.{history_by};
-ghost use Rattle.swift_store.proofs.Logged.{is_history_by};
+ghost use Rattle.swift_store.specs.Log.{history_by, lost_after};
 
 use crate::{Shelf, Store};
 use gate_base::{Bytes, Counted, List, Memory};
@@ -116,7 +116,11 @@ impl<S: Shelf> Link for StoreLink<S> {
 
     ghost counted = { λ l. refl };
 
-    ghost is_history = { λ l. is_history_by (λ s. S.observable s.shelf) (λ s. S.account s.shelf) (λ e. e.was.value) (λ e. e.lost) l.log.items l.store };
+    ghost is_history = { λ l. record {
+      last = λ observable left. ap (count_by (λ e. e.lost)) (take-length l.log.items);
+      rise = λ observable j k order within.
+          subst (λ entries. count_by (λ e. e.lost) entries ≤ lost_after (λ e. e.lost) l.log.items k) (take-take j k l.log.items order) (sum_by-take-le _ (take k l.log.items) j);
+    } };
 
     fn exchange(&mut self, request: &[u8], reply: &mut Bytes) -> Result<(), LinkFault> {
         if self.log.reserve(1).is_err() {

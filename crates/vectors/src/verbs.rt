@@ -1,6 +1,6 @@
 use crate::{
-    first, machine, manifests, marks, meanings, messages, names, pages, records, served, signatures,
-    store, wire, words,
+    first, machine, manifests, marks, meanings, messages, names, pages, records, served,
+    signatures, store, wire, words,
 };
 use case_text::Fault;
 use gate_base::Bytes;

@@ -1,0 +1,63 @@
+-- What handing the bytes of a request to a store comes to, by what serving its message did.
+use Rattle.std.specs.Prelude.{◌≡◌, ◌⊎◌, ℕ, Bool, true, false, IsTrue, List, [], ◌++◌, length, take, Option, Some, None, Result, Ok, Err}
+use Rattle.std.proofs.Common.{refl, sym, ap, subst, ◌∙◌, inl, inr}
+use Rattle.std.proofs.Math.Nat.{le_refl}
+use Rattle.std.proofs.Math.Seq.{take-length}
+use Rattle.std.proofs.lemmas.Option.{same_Some}
+use Rattle.http_wire.specs.declared.message.Message.{Message}
+use Rattle.http_wire.specs.FirstMessage.{Spells}
+use Rattle.http_wire.proofs.lemmas.UniqueLemmas.{one_spelling}
+use Rattle.swift_calls.specs.Account.{SwiftAccount}
+use Rattle.swift_calls.specs.Step.{swift_step}
+use Rattle.swift_calls.specs.declared.calls.SwiftRequest.{SwiftRequest}
+use Rattle.swift_calls.specs.declared.calls.SwiftReply.{SwiftReply}
+use Rattle.swift_wire.specs.Answers.{SpellsAnswer}
+use Rattle.swift_wire.specs.AnswerText.{answer_text}
+use Rattle.swift_wire.specs.Calls.{SpellsCall, SpellsRequest}
+use Rattle.swift_wire.specs.Place.{HasToken}
+use Rattle.swift_wire.specs.declared.place.Place.{Place}
+use Rattle.swift_store.specs.Handing.{Hands, IsMessageIn}
+use Rattle.swift_store.specs.Serving.{Answers, Served}
+use Rattle.swift_store.specs.declared.faults.StoreFault.TheVariants.{Failed, Memory}
+
+one_message : (bytes : List ℕ) (a b : Message) → Spells bytes a → Spells bytes b → a ≡ b
+one_message bytes a b is_a is_b =
+    let whole = sym (take-length bytes) in
+    (one_spelling bytes a b (length bytes) (length bytes) (le_refl (length bytes)) (le_refl (length bytes)) (subst (λ t. Spells t a) whole is_a) (subst (λ t. Spells t b) whole is_b)).1
+
+same_call : (place : Place) (message : Message) (a b : SwiftRequest) → SpellsCall place a message → SpellsCall place b message → a ≡ b
+same_call place message a b is_a is_b = same_Some a b (sym is_a.0 ∙ is_b.0)
+
+module _ (place : Place) (message : Message) (bytes : List ℕ) (call : SwiftRequest) (spells : Spells bytes message) (request : SpellsRequest place call bytes) where
+  -- the message is the request's
+  is_call : HasToken place message × SpellsCall place call message
+  is_call = by request
+    where
+      by : SpellsRequest place call bytes → HasToken place message × SpellsCall place call message
+      by (other, is_other, token, calls) = subst (λ m. HasToken place m × SpellsCall place call m) (one_message bytes other message is_other spells) (token, calls)
+
+  module _ (told : Bool) (old new : SwiftAccount) (before after : List ℕ) (empty : before ≡ []) (o : IsTrue told) where
+    -- it was answered
+    pub handed : SpellsAnswer call (swift_step call old).reply (answer_text call (swift_step call old).reply) → Served told place message old new before after (Ok tt)
+        → Hands call old new after (Ok false)
+    handed reads (inl (stranger, refused)) = absurd (stranger is_call.0)
+    handed reads (inr (inl (none, refused))) = absurd (none.1 call is_call.1)
+    handed reads (inr (inr (other, is_other, reply, text, done))) =
+        let same = same_call place message other call is_other.1 is_call.1 in
+        let said : reply ≡ (swift_step call old).reply = (done o).0 ∙ ap (λ c. (swift_step c old).reply) same in
+        let all : after ≡ answer_text call (swift_step call old).reply = text ∙ ap (λ b. b ++ answer_text other reply) empty ∙ (λ i. answer_text (same i) (said i)) in
+        (subst (λ t. SpellsAnswer call (swift_step call old).reply t) (sym all) reads, (done o).1 ∙ ap (λ c. (swift_step c old).tree) same)
+
+    -- the shelf failed
+    pub failed : Served told place message old new before after (Err Failed) → Hands call old new after (Ok true)
+    failed (other, is_other, text, done) =
+        let same = same_call place message other call is_other.1 is_call.1 in
+        by same (done o)
+      where
+        by : other ≡ call → (new ≡ old) ⊎ (new ≡ (swift_step other old).tree) → (new ≡ old) ⊎ (new ≡ (swift_step call old).tree)
+        by same (inl stayed) = inl stayed
+        by same (inr all) = inr (all ∙ ap (λ c. (swift_step c old).tree) same)
+
+-- bytes that spell a request are a message
+pub no_request : {A : Type 0} (place : Place) (bytes : List ℕ) (call : SwiftRequest) → ((message : Message) → ¬ (Spells bytes message)) → SpellsRequest place call bytes → A
+no_request place bytes call none (message, is, token, calls) = absurd (none message is)
