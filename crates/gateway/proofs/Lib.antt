@@ -5,7 +5,6 @@ pub mod Handling
 pub mod Living
 pub mod Looping
 pub mod Operating
-pub mod Pieces
 pub mod Proper
 pub mod ProperReads
 pub mod Ranging

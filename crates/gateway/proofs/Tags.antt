@@ -3,7 +3,7 @@ use Rattle.std.proofs.Common.{◌≡◌, ℕ, ◌+◌, List, [], ◌∷◌, ◌+
 use Rattle.std.specs.List.{slice_split}
 use Rattle.std.proofs.lemmas.List.{drop-drop}
 use Rattle.s3_names.proofs.lemmas.Dots.{slice_split_from, slice_split_none_at}
-use Rattle.gateway.specs.Closing.{is_comma}
+use Rattle.http_wire.specs.Closing.{is_comma}
 use Rattle.gateway.specs.Conditions.{etag_of}
 
 abbrev pub tags : List ℕ → List (List ℕ)

@@ -6,11 +6,11 @@ use Rattle.std.specs.List.{prefix_len, suffix_len, slice_split, starts_with}
 use Rattle.std.specs.Option.{option_map_or}
 use Rattle.httpdate.specs.Date.{parse_secs}
 use Rattle.gate_base.specs.declared.page.Pair.{Pair}
+use Rattle.http_wire.specs.Closing.{is_comma}
 use Rattle.http_wire.specs.Headers.{has_header, text_of}
 use Rattle.s3_machine.specs.declared.reading.ETags.{ETags}
 use Rattle.s3_machine.specs.declared.reading.ETags.TheVariants.{Absent, Any, Listed}
 use Rattle.s3_machine.specs.declared.reading.Conditions.{Conditions}
-use Rattle.gateway.specs.Closing.{is_comma}
 
 abbrev pub is_space : ℕ → Bool
 is_space byte = byte == 32

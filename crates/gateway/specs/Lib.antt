@@ -1,4 +1,3 @@
-pub mod Closing
 pub mod Conditions
 pub mod Connection
 pub mod Content

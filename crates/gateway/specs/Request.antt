@@ -16,6 +16,7 @@ use Rattle.s3_names.specs.Target.{target_of}
 use Rattle.http_wire.specs.declared.message.Message.{Message}
 use Rattle.http_wire.specs.declared.message.Kind.{Kind}
 use Rattle.http_wire.specs.declared.message.Kind.TheVariants.{BadHead, LongHead, ManyHeaders, NoLength, BadLength, LongBody, Transfer, ShortBody}
+use Rattle.http_wire.specs.Closing.{is_closing}
 use Rattle.http_wire.specs.Print.{page_text}
 use Rattle.s3_bodies.specs.Pages.{page_of}
 use Rattle.sigv4.specs.declared.refusal.Refusal.{Refusal}
@@ -29,7 +30,6 @@ use Rattle.gateway.specs.declared.meant.Meant.TheVariants as meant
 use Rattle.gateway.specs.declared.received.Received.{Received}
 use Rattle.gateway.specs.declared.received.Received.TheVariants as received
 use Rattle.gateway.specs.declared.service.Service.{Service}
-use Rattle.gateway.specs.Closing.{is_closing}
 use Rattle.gateway.specs.Meaning.{meaning_of}
 
 pub record Request : Type 0 where

@@ -1,11 +1,10 @@
 //! The conditions of a GET or a HEAD.
-ghost use Rattle.std.specs.Prelude.{◌≡◌, ◌-◌, ◌≤◌, ◌++◌, [], ◌∷◌, false, map, length, slice_get, IfOk, OnOk};
+ghost use Rattle.std.specs.Prelude.{◌≡◌, ◌-◌, ◌≤◌, ◌<◌, ◌++◌, [], ◌∷◌, false, map, drop, length, position, slice_get, IfOk, IfSome, OnOk};
 ghost use Rattle.std.specs.List.{prefix_len, suffix_len, slice_split};
 ghost use Rattle.std.specs.Option.{option_map_or};
-ghost use Rattle.gateway.specs.Closing.{is_comma};
+ghost use Rattle.http_wire.specs.Closing.{is_comma};
 ghost use Rattle.gateway.specs.Conditions.{is_space, is_quote, behind_spaces, before_spaces, without_mark, is_quoted, without_quotes, etag_of, etags_of, given_etags, date_of, given_date, given_conditions};
 
-use crate::closing::{after_first, first_comma};
 use gate_base::{Bytes, List, Memory, Pair};
 use http_wire::{has_header, text_of};
 use httpdate::HttpDate;
@@ -95,6 +94,28 @@ fn push_etag(alloc: Global, etags: &mut List<Bytes>, piece: &[u8]) -> Result<(),
     ensures { OnOk result (etags.new ≡ etags.old ++ etag_of piece.now ∷ []) }
 {
     etags.push(Bytes::from_slice(alloc, etag_of(piece))?)
+}
+
+fn comma(byte: u8) -> bool
+    ensures { result ≡ is_comma byte }
+{
+    byte == b','
+}
+
+/// The place of the first comma.
+fn first_comma(text: &[u8]) -> Option<usize>
+    ensures place { result ≡ position is_comma text.now }
+    ensures within { IfSome result (λ at. at < length text.now) }
+{
+    text.iter().position(|byte| comma(*byte))
+}
+
+/// The text behind its first byte.
+fn after_first(text: &[u8]) -> &[u8]
+    requires { 0 < length text.now }
+    ensures { result.now ≡ drop 1 text.now }
+{
+    &text[1..]
 }
 
 /// The tags between the commas, in order.

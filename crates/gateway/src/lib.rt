@@ -1,7 +1,6 @@
 //! One connection: who sent each request, what it means, what it is answered, and what is written for it.
 #![tactic(auto)]
 
-mod closing;
 mod conditions;
 mod content;
 mod ended;

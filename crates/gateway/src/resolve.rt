@@ -9,11 +9,10 @@ ghost use Rattle.gateway.specs.Serving.{is_failed_step};
 ghost use Rattle.gateway.specs.declared.ended.Ended.TheVariants as ended;
 ghost use Rattle.gateway.specs.declared.meant.Meant.TheVariants as variant;
 
-use crate::closing::closing;
 use crate::received::Received;
 use crate::{Ended, Meant, ResolvedRequest, Service, meaning};
 use gate_base::Caller;
-use http_wire::{Kind, Message};
+use http_wire::{Kind, Message, closes};
 use s3_machine::Code;
 use s3_names::{NameFault, Target};
 use sigv4::{Refusal, verify};
@@ -157,7 +156,7 @@ fn end_of(message: &Message) -> Option<Ended>
     ensures is { result ≡ end_after message.now }
     ensures served { is_failed_step result ≡ false }
 {
-    if closing(message) {
+    if closes(message) {
         Some(Ended::Closed)
     } else {
         None

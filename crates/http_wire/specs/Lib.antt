@@ -1,3 +1,4 @@
+pub mod Closing
 pub mod FirstMessage
 pub mod Gives
 pub mod Headers

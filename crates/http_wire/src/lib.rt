@@ -2,6 +2,7 @@
 #![tactic(auto)]
 
 mod advance;
+mod closing;
 mod fill;
 mod headers;
 mod interim;
@@ -15,6 +16,7 @@ mod reader;
 mod scan;
 mod take;
 
+pub use closing::closes;
 pub use headers::{first_value, has_header, has_name, has_one, text_of, values_of};
 pub use join::joined;
 pub use laws::{interim_owed, one_front, one_spelling, request_size};

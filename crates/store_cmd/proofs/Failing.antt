@@ -66,6 +66,7 @@ cut_plain bytes n plain = by_test (is_unavailable (take n bytes)) refl
         let start = (starts_is Decides-eqb (take n bytes) (codes "HTTP/1.1 503") (is_unavailable (take n bytes)) refl).0 cut in
         (starts_is Decides-eqb bytes (codes "HTTP/1.1 503") (is_unavailable bytes) refl).1 (drop 12 (take n bytes) ++ drop n bytes)
         (sym (take-append-drop n bytes) ∙ ap (λ b. b ++ drop n bytes) start ∙ append_assoc (codes "HTTP/1.1 503") (drop 12 (take n bytes)) (drop n bytes))
+
     by_test : (test : Bool) → is_unavailable (take n bytes) ≡ test → is_unavailable (take n bytes) ≡ false
     by_test false is = is
     by_test true is = absurd (let clash : true ≡ false = sym (whole is) ∙ plain in cc)

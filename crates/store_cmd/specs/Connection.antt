@@ -6,6 +6,7 @@ use Rattle.gate_base.specs.Causes.{Rose}
 use Rattle.gate_base.specs.declared.outside.Piece.{Piece}
 use Rattle.http_wire.specs.declared.message.Message.{Message}
 use Rattle.http_wire.specs.declared.message.Kind.{Kind}
+use Rattle.http_wire.specs.Closing.{is_closing}
 use Rattle.http_wire.specs.FirstMessage.{BeginsWith, asks, nothing, cut_short, refused}
 use Rattle.http_wire.specs.Interim.{OwesInterim, SendsInterim, MaySendInterim, CutsInterim}
 use Rattle.swift_calls.specs.Account.{SwiftAccount}
@@ -15,7 +16,6 @@ use Rattle.swift_calls.specs.declared.calls.SwiftReply.{SwiftReply}
 use Rattle.swift_wire.specs.AnswerText.{answer_text, refusal}
 use Rattle.swift_wire.specs.declared.place.Place.{Place}
 use Rattle.swift_store.specs.Serving.{IsCall, IsNoCall, IsStranger}
-use Rattle.store_cmd.specs.Closing.{is_closing}
 use Rattle.store_cmd.specs.declared.refusals.Refusals.{Refusals}
 use Rattle.store_cmd.specs.declared.ended.Ended.{Ended}
 use Rattle.store_cmd.specs.declared.ended.Ended.TheVariants.{End, CutShort, Refused, Closed, StoreFailed, Memory, LineFailed}

@@ -1,7 +1,6 @@
 //! The top call of `swiftd`: the words, the connections of the line in turn, the status and the report.
 #![tactic(auto)]
 
-mod closing;
 mod command;
 mod ended;
 mod laws;

@@ -7,10 +7,9 @@ ghost use Rattle.store_cmd.specs.declared.ended.Ended.TheVariants.{Closed};
 ghost use Rattle.store_cmd.specs.Connection.{AreRefusals, ConnectionTrace, EndsWith, Handles, NextOne, Sends, cursor, is_failed_end, is_failed_step, progress};
 
 use crate::Ended;
-use crate::closing::closing;
 use crate::refusals::Refusals;
 use gate_base::{Bytes, Line, NoCount};
-use http_wire::{Got, Message, ReadFault, Reader};
+use http_wire::{Got, Message, ReadFault, Reader, closes};
 use std::alloc::Global;
 use swift_store::{Shelf, StoreFault, serve};
 use swift_wire::Place;
@@ -108,7 +107,7 @@ fn answer<N: Line<NoCount>, S: Shelf>(
         (progress (S.account shelf.old) (S.faults shelf.old) (N.model line.old).transcript.sent) result
         (progress (S.account shelf.new) (S.faults shelf.new) (N.model line.new).transcript.sent) }
 {
-    let last = closing(&message);
+    let last = closes(&message);
     let mut text = Bytes::new(alloc);
     match serve(alloc, place, shelf, message, &mut text) {
         Ok(()) => send(line, text.as_slice(), last),

@@ -11,12 +11,12 @@ pub returns-in-Ok-clause-handles : goal.returns-in-Ok-clause-handles
 returns-in-Ok-clause-handles g c = λ told on observable.
     let old = progress (g.S.Shelf.account c.args.shelf.now) (g.S.Shelf.faults c.args.shelf.now) (g.N.Line.model c.args.line.now).transcript.sent in
     let new = progress (g.S.Shelf.account c.serve.new.shelf) (g.S.Shelf.faults c.serve.new.shelf) (g.N.Line.model c.send.new.line).transcript.sent in
-    handles_sent told c.args.place.now (g.N.Line.model c.args.line.now).transcript.begun c.args.message old new c.as_slice.result.now (if c.closing-last.result then Some Closed else None) c.send.result
+    handles_sent told c.args.place.now (g.N.Line.model c.args.line.now).transcript.begun c.args.message old new c.as_slice.result.now (if c.closes-last.result then Some Closed else None) c.send.result
     (answered_ok told (g.S.Shelf.observable c.args.shelf.now) on c.args.place.now c.args.message (g.S.Shelf.account c.args.shelf.now) (g.S.Shelf.account c.serve.new.shelf) (g.S.Shelf.faults c.args.shelf.now) (g.S.Shelf.faults c.serve.new.shelf) c.as_slice.result.now
     (subst (λ (t : List ℕ). Served (g.S.Shelf.observable c.args.shelf.now) c.args.place.now c.args.message (g.S.Shelf.account c.args.shelf.now) (g.S.Shelf.account c.serve.new.shelf) [] t (Ok tt)) (sym c.as_slice.ensures)
     (subst (λ (b : List ℕ). Served (g.S.Shelf.observable c.args.shelf.now) c.args.place.now c.args.message (g.S.Shelf.account c.args.shelf.now) (g.S.Shelf.account c.serve.new.shelf) b c.serve.new.out (Ok tt)) c.new-text.ensures c.in-Ok.ensures.served))
     c.in-Ok.ensures.faults)
-    (ap (λ l. if l then Some Closed else None) c.closing-last.ensures) (c.send.ensures.effect observable)
+    (ap (λ l. if l then Some Closed else None) c.closes-last.ensures) (c.send.ensures.effect observable)
 
 pub returns-in-Err-Failed-clause-handles : goal.returns-in-Err-Failed-clause-handles
 returns-in-Err-Failed-clause-handles g c = λ told on observable.

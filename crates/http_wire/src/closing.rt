@@ -1,16 +1,17 @@
-ghost use Rattle.std.specs.Prelude.{◌≡◌, ◌||◌, ◌-◌, ◌≤◌, map, filter, take, drop, length, codes, bytes_eq, position, IfSome, ◌<◌};
-ghost use Rattle.std.specs.Char.{to_ascii_lowercase};
-ghost use Rattle.std.specs.List.{list_any, prefix_len, suffix_len, slice_split};
-ghost use Rattle.http_wire.specs.Headers.{has_name, value_of, values_of};
+//! Whether a connection ends after the reply to a request.
+ghost use Rattle.std.specs.Prelude.{◌≡◌, ◌≤◌, length, codes};
+ghost use Rattle.std.specs.List.{list_any, prefix_len, suffix_len};
 ghost use Rattle.gate_base.specs.Ascii.{is_blank};
-ghost use Rattle.gateway.specs.Closing.{behind_blanks, before_blanks, is_close, is_comma, has_close, is_closing};
+ghost use Rattle.http_wire.specs.Headers.{values_of};
+ghost use Rattle.http_wire.specs.Closing.{behind_blanks, before_blanks, is_close, is_comma, has_close, is_closing};
 
+use crate::headers::has_name;
+use crate::message::Message;
 use gate_base::Pair;
-use http_wire::Message;
 
 /// Whether the connection ends after the reply to a request: one of HTTP/1.0, or one whose Connection header has the
 /// word `close` in any case (RFC 9112 section 9.3, RFC 9110 section 7.6.1).
-pub fn closing(message: &Message) -> bool
+pub fn closes(message: &Message) -> bool
     ensures { result ≡ is_closing message.now }
 {
     message.old || close_header(message.headers.as_slice())
@@ -20,49 +21,20 @@ fn close_header(headers: &[Pair]) -> bool
     ensures { result ≡ list_any has_close (values_of (codes "connection") headers.now) }
 {
     for header in headers {
-        if is_connection(header) && close_value(header.value.as_slice()) {
+        if has_name(header, b"connection") && close_value(header.value.as_slice()) {
             return true;
         }
     }
     false
 }
 
-fn is_connection(header: &Pair) -> bool
-    ensures { result ≡ has_name (codes "connection") header.now }
-{
-    header.name.as_slice() == b"connection".as_slice()
-}
-
-// Whether one of the pieces between the commas is the word.
-#[tactic(auto, using(crate::proofs::Pieces::close_ends, crate::proofs::Pieces::close_goes_past, crate::proofs::Pieces::close_without_comma))]
+/// Whether one of the pieces between the commas is the word.
 fn close_value(value: &[u8]) -> bool
     ensures { result ≡ has_close value.now }
 {
-    let mut rest = value;
-    'pieces: while let Some(at) = first_comma(rest) {
-        let (piece, others) = rest.split_at(at);
-        if close_word(piece) {
-            return true;
-        }
-        rest = after_first(others);
-    }
-    close_word(rest)
-}
-
-/// The text behind its first byte.
-pub(crate) fn after_first(text: &[u8]) -> &[u8]
-    requires { 0 < length text.now }
-    ensures { result.now ≡ drop 1 text.now }
-{
-    &text[1..]
-}
-
-/// The place of the first comma.
-pub(crate) fn first_comma(text: &[u8]) -> Option<usize>
-    ensures place { result ≡ position is_comma text.now }
-    ensures within { IfSome result (λ at. at < length text.now) }
-{
-    text.iter().position(|byte| comma(*byte))
+    value
+        .split(|byte| comma(*byte))
+        .any(|piece| close_word(piece))
 }
 
 fn comma(byte: u8) -> bool
