@@ -165,7 +165,7 @@ impl<S: Shelf> Shelf for &mut S {
 
     ghost account = { λ s. S.account s.now };
 
-    ghost plain = { λ s. S.plain s.now };
+    ghost made = { λ s. S.made s.now };
 
     fn containers(&mut self, marker: &[u8], limit: u32) -> Result<List<Bytes>, StoreFault> {
         (**self).containers(marker, limit)
