@@ -21,7 +21,7 @@ returns-in-Err-clause-serves g c = λ told on observable.
 pub requests-init : goal.requests-init
 requests-init g c = record {
   goes = ap (λ (r : Pending). r.ended) c.in-Ok.ensures;
-  line = record { is_open = c.requires.open; faults = refl; next_faults = refl; spent = omega arith; observable = λ t. t; transcript = λ t. record { waiting = refl; begun = refl; marks = refl } };
+  line = record { is_open = c.requires.open; faults = refl; next_faults = refl; spent = omega arith; observable = λ t. t; transcript = λ t. record { waiting = refl; begun = refl; faulty = refl } };
   observable = λ t. t;
   serves = λ told on observable.
       let old = g.N.Line.model c.args.line.now in
