@@ -1,7 +1,7 @@
 //! One connection.
 ghost use Rattle.std.specs.Prelude.{◌≡◌, ◌<◌, ◌++◌, Bool, false, if◌then◌else◌, IsTrue, None, Some};
 ghost use Rattle.gate_base.specs.Line.{LineServes, OnlyWrites};
-ghost use Rattle.http_wire.specs.Gives.{weight};
+ghost use Rattle.http_wire.specs.Reading.{weight};
 ghost use Rattle.swift_wire.specs.Place.{IsPlace};
 ghost use Rattle.store_cmd.specs.declared.ended.Ended.TheVariants.{Closed};
 ghost use Rattle.store_cmd.specs.Connection.{AreRefusals, ConnectionTrace, EndsWith, Handles, NextOne, Sends, cursor, is_failed_end, is_failed_step, progress};
