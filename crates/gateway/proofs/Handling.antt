@@ -17,10 +17,10 @@ use Rattle.gateway.specs.declared.meant.Meant.TheVariants as meant
 use Rattle.gateway.specs.ResolvedRequest.{Is, Understands}
 use Rattle.gateway.specs.declared.handle.Handled.TheVariants.{Served, Broken}
 use Rattle.gateway.specs.Request.{Request, reply_text, print}
-use Rattle.gateway.specs.Exchange.{ReplyRelation, Mark, RepliesExpected, printed, wanted, Sends, SendsPart, IsPiece}
+use Rattle.gateway.specs.Exchange.{ReplyRelation, StoreCursor, RepliesExpected, printed, out_of_memory, Sends, SendsPart, IsPiece}
 use Rattle.gateway.specs.Connection.{LabelGiven, sent_by, progress}
 use Rattle.gateway.specs.Handled.{HandledOnce}
-use Rattle.gateway.specs.Write.{IsText}
+use Rattle.gateway.specs.Write.{IsReplyText}
 
 only : (connection t q : ℕ) (bytes : List ℕ) → t ≤ q → All (IsPiece connection t q) (record { connection = connection; at = q; bytes = bytes } ∷ [])
 only connection t q bytes near =
@@ -55,7 +55,7 @@ part_of t q bytes transcript transcript' near (inr (n, e)) = record {
   each = only transcript.begun t q (take n bytes) near;
 }
 
-module _ {R : ReplyRelation} (old new : Mark) (moments draws moments' draws' : List ℕ) (transcript transcript' : Transcript) (asks : ℕ → Request) (label : Label) (given : Reply)
+module _ {R : ReplyRelation} (old new : StoreCursor) (moments draws moments' draws' : List ℕ) (transcript transcript' : Transcript) (asks : ℕ → Request) (label : Label) (given : Reply)
     (labels : LabelGiven moments draws moments' draws' (asks label.moment).caller label) (replied : RepliesExpected R old new (asks label.moment) label given) where
   near : replied.span.committed ≤ new.number
   near = let last = replied.is_span.last in let to = replied.is_span.to in omega arith
@@ -79,9 +79,9 @@ module _ {R : ReplyRelation} (old new : Mark) (moments draws moments' draws' : L
         };
       }
 
-  pub handled_wanted : transcript' ≡ with_piece transcript new.number (memory_reply (is_head (asks label.moment).method))
+  pub handled_out_of_memory : transcript' ≡ with_piece transcript new.number (memory_reply (is_head (asks label.moment).method))
       → HandledOnce R transcript.begun (progress old moments draws transcript.sent) (progress new moments' draws' transcript'.sent) asks (Served (Some ended.Memory))
-  handled_wanted wrote =
+  handled_out_of_memory wrote =
       let request = asks label.moment in
       record {
         span = replied.span;
@@ -92,12 +92,12 @@ module _ {R : ReplyRelation} (old new : Mark) (moments draws moments' draws' : L
           bytes = memory_reply (is_head request.method);
           is_span = replied.is_span;
           replies = replied.replies;
-          due = wanted refl refl;
+          due = out_of_memory refl refl;
           sends = one_piece replied.span.committed new.number (memory_reply (is_head request.method)) transcript transcript' near wrote;
         };
       }
 
-  pub handled_broken : (bytes : List ℕ) → IsText given label (asks label.moment).method (asks label.moment).resource (is_some (asks label.moment).end) bytes → SendsPrefix transcript new.number bytes transcript'
+  pub handled_broken : (bytes : List ℕ) → IsReplyText given label (asks label.moment).method (asks label.moment).resource (is_some (asks label.moment).end) bytes → SendsPrefix transcript new.number bytes transcript'
       → HandledOnce R transcript.begun (progress old moments draws transcript.sent) (progress new moments' draws' transcript'.sent) asks Broken
   handled_broken bytes (inl text) part =
       let request = asks label.moment in
@@ -128,13 +128,13 @@ module _ {R : ReplyRelation} (old new : Mark) (moments draws moments' draws' : L
           bytes = bytes;
           is_span = replied.is_span;
           replies = replied.replies;
-          due = wanted text refl;
+          due = out_of_memory text refl;
           sends = part_of replied.span.committed new.number bytes transcript transcript' near part;
         };
       }
 
 -- the same, of a request as the code holds it: the code's label has the caller of the request, unless memory ran out
-module _ {R : ReplyRelation} (old new : Mark) (moments draws moments' draws' : List ℕ) (transcript transcript' : Transcript) (asks : ℕ → Request) (next label : Label) (given : Reply)
+module _ {R : ReplyRelation} (old new : StoreCursor) (moments draws moments' draws' : List ℕ) (transcript transcript' : Transcript) (asks : ℕ → Request) (next label : Label) (given : Reply)
     (resolved : ResolvedRequest) (is : Is resolved (asks next.moment)) (own : label ≡ sent_by resolved.caller next) (labels : (from : Caller) → LabelGiven moments draws moments' draws' from (sent_by from next))
     (known : resolved.means ≡ meant.Memory → given ≡ answer.Memory)
     (told : (request : Request) → Understands resolved.means request → (resolved.means ≢ meant.Memory → label.caller ≡ request.caller) → RepliesExpected R old new request (sent_by request.caller label) given) where
@@ -159,14 +159,14 @@ module _ {R : ReplyRelation} (old new : Mark) (moments draws moments' draws' : L
       let P : Option Ended → Type 0 = λ e. HandledOnce R transcript.begun (progress old moments draws transcript.sent) (progress new moments' draws' transcript'.sent) asks (Served e) in
       subst P (sym is.end) done
 
-  pub resolved_wanted : transcript' ≡ with_piece transcript new.number (memory_reply (is_head resolved.method.now))
+  pub resolved_out_of_memory : transcript' ≡ with_piece transcript new.number (memory_reply (is_head resolved.method.now))
       → HandledOnce R transcript.begun (progress old moments draws transcript.sent) (progress new moments' draws' transcript'.sent) asks (Served (Some ended.Memory))
-  resolved_wanted wrote = handled_wanted old new moments draws moments' draws' transcript transcript' asks due_label given (labels (asks next.moment).caller) due_replied
+  resolved_out_of_memory wrote = handled_out_of_memory old new moments draws moments' draws' transcript transcript' asks due_label given (labels (asks next.moment).caller) due_replied
       (wrote ∙ ap (λ m. with_piece transcript new.number (memory_reply (is_head m))) is.method)
 
   -- the text that was begun, of the label that is expected
-  due_text : (closing : Bool) (bytes : List ℕ) → closing ≡ is_some resolved.end → IsText given label resolved.method.now resolved.resource.now closing bytes
-      → IsText given due_label (asks next.moment).method (asks next.moment).resource (is_some (asks next.moment).end) bytes
+  due_text : (closing : Bool) (bytes : List ℕ) → closing ≡ is_some resolved.end → IsReplyText given label resolved.method.now resolved.resource.now closing bytes
+      → IsReplyText given due_label (asks next.moment).method (asks next.moment).resource (is_some (asks next.moment).end) bytes
   due_text closing bytes ends (inl text) =
       let same : reply_text given label resolved.method.now resolved.resource.now closing ≡ print given due_label (asks next.moment)
       = ap (reply_text given label resolved.method.now resolved.resource.now) ends ∙ (λ i. reply_text given (same_label text.0 i) (is.method i) (is.resource i) (is_some (is.end i))) in
@@ -174,7 +174,7 @@ module _ {R : ReplyRelation} (old new : Mark) (moments draws moments' draws' : L
   due_text closing bytes ends (inr text) = inr (text ∙ ap (λ m. memory_reply (is_head m)) is.method)
 
   pub resolved_broken : (closing : Bool) → closing ≡ is_some resolved.end
-      → ((bytes : List ℕ) × IsText given label resolved.method.now resolved.resource.now closing bytes × SendsPrefix transcript new.number bytes transcript')
+      → ((bytes : List ℕ) × IsReplyText given label resolved.method.now resolved.resource.now closing bytes × SendsPrefix transcript new.number bytes transcript')
       → HandledOnce R transcript.begun (progress old moments draws transcript.sent) (progress new moments' draws' transcript'.sent) asks Broken
   resolved_broken closing ends wrote =
       handled_broken old new moments draws moments' draws' transcript transcript' asks due_label given (labels (asks next.moment).caller) due_replied wrote.0 (due_text closing wrote.0 ends wrote.1) wrote.2

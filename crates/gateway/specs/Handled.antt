@@ -22,23 +22,23 @@ EndsWith end (Served ended) = (ended ≡ end) ⊎ (ended ≡ Some Memory)
 EndsWith end Broken = Unit {0}
 
 -- where a request was answered in whole, its end isn't that of a failed line; of a broken one nothing is said
-abbrev pub IsServed : Handled → Type 0
-IsServed (Served ended) = is_failed_step ended ≡ false
-IsServed Broken = Unit {0}
+abbrev pub NotFailedIfServed : Handled → Type 0
+NotFailedIfServed (Served ended) = is_failed_step ended ≡ false
+NotFailedIfServed Broken = Unit {0}
 
 -- the request was answered in whole, with this end of the connection; what it asks is known at its moment
 pub record AnswersWhole (R : ReplyRelation) (connection : ℕ) (old new : Progress) (asks : ℕ → Request) (end : Option Ended) : Type 0 where
   pub span : Span
   pub label : Label
   pub labels : Labels old new (asks label.moment).caller label
-  pub exchange : Exchange R connection old.mark span new.mark (asks label.moment) label end old.sent new.sent
+  pub exchange : Exchange R connection old.store span new.store (asks label.moment) label end old.sent new.sent
 
 -- the request was answered, and the line failed under the reply
 pub record AnswersCut (R : ReplyRelation) (connection : ℕ) (old new : Progress) (asks : ℕ → Request) : Type 0 where
   pub span : Span
   pub label : Label
   pub labels : Labels old new (asks label.moment).caller label
-  pub exchange : CutExchange R connection old.mark span new.mark (asks label.moment) label old.sent new.sent
+  pub exchange : CutExchange R connection old.store span new.store (asks label.moment) label old.sent new.sent
 
 abbrev pub HandledOnce : ReplyRelation → ℕ → Progress → Progress → (ℕ → Request) → Handled → Type 0
 HandledOnce R connection old new asks (Served end) = AnswersWhole R connection old new asks end

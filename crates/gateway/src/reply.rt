@@ -15,7 +15,7 @@ ghost use Rattle.gateway.specs.Connection.{sent_by};
 ghost use Rattle.gateway.specs.declared.meant.Meant.TheVariants as variant;
 ghost use Rattle.gateway.specs.ResolvedRequest.{IsProperMeant, Understands};
 ghost use Rattle.gateway.specs.Request.{Request};
-ghost use Rattle.gateway.specs.Exchange.{mark, Operated, RepliesBy, RepliesExpected, Where};
+ghost use Rattle.gateway.specs.Exchange.{store_cursor, Operated, RepliesBy, RepliesExpected, Where};
 ghost use Rattle.gateway.specs.Stands.{Stands};
 
 use crate::Meant;
@@ -40,13 +40,13 @@ pub fn reply_to<W: Swift>(
     ensures showable { IsShowable result }
     ensures goes_on { GoesOn (W.history store.old) (W.history store.new) }
     ensures unavailable { result ≡ answer.Refused ServiceUnavailable → Rose (W.history store.old).faults (W.history store.new).faults }
-    ensures wanted { means ≡ variant.Memory → result ≡ answer.Memory }
+    ensures out_of_memory { means ≡ variant.Memory → result ≡ answer.Memory }
     ensures stands { Stands settings.now known.old known.new (W.history store.old) (W.history store.new) }
 
     // Where memory ran out, some reply is expected, and it is not this one; then who sent the request may be unknown.
     ensures effect { (all : Bool) → Where all (Met (IsKnown known.old) (W.history store.old)) → (request : Request) → Understands means request
         → (means ≢ variant.Memory → label.now.caller ≡ request.caller)
-        → RepliesExpected (RepliesBy all settings.now (W.history store.new)) (mark (W.history store.old) known.old) (mark (W.history store.new) known.new) request (sent_by request.caller label.now) result }
+        → RepliesExpected (RepliesBy all settings.now (W.history store.new)) (store_cursor (W.history store.old) known.old) (store_cursor (W.history store.new) known.new) request (sent_by request.caller label.now) result }
 {
     match means {
         Meant::Op(op) => operate(alloc, store, known, settings, op, label),

@@ -12,12 +12,12 @@ use Rattle.sigv4.specs.declared.keys.AccessKey.{AccessKey}
 use Rattle.sign_cmd.specs.Signing.{SignsOn}
 use Rattle.recovery.specs.declared.state.Known.{Known}
 use Rattle.recovery.specs.declared.state.Known.TheVariants.{Settled, Unsure}
-use Rattle.recovery.specs.Calls.{GoesOn, Met}
-use Rattle.recovery.specs.Settling.{IsKnown, Anything}
+use Rattle.recovery.specs.Calls.{GoesOn, Met, Any}
+use Rattle.recovery.specs.Settling.{IsKnown}
 use Rattle.gateway.specs.declared.ended.Ended.{Ended as Close}
 use Rattle.gateway.specs.declared.service.Service.{Service}
 use Rattle.gateway.specs.Connection.{ConnectionTrace, is_failed_end, cursor, progress}
-use Rattle.gateway.specs.Exchange.{ReplyRelation, Span, mark, RepliesBy, Where}
+use Rattle.gateway.specs.Exchange.{ReplyRelation, Span, store_cursor, RepliesBy, Where}
 use Rattle.gateway.specs.Stands.{Stands}
 use Rattle.gateway.specs.World.{World, world, progress_of, start_of, IsObservable, ServesOver}
 use Rattle.gateway.proofs.lemmas.Standing.{stands_throughout}
@@ -30,7 +30,7 @@ use Rattle.gateway_cmd.specs.declared.status.Status.TheVariants.{Done, Usage, Li
 use Rattle.gateway_cmd.specs.Report.{is_failed_run, is_done, is_plain}
 use Rattle.gateway_cmd.specs.Run.{run_cursor_of, RunTrace, none, more, RunTraces, RunHeard, RunStands, RunTold}
 use Rattle.gateway_cmd.specs.Session.{settings_of, Serving, serving_of, service_of, NextCursor, LineServed, LineServesAll, RunServes, RunSigns}
-use Rattle.gateway_cmd.proofs.Marks.{unmarked_none}
+use Rattle.gateway_cmd.proofs.Faulty.{none_faulty_of_none}
 use Rattle.gateway_cmd.proofs.RunTraces.{run_trace_agree, run_trace_follow, run_trace_pass, run_trace_stands}
 
 -- ---- the connections served since the run began
@@ -55,11 +55,11 @@ run_traces_end all service old middle new status kept traces same =
     let before = run_traces_agree all service old middle new kept traces in
     (before.0, subst (RunTrace service (RepliesBy all service.settings new.store) (run_cursor_of old) before.0) (sym same) before.1)
 
--- the marks after one connection
-marked : (failed : Bool) (marks marks' marks'' : List Bool) (begun begun'' : ℕ) → marks' ≡ marks ++ false ∷ [] → begun'' ≡ begun → marks'' ≡ (if failed then slice_set marks' (begun - 1) true else marks')
-    → marks'' ≡ (if failed then slice_set (marks ++ false ∷ []) (begun'' - 1) true else marks ++ false ∷ [])
-marked true marks marks' marks'' begun begun'' began same is = is ∙ (λ i. slice_set (began i) (sym same i - 1) true)
-marked false marks marks' marks'' begun begun'' began same is = is ∙ began
+-- which were faulty, after one connection
+faulty_then : (failed : Bool) (faulty faulty' faulty'' : List Bool) (begun begun'' : ℕ) → faulty' ≡ faulty ++ false ∷ [] → begun'' ≡ begun → faulty'' ≡ (if failed then slice_set faulty' (begun - 1) true else faulty')
+    → faulty'' ≡ (if failed then slice_set (faulty ++ false ∷ []) (begun'' - 1) true else faulty ++ false ∷ [])
+faulty_then true faulty faulty' faulty'' begun begun'' began same is = is ∙ (λ i. slice_set (began i) (sym same i - 1) true)
+faulty_then false faulty faulty' faulty'' begun begun'' began same is = is ∙ began
 
 -- a connection that began was served
 pub next_served : (service : Service) (R : ReplyRelation) (line line' : LineModel) (store : History) (known : Known) (clock draws : SourceModel) (new : World) (ended : Close)
@@ -67,14 +67,14 @@ pub next_served : (service : Service) (R : ReplyRelation) (line line' : LineMode
     → ((spans : List Span) × ConnectionTrace service R line'.transcript.begun ended (start_of (world line' store known clock draws)) spans (progress_of new))
     → NextCursor service R None (world line store known clock draws) new
 next_served service R line line' store known clock draws new ended begins serves trace =
-    let P : (ℕ × List Piece) → Type 0 = λ x. ConnectionTrace service R x.0 ended (cursor line'.transcript.rest 0 (progress (mark store known) clock.values draws.values x.1)) trace.0 (progress_of new) in (
+    let P : (ℕ × List Piece) → Type 0 = λ x. ConnectionTrace service R x.0 ended (cursor line'.transcript.rest 0 (progress (store_cursor store known) clock.values draws.values x.1)) trace.0 (progress_of new) in (
       trace.0,
       record {
         bytes = line'.transcript.rest;
         ended = ended;
         waiting = begins.0 ∙ ap (λ w. line'.transcript.rest ∷ w) (sym serves.waiting);
         begun = serves.begun ∙ begins.1;
-        marks = marked (is_failed_end ended) line.transcript.marks line'.transcript.marks new.line.transcript.marks line'.transcript.begun new.line.transcript.begun begins.3 serves.begun serves.marks;
+        faulty = faulty_then (is_failed_end ended) line.transcript.faulty line'.transcript.faulty new.line.transcript.faulty line'.transcript.begun new.line.transcript.begun begins.3 serves.begun serves.faulty;
         trace = subst P (λ i. (sym serves.begun i, begins.2 i)) trace.1;
       },
     )
@@ -86,7 +86,7 @@ next_none line line' store known clock draws same = ap (λ w. run_cursor_of (wor
 -- ---- a run but for its report
 
 -- nothing is known of the store as a run begins
-pub unsure_met : {h : History} → Met Anything h → Met (IsKnown Unsure) h
+pub unsure_met : {h : History} → Met Any h → Met (IsKnown Unsure) h
 unsure_met met = record { observable = met.observable; sound = met.sound; has = λ is. absurd (let clash : Unsure ≡ Settled = is in cc) }
 
 line_served_none : (serving : Serving) (failed complete : Bool) (line : LineModel) → failed ≡ false → complete ≡ false → LineServed serving failed complete line line
@@ -95,7 +95,7 @@ line_served_none serving false complete line fails ends = record {
   next_faults = refl;
   served_out = λ observable all. absurd (let clash : false ≡ true = sym ends ∙ all in cc);
   within = λ observable n is. omega arith;
-  unmarked = λ observable still. unmarked_none _ _ refl;
+  none_faulty = λ observable still. none_faulty_of_none _ _ refl;
 }
 
 -- a run that made no call
@@ -148,7 +148,7 @@ status_line serving status old new line = record {
   next_faults = line.next_faults;
   served_out = λ observable ends. line.done observable (done_is status ends);
   within = line.within;
-  unmarked = line.unmarked;
+  none_faulty = line.none_faulty;
 }
 
 -- a run that is a session, with such a number of connections
@@ -181,7 +181,7 @@ run_heard told run =
     record { known = run.known; spans = trace.0; trace = trace.1; follows = run_trace_follow trace.1 }
 
 -- and over an observable store
-pub run_told : {serving : Serving} {keys : List ℕ} {ended : RunOutcome} (old : World) (new : Known → World) (h : History) → ((known : Known) → (new known).store ≡ h) → IsObservable old → Met Anything old.store → old.known ≡ Unsure → RunServes serving keys ended old new → RunTold (service_of serving keys) h old new
+pub run_told : {serving : Serving} {keys : List ℕ} {ended : RunOutcome} (old : World) (new : Known → World) (h : History) → ((known : Known) → (new known).store ≡ h) → IsObservable old → Met Any old.store → old.known ≡ Unsure → RunServes serving keys ended old new → RunTold (service_of serving keys) h old new
 run_told {serving = serving} {keys = keys} old new h same told met unsure run =
     let given : Met (IsKnown old.known) old.store = subst (λ known. Met (IsKnown known) old.store) (sym unsure) (unsure_met met) in
     let trace = subst (λ h. (spans : List Span) × RunTrace (service_of serving keys) (RepliesBy true serving.settings h) (run_cursor_of old) spans (run_cursor_of (new run.known))) (same run.known) (run.serves.effect told true given) in

@@ -1,9 +1,9 @@
 pub mod Closing
 pub mod FirstMessage
-pub mod Gives
 pub mod Headers
 pub mod Interim
 pub mod Print
+pub mod Reading
 pub mod Scan
 pub mod Seen
 pub mod Taken

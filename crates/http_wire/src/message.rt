@@ -1,5 +1,4 @@
 ghost use Rattle.std.specs.Prelude.{◌≡◌, map, length, All, IfOk};
-ghost use Rattle.std.specs.Char.{to_ascii_lowercase};
 ghost use Rattle.httparse.specs.Grammar.{RequestHead};
 ghost use Rattle.httparse.specs.Spans.{IsRequestAt, IsRequestWithin, IsHeaderWithin, IsWithin, span_bytes};
 ghost use Rattle.http_wire.specs.FirstMessage.{message_of};
@@ -120,9 +119,9 @@ impl From<Failed> for ReadFault {
 
 impl From<Memory> for ReadFault {
     ghost use Rattle.std.specs.Prelude.{◌≡◌};
-    ghost use Rattle.http_wire.specs.declared.message.ReadFault.TheVariants.{Memory as memory_wanted};
+    ghost use Rattle.http_wire.specs.declared.message.ReadFault.TheVariants.{Memory as out_of_memory};
 
-    ghost from_gives = { λ _ fault. fault ≡ memory_wanted };
+    ghost from_gives = { λ _ fault. fault ≡ out_of_memory };
 
     fn from(_: Memory) -> ReadFault {
         ReadFault::Memory
@@ -131,9 +130,9 @@ impl From<Memory> for ReadFault {
 
 impl From<AllocError> for ReadFault {
     ghost use Rattle.std.specs.Prelude.{◌≡◌};
-    ghost use Rattle.http_wire.specs.declared.message.ReadFault.TheVariants.{Memory as memory_wanted};
+    ghost use Rattle.http_wire.specs.declared.message.ReadFault.TheVariants.{Memory as out_of_memory};
 
-    ghost from_gives = { λ _ fault. fault ≡ memory_wanted };
+    ghost from_gives = { λ _ fault. fault ≡ out_of_memory };
 
     fn from(_: AllocError) -> ReadFault {
         ReadFault::Memory

@@ -1,35 +1,33 @@
 -- The keys of a bucket, rolled up page by page.
-use Rattle.std.proofs.Common.{◌≡◌, ℕ, zero, suc, ◌+◌, ◌*◌, ◌/◌, ◌<◌, ◌≤◌, IsTrue, Bool, true, false, not, cond, ◌&&◌, nat_lt, T, List, [], ◌∷◌, ◌++◌, map, length, take, Result, Ok, Err, refl, sym, ap, subst, ◌∙◌, arith}
+use Rattle.std.proofs.Common.{◌≡◌, ℕ, zero, suc, ◌+◌, ◌*◌, ◌<◌, ◌≤◌, IsTrue, Bool, true, false, not, cond, ◌&&◌, nat_lt, T, List, [], ◌∷◌, length, take, Result, Ok, Err, refl, sym, ap, subst, ◌∙◌, arith}
 use Rattle.std.specs.Result.{IsErrAnd}
-use Rattle.std.specs.List.{filter, list_all}
+use Rattle.std.specs.List.{filter}
 use Rattle.std.specs.Ordering.{is_lt}
-use Rattle.std.specs.FinMap.{entries, get, is_sorted, len, len-entries}
-use Rattle.std.proofs.lemmas.List.{length-map}
+use Rattle.std.specs.FinMap.{len}
 use Rattle.gate_base.specs.Maps.{name_cmp}
 use Rattle.s3_names.specs.Bucket.{is_bucket}
-use Rattle.s3_machine.specs.Items.{begins, behind, with_prefix}
+use Rattle.s3_machine.specs.Items.{behind}
 use Rattle.s3_machine.specs.declared.items.Asked.{Asked}
 use Rattle.s3_machine.specs.declared.items.Item.{Item}
 use Rattle.s3_machine.specs.declared.items.ItemHead.{ItemHead}
 use Rattle.swift_calls.specs.Account.{SwiftAccount, files}
 use Rattle.swift_calls.specs.History.{History, present, Extends}
 use Rattle.upload_records.specs.Native.{IsSettled, s3_state}
-use Rattle.upload_records.specs.Consistent.{IsConsistent}
-use Rattle.list_pages.specs.Rolling.{Wanted, all_rows, first_rows, Rises, Rolled}
+use Rattle.list_pages.specs.Rolling.{Wanted, all_rows, first_rows, Rolled}
 use Rattle.list_pages.specs.Rolls.{Rolls, rows_of, wanted}
-use Rattle.list_pages.proofs.lemmas.Sorted.{filter_passes, rises_sorted, sorted_filter, with_prefix_behind}
+use Rattle.list_pages.proofs.lemmas.Sorted.{rises_sorted, sorted_filter}
 use Rattle.list_pages.proofs.lemmas.Starting.{AllKept, rolled_none, rolled_before}
 use Rattle.recovery.specs.declared.fault.PlanFault.{PlanFault}
-use Rattle.recovery.specs.declared.fault.PlanFault.TheVariants.{Failed, Memory, Inconsistent}
 use Rattle.recovery.specs.Answers.{pages}
 use Rattle.recovery.specs.Keys.{keys_with, up_to, HasRolled, TellsListing, TellsTaken}
 use Rattle.recovery.specs.Listing.{TellsOf}
-use Rattle.recovery.specs.Calls.{Bound, always, by_account, GoesOn, Met, Keeps, Asks, Tells}
+use Rattle.recovery.specs.Calls.{Bound, always, by_account, GoesOn, Met, Asks, Tells}
 use Rattle.recovery.proofs.KeyPages.{keys_within}
 use Rattle.recovery.proofs.Taken.{keys_sorted, keys_fit}
 use Rattle.recovery.proofs.lemmas.Faults.{err_is}
-use Rattle.recovery.proofs.lemmas.Idle.{goes_none, none_made, grows_none}
-use Rattle.recovery.proofs.Walk.{goes_trans, Idles, idles_none, idles_trans, cause_after, keeps_after}
+use Rattle.recovery.proofs.lemmas.Idle.{goes_none, goes_trans, none_made, grows_none}
+use Rattle.recovery.proofs.One.{tells_state}
+use Rattle.recovery.proofs.Walk.{Idles, idles_none, idles_trans, cause_after, keeps_after}
 
 -- ---- the keys up to the marker
 
@@ -177,15 +175,10 @@ module _ {a b : History} {bucket prefix : List ℕ} {roll : Rolls} (walked : Rol
           omega (arith, calls, before, fewer, within);
     };
     cause = cause_after T (List Item × Bool) a.faults b.faults c.faults f walked.faults asks.cause;
-    effect = λ met. as_told f (keeps_after T (List Item × Bool) P (λ tree told. TellsListing bucket asked (s3_state tree) told) b c a.called b.called c.called f walked.on.ordered
+    effect = λ met. tells_state {P = TellsListing bucket asked} (Err f) (keeps_after T (List Item × Bool) P (λ tree told. TellsListing bucket asked (s3_state tree) told) b c a.called b.called c.called f walked.on.ordered
         (asks.grows.on.kept (walked.on.observable met.observable)) (walked.so met).idles (asks.effect (met_here met)));
     settled = λ observable settled. asks.settled (walked.on.observable observable) (walked.settled observable settled);
   })
-    where
-      as_told : (f : PlanFault) → Keeps c a.called c.called (TellsOf (λ tree told. TellsListing bucket asked (s3_state tree) told)) (Err f) → Keeps c a.called c.called (Tells (TellsListing bucket asked)) (Err f)
-      as_told Failed keeps = keeps
-      as_told Memory keeps = keeps
-      as_told Inconsistent never = never
 
 -- ---- no item is wanted
 

@@ -15,18 +15,18 @@ use Rattle.s3_machine.specs.declared.items.BucketItem.{BucketItem}
 use Rattle.s3_machine.specs.Step.{bucket_item, bucket_items}
 use Rattle.swift_calls.specs.Account.{SwiftContainer, SwiftAccount, files}
 use Rattle.swift_calls.specs.History.{History, present}
-use Rattle.upload_records.specs.Marks.{uploads_name, segments_name}
+use Rattle.upload_records.specs.Layout.{uploads_name, segments_name}
 use Rattle.upload_records.specs.Native.{IsSettled, s3_state, plain, bucket_of, bucket_from}
 use Rattle.upload_records.proofs.lemmas.Settled.{s3_state_settled}
 use Rattle.recovery.specs.declared.fault.PlanFault.{PlanFault}
 use Rattle.recovery.specs.Listing.{TellsOf, TellsAdded, TellsItems, Has, HasNames, heads, item_at, made_by}
 use Rattle.recovery.specs.Calls.{always, GoesOn, Met, Asks}
 use Rattle.recovery.proofs.lemmas.Faults.{err_is}
-use Rattle.recovery.proofs.lemmas.Idle.{goes_none}
+use Rattle.recovery.proofs.lemmas.Idle.{goes_none, goes_trans}
 use Rattle.recovery.proofs.Ascending.{front, back}
-use Rattle.recovery.proofs.Marks.{IsEntry, IsKey, entries_are, keys_are}
+use Rattle.recovery.proofs.Markers.{IsEntry, IsKey, entries_are, keys_are}
 use Rattle.recovery.proofs.Pages.{at_index}
-use Rattle.recovery.proofs.Walk.{Idles, idles_none, idles_trans, goes_trans, cause_after, keeps_after}
+use Rattle.recovery.proofs.Walk.{Idles, idles_none, idles_trans, cause_after, keeps_after}
 
 -- ---- the buckets of the state are those of the containers
 

@@ -1,11 +1,10 @@
 //! The limits of what an object is put with, and of what is asked for.
-ghost use Rattle.std.specs.Prelude.{◌≡◌, ◌&&◌, ◌||◌, ◌==◌, ◌+◌, length, drop, nat_le, sum_by, codes};
+ghost use Rattle.std.specs.Prelude.{◌≡◌, ◌&&◌, ◌||◌, ◌==◌, ◌+◌, drop, nat_le, sum_by, codes};
 ghost use Rattle.std.specs.List.{list_all, list_any};
-ghost use Rattle.gate_base.specs.Ascii.{is_visible};
 ghost use Rattle.s3_names.specs.Bucket.{is_lower_or_digit};
-ghost use Rattle.s3_machine.specs.Limits.{bare_name, has_visible_ends, is_content_type, is_kept_header, is_listing_text, is_lower_token_byte, is_meta_name, is_meta_value, is_own_name, is_printed, is_proper_meta, is_proper_pair, pair_bytes};
+ghost use Rattle.s3_machine.specs.Limits.{bare_name, is_content_type, is_kept_header, is_listing_text, is_lower_token_byte, is_meta_name, is_meta_value, is_own_name, is_proper_meta, is_proper_pair, pair_bytes};
 
-use gate_base::Pair;
+use gate_base::{Pair, are_printable, is_field};
 use s3_names::{Meta, is_key};
 
 /// The most bytes of the body of a request.
@@ -29,8 +28,8 @@ pub const MOST_PARTS: usize = 1000;
 /// The least number of more than 18 digits, which no range has.
 pub const RANGE_LIMIT: u64 = 1_000_000_000_000_000_000;
 
-/// The marks of a token that are neither letters nor digits (RFC 9110, section 5.6.2).
-const TOKEN_MARKS: &[u8] = b"!#$%&'*+-.^_`|~";
+/// The bytes of a token that are neither letters nor digits (RFC 9110, section 5.6.2).
+const TOKEN_SYMBOLS: &[u8] = b"!#$%&'*+-.^_`|~";
 
 /// Whether these bytes may be an object's content type: 1 to 256 bytes of visible ASCII and spaces, without a space at
 /// either end. It takes no memory.
@@ -38,7 +37,7 @@ const TOKEN_MARKS: &[u8] = b"!#$%&'*+-.^_`|~";
 pub fn is_content_type(text: &[u8]) -> bool
     ensures { result ≡ is_content_type text.now }
 {
-    text.len() <= MOST_CONTENT_TYPE_BYTES && are_printed(text) && has_visible_ends(text)
+    is_field(text, MOST_CONTENT_TYPE_BYTES)
 }
 
 /// Whether these bytes may be a value of user metadata: visible ASCII and spaces, or nothing. It takes no memory.
@@ -46,7 +45,7 @@ pub fn is_content_type(text: &[u8]) -> bool
 pub fn is_meta_value(value: &[u8]) -> bool
     ensures { result ≡ is_meta_value value.now }
 {
-    are_printed(value)
+    are_printable(value)
 }
 
 /// Whether these bytes may be a name of user metadata: `-` and the lower-case bytes of a token (RFC 9110, section
@@ -78,49 +77,22 @@ pub fn is_listing_text(text: &[u8]) -> bool
     text.len() == 0 || is_key(text)
 }
 
-fn is_visible(byte: u8) -> bool
-    ensures { result ≡ is_visible byte }
-{
-    33 <= byte && byte <= 126
-}
-
-fn is_printed(byte: u8) -> bool
-    ensures { result ≡ is_printed byte }
-{
-    32 <= byte && byte <= 126
-}
-
-fn are_printed(text: &[u8]) -> bool
-    ensures { result ≡ list_all is_printed text.now }
-{
-    text.iter().all(|byte| is_printed(*byte))
-}
-
-fn has_visible_ends(text: &[u8]) -> bool
-    ensures { result ≡ has_visible_ends text.now }
-{
-    match (text.first(), text.last()) {
-        (Some(first), Some(last)) => is_visible(*first) && is_visible(*last),
-        _ => false,
-    }
-}
-
 fn is_lower_or_digit(byte: u8) -> bool
     ensures { result ≡ is_lower_or_digit byte }
 {
     byte.is_ascii_lowercase() || byte.is_ascii_digit()
 }
 
-fn is_token_mark(byte: u8) -> bool
-    ensures { result ≡ list_any (λ mark. mark == byte) (codes "!#$%&'*+-.^_`|~") }
+fn is_token_symbol(byte: u8) -> bool
+    ensures { result ≡ list_any (λ symbol. symbol == byte) (codes "!#$%&'*+-.^_`|~") }
 {
-    TOKEN_MARKS.contains(&byte)
+    TOKEN_SYMBOLS.contains(&byte)
 }
 
 fn is_lower_token_byte(byte: u8) -> bool
     ensures { result ≡ is_lower_token_byte byte }
 {
-    is_lower_or_digit(byte) || is_token_mark(byte)
+    is_lower_or_digit(byte) || is_token_symbol(byte)
 }
 
 fn are_lower_token_bytes(text: &[u8]) -> bool

@@ -2,7 +2,7 @@ ghost use Rattle.std.specs.Prelude.{◌≡◌, is_some, IfOk};
 ghost use Rattle.std.specs.Option.{option_copied};
 ghost use Rattle.std.specs.List.{list_all, list_any as any_of};
 ghost use Rattle.gate_base.specs.Ascii.{is_letter_or_digit, is_visible};
-ghost use Rattle.sigv4.specs.Keys.{is_newline, is_space, has_word_length, is_key, key_of, keys_of, has_id, are_keys, ReadsKeys, secret_of};
+ghost use Rattle.sigv4.specs.Keys.{has_word_length, is_key, key_of, keys_of, has_id, are_keys, ReadsKeys, secret_of};
 
 use crate::index::Index;
 use gate_base::{Bytes, Copying, List, Memory, cut};
@@ -48,9 +48,9 @@ impl Copying for KeysFault {
 
 impl From<Memory> for KeysFault {
     ghost use Rattle.std.specs.Prelude.{◌≡◌};
-    ghost use Rattle.sigv4.specs.declared.keys.KeysFault.TheVariants.{Memory as memory_wanted};
+    ghost use Rattle.sigv4.specs.declared.keys.KeysFault.TheVariants.{Memory as out_of_memory};
 
-    ghost from_gives = { λ _ fault. fault ≡ memory_wanted };
+    ghost from_gives = { λ _ fault. fault ≡ out_of_memory };
 
     fn from(_: Memory) -> KeysFault {
         KeysFault::Memory

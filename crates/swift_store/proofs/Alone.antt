@@ -8,7 +8,7 @@ use Rattle.http_wire.specs.declared.message.Kind.{Kind}
 use Rattle.http_wire.specs.declared.message.Got.{Got}
 use Rattle.http_wire.specs.declared.message.Got.TheVariants.{Request, End, CutShort, Refused}
 use Rattle.http_wire.specs.FirstMessage.{FirstMessage, BeginsWith, Spells, asks, nothing, cut_short, refused}
-use Rattle.http_wire.specs.Gives.{Pending, Gives, ends}
+use Rattle.http_wire.specs.Reading.{Pending, GivesFirstMessage, ends}
 use Rattle.http_wire.proofs.lemmas.UniqueLemmas.{one_front, request_some, request_within, spelt_front, front_spells}
 
 -- no byte is left behind so many
@@ -31,20 +31,20 @@ size_in (refused kind head) = 0
 
 module _ (first second third : Pending) (bytes left rest : List ℕ) (going : second.ended ≡ false) where
   -- a request came, and then the end
-  alone_by : (message : Message) → Gives first bytes (Request message) second left → Gives second left End third rest → Spells bytes message
+  alone_by : (message : Message) → GivesFirstMessage first bytes (Request message) second left → GivesFirstMessage second left End third rest → Spells bytes message
   alone_by message (size, goes, begins, behind, at) (inl ended, same, place) = absurd (true≢false (sym ended ∙ going))
   alone_by message (size, goes, begins, behind, at) (inr none, same, place) =
       let size_is : size ≡ length bytes = all_taken bytes size (request_within bytes message size begins) (sym behind ∙ none) in
       subst (λ b. Spells b message) (ap (λ n. take n bytes) size_is ∙ take-length bytes) (front_spells bytes message size begins)
 
-  nothing_left : (message : Message) → Gives first bytes (Request message) second left → (other : Message) → Spells bytes other → left ≡ []
+  nothing_left : (message : Message) → GivesFirstMessage first bytes (Request message) second left → (other : Message) → Spells bytes other → left ≡ []
   unfolding size_in
   nothing_left message (size, goes, begins, behind, place) other spells =
       let size_is : size ≡ length bytes = ap size_in (one_front bytes (asks message size) (asks other (length bytes)) begins (spelt bytes other spells)) in
       behind ∙ ap (λ n. drop n bytes) size_is ∙ taken_all bytes
 
   -- or something else, so that bytes are left
-  not_alone_by : (got : Got) (message : Message) → Gives first bytes (Request message) second left → Gives second left got third rest → (got ≡ End → ⊥) → (other : Message) → ¬ (Spells bytes other)
+  not_alone_by : (got : Got) (message : Message) → GivesFirstMessage first bytes (Request message) second left → GivesFirstMessage second left got third rest → (got ≡ End → ⊥) → (other : Message) → ¬ (Spells bytes other)
   not_alone_by (Request more) message gave (size, goes, begins, behind, place) last other spells =
       let none = ap length (nothing_left message gave other spells) in
       let some = request_some left more size begins in
@@ -57,7 +57,7 @@ module _ (first second third : Pending) (bytes left rest : List ℕ) (going : se
       let e : refused kind head ≡ nothing = one_front left (refused kind head) nothing begins (nothing_left message gave other spells) in cc
 
 -- no request came
-no_message_by : (got : Got) (first second : Pending) (bytes left : List ℕ) → first.ended ≡ false → Gives first bytes got second left → ((message : Message) → got ≡ Request message → ⊥) → (other : Message) → ¬ (Spells bytes other)
+no_message_by : (got : Got) (first second : Pending) (bytes left : List ℕ) → first.ended ≡ false → GivesFirstMessage first bytes got second left → ((message : Message) → got ≡ Request message → ⊥) → (other : Message) → ¬ (Spells bytes other)
 no_message_by (Request message) first second bytes left goes gives never other spells = never message refl
 no_message_by End first second bytes left goes (inl ended, same, place) never other spells = absurd (true≢false (sym ended ∙ goes))
 no_message_by End first second bytes left goes (inr none, same, place) never other spells =
@@ -72,13 +72,13 @@ no_message_by (Refused kind at head) first second bytes left goes (going, begins
 open_behind : (got : Got) (message : Message) (second : Pending) → got ≡ Request message → second.ended ≡ ends (Ok got) → second.ended ≡ false
 open_behind got message second is e = e ∙ ap (λ got. ends (Ok got)) is
 
-module _ (got : Got) (first second : Pending) (bytes left : List ℕ) (gives : Gives first bytes got second left) where
-  module _ (message : Message) (is : got ≡ Request message) (e : second.ended ≡ ends (Ok got)) (next : Got) (third : Pending) (rest : List ℕ) (then : Gives second left next third rest) where
+module _ (got : Got) (first second : Pending) (bytes left : List ℕ) (gives : GivesFirstMessage first bytes got second left) where
+  module _ (message : Message) (is : got ≡ Request message) (e : second.ended ≡ ends (Ok got)) (next : Got) (third : Pending) (rest : List ℕ) (then : GivesFirstMessage second left next third rest) where
     pub alone : next ≡ End → Spells bytes message
-    alone end = alone_by first second third bytes left rest (open_behind got message second is e) message (subst (λ got. Gives first bytes got second left) is gives) (subst (λ got. Gives second left got third rest) end then)
+    alone end = alone_by first second third bytes left rest (open_behind got message second is e) message (subst (λ got. GivesFirstMessage first bytes got second left) is gives) (subst (λ got. GivesFirstMessage second left got third rest) end then)
 
     not_end : (next ≡ End → ⊥) → (other : Message) → ¬ (Spells bytes other)
-    not_end = not_alone_by first second third bytes left rest (open_behind got message second is e) next message (subst (λ got. Gives first bytes got second left) is gives) then
+    not_end = not_alone_by first second third bytes left rest (open_behind got message second is e) next message (subst (λ got. GivesFirstMessage first bytes got second left) is gives) then
 
     pub another : (more : Message) → next ≡ Request more → (other : Message) → ¬ (Spells bytes other)
     another more is_more = not_end (λ end. let e = sym is_more ∙ end in cc)

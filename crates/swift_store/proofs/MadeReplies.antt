@@ -14,7 +14,8 @@ use Rattle.std.proofs.lemmas.Str.Ascii.{IsAscii-from_all}
 use Rattle.gate_base.specs.Told.{moment_limit}
 use Rattle.swift_calls.specs.Account.{SwiftAccount, SwiftContainer, SwiftObject, find_object}
 use Rattle.swift_calls.specs.Bodies.{Look, etag_text, head_of, item_of}
-use Rattle.swift_calls.specs.Limits.{IsRange, is_content_type, is_value, is_value_byte}
+use Rattle.gate_base.specs.Fields.{is_field, is_printable}
+use Rattle.swift_calls.specs.Limits.{IsRange, is_content_type}
 use Rattle.swift_calls.specs.Step.{IsMoment, is_bare, is_listed, names_reply, items_reply, head_container, put_container, post_container, delete_by, delete_container, put_object, head_reply, get_reply, part_reply, delete_object}
 use Rattle.swift_calls.specs.declared.account.ReadList.{ReadList}
 use Rattle.swift_calls.specs.declared.account.Content.{Content}
@@ -46,13 +47,13 @@ sent_if b sent is some = ap (λ v. is_some (if v then sent else None)) is ∙ so
 
 -- ---- values
 
-value_bytes : (most : ℕ) (text : List ℕ) → is_value most text ≡ true → list_all is_value_byte text ≡ true
+value_bytes : (most : ℕ) (text : List ℕ) → is_field most text ≡ true → list_all is_printable text ≡ true
 value_bytes most text is =
     let last = and_parts _ (not (nat_eq (slice_index text (length text - 1)) 32)) is in
     let first = and_parts _ (not (nat_eq (slice_index text 0) 32)) last.0 in
-    (and_parts _ (list_all is_value_byte text) first.0).1
+    (and_parts _ (list_all is_printable text) first.0).1
 
-value_ascii : (b : ℕ) → is_value_byte b ≡ true → b < 128
+value_ascii : (b : ℕ) → is_printable b ≡ true → b < 128
 value_ascii b is = grind (arith, nat_tests)
 
 type_utf8 : (text : List ℕ) → is_content_type text ≡ true → is_utf8 text ≡ true
@@ -60,7 +61,7 @@ type_utf8 text is =
     is_utf8-from_IsUtf8 text
     (IsUtf8-from_ascii text
     (IsAscii-from_all text
-    (All-weaker (λ b. is_value_byte b ≡ true) (λ b. b < 128) value_ascii text (AllPass-from_list_all is_value_byte text (value_bytes 512 text is)))))
+    (All-weaker (λ b. is_printable b ≡ true) (λ b. b < 128) value_ascii text (AllPass-from_list_all is_printable text (value_bytes 512 text is)))))
 
 created_read : (created : Option ℕ) → IfSome created IsMoment → is_created created ≡ true
 created_read None moment = refl

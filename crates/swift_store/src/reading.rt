@@ -1,7 +1,7 @@
 //! The message that some bytes are.
 ghost use Rattle.std.specs.Prelude.{◌≡◌, ◌++◌, true, false, Ok, IfOk, IsTrue};
 ghost use Rattle.gate_base.specs.MemLine.{is_open_of, transcript_of};
-ghost use Rattle.http_wire.specs.Gives.{Gives, ends};
+ghost use Rattle.http_wire.specs.Reading.{GivesFirstMessage, ends};
 ghost use Rattle.swift_store.specs.Handing.{IsMessageIn};
 
 use gate_base::{Bytes, Line, List, MemLine, Memory, NoCount};
@@ -42,7 +42,7 @@ fn next_of(reader: &mut Reader, line: &mut MemLine) -> Result<Got, Memory>
     requires open { IsTrue (is_open_of line.old) }
     ensures open { IsTrue (is_open_of line.new) }
     ensures ends { IfOk result (λ got. reader.new.ended ≡ ends (Ok got)) }
-    ensures gives { IfOk result (λ got. Gives
+    ensures gives { IfOk result (λ got. GivesFirstMessage
         reader.old (reader.old.bytes ++ (transcript_of line.old).rest) got reader.new (reader.new.bytes ++ (transcript_of line.new).rest)) }
 {
     match reader.next_request(line, &NoCount) {

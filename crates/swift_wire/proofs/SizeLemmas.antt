@@ -12,7 +12,8 @@ use Rattle.httparse.specs.Ascii.{crlf_bytes}
 use Rattle.httparse.specs.Grammar.{is_token, is_token_byte}
 use Rattle.s3_names.specs.Escapes.{is_unreserved, stays_in_path, is_escaped_byte, upper_digit, escaped_unless, escaped_all, escaped_path}
 use Rattle.s3_names.proofs.lemmas.EscapeLemmas.{escaped_bytes_all, escaped_bytes_path}
-use Rattle.swift_calls.specs.Limits.{is_value, IsRange}
+use Rattle.gate_base.specs.Fields.{is_field}
+use Rattle.swift_calls.specs.Limits.{IsRange}
 use Rattle.swift_calls.specs.Step.{IsMoment, Fit}
 use Rattle.swift_calls.specs.declared.account.ReadList.{ReadList}
 use Rattle.swift_calls.specs.declared.account.ReadList.TheVariants.{Nobody, Everybody}
@@ -241,7 +242,7 @@ short place (PutObject c n content_type meta body) most fit =
     let base = object_size place c n most fit.0.within fit.1.1.within in
     let one = headers_size (codes "Content-Type", content_type) (meta_fields 0 meta) in
     let count = few meta fit.3 in
-    let rest = meta_size 0 meta (omega (arith, count)) (and_parts _ (list_all (is_value 256) meta) fit.3).1 in
+    let rest = meta_size 0 meta (omega (arith, count)) (and_parts _ (list_all (is_field 256) meta) fit.3).1 in
     record {
       filled = base.0;
       within = omega (arith, base.1, one, header_size (codes "Content-Type") content_type, value_most 512 content_type fit.2, rest, count);

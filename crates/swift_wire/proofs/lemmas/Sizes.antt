@@ -9,7 +9,7 @@ use Rattle.std.proofs.lemmas.Grind.{flat_map-append}
 use Rattle.http1.specs.Fields.{Header}
 use Rattle.http1.specs.Head.{print_header, print_headers}
 use Rattle.httparse.specs.Ascii.{crlf_bytes}
-use Rattle.swift_calls.specs.Limits.{is_value_byte as is_printable, is_value}
+use Rattle.gate_base.specs.Fields.{is_printable, is_field}
 use Rattle.swift_wire.specs.AnswerText.{meta_fields}
 
 pub header_size : (name value : List ℕ) → length (print_header (name, value)) ≡ length name + length value + 4
@@ -31,7 +31,7 @@ pub decimal_size : (n : ℕ) → n < 10 ^ 19 → length (decimal n) ≤ 19
 decimal_size n small = length-decimal-le 19 n (omega arith) small (omega arith)
 
 -- a value within its limit
-pub value_most : (most : ℕ) (text : List ℕ) → is_value most text ≡ true → length text ≤ most
+pub value_most : (most : ℕ) (text : List ℕ) → is_field most text ≡ true → length text ≤ most
 value_most most text is =
     let last = and_parts _ (not (nat_eq (slice_index text (length text - 1)) 32)) is in
     let first = and_parts _ (not (nat_eq (slice_index text 0) 32)) last.0 in
@@ -39,11 +39,11 @@ value_most most text is =
     let second = (and_parts (nat_le 1 (length text)) (nat_le (length text) most) all.0).1 in grind (arith, nat_tests, second)
 
 -- pieces of metadata
-pub meta_size : (index : ℕ) (pieces : List (List ℕ)) → index + length pieces < 1000 → list_all (is_value 256) pieces ≡ true
+pub meta_size : (index : ℕ) (pieces : List (List ℕ)) → index + length pieces < 1000 → list_all (is_field 256) pieces ≡ true
     → length (print_headers (meta_fields index pieces)) ≤ 296 * length pieces
 meta_size index [] fits all = omega arith
 meta_size index (piece ∷ pieces) fits all =
-    let parts = and_parts (is_value 256 piece) (list_all (is_value 256) pieces) all in
+    let parts = and_parts (is_field 256 piece) (list_all (is_field 256) pieces) all in
     let rest = meta_size (index + 1) pieces (omega (arith, fits)) parts.1 in
     let one = headers_size (codes "X-Object-Meta-S3-" ++ decimal index, piece) (meta_fields (index + 1) pieces) in
     let size = header_size (codes "X-Object-Meta-S3-" ++ decimal index) piece in

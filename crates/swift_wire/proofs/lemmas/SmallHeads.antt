@@ -7,7 +7,8 @@ use Rattle.std.proofs.lemmas.List.Elements.{All-weaker}
 use Rattle.std.proofs.lemmas.List.Sums.{AllPass-from_list_all, list_all-from_AllPass}
 use Rattle.http1.specs.Head.{is_trimmed_value, print_header, print_headers}
 use Rattle.httparse.specs.Ascii.{crlf_bytes}
-use Rattle.swift_calls.specs.Limits.{is_content_type, is_meta as is_put_meta, is_value}
+use Rattle.gate_base.specs.Fields.{is_field}
+use Rattle.swift_calls.specs.Limits.{is_content_type, is_meta as is_put_meta}
 use Rattle.swift_calls.specs.declared.heads.StoredHead.{StoredHead}
 use Rattle.swift_wire.specs.Answers.{is_part}
 use Rattle.swift_wire.specs.AnswerText.{Sent, status_line, head_text, within_limit, length_field, etag_field, is_tag, stored_by, stored_sent, meta_fields, manifest_fields, object_fields, is_meta, is_head, head_by, head_sent, range_text, range_field, bytes_by, bytes_sent}
@@ -34,7 +35,7 @@ object_size : (head : StoredHead) → IsSmallHead head → length (print_headers
 object_size head small =
     let tail = manifest_fields head.manifest ++ meta_fields 0 head.meta in
     let count = few head.meta small.meta in
-    let pieces = meta_size 0 head.meta (omega (arith, count)) (and_parts _ (list_all (is_value 256) head.meta) small.meta).1 in
+    let pieces = meta_size 0 head.meta (omega (arith, count)) (and_parts _ (list_all (is_field 256) head.meta) small.meta).1 in
     omega (
       arith,
       headers_size (codes "Content-Type", head.content_type) (etag_field head.etag ∷ tail),
@@ -110,11 +111,11 @@ part_within head range body small within =
 
 meta_read : (pieces : List (List ℕ)) → is_put_meta pieces ≡ true → is_meta pieces ≡ true
 meta_read pieces is =
-    let parts = and_parts (nat_le (length pieces) 11) (list_all (is_value 256) pieces) is in
+    let parts = and_parts (nat_le (length pieces) 11) (list_all (is_field 256) pieces) is in
     and_from _ _ parts.0
     (list_all-from_AllPass is_trimmed_value pieces
-    (All-weaker (λ p. is_value 256 p ≡ true) (λ p. is_trimmed_value p ≡ true) (λ p fits. value_trimmed 256 p fits) pieces
-    (AllPass-from_list_all (is_value 256) pieces parts.1)))
+    (All-weaker (λ p. is_field 256 p ≡ true) (λ p. is_trimmed_value p ≡ true) (λ p fits. value_trimmed 256 p fits) pieces
+    (AllPass-from_list_all (is_field 256) pieces parts.1)))
 
 head_read : (head : StoredHead) → IsSmallHead head → is_head head ≡ true
 head_read head small =

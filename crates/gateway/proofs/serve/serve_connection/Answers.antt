@@ -1,5 +1,5 @@
 use Rattle.std.proofs.Common.{ℕ, None, Some, refl, ap, subst, arith}
-use Rattle.http_wire.specs.Gives.{Pending}
+use Rattle.http_wire.specs.Reading.{Pending}
 use Rattle.gateway.specs.Exchange.{RepliesBy}
 use Rattle.gateway.specs.Serving.{NextOne}
 use Rattle.gateway.specs.World.{World, world, start_of, cursor_of}
@@ -14,7 +14,7 @@ returns-in-Err-clause-serves g c =
 pub requests-init : goal.requests-init
 requests-init g c = record {
   goes = ap (λ (r : Pending). r.ended) c.in-Ok.ensures;
-  line = record { is_open = c.requires; faults = refl; next_faults = refl; spent = omega arith; observable = λ t. t; transcript = λ t. record { waiting = refl; begun = refl; marks = refl } };
+  line = record { is_open = c.requires; faults = refl; next_faults = refl; spent = omega arith; observable = λ t. t; transcript = λ t. record { waiting = refl; begun = refl; faulty = refl } };
   serves = serves_none (λ t. t) (λ told R. answered_none _ _ _ _ _ _ c.in-Ok.ensures);
 }
 

@@ -1,6 +1,6 @@
 use Rattle.std.proofs.Common.{◌≡◌, ◌++◌, ap, subst, ◌∙◌, IfOk}
 use Rattle.gate_base.specs.MemLine.{transcript_of}
-use Rattle.http_wire.specs.Gives.{Pending}
+use Rattle.http_wire.specs.Reading.{Pending}
 use Rattle.swift_store.specs.Handing.{IsMessageIn}
 use Rattle.swift_store.proofs.reading.message_in.Goals as goal
 
