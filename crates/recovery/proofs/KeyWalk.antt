@@ -175,7 +175,7 @@ module _ {a b : History} {bucket prefix : List ℕ} {roll : Rolls} (walked : Rol
           omega (arith, calls, before, fewer, within);
     };
     cause = cause_after T (List Item × Bool) a.faults b.faults c.faults f walked.faults asks.cause;
-    effect = λ met. tells_state {P = TellsListing bucket asked} (Err f) (keeps_after T (List Item × Bool) P (λ tree told. TellsListing bucket asked (s3_state tree) told) b c a.called b.called c.called f walked.on.ordered
+    effect = λ met. tells_state (TellsListing bucket asked) c a.called c.called (Err f) (keeps_after T (List Item × Bool) P (λ tree told. TellsListing bucket asked (s3_state tree) told) b c a.called b.called c.called f walked.on.ordered
         (asks.grows.on.kept (walked.on.observable met.observable)) (walked.so met).idles (asks.effect (met_here met)));
     settled = λ observable settled. asks.settled (walked.on.observable observable) (walked.settled observable settled);
   })

@@ -151,15 +151,15 @@ abbrev pub IsReading : {T : Type 0} → SwiftRequest → (SwiftReply → Result 
 IsReading request due P = IsReadingOf IsSettled request due (λ tree. P (s3_state tree))
 
 -- what is told of an account by its state
-pub tells_state : {T : Type 0} {P : State → T → Type 0} {h : History} {p q : ℕ} (result : Result T PlanFault) → Keeps h p q (TellsOf (λ tree. P (s3_state tree))) result → Keeps h p q (Tells P) result
-tells_state (Ok told) keeps = (keeps.0, keeps.1, record { of_state = keeps.2.of_account; same = keeps.2.same })
-tells_state (Err fault.Failed) keeps = keeps
-tells_state (Err fault.Memory) keeps = keeps
-tells_state (Err fault.Inconsistent) keeps = keeps
+pub tells_state : {T : Type 0} (P : State → T → Type 0) (h : History) (p q : ℕ) (result : Result T PlanFault) → Keeps h p q (TellsOf (λ tree. P (s3_state tree))) result → Keeps h p q (Tells P) result
+tells_state P h p q (Ok told) keeps = (keeps.0, keeps.1, record { of_state = keeps.2.of_account; same = keeps.2.same })
+tells_state P h p q (Err fault.Failed) keeps = keeps
+tells_state P h p q (Err fault.Memory) keeps = keeps
+tells_state P h p q (Err fault.Inconsistent) keeps = keeps
 
 asks_state : {T : Type 0} {P : State → T → Type 0} {most : Bound} {old new : History} {given : SwiftAccount → Type 0} {result : Result T PlanFault} → Asks most old new given (TellsOf (λ tree. P (s3_state tree))) result
     → Asks most old new given (Tells P) result
-asks_state {result = result} asks = record { grows = asks.grows; cause = asks.cause; effect = λ met. tells_state result (asks.effect met); settled = asks.settled }
+asks_state {P = P} {old = old} {new = new} {result = result} asks = record { grows = asks.grows; cause = asks.cause; effect = λ met. tells_state P new old.called new.called result (asks.effect met); settled = asks.settled }
 
 -- it was not answered
 pub asked_in_vain : {T : Type 0} {old new : History} {request : SwiftRequest} {due : SwiftReply → Result T PlanFault} {P : State → T → Type 0} {fault : SwiftFault} → IsReading request due P
