@@ -9,6 +9,7 @@ use Rattle.gate_base.proofs.lemmas.Maps.{by_name, get_empty, same_key, at_adjust
 use Rattle.swift_calls.specs.Account.{SwiftAccount, SwiftContainer, SwiftObject, files, files_of, find_object, new_folder, on_files, put_file, remove_file, size_of, with_head}
 use Rattle.swift_calls.specs.Bodies.{item_of}
 use Rattle.swift_calls.specs.Step.{IsContainerName, IsMoment, page, is_listed, put_container}
+use Rattle.swift_calls.specs.declared.account.Content.{Content}
 use Rattle.swift_calls.specs.declared.account.ReadList.{ReadList}
 use Rattle.swift_store.specs.Made.{IsMade, IsMadeObject}
 use Rattle.swift_store.specs.Shelf.{container_head, object_page, with_container}
@@ -77,5 +78,11 @@ module _ (c : List ℕ) (account : SwiftAccount) (made : IsMade account) where
   made_kept n object new (Ok done) own is same = subst IsMade (sym is) (made_put c n object account made own)
   made_kept n object new (Err fault) own is same = subst IsMade (sym same) made
 
-pub small_object : (n : List ℕ) (object : SwiftObject) → IsMadeObject n object → size_of object.content < 2 ^ 63
-small_object n object own = omega (arith, own.within)
+pub small_object : (n content_type : List ℕ) (meta : List (List ℕ)) (content : Content)
+    → IsMadeObject n (record { content_type = content_type; meta = meta; content = content }) → size_of content < 2 ^ 63
+small_object n content_type meta content own = omega (arith, own.within)
+
+-- the same object under the same name
+pub made_as : (n m : List ℕ) (object other : SwiftObject) → IsMadeObject m other → n ≡ m → object ≡ other → IsMadeObject n object
+made_as n m object other own same is =
+    subst (λ (x : SwiftObject). IsMadeObject n x) (sym is) (subst (λ (k : List ℕ). IsMadeObject k other) (sym same) own)

@@ -1,6 +1,7 @@
 //! A shelf in memory.
 ghost use Rattle.std.specs.Prelude.{◌≡◌, true, option_copied};
 ghost use Rattle.std.specs.FinMap.{empty};
+ghost use Rattle.std.proofs.Props.{props};
 ghost use Rattle.swift_calls.specs.Account.{find_object};
 ghost use Rattle.swift_store.specs.Made.{IsMade};
 
@@ -19,7 +20,7 @@ use swift_calls::{NameItem, ReadList, Stored, StoredHead};
 pub struct MapShelf {
     alloc: Global,
     folders: Table<Folder>,
-    ghost made: { IsMade folders },
+    ghost made: { IsMade folders } by { Prim.hlevel props },
 }
 
 impl MapShelf {
