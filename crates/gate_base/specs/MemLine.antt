@@ -33,12 +33,12 @@ abbrev pub past_of : MemLine → ℕ
 past_of line = line.past
 
 -- how many of them, not to fail by their number, were writes that found no memory
-abbrev pub wanted_of : MemLine → ℕ
-wanted_of line = line.wanted
+abbrev pub out_of_memory_of : MemLine → ℕ
+out_of_memory_of line = line.out_of_memory
 
 -- the count of faults: the calls made that were to fail or past the limit, and the writes that found no memory
 abbrev pub faults_of : MemLine → ℕ
-faults_of line = listed (fails_of line) (made_of line) + past_of line + wanted_of line
+faults_of line = listed (fails_of line) (made_of line) + past_of line + out_of_memory_of line
 
 abbrev pub next_faults_of : MemLine → ℕ
 next_faults_of line = line.next_faults

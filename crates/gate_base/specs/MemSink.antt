@@ -17,12 +17,12 @@ abbrev pub made_of : MemSink → ℕ
 made_of sink = sink.calls.made
 
 -- how many of them, not to fail by their number, found no memory
-abbrev pub wanted_of : MemSink → ℕ
-wanted_of sink = sink.wanted
+abbrev pub out_of_memory_of : MemSink → ℕ
+out_of_memory_of sink = sink.out_of_memory
 
 -- the count of faults: the calls made that were to fail, and those that found no memory
 abbrev pub faults_of : MemSink → ℕ
-faults_of sink = listed (fails_of sink) (made_of sink) + wanted_of sink
+faults_of sink = listed (fails_of sink) (made_of sink) + out_of_memory_of sink
 
 -- the next call is to fail by its number
 abbrev pub is_to_fail : MemSink → Bool

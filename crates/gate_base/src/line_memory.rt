@@ -14,7 +14,7 @@ use std::alloc::Global;
 /// A line in memory, for tests: the connections are given whole, and what is written is kept.
 ///
 /// The calls of `next`, `read` and `write` are numbered together from 1, and those whose numbers it was given are
-/// Failed: nothing is begun, read or sent. So is a `write` that finds no memory, which [`MemLine::wanted`] counts.
+/// Failed: nothing is begun, read or sent. So is a `write` that finds no memory, which [`MemLine::out_of_memory`] counts.
 #[derive(Drop)]
 pub struct MemLine {
     transcript: MemWire,
@@ -23,16 +23,16 @@ pub struct MemLine {
     calls: Numbered,
     spent: u64,
     past: u64,
-    wanted: u64,
+    out_of_memory: u64,
     next_faults: u64,
     ghost some_piece: { 0 < piece },
     ghost begun: { IsTrue connected → 0 < (told_by transcript).begun },
-    ghost next_within: { next_faults ≤ listed calls.fails calls.made + past + wanted },
+    ghost next_within: { next_faults ≤ listed calls.fails calls.made + past + out_of_memory },
 }
 
 impl MemLine {
     ghost use Rattle.gate_base.specs.MemLine.{is_open_of, transcript_of, piece_of, fails_of, made_of, spent_of, past_of};
-    ghost use Rattle.gate_base.specs.MemLine.{wanted_of, faults_of, next_faults_of};
+    ghost use Rattle.gate_base.specs.MemLine.{out_of_memory_of, faults_of, next_faults_of};
 
     /// A line of these connections, whose reads give at most `piece` bytes, and whose calls of these numbers
     /// are Failed. It takes the room for a mark per connection.
@@ -51,7 +51,7 @@ impl MemLine {
         ensures made { IfOk result (λ line. made_of line ≡ 0) }
         ensures spent { IfOk result (λ line. spent_of line ≡ 0) }
         ensures past { IfOk result (λ line. past_of line ≡ 0) }
-        ensures wanted { IfOk result (λ line. wanted_of line ≡ 0) }
+        ensures out_of_memory { IfOk result (λ line. out_of_memory_of line ≡ 0) }
         ensures faults { IfOk result (λ line. faults_of line ≡ 0) }
         ensures next_faults { IfOk result (λ line. next_faults_of line ≡ 0) }
     {
@@ -62,7 +62,7 @@ impl MemLine {
             calls: Numbered::new(fails),
             spent: 0,
             past: 0,
-            wanted: 0,
+            out_of_memory: 0,
             next_faults: 0,
         })
     }
@@ -75,16 +75,16 @@ impl MemLine {
     }
 
     /// How many calls of `write` found no memory. At the greatest value it stays.
-    pub fn wanted(&self) -> u64
-        ensures { result ≡ wanted_of self.now }
+    pub fn out_of_memory(&self) -> u64
+        ensures { result ≡ out_of_memory_of self.now }
     {
-        self.wanted
+        self.out_of_memory
     }
 }
 
 impl<C: Counted> Line<C> for MemLine {
     ghost use Rattle.std.proofs.Common.{sym};
-    ghost use Rattle.gate_base.specs.MemLine.{is_open_of, model_of, piece_of, fails_of, made_of, past_of, wanted_of};
+    ghost use Rattle.gate_base.specs.MemLine.{is_open_of, model_of, piece_of, fails_of, made_of, past_of, out_of_memory_of};
     ghost use Rattle.gate_base.specs.MemLine.{next_faults_of, transcript_of, is_to_fail, begins_past, reads_past};
 
     ghost model = { model_of };
@@ -101,7 +101,7 @@ impl<C: Counted> Line<C> for MemLine {
         ensures made { made_of self.new ≡ one_more (made_of self.old) }
         ensures past { past_of self.new ≡ one_more_if (begins_past self.old) (past_of self.old) }
         ensures next_counted { next_faults_of self.new ≡ one_more_if (is_err result) (next_faults_of self.old) }
-        ensures wanted { wanted_of self.new ≡ wanted_of self.old }
+        ensures out_of_memory { out_of_memory_of self.new ≡ out_of_memory_of self.old }
     {
         self.connected = false;
         if self.calls.count() {
@@ -134,7 +134,7 @@ impl<C: Counted> Line<C> for MemLine {
         ensures fails { fails_of self.new ≡ fails_of self.old }
         ensures made { made_of self.new ≡ one_more (made_of self.old) }
         ensures past { past_of self.new ≡ one_more_if (reads_past self.old) (past_of self.old) }
-        ensures wanted { wanted_of self.new ≡ wanted_of self.old }
+        ensures out_of_memory { out_of_memory_of self.new ≡ out_of_memory_of self.old }
     {
         if self.calls.count() {
             self.transcript.mark();
@@ -163,7 +163,7 @@ impl<C: Counted> Line<C> for MemLine {
         ensures fails { fails_of self.new ≡ fails_of self.old }
         ensures made { made_of self.new ≡ one_more (made_of self.old) }
         ensures past { past_of self.new ≡ past_of self.old }
-        ensures wanted { wanted_of self.new ≡ one_more_if (not (is_to_fail self.old) && is_err result) (wanted_of self.old) }
+        ensures out_of_memory { out_of_memory_of self.new ≡ one_more_if (not (is_to_fail self.old) && is_err result) (out_of_memory_of self.old) }
     {
         if self.calls.count() {
             self.transcript.mark();
@@ -172,7 +172,7 @@ impl<C: Counted> Line<C> for MemLine {
         match self.transcript.keep(store.calls(), bytes) {
             Ok(()) => Ok(()),
             Err(Memory) => {
-                self.wanted = self.wanted.saturating_add(1);
+                self.out_of_memory = self.out_of_memory.saturating_add(1);
                 self.transcript.mark();
                 Err(Failed)
             }
@@ -186,7 +186,7 @@ impl<C: Counted> Line<C> for MemLine {
         ensures fails { fails_of self.new ≡ fails_of self.old }
         ensures made { made_of self.new ≡ made_of self.old }
         ensures past { past_of self.new ≡ past_of self.old }
-        ensures wanted { wanted_of self.new ≡ wanted_of self.old }
+        ensures out_of_memory { out_of_memory_of self.new ≡ out_of_memory_of self.old }
     {
         self.connected = false;
     }

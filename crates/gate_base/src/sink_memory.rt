@@ -9,16 +9,16 @@ use std::alloc::Global;
 /// A sink in memory, for tests: what is put is kept.
 ///
 /// The calls of `put` are numbered from 1, and those whose numbers it was given are Failed and put nothing. So is
-/// a call that finds no memory, which [`MemSink::wanted`] counts.
+/// a call that finds no memory, which [`MemSink::out_of_memory`] counts.
 #[derive(Debug, Drop)]
 pub struct MemSink {
     text: Bytes,
     calls: Numbered,
-    wanted: u64,
+    out_of_memory: u64,
 }
 
 impl MemSink {
-    ghost use Rattle.gate_base.specs.MemSink.{bytes_of, fails_of, made_of, wanted_of, faults_of};
+    ghost use Rattle.gate_base.specs.MemSink.{bytes_of, fails_of, made_of, out_of_memory_of, faults_of};
 
     /// A sink whose calls of these numbers are Failed.
     #[tactic(auto, unfolding(crate::specs::Listed::listed))]
@@ -26,13 +26,13 @@ impl MemSink {
         ensures bytes { bytes_of result ≡ [] }
         ensures fails { fails_of result ≡ fails }
         ensures made { made_of result ≡ 0 }
-        ensures wanted { wanted_of result ≡ 0 }
+        ensures out_of_memory { out_of_memory_of result ≡ 0 }
         ensures faults { faults_of result ≡ 0 }
     {
         MemSink {
             text: Bytes::new(alloc),
             calls: Numbered::new(fails),
-            wanted: 0,
+            out_of_memory: 0,
         }
     }
 
@@ -44,15 +44,15 @@ impl MemSink {
     }
 
     /// How many calls of `put` found no memory. At the greatest value it stays.
-    pub fn wanted(&self) -> u64
-        ensures { result ≡ wanted_of self.now }
+    pub fn out_of_memory(&self) -> u64
+        ensures { result ≡ out_of_memory_of self.now }
     {
-        self.wanted
+        self.out_of_memory
     }
 }
 
 impl Sink for MemSink {
-    ghost use Rattle.gate_base.specs.MemSink.{model_of, bytes_of, fails_of, made_of, wanted_of, is_to_fail};
+    ghost use Rattle.gate_base.specs.MemSink.{model_of, bytes_of, fails_of, made_of, out_of_memory_of, is_to_fail};
 
     ghost model = { model_of };
 
@@ -64,7 +64,7 @@ impl Sink for MemSink {
         ensures failed { IsTrue (is_to_fail self.old) → IsErr result }
         ensures fails { fails_of self.new ≡ fails_of self.old }
         ensures made { made_of self.new ≡ one_more (made_of self.old) }
-        ensures wanted { wanted_of self.new ≡ one_more_if (not (is_to_fail self.old) && is_err result) (wanted_of self.old) }
+        ensures out_of_memory { out_of_memory_of self.new ≡ one_more_if (not (is_to_fail self.old) && is_err result) (out_of_memory_of self.old) }
     {
         if self.calls.count() {
             return Err(Failed);
@@ -72,7 +72,7 @@ impl Sink for MemSink {
         match self.text.append(bytes) {
             Ok(()) => Ok(()),
             Err(Memory) => {
-                self.wanted = self.wanted.saturating_add(1);
+                self.out_of_memory = self.out_of_memory.saturating_add(1);
                 Err(Failed)
             }
         }
