@@ -17,7 +17,7 @@ use Rattle.gateway.specs.declared.meant.Meant.TheVariants as meant
 use Rattle.gateway.specs.ResolvedRequest.{Is, Understands}
 use Rattle.gateway.specs.declared.handle.Handled.TheVariants.{Served, Broken}
 use Rattle.gateway.specs.Request.{Request, reply_text, print}
-use Rattle.gateway.specs.Exchange.{ReplyRelation, Mark, RepliesExpected, printed, wanted, Sends, SendsPart, IsPiece}
+use Rattle.gateway.specs.Exchange.{ReplyRelation, Mark, RepliesExpected, printed, out_of_memory, Sends, SendsPart, IsPiece}
 use Rattle.gateway.specs.Connection.{LabelGiven, sent_by, progress}
 use Rattle.gateway.specs.Handled.{HandledOnce}
 use Rattle.gateway.specs.Write.{IsText}
@@ -79,9 +79,9 @@ module _ {R : ReplyRelation} (old new : Mark) (moments draws moments' draws' : L
         };
       }
 
-  pub handled_wanted : transcript' ≡ with_piece transcript new.number (memory_reply (is_head (asks label.moment).method))
+  pub handled_out_of_memory : transcript' ≡ with_piece transcript new.number (memory_reply (is_head (asks label.moment).method))
       → HandledOnce R transcript.begun (progress old moments draws transcript.sent) (progress new moments' draws' transcript'.sent) asks (Served (Some ended.Memory))
-  handled_wanted wrote =
+  handled_out_of_memory wrote =
       let request = asks label.moment in
       record {
         span = replied.span;
@@ -92,7 +92,7 @@ module _ {R : ReplyRelation} (old new : Mark) (moments draws moments' draws' : L
           bytes = memory_reply (is_head request.method);
           is_span = replied.is_span;
           replies = replied.replies;
-          due = wanted refl refl;
+          due = out_of_memory refl refl;
           sends = one_piece replied.span.committed new.number (memory_reply (is_head request.method)) transcript transcript' near wrote;
         };
       }
@@ -128,7 +128,7 @@ module _ {R : ReplyRelation} (old new : Mark) (moments draws moments' draws' : L
           bytes = bytes;
           is_span = replied.is_span;
           replies = replied.replies;
-          due = wanted text refl;
+          due = out_of_memory text refl;
           sends = part_of replied.span.committed new.number bytes transcript transcript' near part;
         };
       }
@@ -159,9 +159,9 @@ module _ {R : ReplyRelation} (old new : Mark) (moments draws moments' draws' : L
       let P : Option Ended → Type 0 = λ e. HandledOnce R transcript.begun (progress old moments draws transcript.sent) (progress new moments' draws' transcript'.sent) asks (Served e) in
       subst P (sym is.end) done
 
-  pub resolved_wanted : transcript' ≡ with_piece transcript new.number (memory_reply (is_head resolved.method.now))
+  pub resolved_out_of_memory : transcript' ≡ with_piece transcript new.number (memory_reply (is_head resolved.method.now))
       → HandledOnce R transcript.begun (progress old moments draws transcript.sent) (progress new moments' draws' transcript'.sent) asks (Served (Some ended.Memory))
-  resolved_wanted wrote = handled_wanted old new moments draws moments' draws' transcript transcript' asks due_label given (labels (asks next.moment).caller) due_replied
+  resolved_out_of_memory wrote = handled_out_of_memory old new moments draws moments' draws' transcript transcript' asks due_label given (labels (asks next.moment).caller) due_replied
       (wrote ∙ ap (λ m. with_piece transcript new.number (memory_reply (is_head m))) is.method)
 
   -- the text that was begun, of the label that is expected

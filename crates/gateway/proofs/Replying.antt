@@ -109,25 +109,25 @@ module _ (settings : Settings) (h : History) (was : Known) (request : Request) (
   }
 
 -- the word that memory ran out is one that may be said to an operation, whatever is known of the store
-wanted_caused : (h : History) (was : Known) (op : Op) → IsCaused (mark h was) (mark h was) op answer.Memory
-wanted_caused h was op = record { unavailable = λ is. absurd (let no : answer.Memory ≡ answer.Refused ServiceUnavailable = is in cc); unsure = λ is. inl (is, inr (inr refl)) }
+out_of_memory_caused : (h : History) (was : Known) (op : Op) → IsCaused (mark h was) (mark h was) op answer.Memory
+out_of_memory_caused h was op = record { unavailable = λ is. absurd (let no : answer.Memory ≡ answer.Refused ServiceUnavailable = is in cc); unsure = λ is. inl (is, inr (inr refl)) }
 
-wanted_performs : (settings : Settings) (h : History) (was : Known) (op : Op) (label : Label) (asked : Option Asked) → Met (IsKnown was) h
+out_of_memory_performs : (settings : Settings) (h : History) (was : Known) (op : Op) (label : Label) (asked : Option Asked) → Met (IsKnown was) h
     → Performs settings h (mark h was) (span_between h.called h.called asked) (mark h was) op label answer.Memory
-wanted_performs settings h known.Settled op label asked met = answered
+out_of_memory_performs settings h known.Settled op label asked met = answered
     (record { needs_none = λ is. refl; quiet = none_made refl met.sound; no_fault = refl; within = omega arith; settled = met.has refl })
     (record { passes = passes_still (none_made refl met.sound); by = memory refl (λ k from to. absurd (omega arith)); beside = tt })
     (omega arith)
-wanted_performs settings h known.Unsure op label asked met = unsettled
+out_of_memory_performs settings h known.Unsure op label asked met = unsettled
     (record { needs_some = refl; quiet = none_made refl met.sound; within = omega arith; says = inr refl })
     refl refl
 
 -- memory ran out before any call
 module _ (settings : Settings) (h : History) (was : Known) (request : Request) (label : Label) where
-  wanted_op : (all : Bool) (op : Op) → request.means ≡ meant.Op op → Where all (Met (IsKnown was) h)
+  out_of_memory_op : (all : Bool) (op : Op) → request.means ≡ meant.Op op → Where all (Met (IsKnown was) h)
       → RepliesBy all settings h (mark h was) (span_between h.called h.called (asked_by request.means label)) (mark h was) request label answer.Memory
-  wanted_op true op is met = performed op is (wanted_performs settings h was op label (asked_by request.means label) met) (wanted_caused h was op) met.has
-  wanted_op false op is met = performed_any op is (wanted_caused h was op)
+  out_of_memory_op true op is met = performed op is (out_of_memory_performs settings h was op label (asked_by request.means label) met) (out_of_memory_caused h was op) met.has
+  out_of_memory_op false op is met = performed_any op is (out_of_memory_caused h was op)
 
   by_means : (all : Bool) (means : Meant) → request.means ≡ means → request.means ≢ meant.Memory → IsProperMeant request.means → Where all (Met (IsKnown was) h)
       → RepliesExpected (RepliesBy all settings h) (mark h was) (mark h was) request label answer.Memory
@@ -135,7 +135,7 @@ module _ (settings : Settings) (h : History) (was : Known) (request : Request) (
     span = span_between h.called h.called (asked_by request.means label);
     due = answer.Memory;
     is_span = is_span_still h was (asked_by request.means label);
-    replies = wanted_op all op is met;
+    replies = out_of_memory_op all op is met;
     same = λ _. refl;
   }
   by_means all (meant.Refused code) is some proper met =

@@ -153,7 +153,7 @@ Where false P = Unit {0}
 -- ends it
 pub data ExpectedBytes (request : Request) (label : Label) (reply : Reply) (end : Option Ended) (bytes : List ℕ) : Type 0 where
   printed : reply ≢ Memory → bytes ≡ print reply label request → end ≡ request.end → ExpectedBytes request label reply end bytes
-  wanted : bytes ≡ memory_reply (is_head request.method) → end ≡ Some ended.Memory → ExpectedBytes request label reply end bytes
+  out_of_memory : bytes ≡ memory_reply (is_head request.method) → end ≡ Some ended.Memory → ExpectedBytes request label reply end bytes
 
 -- a piece of this connection, sent after at least t and at most q calls
 pub record IsPiece (connection t q : ℕ) (piece : Piece) : Type 0 where

@@ -24,10 +24,10 @@ Writes old at reply label method resource closing Failed new =
     (bytes : List ℕ) × IsText reply label method resource closing bytes × SendsPrefix old at bytes new
 
 -- these bytes, the out-of-memory reply, were sent after `at` calls, or the first of them, or none
-abbrev pub WritesWanted : Transcript → ℕ → List ℕ → Written → Transcript → Type 0
-WritesWanted old at bytes Whole new = ⊥
-WritesWanted old at bytes Memory new = new ≡ with_piece old at bytes
-WritesWanted old at bytes Failed new = SendsPrefix old at bytes new
+abbrev pub WritesOutOfMemory : Transcript → ℕ → List ℕ → Written → Transcript → Type 0
+WritesOutOfMemory old at bytes Whole new = ⊥
+WritesOutOfMemory old at bytes Memory new = new ≡ with_piece old at bytes
+WritesOutOfMemory old at bytes Failed new = SendsPrefix old at bytes new
 
 -- whether the line failed
 abbrev pub is_failed_write : Written → Bool

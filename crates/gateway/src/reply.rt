@@ -40,7 +40,7 @@ pub fn reply_to<W: Swift>(
     ensures showable { IsShowable result }
     ensures goes_on { GoesOn (W.history store.old) (W.history store.new) }
     ensures unavailable { result ≡ answer.Refused ServiceUnavailable → Rose (W.history store.old).faults (W.history store.new).faults }
-    ensures wanted { means ≡ variant.Memory → result ≡ answer.Memory }
+    ensures out_of_memory { means ≡ variant.Memory → result ≡ answer.Memory }
     ensures stands { Stands settings.now known.old known.new (W.history store.old) (W.history store.new) }
 
     // Where memory ran out, some reply is expected, and it is not this one; then who sent the request may be unknown.

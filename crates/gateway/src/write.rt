@@ -7,7 +7,7 @@ ghost use Rattle.s3_machine.specs.declared.operation.Reply.TheVariants as answer
 ghost use Rattle.s3_machine.specs.Shown.{IsShowable};
 ghost use Rattle.gateway.specs.declared.write.Written.TheVariants as written;
 ghost use Rattle.gateway.specs.Request.{reply_text};
-ghost use Rattle.gateway.specs.Write.{Writes, WritesWanted, is_failed_write};
+ghost use Rattle.gateway.specs.Write.{Writes, WritesOutOfMemory, is_failed_write};
 
 use gate_base::{Bytes, Line, Memory};
 use http_wire::{print_memory, print_page};
@@ -59,16 +59,16 @@ pub fn write_memory<N: Line<W>, W: Swift>(line: &mut N, store: &W, head: bool) -
     requires { IsTrue (N.model line.old).is_open }
     ensures outcome { result ≢ written.Whole }
     ensures writes { OnlyWrites (is_failed_write result) (N.model line.old) (N.model line.new) }
-    ensures effect { IsTrue (N.model line.old).observable → WritesWanted (N.model line.old).transcript (W.history store.now).called (memory_reply head) result (N.model line.new).transcript }
+    ensures effect { IsTrue (N.model line.old).observable → WritesOutOfMemory (N.model line.old).transcript (W.history store.now).called (memory_reply head) result (N.model line.new).transcript }
 {
-    write_wanted(line, store, print_memory(head))
+    write_out_of_memory(line, store, print_memory(head))
 }
 
-fn write_wanted<N: Line<W>, W: Swift>(line: &mut N, store: &W, bytes: &[u8]) -> Written
+fn write_out_of_memory<N: Line<W>, W: Swift>(line: &mut N, store: &W, bytes: &[u8]) -> Written
     requires { IsTrue (N.model line.old).is_open }
     ensures outcome { result ≢ written.Whole }
     ensures writes { OnlyWrites (is_failed_write result) (N.model line.old) (N.model line.new) }
-    ensures effect { IsTrue (N.model line.old).observable → WritesWanted (N.model line.old).transcript (W.called store.now) bytes.now result (N.model line.new).transcript }
+    ensures effect { IsTrue (N.model line.old).observable → WritesOutOfMemory (N.model line.old).transcript (W.called store.now) bytes.now result (N.model line.new).transcript }
 {
     match line.write(store, bytes) {
         Ok(()) => Written::Memory,

@@ -200,8 +200,8 @@ module _ {settings : Settings} {given : State → Type 0} {op : Op} {label : Lab
   }
 
   -- memory ran out before a call
-  pub wants_memory : (h : History) (end : Result Reply PlanFault) → IsErrAnd end (λ e. e ≡ Memory) → Plans most h h settings (Given given) op label Settled end
-  wants_memory h end is = subst (Plans most h h settings (Given given) op label Settled) (sym (err_is end Memory is)) (record {
+  pub out_of_memory : (h : History) (end : Result Reply PlanFault) → IsErrAnd end (λ e. e ≡ Memory) → Plans most h h settings (Given given) op label Settled end
+  out_of_memory h end is = subst (Plans most h h settings (Given given) op label Settled) (sym (err_is end Memory is)) (record {
     grows = grows_none most (Given given) h;
     cause = cause_of (ends_by_commit op) h.faults h.faults (Err Memory) refl;
     own = tt;

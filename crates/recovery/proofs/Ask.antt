@@ -105,8 +105,8 @@ module _ {T U : Type 0} {most : Bound} {given given' : SwiftAccount → Type 0} 
   }
 
   -- memory ran out after the calls
-  pub asks_wants : {x : T} → Asks most a b given (TellsOf P) (Ok x) → (result : Result U PlanFault) → IsErrAnd result (λ e. e ≡ fault.Memory) → Asks most a b given' (TellsOf Q) result
-  asks_wants asks result is = subst (Asks most a b given' (TellsOf Q)) (sym (err_is result fault.Memory is)) (record {
+  pub asks_out_of_memory : {x : T} → Asks most a b given (TellsOf P) (Ok x) → (result : Result U PlanFault) → IsErrAnd result (λ e. e ≡ fault.Memory) → Asks most a b given' (TellsOf Q) result
+  asks_out_of_memory asks result is = subst (Asks most a b given' (TellsOf Q)) (sym (err_is result fault.Memory is)) (record {
     grows = grows_given gives asks.grows;
     cause = asks.cause;
     effect = λ met. let keeps = asks.effect (met_given gives met) in (keeps.0, keeps.1);

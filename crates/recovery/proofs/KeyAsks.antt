@@ -30,7 +30,7 @@ use Rattle.recovery.specs.Keys.{TellsKeys}
 use Rattle.recovery.specs.Listing.{TellsOf}
 use Rattle.recovery.proofs.lemmas.Faults.{err_is}
 use Rattle.recovery.proofs.lemmas.Idle.{stays}
-use Rattle.recovery.proofs.Ask.{IsReadingOf, asked_of, asked_of_in_vain, asks_wants}
+use Rattle.recovery.proofs.Ask.{IsReadingOf, asked_of, asked_of_in_vain, asks_out_of_memory}
 use Rattle.recovery.proofs.KeyPages.{page_is_one, page_tells}
 use Rattle.recovery.proofs.One as one
 use Rattle.recovery.proofs.One.{grows_one, found, stays_settled}
@@ -148,7 +148,7 @@ as_named {a = a} {b = b} {marker = marker} {r = r} named fronted asks = subst {A
 -- the keys couldn't be taken
 pub asks_rolled : {a b : History} {bucket prefix marker : List ℕ} {page handed : List NameItem} {f : RollFault} {Q : SwiftAccount → Bool → Type 0} → Asks (always 1) a b IsSettled (TellsOf (TellsKeys bucket prefix marker)) (Ok page)
     → handed ≡ page → (f ≡ rolls.NoTag → HasUntagged handed) → (result : Result Bool PlanFault) → IsErrAnd result (λ e. e ≡ of_roll f) → Asks (always 1) a b IsSettled (TellsOf Q) result
-asks_rolled {f = rolls.Memory} asks same untagged result gives = asks_wants (λ tree has. has) asks result gives
+asks_rolled {f = rolls.Memory} asks same untagged result gives = asks_out_of_memory (λ tree has. has) asks result gives
 asks_rolled {a = a} {b = b} {f = rolls.NoTag} {Q = Q} asks same untagged result gives = subst (Asks (always 1) a b IsSettled (TellsOf Q)) (sym (err_is result plan.Inconsistent gives)) (record {
   grows = asks.grows;
   cause = asks.cause;

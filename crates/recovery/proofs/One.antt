@@ -103,8 +103,8 @@ module _ {T : Type 0} {request : SwiftRequest} {due : SwiftReply → Result T Pl
   unread Memory (inr same) = (none_made same sound, ap h.faults_at same)
 
   read : (reply : SwiftReply) (result : Result T PlanFault) → Replied h p q request reply → Gives result (due reply) → Keeps h p q (Tells P) result
-  read reply result c (inl wanted) =
-      subst (Keeps h p q (Tells P)) (sym wanted) (let next = c.next in (stays (omega arith) (omega arith) (c.tree ∙ reading.leaves (h.tree_at p)) sound, c.quiet))
+  read reply result c (inl out_of_memory) =
+      subst (Keeps h p q (Tells P)) (sym out_of_memory) (let next = c.next in (stays (omega arith) (omega arith) (c.tree ∙ reading.leaves (h.tree_at p)) sound, c.quiet))
   read reply result c (inr is) =
       let told = reading.tells (h.tree_at p) sound settled reply c.reply in
       let same = c.tree ∙ reading.leaves (h.tree_at p) in

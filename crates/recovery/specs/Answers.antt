@@ -72,8 +72,8 @@ abbrev pub OldIfFailed : Op → History → ℕ → ℕ → Type 0
 OldIfFailed op h p q = OldBefore h p q
 
 -- what the word that memory ran out says of it: the same
-abbrev pub OldIfWanted : Op → History → ℕ → ℕ → Type 0
-OldIfWanted op h p q = OldBefore h p q
+abbrev pub OldIfOutOfMemory : Op → History → ℕ → ℕ → Type 0
+OldIfOutOfMemory op h p q = OldBefore h p q
 
 -- what the reply says of the account beside the state: nothing
 abbrev pub SaysBeside : Op → History → ℕ → ℕ → Reply → Type 0
@@ -84,7 +84,7 @@ SaysBeside op h p q reply = Unit {0}
 pub data AnswersBy (settings : Settings) (h : History) (p q : ℕ) (op : Op) (label : Label) (takes : ℕ) (reply : Reply) : Type 0 where
   machine : takes ≡ steps_of op → Stepped settings (h.tree_at p) op label reply (s3_state (h.tree_at q)) → AnswersBy settings h p q op label takes reply
   unavailable : reply ≡ Refused ServiceUnavailable → LastFailed h p q → OldIfFailed op h p q → AnswersBy settings h p q op label takes reply
-  memory : reply ≡ Memory → OldIfWanted op h p q → AnswersBy settings h p q op label takes reply
+  memory : reply ≡ Memory → OldIfOutOfMemory op h p q → AnswersBy settings h p q op label takes reply
 
 -- and the state goes through the steps that are taken, consistent at each number; t is the operation's commit point
 pub record Answers (settings : Settings) (h : History) (p t q : ℕ) (op : Op) (label : Label) (takes : ℕ) (reply : Reply) : Type 0 where

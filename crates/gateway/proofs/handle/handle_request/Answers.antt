@@ -1,5 +1,5 @@
 use Rattle.gateway.specs.Request.{asks_of}
-use Rattle.gateway.proofs.Handling.{resolved_whole, resolved_wanted, resolved_broken}
+use Rattle.gateway.proofs.Handling.{resolved_whole, resolved_out_of_memory, resolved_broken}
 use Rattle.gateway.proofs.handle.handle_request.Goals as goal
 
 pub returns-in-Whole-clause-serves : goal.returns-in-Whole-clause-serves
@@ -9,7 +9,7 @@ returns-in-Whole-clause-serves g c = record {
   effect = λ told all met.
       let wrote = c.in-Whole.ensures.effect told.line in
       resolved_whole _ _ _ _ _ _ _ _ (asks_of c.args.service.now c.args.received) c.next_label-next.result c.sent_by-label.result c.reply_to-reply.result c.resolve-resolved.result c.resolve-resolved.ensures.is
-      c.sent_by-label.ensures (c.next_label-next.ensures.effect told.clock told.draws) c.reply_to-reply.ensures.wanted (c.reply_to-reply.ensures.effect all met) _ c.is_some.ensures wrote.0 wrote.1;
+      c.sent_by-label.ensures (c.next_label-next.ensures.effect told.clock told.draws) c.reply_to-reply.ensures.out_of_memory (c.reply_to-reply.ensures.effect all met) _ c.is_some.ensures wrote.0 wrote.1;
 }
 
 pub returns-in-Memory-clause-serves : goal.returns-in-Memory-clause-serves
@@ -17,8 +17,8 @@ returns-in-Memory-clause-serves g c = record {
   on = record { line = c.in-Memory.ensures.writes.serves.observable; store = c.reply_to-reply.ensures.goes_on; clock = c.next_label-next.ensures.clock_observable; draws = c.next_label-next.ensures.draws_observable };
   stands = c.reply_to-reply.ensures.stands;
   effect = λ told all met.
-      resolved_wanted _ _ _ _ _ _ _ _ (asks_of c.args.service.now c.args.received) c.next_label-next.result c.sent_by-label.result c.reply_to-reply.result c.resolve-resolved.result c.resolve-resolved.ensures.is
-      c.sent_by-label.ensures (c.next_label-next.ensures.effect told.clock told.draws) c.reply_to-reply.ensures.wanted (c.reply_to-reply.ensures.effect all met) (c.in-Memory.ensures.effect told.line);
+      resolved_out_of_memory _ _ _ _ _ _ _ _ (asks_of c.args.service.now c.args.received) c.next_label-next.result c.sent_by-label.result c.reply_to-reply.result c.resolve-resolved.result c.resolve-resolved.ensures.is
+      c.sent_by-label.ensures (c.next_label-next.ensures.effect told.clock told.draws) c.reply_to-reply.ensures.out_of_memory (c.reply_to-reply.ensures.effect all met) (c.in-Memory.ensures.effect told.line);
 }
 
 pub returns-clause-serves : goal.returns-clause-serves
@@ -27,5 +27,5 @@ returns-clause-serves g c = record {
   stands = c.reply_to-reply.ensures.stands;
   effect = λ told all met.
       resolved_broken _ _ _ _ _ _ _ _ (asks_of c.args.service.now c.args.received) c.next_label-next.result c.sent_by-label.result c.reply_to-reply.result c.resolve-resolved.result c.resolve-resolved.ensures.is
-      c.sent_by-label.ensures (c.next_label-next.ensures.effect told.clock told.draws) c.reply_to-reply.ensures.wanted (c.reply_to-reply.ensures.effect all met) _ c.is_some.ensures (c.in-Failed.ensures.effect told.line);
+      c.sent_by-label.ensures (c.next_label-next.ensures.effect told.clock told.draws) c.reply_to-reply.ensures.out_of_memory (c.reply_to-reply.ensures.effect all met) _ c.is_some.ensures (c.in-Failed.ensures.effect told.line);
 }

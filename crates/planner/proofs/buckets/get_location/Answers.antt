@@ -1,11 +1,11 @@
 use Rattle.std.specs.Prelude.{None, Some}
 use Rattle.std.proofs.Common.{◌∙◌, lit≤, rules}
-use Rattle.planner.proofs.Ends.{told_nothing, wants_memory, answers}
+use Rattle.planner.proofs.Ends.{told_nothing, out_of_memory, answers}
 use Rattle.planner.proofs.BucketSteps.{locate_missing, located}
 use Rattle.planner.proofs.buckets.get_location.Goals as goal
 
 pub returns-in_err-region-clause-plans : goal.returns-in_err-region-clause-plans
-returns-in_err-region-clause-plans g c = λ label. wants_memory _ _ c.from_residual.ensures.1
+returns-in_err-region-clause-plans g c = λ label. out_of_memory _ _ c.from_residual.ensures.1
 
 pub returns-in_err-head_bucket-clause-plans : goal.returns-in_err-head_bucket-clause-plans
 returns-in_err-head_bucket-clause-plans g c = λ label. told_nothing (lit≤ tt) c.in_err-head_bucket.ensures.asks _ c.from_residual-in_err-head_bucket.ensures.1

@@ -1,6 +1,6 @@
 use Rattle.std.proofs.Common.{sym, subst, lit≤, rules}
 use Rattle.planner.specs.Plan.{Plans}
-use Rattle.planner.proofs.Ends.{wants_memory, commits, becomes}
+use Rattle.planner.proofs.Ends.{out_of_memory, commits, becomes}
 use Rattle.planner.proofs.CreateBucket.{steps_made, missing_of}
 use Rattle.planner.proofs.buckets.make_missing.Goals as goal
 
@@ -11,4 +11,4 @@ returns-clause-plans g c =
     (λ state done new missing is. becomes (steps_made _ state _ _ _ _ c.in_ok-copy.ensures missing) is))
 
 pub returns-in_err-copy-clause-plans : goal.returns-in_err-copy-clause-plans
-returns-in_err-copy-clause-plans g c = wants_memory _ _ c.from_residual.ensures.1
+returns-in_err-copy-clause-plans g c = out_of_memory _ _ c.from_residual.ensures.1

@@ -1,7 +1,7 @@
 use Rattle.std.proofs.Common.{sym, ap, subst, ◌∙◌, lit≤, rules}
 use Rattle.s3_machine.specs.ETag.{body_etag}
 use Rattle.planner.specs.Plan.{Plans}
-use Rattle.planner.proofs.Ends.{needs_none, wants_memory, commits, becomes}
+use Rattle.planner.proofs.Ends.{needs_none, out_of_memory, commits, becomes}
 use Rattle.planner.proofs.Steps.{put_other, put_stored}
 use Rattle.planner.proofs.objects.put_into.Goals as goal
 
@@ -9,7 +9,7 @@ pub returns-then-is_other_acl-clause-plans : goal.returns-then-is_other_acl-clau
 returns-then-is_other_acl-clause-plans g c = needs_none _ (search rules) (λ state there. put_other _ state _ _ _ _ there _ _ _ _ (sym c.is_other_acl.ensures ∙ c.if-is_other_acl.true))
 
 pub returns-in_err-from_slice-clause-plans : goal.returns-in_err-from_slice-clause-plans
-returns-in_err-from_slice-clause-plans g c = wants_memory _ _ c.from_residual.ensures.1
+returns-in_err-from_slice-clause-plans g c = out_of_memory _ _ c.from_residual.ensures.1
 
 pub returns-clause-plans : goal.returns-clause-plans
 returns-clause-plans g c =
