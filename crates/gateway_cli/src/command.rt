@@ -50,9 +50,9 @@ impl Copying for WordsFault {
 
 impl From<Memory> for WordsFault {
     ghost use Rattle.std.specs.Prelude.{◌≡◌};
-    ghost use Rattle.gateway_cli.specs.declared.command.WordsFault.TheVariants.{Memory as memory_wanted};
+    ghost use Rattle.gateway_cli.specs.declared.command.WordsFault.TheVariants.{Memory as out_of_memory};
 
-    ghost from_gives = { λ _ fault. fault ≡ memory_wanted };
+    ghost from_gives = { λ _ fault. fault ≡ out_of_memory };
 
     fn from(_: Memory) -> WordsFault {
         WordsFault::Memory
@@ -61,9 +61,9 @@ impl From<Memory> for WordsFault {
 
 impl From<AllocError> for WordsFault {
     ghost use Rattle.std.specs.Prelude.{◌≡◌};
-    ghost use Rattle.gateway_cli.specs.declared.command.WordsFault.TheVariants.{Memory as memory_wanted};
+    ghost use Rattle.gateway_cli.specs.declared.command.WordsFault.TheVariants.{Memory as out_of_memory};
 
-    ghost from_gives = { λ _ fault. fault ≡ memory_wanted };
+    ghost from_gives = { λ _ fault. fault ≡ out_of_memory };
 
     fn from(_: AllocError) -> WordsFault {
         WordsFault::Memory

@@ -120,9 +120,9 @@ impl From<Failed> for ReadFault {
 
 impl From<Memory> for ReadFault {
     ghost use Rattle.std.specs.Prelude.{◌≡◌};
-    ghost use Rattle.http_wire.specs.declared.message.ReadFault.TheVariants.{Memory as memory_wanted};
+    ghost use Rattle.http_wire.specs.declared.message.ReadFault.TheVariants.{Memory as out_of_memory};
 
-    ghost from_gives = { λ _ fault. fault ≡ memory_wanted };
+    ghost from_gives = { λ _ fault. fault ≡ out_of_memory };
 
     fn from(_: Memory) -> ReadFault {
         ReadFault::Memory
@@ -131,9 +131,9 @@ impl From<Memory> for ReadFault {
 
 impl From<AllocError> for ReadFault {
     ghost use Rattle.std.specs.Prelude.{◌≡◌};
-    ghost use Rattle.http_wire.specs.declared.message.ReadFault.TheVariants.{Memory as memory_wanted};
+    ghost use Rattle.http_wire.specs.declared.message.ReadFault.TheVariants.{Memory as out_of_memory};
 
-    ghost from_gives = { λ _ fault. fault ≡ memory_wanted };
+    ghost from_gives = { λ _ fault. fault ≡ out_of_memory };
 
     fn from(_: AllocError) -> ReadFault {
         ReadFault::Memory

@@ -48,9 +48,9 @@ impl Copying for KeysFault {
 
 impl From<Memory> for KeysFault {
     ghost use Rattle.std.specs.Prelude.{◌≡◌};
-    ghost use Rattle.sigv4.specs.declared.keys.KeysFault.TheVariants.{Memory as memory_wanted};
+    ghost use Rattle.sigv4.specs.declared.keys.KeysFault.TheVariants.{Memory as out_of_memory};
 
-    ghost from_gives = { λ _ fault. fault ≡ memory_wanted };
+    ghost from_gives = { λ _ fault. fault ≡ out_of_memory };
 
     fn from(_: Memory) -> KeysFault {
         KeysFault::Memory

@@ -34,9 +34,9 @@ pub enum Refusal {
 
 impl From<Memory> for Refusal {
     ghost use Rattle.std.specs.Prelude.{◌≡◌};
-    ghost use Rattle.sigv4.specs.declared.refusal.Refusal.TheVariants.{Memory as memory_wanted};
+    ghost use Rattle.sigv4.specs.declared.refusal.Refusal.TheVariants.{Memory as out_of_memory};
 
-    ghost from_gives = { λ _ refusal. refusal ≡ memory_wanted };
+    ghost from_gives = { λ _ refusal. refusal ≡ out_of_memory };
 
     fn from(_: Memory) -> Refusal {
         Refusal::Memory
