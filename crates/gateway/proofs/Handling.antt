@@ -17,7 +17,7 @@ use Rattle.gateway.specs.declared.meant.Meant.TheVariants as meant
 use Rattle.gateway.specs.ResolvedRequest.{Is, Understands}
 use Rattle.gateway.specs.declared.handle.Handled.TheVariants.{Served, Broken}
 use Rattle.gateway.specs.Request.{Request, reply_text, print}
-use Rattle.gateway.specs.Exchange.{ReplyRelation, Mark, RepliesExpected, printed, out_of_memory, Sends, SendsPart, IsPiece}
+use Rattle.gateway.specs.Exchange.{ReplyRelation, StoreCursor, RepliesExpected, printed, out_of_memory, Sends, SendsPart, IsPiece}
 use Rattle.gateway.specs.Connection.{LabelGiven, sent_by, progress}
 use Rattle.gateway.specs.Handled.{HandledOnce}
 use Rattle.gateway.specs.Write.{IsText}
@@ -55,7 +55,7 @@ part_of t q bytes transcript transcript' near (inr (n, e)) = record {
   each = only transcript.begun t q (take n bytes) near;
 }
 
-module _ {R : ReplyRelation} (old new : Mark) (moments draws moments' draws' : List ℕ) (transcript transcript' : Transcript) (asks : ℕ → Request) (label : Label) (given : Reply)
+module _ {R : ReplyRelation} (old new : StoreCursor) (moments draws moments' draws' : List ℕ) (transcript transcript' : Transcript) (asks : ℕ → Request) (label : Label) (given : Reply)
     (labels : LabelGiven moments draws moments' draws' (asks label.moment).caller label) (replied : RepliesExpected R old new (asks label.moment) label given) where
   near : replied.span.committed ≤ new.number
   near = let last = replied.is_span.last in let to = replied.is_span.to in omega arith
@@ -134,7 +134,7 @@ module _ {R : ReplyRelation} (old new : Mark) (moments draws moments' draws' : L
       }
 
 -- the same, of a request as the code holds it: the code's label has the caller of the request, unless memory ran out
-module _ {R : ReplyRelation} (old new : Mark) (moments draws moments' draws' : List ℕ) (transcript transcript' : Transcript) (asks : ℕ → Request) (next label : Label) (given : Reply)
+module _ {R : ReplyRelation} (old new : StoreCursor) (moments draws moments' draws' : List ℕ) (transcript transcript' : Transcript) (asks : ℕ → Request) (next label : Label) (given : Reply)
     (resolved : ResolvedRequest) (is : Is resolved (asks next.moment)) (own : label ≡ sent_by resolved.caller next) (labels : (from : Caller) → LabelGiven moments draws moments' draws' from (sent_by from next))
     (known : resolved.means ≡ meant.Memory → given ≡ answer.Memory)
     (told : (request : Request) → Understands resolved.means request → (resolved.means ≢ meant.Memory → label.caller ≡ request.caller) → RepliesExpected R old new request (sent_by request.caller label) given) where

@@ -20,7 +20,7 @@ use Rattle.recovery.specs.Answers.{steps_of, IsStage, before_step, after_step, P
 use Rattle.recovery.specs.Stutters.{LastFailed}
 use Rattle.gateway.specs.declared.meant.Meant.TheVariants as meant
 use Rattle.gateway.specs.Request.{Request}
-use Rattle.gateway.specs.Exchange.{Asked, Mark, Span, IsPiece, Performs, unsettled, answered, Replies, refused, performed}
+use Rattle.gateway.specs.Exchange.{Asked, StoreCursor, Span, IsPiece, Performs, unsettled, answered, Replies, refused, performed}
 use Rattle.gateway.specs.Stands.{Follows, AllPass, SpanPasses}
 use Rattle.gateway.specs.Life.{CountedAt, counted, uncounted, Counted, After, Lives, AfterLives, OneRun, ManyRuns, SentIsCounted, pieces_of}
 use Rattle.gateway.proofs.lemmas.Standing.{stands_throughout}
@@ -141,12 +141,12 @@ unsaid : {h : History} {p q : ℕ} {reply : Reply} → reply ≢ Memory → repl
 unsaid known steady (inl (is, failed)) = steady is
 unsaid known steady (inr is) = known is
 
-performs_takes : {settings : Settings} {h : History} {old new : Mark} {span : Span} {op : Op} {label : Label} {reply : Reply} → reply ≢ Memory → reply ≢ Refused ServiceUnavailable
+performs_takes : {settings : Settings} {h : History} {old new : StoreCursor} {span : Span} {op : Op} {label : Label} {reply : Reply} → reply ≢ Memory → reply ≢ Refused ServiceUnavailable
     → Performs settings h old span new op label reply → span.takes ≡ steps_of op
 performs_takes known steady (unsettled not begins takes) = absurd (unsaid known steady not.says)
 performs_takes known steady (answered settled answers bound) = by_takes known steady answers.by
 
-replies_take : {settings : Settings} {h : History} {old new : Mark} {span : Span} {request : Request} {label : Label} {reply : Reply} (op : Op) → request.means ≡ meant.Op op → reply ≢ Memory → reply ≢ Refused ServiceUnavailable
+replies_take : {settings : Settings} {h : History} {old new : StoreCursor} {span : Span} {request : Request} {label : Label} {reply : Reply} (op : Op) → request.means ≡ meant.Op op → reply ≢ Memory → reply ≢ Refused ServiceUnavailable
     → Replies settings h old span new request label reply → span.takes ≡ steps_of op
 replies_take op asks known steady (refused code means is proper sound same takes) = cc
 replies_take {span = span} op asks known steady (performed other means performs caused known') =

@@ -12,7 +12,7 @@ use Rattle.recovery.specs.Settling.{IsKnown}
 use Rattle.http_wire.specs.Gives.{Pending}
 use Rattle.gateway.specs.declared.ended.Ended.{Ended}
 use Rattle.gateway.specs.declared.service.Service.{Service}
-use Rattle.gateway.specs.Exchange.{ReplyRelation, Mark, Span, RepliesBy, Where}
+use Rattle.gateway.specs.Exchange.{ReplyRelation, StoreCursor, Span, RepliesBy, Where}
 use Rattle.gateway.specs.Connection.{Progress, ConnectionCursor, progress, cursor, Exchanges, none, more, ConnectionTrace}
 use Rattle.gateway.specs.Serving.{NextOne, EndsUnread}
 use Rattle.gateway.specs.Stands.{Stands}
@@ -69,10 +69,10 @@ answered_ends connection begin present next ended answered ends =
     (answered.0 ++ ends.0, record { last = present; before = answered.0; after = ends.0; exchanges = answered.1; ends = ends.1; all = refl })
 
 -- they are so in a longer history
-pub answered_agree : {service : Service} (settings : Settings) (old new : History) (all : Bool) (connection : ℕ) (begin present : ConnectionCursor) → Where all (Extends present.progress.mark.number old new)
+pub answered_agree : {service : Service} (settings : Settings) (old new : History) (all : Bool) (connection : ℕ) (begin present : ConnectionCursor) → Where all (Extends present.progress.store.number old new)
     → Answered service (RepliesBy all settings old) connection begin present → Answered service (RepliesBy all settings new) connection begin present
 answered_agree settings old new true connection begin present kept answered =
-    (answered.0, exchanges_map (replies_agree {first = begin.progress.mark} {last = present.progress.mark} kept) (between_ends begin.progress.mark present.progress.mark) answered.1)
+    (answered.0, exchanges_map (replies_agree {first = begin.progress.store} {last = present.progress.store} kept) (between_ends begin.progress.store present.progress.store) answered.1)
 answered_agree settings old new false connection begin present kept answered = answered
 
 -- a reader at the beginning of a connection
@@ -86,7 +86,7 @@ answered_none service R connection rest so_far reader e =
     ([], subst P (sym e) (none (cursor rest 0 so_far)))
 
 -- memory ran out before any request was read
-pub unread_at_once : (service : Service) (R : ReplyRelation) (here : Mark) (moments draws : List ℕ) (transcript transcript' : Transcript) (ended : Ended) → EndsUnread here.number transcript ended transcript'
+pub unread_at_once : (service : Service) (R : ReplyRelation) (here : StoreCursor) (moments draws : List ℕ) (transcript transcript' : Transcript) (ended : Ended) → EndsUnread here.number transcript ended transcript'
     → (spans : List Span) × ConnectionTrace service R transcript.begun ended (cursor transcript.rest 0 (progress here moments draws transcript.sent)) spans (progress here moments draws transcript'.sent)
 unfolding fresh
 unread_at_once service R here moments draws transcript transcript' ended ends =

@@ -23,7 +23,7 @@ use Rattle.gateway.specs.ResolvedRequest.{IsProperMeant, Understands}
 use Rattle.gateway.specs.Proper.{IsProperCode}
 use Rattle.gateway.specs.Request.{Request}
 use Rattle.gateway.specs.Connection.{sent_by}
-use Rattle.gateway.specs.Exchange.{Asked, asked_by, mark, Span, IsSpan, Performs, unsettled, answered, refused, performed, refused_any, performed_any, RepliesBy, RepliesExpected, Where, IsCaused, Operated}
+use Rattle.gateway.specs.Exchange.{Asked, asked_by, store_cursor, Span, IsSpan, Performs, unsettled, answered, refused, performed, refused_any, performed_any, RepliesBy, RepliesExpected, Where, IsCaused, Operated}
 use Rattle.gateway.specs.Stands.{SpanPasses, Stands}
 use Rattle.gateway.proofs.lemmas.Order.{follows_none, is_span_follows}
 use Rattle.gateway.proofs.lemmas.Passing.{performs_pass, all_pass_none, all_pass_one}
@@ -55,13 +55,13 @@ stands_still settings was h met = record { spans = []; follows = follows_none re
 
 module _ (settings : Settings) (old new : History) (was now : Known) (request : Request) (label : Label) where
   due_op : (all : Bool) {op : Op} {given : Reply} → request.means ≡ meant.Op op → Operated settings op (sent_by request.caller label) old new was now given → Where all (Met (IsKnown was) old)
-      → RepliesExpected (RepliesBy all settings new) (mark old was) (mark new now) request (sent_by request.caller label) given
+      → RepliesExpected (RepliesBy all settings new) (store_cursor old was) (store_cursor new now) request (sent_by request.caller label) given
   due_op true {op = op} {given = given} is own met =
       let told = own.effect met in
       record {
         span = told.0;
         due = given;
-        is_span = subst (IsSpan (mark old was) told.0 (mark new now)) (sym (ap (λ m. asked_by m (sent_by request.caller label)) is)) told.1;
+        is_span = subst (IsSpan (store_cursor old was) told.0 (store_cursor new now)) (sym (ap (λ m. asked_by m (sent_by request.caller label)) is)) told.1;
         replies = performed op is told.2 own.caused (own.known met.observable met.has);
         same = λ _. refl;
       }
@@ -76,7 +76,7 @@ module _ (settings : Settings) (old new : History) (was now : Known) (request : 
   -- to an operation
   pub replied_op : (all : Bool) (means : Meant) (op : Op) (given : Reply) → means ≡ meant.Op op → Understands means request → (means ≢ meant.Memory → label.caller ≡ request.caller)
       → Operated settings op label old new was now given → Where all (Met (IsKnown was) old)
-      → RepliesExpected (RepliesBy all settings new) (mark old was) (mark new now) request (sent_by request.caller label) given
+      → RepliesExpected (RepliesBy all settings new) (store_cursor old was) (store_cursor new now) request (sent_by request.caller label) given
   replied_op all means op given e understands from operated met =
       let not_memory : means ≢ meant.Memory = λ m. (let no : meant.Op op ≡ meant.Memory = sym e ∙ m in cc) in
       let P : Caller → Type 0 = λ caller. Operated settings op (sent_by caller label) old new was now given in
@@ -84,7 +84,7 @@ module _ (settings : Settings) (old new : History) (was now : Known) (request : 
       due_op all (sym (understands.same not_memory) ∙ e) own met
 
 -- where no call is made
-is_span_still : (h : History) (was : Known) (asked : Option Asked) → IsSpan (mark h was) (span_between h.called h.called asked) (mark h was) asked
+is_span_still : (h : History) (was : Known) (asked : Option Asked) → IsSpan (store_cursor h was) (span_between h.called h.called asked) (store_cursor h was) asked
 is_span_still h was asked = record { from = refl; settles = omega arith; first = omega arith; last = omega arith; to = refl; asked = refl; faults = omega arith }
 
 -- a request whose code is known has it
@@ -94,12 +94,12 @@ code_meant request means code e understands = sym (understands.same (λ m. (let 
 -- a request that has a code of its own
 module _ (settings : Settings) (h : History) (was : Known) (request : Request) (label : Label) where
   by_code : (all : Bool) {code : Code} → request.means ≡ meant.Refused code → IsProperCode code → Where all (Met (IsKnown was) h)
-      → RepliesBy all settings h (mark h was) (span_between h.called h.called (asked_by request.means label)) (mark h was) request label (answer.Refused code)
+      → RepliesBy all settings h (store_cursor h was) (span_between h.called h.called (asked_by request.means label)) (store_cursor h was) request label (answer.Refused code)
   by_code true {code = code} is proper met = refused code is refl proper met.sound refl refl
   by_code false {code = code} is proper met = refused_any code is refl proper refl
 
   pub replied_refused : (all : Bool) (code : Code) → request.means ≡ meant.Refused code → IsProperCode code → Where all (Met (IsKnown was) h)
-      → RepliesExpected (RepliesBy all settings h) (mark h was) (mark h was) request label (answer.Refused code)
+      → RepliesExpected (RepliesBy all settings h) (store_cursor h was) (store_cursor h was) request label (answer.Refused code)
   replied_refused all code is proper met = record {
     span = span_between h.called h.called (asked_by request.means label);
     due = answer.Refused code;
@@ -109,11 +109,11 @@ module _ (settings : Settings) (h : History) (was : Known) (request : Request) (
   }
 
 -- the word that memory ran out is one that may be said to an operation, whatever is known of the store
-out_of_memory_caused : (h : History) (was : Known) (op : Op) → IsCaused (mark h was) (mark h was) op answer.Memory
+out_of_memory_caused : (h : History) (was : Known) (op : Op) → IsCaused (store_cursor h was) (store_cursor h was) op answer.Memory
 out_of_memory_caused h was op = record { unavailable = λ is. absurd (let no : answer.Memory ≡ answer.Refused ServiceUnavailable = is in cc); unsure = λ is. inl (is, inr (inr refl)) }
 
 out_of_memory_performs : (settings : Settings) (h : History) (was : Known) (op : Op) (label : Label) (asked : Option Asked) → Met (IsKnown was) h
-    → Performs settings h (mark h was) (span_between h.called h.called asked) (mark h was) op label answer.Memory
+    → Performs settings h (store_cursor h was) (span_between h.called h.called asked) (store_cursor h was) op label answer.Memory
 out_of_memory_performs settings h known.Settled op label asked met = answered
     (record { needs_none = λ is. refl; quiet = none_made refl met.sound; no_fault = refl; within = omega arith; settled = met.has refl })
     (record { passes = passes_still (none_made refl met.sound); by = memory refl (λ k from to. absurd (omega arith)); beside = tt })
@@ -125,12 +125,12 @@ out_of_memory_performs settings h known.Unsure op label asked met = unsettled
 -- memory ran out before any call
 module _ (settings : Settings) (h : History) (was : Known) (request : Request) (label : Label) where
   out_of_memory_op : (all : Bool) (op : Op) → request.means ≡ meant.Op op → Where all (Met (IsKnown was) h)
-      → RepliesBy all settings h (mark h was) (span_between h.called h.called (asked_by request.means label)) (mark h was) request label answer.Memory
+      → RepliesBy all settings h (store_cursor h was) (span_between h.called h.called (asked_by request.means label)) (store_cursor h was) request label answer.Memory
   out_of_memory_op true op is met = performed op is (out_of_memory_performs settings h was op label (asked_by request.means label) met) (out_of_memory_caused h was op) met.has
   out_of_memory_op false op is met = performed_any op is (out_of_memory_caused h was op)
 
   by_means : (all : Bool) (means : Meant) → request.means ≡ means → request.means ≢ meant.Memory → IsProperMeant request.means → Where all (Met (IsKnown was) h)
-      → RepliesExpected (RepliesBy all settings h) (mark h was) (mark h was) request label answer.Memory
+      → RepliesExpected (RepliesBy all settings h) (store_cursor h was) (store_cursor h was) request label answer.Memory
   by_means all (meant.Op op) is some proper met = record {
     span = span_between h.called h.called (asked_by request.means label);
     due = answer.Memory;
@@ -144,5 +144,5 @@ module _ (settings : Settings) (h : History) (was : Known) (request : Request) (
   by_means all meant.Memory is some proper met = absurd (some is)
 
   pub replied_memory : (all : Bool) → Understands meant.Memory request → Where all (Met (IsKnown was) h)
-      → RepliesExpected (RepliesBy all settings h) (mark h was) (mark h was) request label answer.Memory
+      → RepliesExpected (RepliesBy all settings h) (store_cursor h was) (store_cursor h was) request label answer.Memory
   replied_memory all understands met = by_means all request.means refl understands.meant understands.proper met

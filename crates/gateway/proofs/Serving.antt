@@ -14,7 +14,7 @@ use Rattle.http_wire.specs.Print.{memory_reply}
 use Rattle.gateway.specs.declared.ended.Ended.{Ended}
 use Rattle.gateway.specs.declared.ended.Ended.TheVariants.{End, Closed, CutShort, Refused, LineFailed, Memory}
 use Rattle.gateway.specs.declared.handle.Handled.TheVariants.{Served, Broken}
-use Rattle.gateway.specs.Exchange.{ReplyRelation, Mark, Sends, SendsPart}
+use Rattle.gateway.specs.Exchange.{ReplyRelation, StoreCursor, Sends, SendsPart}
 use Rattle.gateway.specs.Request.{Request, refused_request, asks_of}
 use Rattle.gateway.specs.declared.received.Received.TheVariants as received
 use Rattle.gateway.specs.Connection.{Progress, ConnectionCursor, progress, cursor, OwedIsSent, Resolves, read, rejected, over, cut, served, unread, unheard, untold, broken}
@@ -43,7 +43,7 @@ module _ (service : Service) (R : ReplyRelation) (connection : ℕ) where
       let failed = span.1 in
       (failed.span ∷ [], broken failed.span span.0 (record { request = asks failed.label.moment; label = failed.label; rest = new.rest; place = new.place; heard = heard; resolves = resolves failed.label.moment; owed = owed; labels = failed.labels; exchange = failed.exchange }))
 
-module _ (service : Service) (R : ReplyRelation) (here : Mark) (moments draws : List ℕ) (begun : ℕ) (sent : List Piece) (pending pending' : Pending) (all rest : List ℕ) where
+module _ (service : Service) (R : ReplyRelation) (here : StoreCursor) (moments draws : List ℕ) (begun : ℕ) (sent : List Piece) (pending pending' : Pending) (all rest : List ℕ) where
   -- what was read is a message
   pub next_request : (transcript : Transcript) (message : Message) (left : List ℕ) (new : Progress) (ended : Option Ended) → Gives pending all (got.Request message) pending' left
       → transcript.begun ≡ begun → SendsInterim (OwesInterim all) begun here.number sent transcript.sent → rest ≡ left
@@ -88,7 +88,7 @@ module _ (service : Service) (R : ReplyRelation) (here : Mark) (moments draws : 
   -- the line failed while a request was read
   pub next_failed : (sent' : List Piece) → CutsInterim (OwesInterim all) begun here.number sent sent'
       → NextOne service R begun (cursor all pending.place (progress here moments draws sent)) (Some LineFailed) (cursor rest pending'.place (progress here moments draws sent'))
-  next_failed sent' owed = ([], unheard refl (record { mark = refl; moments = refl; draws = refl }) owed)
+  next_failed sent' owed = ([], unheard refl (record { store = refl; moments = refl; draws = refl }) owed)
 
   -- memory ran out while a request was read
   pub next_unread : (transcript transcript' : Transcript) (ended : Ended) → transcript.begun ≡ begun → MaySendInterim (OwesInterim all) begun here.number sent transcript.sent → EndsUnread here.number transcript ended transcript'
@@ -99,7 +99,7 @@ module _ (service : Service) (R : ReplyRelation) (here : Mark) (moments draws : 
   next_unread transcript transcript' (Refused kind place) b owed ends = absurd ends
   next_unread transcript transcript' LineFailed b owed ends =
       let P : ℕ → Type 0 = λ n. SendsPart n here.number here.number (memory_reply false) transcript.sent transcript'.sent in
-      ([], untold transcript.sent refl (record { mark = refl; moments = refl; draws = refl }) owed (subst P b ends))
+      ([], untold transcript.sent refl (record { store = refl; moments = refl; draws = refl }) owed (subst P b ends))
   next_unread transcript transcript' Memory b owed ends =
       let P : ℕ → Type 0 = λ n. Sends n here.number here.number (memory_reply false) transcript.sent transcript'.sent in
-      ([], unread transcript.sent refl (record { mark = refl; moments = refl; draws = refl }) owed (subst P b ends))
+      ([], unread transcript.sent refl (record { store = refl; moments = refl; draws = refl }) owed (subst P b ends))

@@ -15,20 +15,20 @@ use Rattle.http_wire.specs.Print.{memory_reply}
 use Rattle.gateway.specs.declared.ended.Ended.{Ended}
 use Rattle.gateway.specs.declared.ended.Ended.TheVariants.{End, Closed, CutShort, Refused, LineFailed, Memory}
 use Rattle.gateway.specs.Request.{Request, request_of, refused_request}
-use Rattle.gateway.specs.Exchange.{ReplyRelation, Mark, Span, Exchange, CutExchange, Sends, SendsPart}
+use Rattle.gateway.specs.Exchange.{ReplyRelation, StoreCursor, Span, Exchange, CutExchange, Sends, SendsPart}
 
 -- what goes on from one connection to the next
 pub record Progress : Type 0 where
   -- the store
-  pub mark : Mark
+  pub store : StoreCursor
   -- the moments and the draws still to come
   pub moments : List ℕ
   pub draws : List ℕ
   -- the pieces sent
   pub sent : List Piece
 
-abbrev pub progress : Mark → List ℕ → List ℕ → List Piece → Progress
-progress mark moments draws sent = record { mark = mark; moments = moments; draws = draws; sent = sent }
+abbrev pub progress : StoreCursor → List ℕ → List ℕ → List Piece → Progress
+progress store moments draws sent = record { store = store; moments = moments; draws = draws; sent = sent }
 
 -- a point between two requests of a connection
 pub record ConnectionCursor : Type 0 where
@@ -72,15 +72,15 @@ Labels old new from label = LabelGiven old.moments old.draws new.moments new.dra
 
 -- the interim line was sent for what comes first, before any call for it, exactly where it is owed
 abbrev pub OwedIsSent : ℕ → ConnectionCursor → List Piece → Type 0
-OwedIsSent connection old heard = SendsInterim (OwesInterim old.rest) connection old.progress.mark.number old.progress.sent heard
+OwedIsSent connection old heard = SendsInterim (OwesInterim old.rest) connection old.progress.store.number old.progress.sent heard
 
 -- memory ran out while the first was read: the line was sent, or not, where it is owed
 abbrev pub OwedMayBeSent : ℕ → ConnectionCursor → List Piece → Type 0
-OwedMayBeSent connection old heard = MaySendInterim (OwesInterim old.rest) connection old.progress.mark.number old.progress.sent heard
+OwedMayBeSent connection old heard = MaySendInterim (OwesInterim old.rest) connection old.progress.store.number old.progress.sent heard
 
 -- the line failed while the first was read: first bytes of it were sent, or none, where it is owed
 abbrev pub OwedIsCut : ℕ → ConnectionCursor → List Piece → Type 0
-OwedIsCut connection old heard = CutsInterim (OwesInterim old.rest) connection old.progress.mark.number old.progress.sent heard
+OwedIsCut connection old heard = CutsInterim (OwesInterim old.rest) connection old.progress.store.number old.progress.sent heard
 
 -- the next request was resolved and answered in whole
 pub record Serves (service : Service) (R : ReplyRelation) (connection : ℕ) (end : Option Ended)
@@ -92,7 +92,7 @@ pub record Serves (service : Service) (R : ReplyRelation) (connection : ℕ) (en
   pub resolves : Resolves service label.moment old request new.rest new.place
   pub owed : OwedIsSent connection old heard
   pub labels : Labels old.progress new.progress request.caller label
-  pub exchange : Exchange R connection old.progress.mark span new.progress.mark request label end heard new.progress.sent
+  pub exchange : Exchange R connection old.progress.store span new.progress.store request label end heard new.progress.sent
 
 -- any number of requests, none of which ended the connection, with their spans
 pub data Exchanges (service : Service) (R : ReplyRelation) (connection : ℕ) : ConnectionCursor → List Span → ConnectionCursor → Type 0 where
@@ -111,11 +111,11 @@ pub record Breaks (service : Service) (R : ReplyRelation) (connection : ℕ) (ol
   pub resolves : Resolves service label.moment old request rest place
   pub owed : OwedIsSent connection old heard
   pub labels : Labels old.progress new request.caller label
-  pub exchange : CutExchange R connection old.progress.mark span new.mark request label heard new.sent
+  pub exchange : CutExchange R connection old.progress.store span new.store request label heard new.sent
 
 -- of the progress only the pieces sent may differ
 pub record OnlySent (old new : Progress) : Type 0 where
-  pub mark : new.mark ≡ old.mark
+  pub store : new.store ≡ old.store
   pub moments : new.moments ≡ old.moments
   pub draws : new.draws ≡ old.draws
 
@@ -130,13 +130,13 @@ pub data Ends (service : Service) (R : ReplyRelation) (connection : ℕ) (ended 
       → new ≡ cursor.progress → Ends service R connection ended last new (span ∷ [])
   -- memory ran out while a request was read
   unread : (heard : List Piece) → ended ≡ Memory → OnlySent last.progress new → OwedMayBeSent connection last heard
-      → Sends connection last.progress.mark.number last.progress.mark.number (memory_reply false) heard new.sent
+      → Sends connection last.progress.store.number last.progress.store.number (memory_reply false) heard new.sent
       → Ends service R connection ended last new []
   -- the line failed while a request was read
   unheard : ended ≡ LineFailed → OnlySent last.progress new → OwedIsCut connection last new.sent → Ends service R connection ended last new []
   -- memory ran out while a request was read, and the line failed under the reply for that
   untold : (heard : List Piece) → ended ≡ LineFailed → OnlySent last.progress new → OwedMayBeSent connection last heard
-      → SendsPart connection last.progress.mark.number last.progress.mark.number (memory_reply false) heard new.sent
+      → SendsPart connection last.progress.store.number last.progress.store.number (memory_reply false) heard new.sent
       → Ends service R connection ended last new []
   -- the line failed under the reply to a request
   broken : (span : Span) → ended ≡ LineFailed → Breaks service R connection last span new → Ends service R connection ended last new (span ∷ [])

@@ -1,4 +1,4 @@
--- One request with its reply. What is said of the reply is a relation of the marks before and after it. Source: this profile.
+-- One request with its reply. What is said of the reply is a relation of the store cursors before and after it. Source: this profile.
 use Rattle.std.specs.Prelude.{◌≡◌, ◌≢◌, ◌⊎◌, ◌≤◌, ℕ, ◌+◌, Bool, true, false, IsTrue, List, [], ◌∷◌, ◌++◌, All, flat_map, Option, Some, None}
 use Rattle.gate_base.specs.Causes.{Rose}
 use Rattle.gate_base.specs.declared.outside.Piece.{Piece}
@@ -32,16 +32,16 @@ use Rattle.gateway.specs.Proper.{IsProperCode}
 
 -- the store between two requests: the calls that it has counted, the faults that it counts itself, whether it tells or not,
 -- and what is known of it
-pub record Mark : Type 0 where
+pub record StoreCursor : Type 0 where
   pub number : ℕ
   pub faults : ℕ
   pub known : Known
 
-abbrev pub mark : History → Known → Mark
-mark h known = record { number = h.called; faults = h.faults; known = known }
+abbrev pub store_cursor : History → Known → StoreCursor
+store_cursor h known = record { number = h.called; faults = h.faults; known = known }
 
--- what a mark says is known holds of the account at its number
-abbrev pub IsKnownOf : History → Mark → Type 0
+-- what a store cursor says is known holds of the account at its number
+abbrev pub IsKnownOf : History → StoreCursor → Type 0
 IsKnownOf h m = IsKnown m.known (h.tree_at m.number)
 
 -- ---- one request
@@ -67,12 +67,12 @@ pub record Span : Type 0 where
   pub asked : Option Asked
   pub takes : ℕ
 
--- what is said of a reply: of the mark before the request, its span, the mark after it, the request, its label and the reply
+-- what is said of a reply: of the store cursor before the request, its span, the store cursor after it, the request, its label and the reply
 abbrev pub ReplyRelation : Type 1
-ReplyRelation = Mark → Span → Mark → Request → Label → Reply → Type 0
+ReplyRelation = StoreCursor → Span → StoreCursor → Request → Label → Reply → Type 0
 
--- the span of a request that asks for this, between two marks
-pub record IsSpan (old : Mark) (span : Span) (new : Mark) (asks : Option Asked) : Type 0 where
+-- the span of a request that asks for this, between two store cursors
+pub record IsSpan (old : StoreCursor) (span : Span) (new : StoreCursor) (asks : Option Asked) : Type 0 where
   pub from : span.from ≡ old.number
   pub settles : span.from ≤ span.begins
   pub first : span.begins ≤ span.committed
@@ -103,33 +103,35 @@ abbrev pub IsFault : Reply → Type 0
 IsFault reply = (reply ≡ Refused ServiceUnavailable) ⊎ ((reply ≡ Refused InconsistentStore) ⊎ (reply ≡ Memory))
 
 -- an operation after which a completion may be sealed: none
-abbrev pub LeavesUnsure : Op → Mark → Mark → Reply → Type 0
+abbrev pub LeavesUnsure : Op → StoreCursor → StoreCursor → Reply → Type 0
 LeavesUnsure op old new reply = ⊥
 
 -- the causes of a reply to an operation, over every store: ServiceUnavailable comes only where the store's own count of faults
 -- rose; and the store isn't known to be settled afterwards only where it wasn't before and the reply is one of a fault, or
 -- where the operation leaves it so
-pub record IsCaused (old new : Mark) (op : Op) (reply : Reply) : Type 0 where
+pub record IsCaused (old new : StoreCursor) (op : Op) (reply : Reply) : Type 0 where
   pub unavailable : reply ≡ Refused ServiceUnavailable → Rose old.faults new.faults
   pub unsure : new.known ≡ known.Unsure → ((old.known ≡ known.Unsure) × IsFault reply) ⊎ LeavesUnsure op old new reply
 
 -- what is said of the reply to an operation, over an observable store: the store could not be settled; or it was, and the
 -- operation is answered, with no more calls than it may make
-pub data Performs (settings : Settings) (h : History) (old : Mark) (span : Span) (new : Mark) (op : Op) (label : Label) (reply : Reply) : Type 0 where
+pub data Performs (settings : Settings) (h : History) (old : StoreCursor) (span : Span) (new : StoreCursor)
+    (op : Op) (label : Label) (reply : Reply) : Type 0 where
   unsettled : NotSettledBy h old.known old.number new.number reply → span.begins ≡ new.number → span.takes ≡ 0 → Performs settings h old span new op label reply
   answered : SettledBy h old.known old.number span.begins → Answers settings h span.begins span.committed new.number op label span.takes reply
       → new.number ≤ span.begins + amount (most_calls op (h.tree_at span.begins)) → Performs settings h old span new op label reply
 
 -- what is said of the reply to a request, over an observable store: the code of one that is no operation, without any call;
 -- or what its operation is answered
-pub data Replies (settings : Settings) (h : History) (old : Mark) (span : Span) (new : Mark) (request : Request) (label : Label) (reply : Reply) : Type 0 where
+pub data Replies (settings : Settings) (h : History) (old : StoreCursor) (span : Span) (new : StoreCursor)
+    (request : Request) (label : Label) (reply : Reply) : Type 0 where
   refused : (code : Code) → request.means ≡ meant.Refused code → reply ≡ Refused code → IsProperCode code → IsConsistent (h.tree_at old.number)
       → new ≡ old → span.takes ≡ 0 → Replies settings h old span new request label reply
   performed : (op : Op) → request.means ≡ meant.Op op → Performs settings h old span new op label reply
       → IsCaused old new op reply → IsKnownOf h new → Replies settings h old span new request label reply
 
 -- and over every store: the same code, without any call; or some reply to the operation
-pub data RepliesAny (old : Mark) (span : Span) (new : Mark) (request : Request) (label : Label) (reply : Reply) : Type 0 where
+pub data RepliesAny (old : StoreCursor) (span : Span) (new : StoreCursor) (request : Request) (label : Label) (reply : Reply) : Type 0 where
   refused_any : (code : Code) → request.means ≡ meant.Refused code → reply ≡ Refused code → IsProperCode code → new ≡ old
       → RepliesAny old span new request label reply
   performed_any : (op : Op) → request.means ≡ meant.Op op → IsCaused old new op reply → RepliesAny old span new request label reply
@@ -140,7 +142,8 @@ RepliesBy true settings h = Replies settings h
 RepliesBy false settings h = RepliesAny
 
 -- a reply other than ServiceUnavailable
-pub record FaultFreeReplies (R : ReplyRelation) (old : Mark) (span : Span) (new : Mark) (request : Request) (label : Label) (reply : Reply) : Type 0 where
+pub record FaultFreeReplies (R : ReplyRelation) (old : StoreCursor) (span : Span) (new : StoreCursor)
+    (request : Request) (label : Label) (reply : Reply) : Type 0 where
   pub replies : R old span new request label reply
   pub available : reply ≢ Refused ServiceUnavailable
 
@@ -182,7 +185,7 @@ pub record SendsPart (connection t q : ℕ) (bytes : List ℕ) (old new : List P
   pub each : All (IsPiece connection t q) pieces
 
 -- a request was answered, and the bytes of its reply were all sent; R is what is said of the reply
-pub record Exchange (R : ReplyRelation) (connection : ℕ) (old : Mark) (span : Span) (new : Mark) (request : Request) (label : Label)
+pub record Exchange (R : ReplyRelation) (connection : ℕ) (old : StoreCursor) (span : Span) (new : StoreCursor) (request : Request) (label : Label)
     (end : Option Ended) (sent sent' : List Piece) : Type 0 where
   pub reply : Reply
   pub bytes : List ℕ
@@ -192,7 +195,7 @@ pub record Exchange (R : ReplyRelation) (connection : ℕ) (old : Mark) (span : 
   pub sends : Sends connection span.committed new.number bytes sent sent'
 
 -- a request was answered, and the line failed while the reply was written
-pub record CutExchange (R : ReplyRelation) (connection : ℕ) (old : Mark) (span : Span) (new : Mark) (request : Request) (label : Label)
+pub record CutExchange (R : ReplyRelation) (connection : ℕ) (old : StoreCursor) (span : Span) (new : StoreCursor) (request : Request) (label : Label)
     (sent sent' : List Piece) : Type 0 where
   pub reply : Reply
   pub end : Option Ended
@@ -205,7 +208,7 @@ pub record CutExchange (R : ReplyRelation) (connection : ℕ) (old : Mark) (span
 -- ---- the functions that find a reply
 
 -- some reply is expected, of which R says this, and unless memory ran out it is the reply given
-pub record RepliesExpected (R : ReplyRelation) (old new : Mark) (request : Request) (label : Label) (given : Reply) : Type 0 where
+pub record RepliesExpected (R : ReplyRelation) (old new : StoreCursor) (request : Request) (label : Label) (given : Reply) : Type 0 where
   pub span : Span
   pub due : Reply
   pub is_span : IsSpan old span new (asked_by request.means label)
@@ -216,8 +219,8 @@ pub record RepliesExpected (R : ReplyRelation) (old new : Mark) (request : Reque
 pub record Operated (settings : Settings) (op : Op) (label : Label) (old new : History) (was now : Known) (reply : Reply) : Type 0 where
   pub on : GoesOn old new
   pub showable : IsShowable reply
-  pub caused : IsCaused (mark old was) (mark new now) op reply
+  pub caused : IsCaused (store_cursor old was) (store_cursor new now) op reply
   pub effect : Met (IsKnown was) old
-      → (span : Span) × IsSpan (mark old was) span (mark new now) (Some (record { op = op; label = label }))
-      × Performs settings new (mark old was) span (mark new now) op label reply
+      → (span : Span) × IsSpan (store_cursor old was) span (store_cursor new now) (Some (record { op = op; label = label }))
+      × Performs settings new (store_cursor old was) span (store_cursor new now) op label reply
   pub known : IsTrue old.observable → IsKnown was (present old) → IsKnown now (present new)

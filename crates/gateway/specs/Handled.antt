@@ -31,14 +31,14 @@ pub record AnswersWhole (R : ReplyRelation) (connection : ℕ) (old new : Progre
   pub span : Span
   pub label : Label
   pub labels : Labels old new (asks label.moment).caller label
-  pub exchange : Exchange R connection old.mark span new.mark (asks label.moment) label end old.sent new.sent
+  pub exchange : Exchange R connection old.store span new.store (asks label.moment) label end old.sent new.sent
 
 -- the request was answered, and the line failed under the reply
 pub record AnswersCut (R : ReplyRelation) (connection : ℕ) (old new : Progress) (asks : ℕ → Request) : Type 0 where
   pub span : Span
   pub label : Label
   pub labels : Labels old new (asks label.moment).caller label
-  pub exchange : CutExchange R connection old.mark span new.mark (asks label.moment) label old.sent new.sent
+  pub exchange : CutExchange R connection old.store span new.store (asks label.moment) label old.sent new.sent
 
 abbrev pub HandledOnce : ReplyRelation → ℕ → Progress → Progress → (ℕ → Request) → Handled → Type 0
 HandledOnce R connection old new asks (Served end) = AnswersWhole R connection old new asks end

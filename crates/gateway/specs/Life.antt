@@ -18,7 +18,7 @@ use Rattle.recovery.specs.Answers.{steps_of}
 use Rattle.gateway.specs.declared.ended.Ended.{Ended}
 use Rattle.gateway.specs.declared.meant.Meant.TheVariants as meant
 use Rattle.gateway.specs.Request.{Request}
-use Rattle.gateway.specs.Exchange.{Asked, Mark, Span, Exchange, Replies, Sends}
+use Rattle.gateway.specs.Exchange.{Asked, StoreCursor, Span, Exchange, Replies, Sends}
 use Rattle.gateway.specs.Stands.{Follows, AllPass, StandsThroughout}
 
 -- a request with an operation is counted at the number k where all its steps were taken and its commit point was by then: the
@@ -90,7 +90,7 @@ pieces_of sends = sends.first ++ sends.last ∷ []
 -- a request that was answered by the service itself took its step, and at the number of each piece of its reply its span was
 -- by then: it is counted from its first piece on
 abbrev pub SentIsCounted : Type 0
-SentIsCounted = (settings : Settings) (h : History) (connection : ℕ) (old : Mark) (span : Span) (new : Mark) (request : Request) (label : Label)
+SentIsCounted = (settings : Settings) (h : History) (connection : ℕ) (old : StoreCursor) (span : Span) (new : StoreCursor) (request : Request) (label : Label)
     (end : Option Ended) (sent sent' : List Piece)
     (exchange : Exchange (Replies settings h) connection old span new request label end sent sent') (op : Op)
     → request.means ≡ meant.Op op → exchange.reply ≢ Memory → exchange.reply ≢ Refused ServiceUnavailable

@@ -8,7 +8,7 @@ use Rattle.swift_calls.specs.History.{History}
 use Rattle.recovery.specs.declared.state.Known.{Known}
 use Rattle.recovery.specs.Calls.{GoesOn, Met}
 use Rattle.recovery.specs.Settling.{IsKnown}
-use Rattle.gateway.specs.Exchange.{ReplyRelation, mark, RepliesBy, Where}
+use Rattle.gateway.specs.Exchange.{ReplyRelation, store_cursor, RepliesBy, Where}
 use Rattle.gateway.specs.Connection.{Progress, ConnectionCursor, progress, cursor}
 use Rattle.gateway.specs.Stands.{Stands}
 
@@ -31,7 +31,7 @@ pub record IsObservable (w : World) : Type 0 where
 
 -- what goes on from one connection to the next
 abbrev pub progress_of : World → Progress
-progress_of w = progress (mark w.store w.known) w.clock.values w.draws.values w.line.transcript.sent
+progress_of w = progress (store_cursor w.store w.known) w.clock.values w.draws.values w.line.transcript.sent
 
 -- a connection at its beginning
 abbrev pub start_of : World → ConnectionCursor

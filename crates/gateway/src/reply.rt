@@ -15,7 +15,7 @@ ghost use Rattle.gateway.specs.Connection.{sent_by};
 ghost use Rattle.gateway.specs.declared.meant.Meant.TheVariants as variant;
 ghost use Rattle.gateway.specs.ResolvedRequest.{IsProperMeant, Understands};
 ghost use Rattle.gateway.specs.Request.{Request};
-ghost use Rattle.gateway.specs.Exchange.{mark, Operated, RepliesBy, RepliesExpected, Where};
+ghost use Rattle.gateway.specs.Exchange.{store_cursor, Operated, RepliesBy, RepliesExpected, Where};
 ghost use Rattle.gateway.specs.Stands.{Stands};
 
 use crate::Meant;
@@ -46,7 +46,7 @@ pub fn reply_to<W: Swift>(
     // Where memory ran out, some reply is expected, and it is not this one; then who sent the request may be unknown.
     ensures effect { (all : Bool) → Where all (Met (IsKnown known.old) (W.history store.old)) → (request : Request) → Understands means request
         → (means ≢ variant.Memory → label.now.caller ≡ request.caller)
-        → RepliesExpected (RepliesBy all settings.now (W.history store.new)) (mark (W.history store.old) known.old) (mark (W.history store.new) known.new) request (sent_by request.caller label.now) result }
+        → RepliesExpected (RepliesBy all settings.now (W.history store.new)) (store_cursor (W.history store.old) known.old) (store_cursor (W.history store.new) known.new) request (sent_by request.caller label.now) result }
 {
     match means {
         Meant::Op(op) => operate(alloc, store, known, settings, op, label),

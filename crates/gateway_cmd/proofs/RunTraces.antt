@@ -7,7 +7,7 @@ use Rattle.gate_base.specs.Causes.{Rose}
 use Rattle.swift_calls.specs.History.{History, Extends}
 use Rattle.upload_records.specs.Consistent.{IsConsistent}
 use Rattle.gateway.specs.declared.service.Service.{Service}
-use Rattle.gateway.specs.Exchange.{ReplyRelation, Mark, Span, IsKnownOf, Replies, RepliesBy, FaultFreeReplies}
+use Rattle.gateway.specs.Exchange.{ReplyRelation, StoreCursor, Span, IsKnownOf, Replies, RepliesBy, FaultFreeReplies}
 use Rattle.gateway.specs.Connection.{is_failed_end}
 use Rattle.gateway.specs.Stands.{Follows, AllPass, StandsThroughout}
 use Rattle.gateway.proofs.lemmas.Order.{follows_none, follows_append, connection_trace_order, connection_trace_order_faults, connection_trace_follow}
@@ -25,20 +25,20 @@ marks_more false marks i = length-append marks (false ∷ [])
 
 module _ {service : Service} {R : ReplyRelation} where
   -- the numbers rise
-  pub run_trace_order : {old new : RunCursor} {spans : List Span} → RunTrace service R old spans new → old.progress.mark.number ≤ new.progress.mark.number
+  pub run_trace_order : {old new : RunCursor} {spans : List Span} → RunTrace service R old spans new → old.progress.store.number ≤ new.progress.store.number
   run_trace_order (none cursor) = omega arith
   run_trace_order (more old middle new spans next trace serves) = let first = run_trace_order trace in let last = connection_trace_order serves.trace in omega arith
 
   -- and so do the counts of faults
-  pub run_trace_faults : {old new : RunCursor} {spans : List Span} → RunTrace service R old spans new → old.progress.mark.faults ≤ new.progress.mark.faults
+  pub run_trace_faults : {old new : RunCursor} {spans : List Span} → RunTrace service R old spans new → old.progress.store.faults ≤ new.progress.store.faults
   run_trace_faults (none cursor) = omega arith
   run_trace_faults (more old middle new spans next trace serves) = let first = run_trace_faults trace in let last = connection_trace_order_faults serves.trace in omega arith
 
   -- the spans of all requests follow one another
-  pub run_trace_follow : {old new : RunCursor} {spans : List Span} → RunTrace service R old spans new → Follows old.progress.mark.number spans new.progress.mark.number
+  pub run_trace_follow : {old new : RunCursor} {spans : List Span} → RunTrace service R old spans new → Follows old.progress.store.number spans new.progress.store.number
   run_trace_follow (none cursor) = follows_none refl
   run_trace_follow (more old middle new spans next trace serves) =
-      follows_append old.progress.mark.number middle.progress.mark.number new.progress.mark.number spans next (run_trace_follow trace) (connection_trace_follow serves.trace)
+      follows_append old.progress.store.number middle.progress.store.number new.progress.store.number spans next (run_trace_follow trace) (connection_trace_follow serves.trace)
 
   -- ---- how many began, and their marks
 
@@ -58,8 +58,8 @@ module _ {service : Service} {R : ReplyRelation} where
 
 -- ---- what is said of replies, said otherwise
 
-module _ {R R' : ReplyRelation} {first last : Mark} (f : FollowsBetween R R' first last) where
-  serves_next_map : {service : Service} {old new : RunCursor} {spans : List Span} → Between first last old.progress.mark new.progress.mark → ServesNext service R old spans new → ServesNext service R' old spans new
+module _ {R R' : ReplyRelation} {first last : StoreCursor} (f : FollowsBetween R R' first last) where
+  serves_next_map : {service : Service} {old new : RunCursor} {spans : List Span} → Between first last old.progress.store new.progress.store → ServesNext service R old spans new → ServesNext service R' old spans new
   serves_next_map between serves = record {
     bytes = serves.bytes;
     ended = serves.ended;
@@ -69,7 +69,7 @@ module _ {R R' : ReplyRelation} {first last : Mark} (f : FollowsBetween R R' fir
     trace = connection_trace_map f between serves.trace;
   }
 
-  pub run_trace_map : {service : Service} {old new : RunCursor} {spans : List Span} → Between first last old.progress.mark new.progress.mark → RunTrace service R old spans new → RunTrace service R' old spans new
+  pub run_trace_map : {service : Service} {old new : RunCursor} {spans : List Span} → Between first last old.progress.store new.progress.store → RunTrace service R old spans new → RunTrace service R' old spans new
   run_trace_map between (none cursor) = none cursor
   run_trace_map between (more old middle new spans next trace serves) =
       let rises = run_trace_order trace in
@@ -81,16 +81,16 @@ module _ {R R' : ReplyRelation} {first last : Mark} (f : FollowsBetween R R' fir
       (serves_next_map (record { since = omega arith; until = between.until; since_faults = omega arith; until_faults = between.until_faults }) serves)
 
 -- what the connections were in a history, they are in each later one
-pub run_trace_agree : (all : Bool) (service : Service) {h h' : History} {old new : RunCursor} {spans : List Span} → Extends new.progress.mark.number h h'
+pub run_trace_agree : (all : Bool) (service : Service) {h h' : History} {old new : RunCursor} {spans : List Span} → Extends new.progress.store.number h h'
     → RunTrace service (RepliesBy all service.settings h) old spans new → RunTrace service (RepliesBy all service.settings h') old spans new
 run_trace_agree all service {old = old} {new = new} kept trace =
-    run_trace_map (by_agree all service.settings {first = old.progress.mark} {last = new.progress.mark} kept) (between_ends old.progress.mark new.progress.mark) trace
+    run_trace_map (by_agree all service.settings {first = old.progress.store} {last = new.progress.store} kept) (between_ends old.progress.store new.progress.store) trace
 
 -- where the count of faults did not rise, no request of theirs is answered ServiceUnavailable
-pub run_trace_fault_free : (all : Bool) (service : Service) (h : History) {old new : RunCursor} {spans : List Span} → (Rose old.progress.mark.faults new.progress.mark.faults → ⊥)
+pub run_trace_fault_free : (all : Bool) (service : Service) (h : History) {old new : RunCursor} {spans : List Span} → (Rose old.progress.store.faults new.progress.store.faults → ⊥)
     → RunTrace service (RepliesBy all service.settings h) old spans new → RunTrace service (FaultFreeReplies (RepliesBy all service.settings h)) old spans new
 run_trace_fault_free all service h {old = old} {new = new} still trace =
-    run_trace_map (fault_free_map all service.settings h old.progress.mark new.progress.mark still) (between_ends old.progress.mark new.progress.mark) trace
+    run_trace_map (fault_free_map all service.settings h old.progress.store new.progress.store still) (between_ends old.progress.store new.progress.store) trace
 
 -- ---- over an observable store
 
@@ -101,17 +101,17 @@ module _ {service : Service} {h : History} where
   run_trace_pass (more old middle new spans next trace serves) = all_pass_append service.settings h spans next (run_trace_pass trace) (connection_trace_pass serves.trace)
 
   -- it is left consistent
-  pub run_trace_sound : {old new : RunCursor} {spans : List Span} → IsConsistent (h.tree_at old.progress.mark.number) → RunTrace service (Replies service.settings h) old spans new → IsConsistent (h.tree_at new.progress.mark.number)
+  pub run_trace_sound : {old new : RunCursor} {spans : List Span} → IsConsistent (h.tree_at old.progress.store.number) → RunTrace service (Replies service.settings h) old spans new → IsConsistent (h.tree_at new.progress.store.number)
   run_trace_sound sound (none cursor) = sound
   run_trace_sound sound (more old middle new spans next trace serves) = connection_trace_sound (run_trace_sound sound trace) serves.trace
 
   -- and as it is known to be
-  pub run_trace_known : {old new : RunCursor} {spans : List Span} → IsKnownOf h old.progress.mark → RunTrace service (Replies service.settings h) old spans new → IsKnownOf h new.progress.mark
+  pub run_trace_known : {old new : RunCursor} {spans : List Span} → IsKnownOf h old.progress.store → RunTrace service (Replies service.settings h) old spans new → IsKnownOf h new.progress.store
   run_trace_known known (none cursor) = known
   run_trace_known known (more old middle new spans next trace serves) = connection_trace_known (run_trace_known known trace) serves.trace
 
   -- at each number it is consistent, and one that the request which has the number goes through
-  pub run_trace_stands : {old new : RunCursor} {spans : List Span} → IsConsistent (h.tree_at old.progress.mark.number) → RunTrace service (Replies service.settings h) old spans new
-      → StandsThroughout service.settings h spans old.progress.mark.number new.progress.mark.number
+  pub run_trace_stands : {old new : RunCursor} {spans : List Span} → IsConsistent (h.tree_at old.progress.store.number) → RunTrace service (Replies service.settings h) old spans new
+      → StandsThroughout service.settings h spans old.progress.store.number new.progress.store.number
   run_trace_stands {old = old} {new = new} {spans = spans} sound trace =
-      stands_throughout service.settings h spans old.progress.mark.number new.progress.mark.number sound (run_trace_follow trace) (run_trace_pass trace)
+      stands_throughout service.settings h spans old.progress.store.number new.progress.store.number sound (run_trace_follow trace) (run_trace_pass trace)

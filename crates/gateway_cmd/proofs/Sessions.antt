@@ -17,7 +17,7 @@ use Rattle.recovery.specs.Settling.{IsKnown, Anything}
 use Rattle.gateway.specs.declared.ended.Ended.{Ended as Close}
 use Rattle.gateway.specs.declared.service.Service.{Service}
 use Rattle.gateway.specs.Connection.{ConnectionTrace, is_failed_end, cursor, progress}
-use Rattle.gateway.specs.Exchange.{ReplyRelation, Span, mark, RepliesBy, Where}
+use Rattle.gateway.specs.Exchange.{ReplyRelation, Span, store_cursor, RepliesBy, Where}
 use Rattle.gateway.specs.Stands.{Stands}
 use Rattle.gateway.specs.World.{World, world, progress_of, start_of, IsObservable, ServesOver}
 use Rattle.gateway.proofs.lemmas.Standing.{stands_throughout}
@@ -67,7 +67,7 @@ pub next_served : (service : Service) (R : ReplyRelation) (line line' : LineMode
     → ((spans : List Span) × ConnectionTrace service R line'.transcript.begun ended (start_of (world line' store known clock draws)) spans (progress_of new))
     → NextCursor service R None (world line store known clock draws) new
 next_served service R line line' store known clock draws new ended begins serves trace =
-    let P : (ℕ × List Piece) → Type 0 = λ x. ConnectionTrace service R x.0 ended (cursor line'.transcript.rest 0 (progress (mark store known) clock.values draws.values x.1)) trace.0 (progress_of new) in (
+    let P : (ℕ × List Piece) → Type 0 = λ x. ConnectionTrace service R x.0 ended (cursor line'.transcript.rest 0 (progress (store_cursor store known) clock.values draws.values x.1)) trace.0 (progress_of new) in (
       trace.0,
       record {
         bytes = line'.transcript.rest;

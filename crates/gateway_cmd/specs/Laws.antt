@@ -12,18 +12,18 @@ use Rattle.gateway_cmd.specs.Run.{RunCursor, RunTrace}
 abbrev pub SpansFollow : Type 0
 SpansFollow = (all : Bool) (service : Service) (h : History) (old : RunCursor) (spans : List Span) (new : RunCursor)
     → RunTrace service (RepliesBy all service.settings h) old spans new
-    → Follows old.progress.mark.number spans new.progress.mark.number
+    → Follows old.progress.store.number spans new.progress.store.number
 
 -- from a consistent account on, the account goes through the steps of each request, and through all connections it is
 -- consistent at each number of calls
 abbrev pub TraceStands : Type 0
 TraceStands = (service : Service) (h : History) (old : RunCursor) (spans : List Span) (new : RunCursor)
-    → RunTrace service (Replies service.settings h) old spans new → IsConsistent (h.tree_at old.progress.mark.number)
-    → AllPass service.settings h spans × StandsThroughout service.settings h spans old.progress.mark.number new.progress.mark.number
+    → RunTrace service (Replies service.settings h) old spans new → IsConsistent (h.tree_at old.progress.store.number)
+    → AllPass service.settings h spans × StandsThroughout service.settings h spans old.progress.store.number new.progress.store.number
 
 -- where the store's count of faults did not rise, no request is answered ServiceUnavailable, over an observable store and
 -- over every store
 abbrev pub TraceFaultFree : Type 0
 TraceFaultFree = (all : Bool) (service : Service) (h : History) (old : RunCursor) (spans : List Span) (new : RunCursor)
     → RunTrace service (RepliesBy all service.settings h) old spans new
-    → (Rose old.progress.mark.faults new.progress.mark.faults → ⊥) → RunTrace service (FaultFreeReplies (RepliesBy all service.settings h)) old spans new
+    → (Rose old.progress.store.faults new.progress.store.faults → ⊥) → RunTrace service (FaultFreeReplies (RepliesBy all service.settings h)) old spans new

@@ -25,30 +25,30 @@ use Rattle.gateway.specs.declared.ended.Ended.{Ended}
 use Rattle.gateway.specs.declared.service.Service.{Service}
 use Rattle.gateway.specs.Proper.{IsProperCode}
 use Rattle.gateway.specs.Request.{Request}
-use Rattle.gateway.specs.Exchange.{ReplyRelation, Mark, Span, Asked, asked_by, IsSpan, SettledBy, NotSettledBy, IsCaused, Performs, unsettled, answered, Replies, refused, performed, RepliesAny, refused_any, performed_any, RepliesBy, FaultFreeReplies, Exchange, CutExchange}
+use Rattle.gateway.specs.Exchange.{ReplyRelation, StoreCursor, Span, Asked, asked_by, IsSpan, SettledBy, NotSettledBy, IsCaused, Performs, unsettled, answered, Replies, refused, performed, RepliesAny, refused_any, performed_any, RepliesBy, FaultFreeReplies, Exchange, CutExchange}
 use Rattle.gateway.specs.Connection.{Progress, ConnectionCursor, Serves, Exchanges, none, more, Breaks, Ends, over, cut, served, unread, unheard, untold, broken, ConnectionTrace}
 use Rattle.gateway.proofs.lemmas.Order.{serves_order, exchanges_order, ends_order, serves_order_faults, exchanges_order_faults, ends_order_faults}
 
--- ---- between two marks
+-- ---- between two store cursors
 
--- the two marks of a request, or of a stretch of them, stand between these two
-pub record Between (first last old new : Mark) : Type 0 where
+-- the two store cursors of a request, or of a stretch of them, stand between these two
+pub record Between (first last old new : StoreCursor) : Type 0 where
   pub since : first.number ≤ old.number
   pub until : new.number ≤ last.number
   pub since_faults : first.faults ≤ old.faults
   pub until_faults : new.faults ≤ last.faults
 
 -- a stretch stands between its own ends
-pub between_ends : (first last : Mark) → Between first last first last
+pub between_ends : (first last : StoreCursor) → Between first last first last
 between_ends first last = record { since = omega arith; until = omega arith; since_faults = omega arith; until_faults = omega arith }
 
--- between two marks the second relation follows from the first
-abbrev pub FollowsBetween : (R R' : ReplyRelation) → Mark → Mark → Type 0
-FollowsBetween R R' first last = (old new : Mark) (span : Span) (request : Request) (label : Label) (reply : Reply) → IsSpan old span new (asked_by request.means label) → Between first last old new
+-- between two store cursors the second relation follows from the first
+abbrev pub FollowsBetween : (R R' : ReplyRelation) → StoreCursor → StoreCursor → Type 0
+FollowsBetween R R' first last = (old new : StoreCursor) (span : Span) (request : Request) (label : Label) (reply : Reply) → IsSpan old span new (asked_by request.means label) → Between first last old new
     → R old span new request label reply → R' old span new request label reply
 
-module _ {R R' : ReplyRelation} {first last : Mark} (f : FollowsBetween R R' first last) where
-  pub exchange_map : {connection : ℕ} {old new : Mark} {span : Span} {request : Request} {label : Label} {end : Option Ended} {sent sent' : List Piece} → Between first last old new
+module _ {R R' : ReplyRelation} {first last : StoreCursor} (f : FollowsBetween R R' first last) where
+  pub exchange_map : {connection : ℕ} {old new : StoreCursor} {span : Span} {request : Request} {label : Label} {end : Option Ended} {sent sent' : List Piece} → Between first last old new
       → Exchange R connection old span new request label end sent sent' → Exchange R' connection old span new request label end sent sent'
   exchange_map {old = old} {new = new} {span = span} {request = request} {label = label} between exchange = record {
     reply = exchange.reply;
@@ -59,7 +59,7 @@ module _ {R R' : ReplyRelation} {first last : Mark} (f : FollowsBetween R R' fir
     sends = exchange.sends;
   }
 
-  pub cut_exchange_map : {connection : ℕ} {old new : Mark} {span : Span} {request : Request} {label : Label} {sent sent' : List Piece} → Between first last old new
+  pub cut_exchange_map : {connection : ℕ} {old new : StoreCursor} {span : Span} {request : Request} {label : Label} {sent sent' : List Piece} → Between first last old new
       → CutExchange R connection old span new request label sent sent' → CutExchange R' connection old span new request label sent sent'
   cut_exchange_map {old = old} {new = new} {span = span} {request = request} {label = label} between exchange = record {
     reply = exchange.reply;
@@ -71,7 +71,7 @@ module _ {R R' : ReplyRelation} {first last : Mark} (f : FollowsBetween R R' fir
     sends = exchange.sends;
   }
 
-  pub serves_map : {service : Service} {connection : ℕ} {end : Option Ended} {old new : ConnectionCursor} {span : Span} → Between first last old.progress.mark new.progress.mark
+  pub serves_map : {service : Service} {connection : ℕ} {end : Option Ended} {old new : ConnectionCursor} {span : Span} → Between first last old.progress.store new.progress.store
       → Serves service R connection end old span new → Serves service R' connection end old span new
   serves_map between serves = record {
     request = serves.request;
@@ -83,7 +83,7 @@ module _ {R R' : ReplyRelation} {first last : Mark} (f : FollowsBetween R R' fir
     exchange = exchange_map between serves.exchange;
   }
 
-  pub breaks_map : {service : Service} {connection : ℕ} {old : ConnectionCursor} {span : Span} {new : Progress} → Between first last old.progress.mark new.mark
+  pub breaks_map : {service : Service} {connection : ℕ} {old : ConnectionCursor} {span : Span} {new : Progress} → Between first last old.progress.store new.store
       → Breaks service R connection old span new → Breaks service R' connection old span new
   breaks_map between breaks = record {
     request = breaks.request;
@@ -97,7 +97,7 @@ module _ {R R' : ReplyRelation} {first last : Mark} (f : FollowsBetween R R' fir
     exchange = cut_exchange_map between breaks.exchange;
   }
 
-  pub exchanges_map : {service : Service} {connection : ℕ} {old new : ConnectionCursor} {spans : List Span} → Between first last old.progress.mark new.progress.mark
+  pub exchanges_map : {service : Service} {connection : ℕ} {old new : ConnectionCursor} {spans : List Span} → Between first last old.progress.store new.progress.store
       → Exchanges service R connection old spans new → Exchanges service R' connection old spans new
   exchanges_map between (none cursor) = none cursor
   exchanges_map between (more old middle new spans span exchanges serves) =
@@ -109,17 +109,17 @@ module _ {R R' : ReplyRelation} {first last : Mark} (f : FollowsBetween R R' fir
       (exchanges_map (record { since = between.since; until = omega arith; since_faults = between.since_faults; until_faults = omega arith }) exchanges)
       (serves_map (record { since = omega arith; until = between.until; since_faults = omega arith; until_faults = between.until_faults }) serves)
 
-  pub ends_map : {service : Service} {connection : ℕ} {ended : Ended} {old : ConnectionCursor} {new : Progress} {spans : List Span} → Between first last old.progress.mark new.mark
+  pub ends_map : {service : Service} {connection : ℕ} {ended : Ended} {old : ConnectionCursor} {new : Progress} {spans : List Span} → Between first last old.progress.store new.store
       → Ends service R connection ended old new spans → Ends service R' connection ended old new spans
   ends_map between (over is front same) = over is front same
   ends_map between (cut is front same) = cut is front same
-  ends_map {old = old} between (served cursor span serves same) = served cursor span (serves_map (subst (λ t. Between first last old.progress.mark t.mark) same between) serves) same
+  ends_map {old = old} between (served cursor span serves same) = served cursor span (serves_map (subst (λ t. Between first last old.progress.store t.store) same between) serves) same
   ends_map between (unread heard is only owed sends) = unread heard is only owed sends
   ends_map between (unheard is only owed) = unheard is only owed
   ends_map between (untold heard is only owed sends) = untold heard is only owed sends
   ends_map between (broken span is breaks) = broken span is (breaks_map between breaks)
 
-  pub connection_trace_map : {service : Service} {connection : ℕ} {ended : Ended} {old : ConnectionCursor} {spans : List Span} {new : Progress} → Between first last old.progress.mark new.mark
+  pub connection_trace_map : {service : Service} {connection : ℕ} {ended : Ended} {old : ConnectionCursor} {spans : List Span} {new : Progress} → Between first last old.progress.store new.store
       → ConnectionTrace service R connection ended old spans new → ConnectionTrace service R' connection ended old spans new
   connection_trace_map between trace =
       let rises = exchanges_order trace.exchanges in
@@ -160,7 +160,7 @@ module _ {h h' : History} {c : ℕ} (kept : Extends c h h') where
     says = says_agree order near not.says;
   }
 
-  performs_agree : {settings : Settings} {old new : Mark} {span : Span} {asks : Option Asked} {op : Op} {label : Label} {reply : Reply} → IsSpan old span new asks → new.number ≤ c
+  performs_agree : {settings : Settings} {old new : StoreCursor} {span : Span} {asks : Option Asked} {op : Op} {label : Label} {reply : Reply} → IsSpan old span new asks → new.number ≤ c
       → Performs settings h old span new op label reply → Performs settings h' old span new op label reply
   performs_agree is_span near (unsettled not begins takes) = unsettled (not_settled_by_agree (omega arith) near not) begins takes
   performs_agree {new = new} {span = span} {op = op} is_span near (answered settled answers bound) =
@@ -168,7 +168,7 @@ module _ {h h' : History} {c : ℕ} (kept : Extends c h h') where
       (subst (λ tree. new.number ≤ span.begins + amount (most_calls op tree)) (sym (kept.accounts span.begins (omega arith))) bound)
 
 -- what was said of replies over an observable store, is so in each later history
-pub replies_agree : {settings : Settings} {h h' : History} {first last : Mark} → Extends last.number h h' → FollowsBetween (Replies settings h) (Replies settings h') first last
+pub replies_agree : {settings : Settings} {h h' : History} {first last : StoreCursor} → Extends last.number h h' → FollowsBetween (Replies settings h) (Replies settings h') first last
 replies_agree kept old new span request label reply is_span between (refused code means is proper sound same takes) =
     refused code means is proper (subst IsConsistent (sym (kept.accounts old.number (omega arith))) sound) same takes
 replies_agree kept old new span request label reply is_span between (performed op means performs caused known) =
@@ -176,7 +176,7 @@ replies_agree kept old new span request label reply is_span between (performed o
     performed op means (performs_agree kept is_span near performs) caused (subst (IsKnown new.known) (sym (kept.accounts new.number near)) known)
 
 -- and so is what was said of them over every store
-pub by_agree : (all : Bool) (settings : Settings) {h h' : History} {first last : Mark} → Extends last.number h h' → FollowsBetween (RepliesBy all settings h) (RepliesBy all settings h') first last
+pub by_agree : (all : Bool) (settings : Settings) {h h' : History} {first last : StoreCursor} → Extends last.number h h' → FollowsBetween (RepliesBy all settings h) (RepliesBy all settings h') first last
 by_agree true settings kept = replies_agree kept
 by_agree false settings kept = λ old new span request label reply is_span between replies. replies
 
@@ -187,22 +187,22 @@ proper_available : {code : Code} {reply : Reply} → reply ≡ Refused code → 
 proper_available {code = code} is proper says = let same : code ≡ ServiceUnavailable = cc in proper.available same
 
 -- an operation is answered so only where a fault was counted
-caused_available : {first last old new : Mark} {op : Op} {reply : Reply} → old.faults ≤ new.faults → Between first last old new → (Rose first.faults last.faults → ⊥) → IsCaused old new op reply
+caused_available : {first last old new : StoreCursor} {op : Op} {reply : Reply} → old.faults ≤ new.faults → Between first last old new → (Rose first.faults last.faults → ⊥) → IsCaused old new op reply
     → reply ≢ Refused ServiceUnavailable
 caused_available rises between still caused says = let rose = caused.unavailable says in still (omega arith)
 
-replies_available : {settings : Settings} {h : History} {first last old new : Mark} {span : Span} {request : Request} {label : Label} {reply : Reply} → old.faults ≤ new.faults → Between first last old new
+replies_available : {settings : Settings} {h : History} {first last old new : StoreCursor} {span : Span} {request : Request} {label : Label} {reply : Reply} → old.faults ≤ new.faults → Between first last old new
     → (Rose first.faults last.faults → ⊥) → Replies settings h old span new request label reply → reply ≢ Refused ServiceUnavailable
 replies_available rises between still (refused code means is proper sound same takes) = proper_available is proper
 replies_available rises between still (performed op means performs caused known) = caused_available rises between still caused
 
-replies_any_available : {first last old new : Mark} {span : Span} {request : Request} {label : Label} {reply : Reply} → old.faults ≤ new.faults → Between first last old new
+replies_any_available : {first last old new : StoreCursor} {span : Span} {request : Request} {label : Label} {reply : Reply} → old.faults ≤ new.faults → Between first last old new
     → (Rose first.faults last.faults → ⊥) → RepliesAny old span new request label reply → reply ≢ Refused ServiceUnavailable
 replies_any_available rises between still (refused_any code means is proper same) = proper_available is proper
 replies_any_available rises between still (performed_any op means caused) = caused_available rises between still caused
 
--- where the count of faults did not rise between two marks, no request between them is answered ServiceUnavailable
-pub fault_free_map : (all : Bool) (settings : Settings) (h : History) (first last : Mark) → (Rose first.faults last.faults → ⊥)
+-- where the count of faults did not rise between two store cursors, no request between them is answered ServiceUnavailable
+pub fault_free_map : (all : Bool) (settings : Settings) (h : History) (first last : StoreCursor) → (Rose first.faults last.faults → ⊥)
     → FollowsBetween (RepliesBy all settings h) (FaultFreeReplies (RepliesBy all settings h)) first last
 fault_free_map true settings h first last still = λ old new span request label reply is_span between replies.
     record { replies = replies; available = replies_available is_span.faults between still replies }

@@ -18,7 +18,7 @@ use Rattle.recovery.proofs.lemmas.Agree.{quiet_agree, passes_agree, passes_still
 use Rattle.gateway.specs.declared.ended.Ended.{Ended}
 use Rattle.gateway.specs.declared.service.Service.{Service}
 use Rattle.gateway.specs.Request.{Request}
-use Rattle.gateway.specs.Exchange.{Mark, Span, Asked, asked_by, IsSpan, IsKnownOf, Performs, unsettled, answered, Replies, refused, performed}
+use Rattle.gateway.specs.Exchange.{StoreCursor, Span, Asked, asked_by, IsSpan, IsKnownOf, Performs, unsettled, answered, Replies, refused, performed}
 use Rattle.gateway.specs.Connection.{Progress, ConnectionCursor, Serves, Exchanges, none, more, Breaks, Ends, over, cut, served, unread, unheard, untold, broken, ConnectionTrace}
 use Rattle.gateway.specs.Stands.{Follows, OpPasses, NonePasses, SpanPasses, AllPass}
 use Rattle.gateway.proofs.lemmas.Order.{follows_order, exchanges_follow, connection_trace_follow}
@@ -34,7 +34,7 @@ quiet_none {h = h} {p = p} one sound = record {
 }
 
 -- an operation: the store could not be settled, and nothing was done from there on; or the operation was answered
-pub performs_pass : {settings : Settings} {h : History} {old new : Mark} {span : Span} {asks : Option Asked} {op : Op} {label : Label} {reply : Reply} → IsSpan old span new asks
+pub performs_pass : {settings : Settings} {h : History} {old new : StoreCursor} {span : Span} {asks : Option Asked} {op : Op} {label : Label} {reply : Reply} → IsSpan old span new asks
     → Performs settings h old span new op label reply → OpPasses settings h span (record { op = op; label = label })
 performs_pass {settings = settings} {h = h} {old = old} {new = new} {span = span} {op = op} {label = label} is_span (unsettled not begins takes) =
     let order : old.number ≤ new.number = omega arith in
@@ -56,7 +56,7 @@ performs_pass {settings = settings} {h = h} {span = span} {op = op} {label = lab
   calls = subst (λ n. n ≤ span.begins + amount (most_calls op (h.tree_at span.begins))) (sym is_span.to) bound;
 }
 
-pub replies_pass : {settings : Settings} {h : History} {old new : Mark} {span : Span} {request : Request} {label : Label} {reply : Reply} → IsSpan old span new (asked_by request.means label)
+pub replies_pass : {settings : Settings} {h : History} {old new : StoreCursor} {span : Span} {request : Request} {label : Label} {reply : Reply} → IsSpan old span new (asked_by request.means label)
     → Replies settings h old span new request label reply → SpanPasses settings h span span.asked
 replies_pass {settings = settings} {h = h} {old = old} {new = new} {span = span} {label = label} is_span (refused code means is proper sound same takes) =
     let number : new.number ≡ old.number = ap (λ m. m.number) same in
@@ -74,7 +74,7 @@ span_sound settings h span (Some asked) k from to passes = elim (cases_lt k span
 ]
 
 -- what is known of the account after it is so
-pub replies_known : {settings : Settings} {h : History} {old new : Mark} {span : Span} {request : Request} {label : Label} {reply : Reply} → IsKnownOf h old
+pub replies_known : {settings : Settings} {h : History} {old new : StoreCursor} {span : Span} {request : Request} {label : Label} {reply : Reply} → IsKnownOf h old
     → Replies settings h old span new request label reply → IsKnownOf h new
 replies_known {h = h} known (refused code means is proper sound same takes) = subst (IsKnownOf h) (sym same) known
 replies_known known (performed op means performs caused known') = known'
@@ -130,39 +130,39 @@ module _ {service : Service} {h : History} {connection : ℕ} where
 
   -- ---- the account is left consistent
 
-  pub exchanges_sound : {old new : ConnectionCursor} {spans : List Span} → IsConsistent (h.tree_at old.progress.mark.number) → Exchanges service (Replies service.settings h) connection old spans new
-      → IsConsistent (h.tree_at new.progress.mark.number)
+  pub exchanges_sound : {old new : ConnectionCursor} {spans : List Span} → IsConsistent (h.tree_at old.progress.store.number) → Exchanges service (Replies service.settings h) connection old spans new
+      → IsConsistent (h.tree_at new.progress.store.number)
   exchanges_sound {old = old} {new = new} {spans = spans} sound exchanges =
-      all_pass_sound service.settings h old.progress.mark.number new.progress.mark.number spans sound (exchanges_follow exchanges) (exchanges_pass exchanges)
+      all_pass_sound service.settings h old.progress.store.number new.progress.store.number spans sound (exchanges_follow exchanges) (exchanges_pass exchanges)
 
-  pub connection_trace_sound : {ended : Ended} {old : ConnectionCursor} {spans : List Span} {new : Progress} → IsConsistent (h.tree_at old.progress.mark.number)
-      → ConnectionTrace service (Replies service.settings h) connection ended old spans new → IsConsistent (h.tree_at new.mark.number)
+  pub connection_trace_sound : {ended : Ended} {old : ConnectionCursor} {spans : List Span} {new : Progress} → IsConsistent (h.tree_at old.progress.store.number)
+      → ConnectionTrace service (Replies service.settings h) connection ended old spans new → IsConsistent (h.tree_at new.store.number)
   connection_trace_sound {old = old} {spans = spans} {new = new} sound trace =
-      all_pass_sound service.settings h old.progress.mark.number new.mark.number spans sound (connection_trace_follow trace) (connection_trace_pass trace)
+      all_pass_sound service.settings h old.progress.store.number new.store.number spans sound (connection_trace_follow trace) (connection_trace_pass trace)
 
   -- ---- and as it is known to be
 
-  pub serves_known : {end : Option Ended} {old new : ConnectionCursor} {span : Span} → IsKnownOf h old.progress.mark → Serves service (Replies service.settings h) connection end old span new → IsKnownOf h new.progress.mark
+  pub serves_known : {end : Option Ended} {old new : ConnectionCursor} {span : Span} → IsKnownOf h old.progress.store → Serves service (Replies service.settings h) connection end old span new → IsKnownOf h new.progress.store
   serves_known known serves = replies_known known serves.exchange.replies
 
-  pub breaks_known : {old : ConnectionCursor} {span : Span} {new : Progress} → IsKnownOf h old.progress.mark → Breaks service (Replies service.settings h) connection old span new → IsKnownOf h new.mark
+  pub breaks_known : {old : ConnectionCursor} {span : Span} {new : Progress} → IsKnownOf h old.progress.store → Breaks service (Replies service.settings h) connection old span new → IsKnownOf h new.store
   breaks_known known breaks = replies_known known breaks.exchange.replies
 
-  pub exchanges_known : {old new : ConnectionCursor} {spans : List Span} → IsKnownOf h old.progress.mark → Exchanges service (Replies service.settings h) connection old spans new → IsKnownOf h new.progress.mark
+  pub exchanges_known : {old new : ConnectionCursor} {spans : List Span} → IsKnownOf h old.progress.store → Exchanges service (Replies service.settings h) connection old spans new → IsKnownOf h new.progress.store
   exchanges_known known (none cursor) = known
   exchanges_known known (more old middle new spans span exchanges serves) = serves_known (exchanges_known known exchanges) serves
 
-  pub ends_known : {ended : Ended} {last : ConnectionCursor} {new : Progress} {spans : List Span} → IsKnownOf h last.progress.mark → Ends service (Replies service.settings h) connection ended last new spans → IsKnownOf h new.mark
-  ends_known known (over is front same) = subst (λ t. IsKnownOf h t.mark) (sym same) known
-  ends_known known (cut is front same) = subst (λ t. IsKnownOf h t.mark) (sym same) known
-  ends_known known (served cursor span serves same) = subst (λ t. IsKnownOf h t.mark) (sym same) (serves_known known serves)
-  ends_known known (unread heard is only owed sends) = subst (IsKnownOf h) (sym only.mark) known
-  ends_known known (unheard is only owed) = subst (IsKnownOf h) (sym only.mark) known
-  ends_known known (untold heard is only owed sends) = subst (IsKnownOf h) (sym only.mark) known
+  pub ends_known : {ended : Ended} {last : ConnectionCursor} {new : Progress} {spans : List Span} → IsKnownOf h last.progress.store → Ends service (Replies service.settings h) connection ended last new spans → IsKnownOf h new.store
+  ends_known known (over is front same) = subst (λ t. IsKnownOf h t.store) (sym same) known
+  ends_known known (cut is front same) = subst (λ t. IsKnownOf h t.store) (sym same) known
+  ends_known known (served cursor span serves same) = subst (λ t. IsKnownOf h t.store) (sym same) (serves_known known serves)
+  ends_known known (unread heard is only owed sends) = subst (IsKnownOf h) (sym only.store) known
+  ends_known known (unheard is only owed) = subst (IsKnownOf h) (sym only.store) known
+  ends_known known (untold heard is only owed sends) = subst (IsKnownOf h) (sym only.store) known
   ends_known known (broken span is breaks) = breaks_known known breaks
 
-  pub connection_trace_known : {ended : Ended} {old : ConnectionCursor} {spans : List Span} {new : Progress} → IsKnownOf h old.progress.mark
-      → ConnectionTrace service (Replies service.settings h) connection ended old spans new → IsKnownOf h new.mark
+  pub connection_trace_known : {ended : Ended} {old : ConnectionCursor} {spans : List Span} {new : Progress} → IsKnownOf h old.progress.store
+      → ConnectionTrace service (Replies service.settings h) connection ended old spans new → IsKnownOf h new.store
   connection_trace_known known trace = ends_known (exchanges_known known trace.exchanges) trace.ends
 
 -- ---- later histories
