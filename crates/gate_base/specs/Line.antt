@@ -2,7 +2,7 @@
 use Rattle.std.specs.Prelude.{◌≡◌, ◌<◌, ◌≤◌, ℕ, Bool, true, false, IsTrue, List, length, take, if◌then◌else◌, Result, Ok, Err, is_err, IfOk, OnOk, OnErr}
 use Rattle.gate_base.specs.declared.faults.Failed.{Failed}
 use Rattle.gate_base.specs.Causes.{RisesIf, Spends, SpendsIf}
-use Rattle.gate_base.specs.Transcript.{Transcript, empty, Begins, Takes, with_piece, with_mark, SendsPrefix}
+use Rattle.gate_base.specs.Transcript.{Transcript, empty, Begins, Takes, with_piece, with_fault, SendsPrefix}
 
 pub record LineModel : Type 0 where
   -- whether a connection is open
@@ -17,11 +17,11 @@ pub record LineModel : Type 0 where
   pub transcript : Transcript
 
 -- what stays of the transcript while the open connection is served: all but the bytes left of it, the pieces sent, and the
--- mark of a failure
+-- note of a failure
 pub record TranscriptServes (failed : Bool) (old new : Transcript) : Type 0 where
   pub waiting : new.waiting ≡ old.waiting
   pub begun : new.begun ≡ old.begun
-  pub marks : new.marks ≡ (if failed then (with_mark old).marks else old.marks)
+  pub faulty : new.faulty ≡ (if failed then (with_fault old).faulty else old.faulty)
 
 -- the line after any number of reads and writes on the open connection. If `failed`, the last of them failed, and else none did
 pub record LineServes (failed : Bool) (old new : LineModel) : Type 0 where
@@ -68,7 +68,7 @@ pub record LineRead (old : LineModel) (room : ℕ) (bytes : List ℕ) (result : 
   pub unspent : IfOk result (λ count. count ≡ 0 → new.spent ≡ old.spent)
   pub spent_err : OnErr result (new.spent ≡ old.spent)
   pub effect : IsTrue old.observable → IfOk result (λ count. Takes (take count bytes) old.transcript new.transcript)
-  pub effect_err : IsTrue old.observable → OnErr result (new.transcript ≡ with_mark old.transcript)
+  pub effect_err : IsTrue old.observable → OnErr result (new.transcript ≡ with_fault old.transcript)
 
 -- `write` of these bytes, when the store had counted so many calls
 pub record LineWrite (old : LineModel) (at : ℕ) (bytes : List ℕ) (result : Result (Unit {0}) Failed) (new : LineModel) : Type 0 where
@@ -85,9 +85,9 @@ pub record LineClose (old new : LineModel) : Type 0 where
   pub observable : IsTrue old.observable → IsTrue new.observable
   pub effect : IsTrue old.observable → new.transcript ≡ old.transcript
 
--- what holds of each line: each connection that has begun has its mark, and the faults of `next` are among the faults
+-- what holds of each line: each connection that has begun has its place in `faulty`, and the faults of `next` are among the faults
 pub record IsLine (line : LineModel) : Type 0 where
-  pub marked : IsTrue line.observable → length line.transcript.marks ≡ line.transcript.begun
+  pub one_for_each : IsTrue line.observable → length line.transcript.faulty ≡ line.transcript.begun
   pub next_within : line.next_faults ≤ line.faults
 
 -- a line that tells nothing, and whose calls of `next` never fail, as standard streams are

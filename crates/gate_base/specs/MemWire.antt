@@ -8,7 +8,7 @@ abbrev pub told_by : MemWire → Transcript
 told_by transcript = record {
   waiting = into_iter_items transcript.waiting;
   rest = drop transcript.at transcript.present;
-  begun = vec_len transcript.marks;
+  begun = vec_len transcript.faulty;
   sent = transcript.sent;
-  marks = transcript.marks.items;
+  faulty = transcript.faulty.items;
 }

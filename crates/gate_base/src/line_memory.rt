@@ -1,7 +1,7 @@
 ghost use Rattle.std.specs.Prelude.{◌≡◌, ◌<◌, ◌≤◌, ◌+◌, false, not, ◌&&◌, ◌||◌, IsTrue, IsErr, is_err, IfOk, OnErr};
 ghost use Rattle.std.specs.Prelude.{[], length, min};
 ghost use Rattle.gate_base.specs.Causes.{one_more, one_more_if};
-ghost use Rattle.gate_base.specs.Transcript.{empty, with_mark};
+ghost use Rattle.gate_base.specs.Transcript.{empty, with_fault};
 ghost use Rattle.gate_base.specs.Line.{LineNext, LineRead, LineWrite, LineClose};
 ghost use Rattle.gate_base.specs.MemWire.{told_by};
 ghost use Rattle.gate_base.specs.Listed.{listed};
@@ -35,7 +35,7 @@ impl MemLine {
     ghost use Rattle.gate_base.specs.MemLine.{out_of_memory_of, faults_of, next_faults_of};
 
     /// A line of these connections, whose reads give at most `piece` bytes, and whose calls of these numbers
-    /// are Failed. It takes the room for a mark per connection.
+    /// are Failed. It takes the room for a note per connection.
     #[tactic(auto, unfolding(crate::specs::Listed::listed))]
     pub fn new(
         alloc: Global,
@@ -89,7 +89,7 @@ impl<C: Counted> Line<C> for MemLine {
 
     ghost model = { model_of };
 
-    ghost is_line = { λ line. record { marked = λ observable. sym line.transcript.marks.ok.0; next_within = line.next_within } };
+    ghost is_line = { λ line. record { one_for_each = λ observable. sym line.transcript.faulty.ok.0; next_within = line.next_within } };
 
     /// Failed exactly where the number of the call was given, or where a connection waits and no call is left.
     fn next(&mut self) -> Result<bool, Failed>
@@ -137,12 +137,12 @@ impl<C: Counted> Line<C> for MemLine {
         ensures out_of_memory { out_of_memory_of self.new ≡ out_of_memory_of self.old }
     {
         if self.calls.count() {
-            self.transcript.mark();
+            self.transcript.add_fault();
             return Err(Failed);
         }
         if self.transcript.has_rest() && self.spent >= CALL_LIMIT {
             self.past = self.past.saturating_add(1);
-            self.transcript.mark();
+            self.transcript.add_fault();
             return Err(Failed);
         }
         let count = self.transcript.take(buf, self.piece);
@@ -157,7 +157,7 @@ impl<C: Counted> Line<C> for MemLine {
         requires { IsTrue (is_open_of self.old) }
         ensures does { LineWrite (model_of self.old) (C.called store.now) bytes.now result (model_of self.new) }
 
-        ensures unsent { OnErr result (transcript_of self.new ≡ with_mark (transcript_of self.old)) }
+        ensures unsent { OnErr result (transcript_of self.new ≡ with_fault (transcript_of self.old)) }
         ensures failed { IsTrue (is_to_fail self.old) → IsErr result }
         ensures piece { piece_of self.new ≡ piece_of self.old }
         ensures fails { fails_of self.new ≡ fails_of self.old }
@@ -166,14 +166,14 @@ impl<C: Counted> Line<C> for MemLine {
         ensures out_of_memory { out_of_memory_of self.new ≡ one_more_if (not (is_to_fail self.old) && is_err result) (out_of_memory_of self.old) }
     {
         if self.calls.count() {
-            self.transcript.mark();
+            self.transcript.add_fault();
             return Err(Failed);
         }
         match self.transcript.keep(store.calls(), bytes) {
             Ok(()) => Ok(()),
             Err(Memory) => {
                 self.out_of_memory = self.out_of_memory.saturating_add(1);
-                self.transcript.mark();
+                self.transcript.add_fault();
                 Err(Failed)
             }
         }

@@ -90,7 +90,7 @@ pub trait Line<C: Counted> {
     fn close(&mut self)
         ensures { LineClose (model self.old) (model self.new) };
 
-    /// Each connection that has begun has its mark, and the faults of `next` are among the faults.
+    /// Each connection that has begun has its place in `faulty`, and the faults of `next` are among the faults.
     ghost is_line: { (line : Self) → IsLine (model line) };
 }
 

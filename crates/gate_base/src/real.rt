@@ -55,7 +55,7 @@ impl<R: Input + Print + Drop> StdLine<R> {
 impl<R: Input + Print + Drop, C: Counted> Line<C> for StdLine<R> {
     ghost model = { λ line. silent_line line.connected line.faults line.spent };
 
-    ghost is_line = { λ line. record { marked = λ observable. absurd (true≢false (sym observable)); next_within = zero-le } };
+    ghost is_line = { λ line. record { one_for_each = λ observable. absurd (true≢false (sym observable)); next_within = zero-le } };
 
     /// True once, and false from then on.
     fn next(&mut self) -> Result<bool, Failed> {

@@ -1,6 +1,6 @@
 ghost use Rattle.std.specs.Prelude.{◌≡◌, ◌<◌, ◌≤◌, ◌+◌, min, take, [], length, nat_lt, IfOk, OnOk, OnErr, vec_len, vec_capacity};
 ghost use Rattle.std.specs.Vec.Iter.{into_iter_len};
-ghost use Rattle.gate_base.specs.Transcript.{empty, Begins, Takes, with_piece, with_mark};
+ghost use Rattle.gate_base.specs.Transcript.{empty, Begins, Takes, with_piece, with_fault};
 
 use crate::{Bytes, List, Memory, Piece};
 use std::alloc::Global;
@@ -23,26 +23,26 @@ pub(crate) struct MemWire {
     present: Bytes,
     at: usize,
     sent: List<Piece>,
-    marks: Vec<bool>,
+    faulty: Vec<bool>,
     ghost within: { at ≤ length present },
-    ghost room: { vec_len marks + into_iter_len waiting ≤ vec_capacity marks },
+    ghost room: { vec_len faulty + into_iter_len waiting ≤ vec_capacity faulty },
 }
 
 impl MemWire {
     ghost use Rattle.gate_base.specs.MemWire.{told_by};
 
-    /// All the connections wait. It takes the room for a mark per connection.
+    /// All the connections wait. It takes the room for a note per connection.
     pub(crate) fn new(alloc: Global, connections: List<Bytes>) -> Result<MemWire, Memory>
         ensures { IfOk result (λ transcript. told_by transcript ≡ record empty { waiting = connections }) }
     {
-        let marks = Vec::with_capacity(alloc, connections.len())?;
+        let faulty = Vec::with_capacity(alloc, connections.len())?;
         Ok(MemWire {
             alloc,
             waiting: connections.into_vec().into_iter(),
             present: Bytes::new(alloc),
             at: 0,
             sent: List::new(alloc),
-            marks,
+            faulty,
         })
     }
 
@@ -73,7 +73,7 @@ impl MemWire {
             Some(bytes) => {
                 self.present = bytes;
                 self.at = 0;
-                self.marks.push(false).unwrap();
+                self.faulty.push(false).unwrap();
                 true
             }
         }
@@ -99,19 +99,19 @@ impl MemWire {
         ensures err { OnErr result (told_by self.new ≡ told_by self.old) }
     {
         let piece = Piece {
-            connection: self.marks.len() as u64,
+            connection: self.faulty.len() as u64,
             at,
             bytes: Bytes::from_slice(self.alloc, bytes)?,
         };
         self.sent.push(piece)
     }
 
-    /// Marks the present connection: the count of faults rose while it was served.
-    pub(crate) fn mark(&mut self)
+    /// Notes of the present connection that the count of faults rose while it was served.
+    pub(crate) fn add_fault(&mut self)
         requires { 0 < (told_by self.old).begun }
-        ensures { told_by self.new ≡ with_mark (told_by self.old) }
+        ensures { told_by self.new ≡ with_fault (told_by self.old) }
     {
-        let last = self.marks.len() - 1;
-        self.marks[last] = true;
+        let last = self.faulty.len() - 1;
+        self.faulty[last] = true;
     }
 }

@@ -98,9 +98,9 @@ transcript_serves_on : (failed : Bool) (first second third : Transcript) → Tra
 transcript_serves_on true first second third a b = record {
   waiting = b.waiting ∙ a.waiting;
   begun = b.begun ∙ a.begun;
-  marks = b.marks ∙ (λ i. slice_set (a.marks i) (a.begun i - 1) true);
+  faulty = b.faulty ∙ (λ i. slice_set (a.faulty i) (a.begun i - 1) true);
 }
-transcript_serves_on false first second third a b = record { waiting = b.waiting ∙ a.waiting; begun = b.begun ∙ a.begun; marks = b.marks ∙ a.marks }
+transcript_serves_on false first second third a b = record { waiting = b.waiting ∙ a.waiting; begun = b.begun ∙ a.begun; faulty = b.faulty ∙ a.faulty }
 
 rises_on : (failed : Bool) (first second third : ℕ) → second ≡ first → RisesIf failed second third → RisesIf failed first third
 rises_on failed first second third same rises = subst (λ n. RisesIf failed n third) same rises

@@ -1,6 +1,6 @@
 pub mod Counting
 pub mod Exits
-pub mod Marks
+pub mod Faulty
 pub mod Refusing
 pub mod Reporting
 pub mod RunTraces

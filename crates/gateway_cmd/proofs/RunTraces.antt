@@ -18,10 +18,10 @@ use Rattle.gateway_cmd.specs.Run.{RunCursor, ServesNext, RunTrace, none, more}
 
 -- ---- whatever is said of replies
 
--- one more mark, whether the line failed or not
-marks_more : (failed : Bool) (marks : List Bool) (i : ℕ) → length (if failed then slice_set (marks ++ false ∷ []) i true else marks ++ false ∷ []) ≡ length marks + 1
-marks_more true marks i = length-set (marks ++ false ∷ []) i true ∙ length-append marks (false ∷ [])
-marks_more false marks i = length-append marks (false ∷ [])
+-- one more connection, faulty or not
+faulty_more : (failed : Bool) (faulty : List Bool) (i : ℕ) → length (if failed then slice_set (faulty ++ false ∷ []) i true else faulty ++ false ∷ []) ≡ length faulty + 1
+faulty_more true faulty i = length-set (faulty ++ false ∷ []) i true ∙ length-append faulty (false ∷ [])
+faulty_more false faulty i = length-append faulty (false ∷ [])
 
 module _ {service : Service} {R : ReplyRelation} where
   -- the numbers rise
@@ -40,20 +40,20 @@ module _ {service : Service} {R : ReplyRelation} where
   run_trace_follow (more old middle new spans next trace serves) =
       follows_append old.progress.store.number middle.progress.store.number new.progress.store.number spans next (run_trace_follow trace) (connection_trace_follow serves.trace)
 
-  -- ---- how many began, and their marks
+  -- ---- how many began, and which were faulty
 
   pub run_trace_begun : {old new : RunCursor} {spans : List Span} → RunTrace service R old spans new → old.begun ≤ new.begun
   run_trace_begun (none cursor) = omega arith
   run_trace_begun (more old middle new spans next trace serves) = let rises = run_trace_begun trace in let begun = serves.begun in omega arith
 
-  -- each connection that began has its mark
-  pub run_trace_marks : {old new : RunCursor} {spans : List Span} → RunTrace service R old spans new → length new.marks ≡ length old.marks + (new.begun - old.begun)
-  run_trace_marks (none cursor) = omega arith
-  run_trace_marks (more old middle new spans next trace serves) =
+  -- each connection that began has its place in `faulty`
+  pub run_trace_faulty : {old new : RunCursor} {spans : List Span} → RunTrace service R old spans new → length new.faulty ≡ length old.faulty + (new.begun - old.begun)
+  run_trace_faulty (none cursor) = omega arith
+  run_trace_faulty (more old middle new spans next trace serves) =
       let rises = run_trace_begun trace in
-      let before = run_trace_marks trace in
+      let before = run_trace_faulty trace in
       let begun = serves.begun in
-      let one = ap length serves.marks ∙ marks_more (is_failed_end serves.ended) middle.marks (new.begun - 1) in
+      let one = ap length serves.faulty ∙ faulty_more (is_failed_end serves.ended) middle.faulty (new.begun - 1) in
       omega arith
 
 -- ---- what is said of replies, said otherwise
@@ -65,7 +65,7 @@ module _ {R R' : ReplyRelation} {first last : StoreCursor} (f : FollowsBetween R
     ended = serves.ended;
     waiting = serves.waiting;
     begun = serves.begun;
-    marks = serves.marks;
+    faulty = serves.faulty;
     trace = connection_trace_map f between serves.trace;
   }
 

@@ -30,7 +30,7 @@ use Rattle.gateway_cmd.specs.declared.status.Status.TheVariants.{Done, Usage, Li
 use Rattle.gateway_cmd.specs.Report.{is_failed_run, is_done, is_plain}
 use Rattle.gateway_cmd.specs.Run.{run_cursor_of, RunTrace, none, more, RunTraces, RunHeard, RunStands, RunTold}
 use Rattle.gateway_cmd.specs.Session.{settings_of, Serving, serving_of, service_of, NextCursor, LineServed, LineServesAll, RunServes, RunSigns}
-use Rattle.gateway_cmd.proofs.Marks.{unmarked_none}
+use Rattle.gateway_cmd.proofs.Faulty.{none_faulty_of_none}
 use Rattle.gateway_cmd.proofs.RunTraces.{run_trace_agree, run_trace_follow, run_trace_pass, run_trace_stands}
 
 -- ---- the connections served since the run began
@@ -55,11 +55,11 @@ run_traces_end all service old middle new status kept traces same =
     let before = run_traces_agree all service old middle new kept traces in
     (before.0, subst (RunTrace service (RepliesBy all service.settings new.store) (run_cursor_of old) before.0) (sym same) before.1)
 
--- the marks after one connection
-marked : (failed : Bool) (marks marks' marks'' : List Bool) (begun begun'' : ℕ) → marks' ≡ marks ++ false ∷ [] → begun'' ≡ begun → marks'' ≡ (if failed then slice_set marks' (begun - 1) true else marks')
-    → marks'' ≡ (if failed then slice_set (marks ++ false ∷ []) (begun'' - 1) true else marks ++ false ∷ [])
-marked true marks marks' marks'' begun begun'' began same is = is ∙ (λ i. slice_set (began i) (sym same i - 1) true)
-marked false marks marks' marks'' begun begun'' began same is = is ∙ began
+-- which were faulty, after one connection
+faulty_then : (failed : Bool) (faulty faulty' faulty'' : List Bool) (begun begun'' : ℕ) → faulty' ≡ faulty ++ false ∷ [] → begun'' ≡ begun → faulty'' ≡ (if failed then slice_set faulty' (begun - 1) true else faulty')
+    → faulty'' ≡ (if failed then slice_set (faulty ++ false ∷ []) (begun'' - 1) true else faulty ++ false ∷ [])
+faulty_then true faulty faulty' faulty'' begun begun'' began same is = is ∙ (λ i. slice_set (began i) (sym same i - 1) true)
+faulty_then false faulty faulty' faulty'' begun begun'' began same is = is ∙ began
 
 -- a connection that began was served
 pub next_served : (service : Service) (R : ReplyRelation) (line line' : LineModel) (store : History) (known : Known) (clock draws : SourceModel) (new : World) (ended : Close)
@@ -74,7 +74,7 @@ next_served service R line line' store known clock draws new ended begins serves
         ended = ended;
         waiting = begins.0 ∙ ap (λ w. line'.transcript.rest ∷ w) (sym serves.waiting);
         begun = serves.begun ∙ begins.1;
-        marks = marked (is_failed_end ended) line.transcript.marks line'.transcript.marks new.line.transcript.marks line'.transcript.begun new.line.transcript.begun begins.3 serves.begun serves.marks;
+        faulty = faulty_then (is_failed_end ended) line.transcript.faulty line'.transcript.faulty new.line.transcript.faulty line'.transcript.begun new.line.transcript.begun begins.3 serves.begun serves.faulty;
         trace = subst P (λ i. (sym serves.begun i, begins.2 i)) trace.1;
       },
     )
@@ -95,7 +95,7 @@ line_served_none serving false complete line fails ends = record {
   next_faults = refl;
   served_out = λ observable all. absurd (let clash : false ≡ true = sym ends ∙ all in cc);
   within = λ observable n is. omega arith;
-  unmarked = λ observable still. unmarked_none _ _ refl;
+  none_faulty = λ observable still. none_faulty_of_none _ _ refl;
 }
 
 -- a run that made no call
@@ -148,7 +148,7 @@ status_line serving status old new line = record {
   next_faults = line.next_faults;
   served_out = λ observable ends. line.done observable (done_is status ends);
   within = line.within;
-  unmarked = line.unmarked;
+  none_faulty = line.none_faulty;
 }
 
 -- a run that is a session, with such a number of connections

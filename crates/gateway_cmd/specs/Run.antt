@@ -16,15 +16,15 @@ pub record RunCursor : Type 0 where
   pub waiting : List (List ℕ)
   -- how many have begun, and for each whether the line failed under it
   pub begun : ℕ
-  pub marks : List Bool
+  pub faulty : List Bool
   pub progress : Progress
 
 abbrev pub run_cursor_of : World → RunCursor
-run_cursor_of w = record { waiting = w.line.transcript.waiting; begun = w.line.transcript.begun; marks = w.line.transcript.marks; progress = progress_of w }
+run_cursor_of w = record { waiting = w.line.transcript.waiting; begun = w.line.transcript.begun; faulty = w.line.transcript.faulty; progress = progress_of w }
 
--- the marks after a connection, which is the last that began
-abbrev pub marks_after : List Bool → ℕ → Ended → List Bool
-marks_after marks begun ended = if is_failed_end ended then slice_set (marks ++ false ∷ []) (begun - 1) true else marks ++ false ∷ []
+-- which connections were faulty, after one more, which is the last that began
+abbrev pub faulty_after : List Bool → ℕ → Ended → List Bool
+faulty_after faulty begun ended = if is_failed_end ended then slice_set (faulty ++ false ∷ []) (begun - 1) true else faulty ++ false ∷ []
 
 -- the next connection was served
 pub record ServesNext (service : Service) (R : ReplyRelation) (old : RunCursor) (spans : List Span) (new : RunCursor) : Type 0 where
@@ -32,7 +32,7 @@ pub record ServesNext (service : Service) (R : ReplyRelation) (old : RunCursor) 
   pub ended : Ended
   pub waiting : old.waiting ≡ bytes ∷ new.waiting
   pub begun : new.begun ≡ old.begun + 1
-  pub marks : new.marks ≡ marks_after old.marks new.begun ended
+  pub faulty : new.faulty ≡ faulty_after old.faulty new.begun ended
   pub trace : ConnectionTrace service R new.begun ended (record { rest = bytes; place = 0; progress = old.progress }) spans new.progress
 
 -- any number of connections, each begun where the one before it ended, with the spans of all their requests

@@ -65,10 +65,10 @@ abbrev pub NextCursor : Service → ReplyRelation → Option Status → World �
 NextCursor service R None old new = (spans : List Span) × ServesNext service R (run_cursor_of old) spans (run_cursor_of new)
 NextCursor service R (Some status) old new = run_cursor_of new ≡ run_cursor_of old
 
--- connections began, and none of them has the mark of a failed line
-pub record Unmarked (old new : Transcript) : Type 0 where
+-- connections began, and the line failed under none of them
+pub record NoneFaulty (old new : Transcript) : Type 0 where
   pub begun : old.begun ≤ new.begun
-  pub marks : new.marks ≡ old.marks ++ replicate (new.begun - old.begun) false
+  pub faulty : new.faulty ≡ old.faulty ++ replicate (new.begun - old.begun) false
 
 -- ---- what the connections of a run do to the line
 
@@ -101,7 +101,7 @@ pub record LineServesNext (result : Option Status) (old new : LineModel) : Type 
   pub next_faults : RisesIf (is_failed_session result) old.next_faults new.next_faults
   pub begun : IsTrue old.observable → new.transcript.begun ≡ begun_after result old.transcript.begun
   pub done : IsTrue old.observable → result ≡ Some Done → new.transcript.waiting ≡ []
-  pub unmarked : IsTrue old.observable → (Rose old.faults new.faults → ⊥) → Unmarked old.transcript new.transcript
+  pub none_faulty : IsTrue old.observable → (Rose old.faults new.faults → ⊥) → NoneFaulty old.transcript new.transcript
 
 -- the connections were, until there was none, or as many as were asked for had begun
 pub record LineServesAll (most : Option ℕ) (status : Status) (old new : LineModel) : Type 0 where
@@ -109,14 +109,14 @@ pub record LineServesAll (most : Option ℕ) (status : Status) (old new : LineMo
   pub next_faults : RisesIf (is_failed_run (Plain status)) old.next_faults new.next_faults
   pub done : IsTrue old.observable → status ≡ Done → IsServedOut most old.transcript new.transcript
   pub within : IsTrue old.observable → BeginsAtMost most old.transcript new.transcript
-  pub unmarked : IsTrue old.observable → (Rose old.faults new.faults → ⊥) → Unmarked old.transcript new.transcript
+  pub none_faulty : IsTrue old.observable → (Rose old.faults new.faults → ⊥) → NoneFaulty old.transcript new.transcript
 
 -- what a run that serves does to the line, by whether the line failed to give a connection, and whether all was done
 pub record LineServed (serving : Serving) (failed done : Bool) (old new : LineModel) : Type 0 where
   pub next_faults : RisesIf failed old.next_faults new.next_faults
   pub served_out : IsTrue old.observable → done ≡ true → IsServedOut serving.most old.transcript new.transcript
   pub within : IsTrue old.observable → BeginsAtMost serving.most old.transcript new.transcript
-  pub unmarked : IsTrue old.observable → (Rose old.faults new.faults → ⊥) → Unmarked old.transcript new.transcript
+  pub none_faulty : IsTrue old.observable → (Rose old.faults new.faults → ⊥) → NoneFaulty old.transcript new.transcript
 
 -- ---- a run but for its report, by what is asked for
 

@@ -45,7 +45,7 @@ impl OwnLine {
 impl<C: Counted> Line<C> for OwnLine {
     ghost model = { λ line. silent_line line.connected line.faults line.spent };
 
-    ghost is_line = { λ line. record { marked = λ observable. absurd (true≢false (sym observable)); next_within = zero-le } };
+    ghost is_line = { λ line. record { one_for_each = λ observable. absurd (true≢false (sym observable)); next_within = zero-le } };
 
     fn next(&mut self) -> Result<bool, Failed> {
         self.connected = self.spent == 0;

@@ -22,7 +22,7 @@ impl<R: Input + Print + Drop> InputLine<R> {
 impl<R: Input + Print + Drop, C: Counted> Line<C> for InputLine<R> {
     ghost model = { λ line. ⟦<StdLine<R> as Line<C>>⟧.model line.line };
 
-    ghost is_line = { λ line. record { marked = λ observable. absurd (true≢false (sym observable)); next_within = zero-le } };
+    ghost is_line = { λ line. record { one_for_each = λ observable. absurd (true≢false (sym observable)); next_within = zero-le } };
 
     fn next(&mut self) -> Result<bool, Failed> {
         Line::<C>::next(&mut self.line)

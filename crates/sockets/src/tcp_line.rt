@@ -223,7 +223,7 @@ impl<R: Net> TcpLine<R> {
 impl<R: Net, C: Counted> Line<C> for TcpLine<R> {
     ghost model = { λ line. record (silent_line (is_some line.stream) (line.other_faults + line.next_faults) line.spent) { next_faults = line.next_faults } };
 
-    ghost is_line = { λ line. record { marked = λ observable. absurd (true≢false (sym observable)); next_within = le-add_left line.next_faults line.other_faults } };
+    ghost is_line = { λ line. record { one_for_each = λ observable. absurd (true≢false (sym observable)); next_within = le-add_left line.next_faults line.other_faults } };
 
     /// Waits for the next client as long as it takes. False once as many connections began as may.
     fn next(&mut self) -> Result<bool, Failed> {

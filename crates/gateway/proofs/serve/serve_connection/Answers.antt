@@ -14,7 +14,7 @@ returns-in-Err-clause-serves g c =
 pub requests-init : goal.requests-init
 requests-init g c = record {
   goes = ap (λ (r : Pending). r.ended) c.in-Ok.ensures;
-  line = record { is_open = c.requires; faults = refl; next_faults = refl; spent = omega arith; observable = λ t. t; transcript = λ t. record { waiting = refl; begun = refl; marks = refl } };
+  line = record { is_open = c.requires; faults = refl; next_faults = refl; spent = omega arith; observable = λ t. t; transcript = λ t. record { waiting = refl; begun = refl; faulty = refl } };
   serves = serves_none (λ t. t) (λ told R. answered_none _ _ _ _ _ _ c.in-Ok.ensures);
 }
 

@@ -6,7 +6,7 @@ use Rattle.gateway_cmd.specs.Report.{is_failed_run}
 use Rattle.gateway_cmd.specs.Run.{none, run_cursor_of}
 use Rattle.gateway_cmd.specs.declared.status.RunOutcome.TheVariants.{Plain}
 use Rattle.gateway_cmd.proofs.Counting.{Counts, counts_none, counts_next, counts_same, counts_reached, counts_within}
-use Rattle.gateway_cmd.proofs.Marks.{unmarked_none, unmarked_next, done_next}
+use Rattle.gateway_cmd.proofs.Faulty.{none_faulty_of_none, none_faulty_next, done_next}
 use Rattle.gateway_cmd.proofs.Sessions.{run_traces_more, run_traces_end}
 use Rattle.gateway_cmd.proofs.session.session.Goals as goal
 
@@ -14,7 +14,7 @@ pub connections-init : goal.connections-init
 connections-init g c = record {
   next_faults = refl;
   faults = omega arith;
-  unmarked = λ observable still. unmarked_none _ _ refl;
+  none_faulty = λ observable still. none_faulty_of_none _ _ refl;
   counts = λ observable. counts_none c.args.most (g.N.Line.model c.args.line.now).transcript.begun;
   serves = serves_none (λ t. t) (λ told R. ([], none (run_cursor_of (world (g.N.Line.model c.args.line.now) (g.W.Swift.history c.args.store.now) c.args.known.now (g.C.Clock.model c.args.clock.now) (g.D.Draws.model c.args.draws.now)))));
 }
@@ -29,7 +29,7 @@ returns-then-is_reached-clause-line g c =
       next_faults = i.next_faults;
       done = λ observable is. counts_reached c.args.most c.connections.left old new (c.is_reached.ensures.none c.if-is_reached.true) (i.counts observable);
       within = λ observable. counts_within c.args.most c.connections.left old new (i.counts observable);
-      unmarked = i.unmarked;
+      none_faulty = i.none_faulty;
     }
 
 pub returns-then-is_reached-clause-serves : goal.returns-then-is_reached-clause-serves
@@ -45,7 +45,7 @@ returns-in-Some-clause-line g c =
       done = λ observable is. inl (done_next s (i.serves.on.line observable) is);
       within = λ observable. counts_within c.args.most c.connections.left (g.N.Line.model c.args.line.now).transcript (g.N.Line.model c.serve_another.new.line).transcript
           (counts_same c.args.most c.connections.left c.in-Some.status _ (g.N.Line.model c.connections.line).transcript.begun _ (i.counts observable) (s.begun (i.serves.on.line observable)));
-      unmarked = unmarked_next (g.N.Line.model c.args.line.now) (g.N.Line.model c.connections.line) (g.N.Line.model c.serve_another.new.line) i.serves.on.line i.faults i.unmarked s;
+      none_faulty = none_faulty_next (g.N.Line.model c.args.line.now) (g.N.Line.model c.connections.line) (g.N.Line.model c.serve_another.new.line) i.serves.on.line i.faults i.none_faulty s;
     }
 
 pub returns-in-Some-clause-serves : goal.returns-in-Some-clause-serves
@@ -65,7 +65,7 @@ connections-preserved g c =
     record {
       next_faults = s.next_faults ∙ i.next_faults;
       faults = (let a = i.faults in let b = s.faults in omega arith);
-      unmarked = unmarked_next (g.N.Line.model c.args.line.now) (g.N.Line.model c.connections.line) (g.N.Line.model c.serve_another.new.line) i.serves.on.line i.faults i.unmarked s;
+      none_faulty = none_faulty_next (g.N.Line.model c.args.line.now) (g.N.Line.model c.connections.line) (g.N.Line.model c.serve_another.new.line) i.serves.on.line i.faults i.none_faulty s;
       counts = λ observable.
           subst (λ left. Counts c.args.most left (g.N.Line.model c.args.line.now).transcript.begun (g.N.Line.model c.serve_another.new.line).transcript.begun) (sym c.one_less-left.ensures)
           (counts_next c.args.most c.connections.left _ (g.N.Line.model c.connections.line).transcript.begun _ (c.is_reached.ensures.some c.if-is_reached.false) (i.counts observable) (s.begun (i.serves.on.line observable)));

@@ -2,7 +2,7 @@ use Rattle.std.proofs.Common.{◌≡◌, ◌≤◌, ◌-◌, ◌^◌, IsTrue}
 use Rattle.gate_base.specs.Causes.{Rose}
 use Rattle.gateway.specs.World.{world, ServesOver}
 use Rattle.gateway_cmd.specs.Run.{RunTraces}
-use Rattle.gateway_cmd.specs.Session.{Unmarked}
+use Rattle.gateway_cmd.specs.Session.{NoneFaulty}
 use Rattle.gateway_cmd.proofs.Counting.{Counts}
 use Rattle.gateway_cmd.proofs.session.session.Given as goal
 
@@ -10,8 +10,8 @@ abbrev pub invariant-connections : goal.invariant-connections
 invariant-connections g l = record {
   next_faults : (g.N.Line.model l.line).next_faults ≡ (g.N.Line.model l.initial.line).next_faults;
   faults : (g.N.Line.model l.initial.line).faults ≤ (g.N.Line.model l.line).faults;
-  unmarked : IsTrue (g.N.Line.model l.initial.line).observable → (Rose (g.N.Line.model l.initial.line).faults (g.N.Line.model l.line).faults → ⊥)
-      → Unmarked (g.N.Line.model l.initial.line).transcript (g.N.Line.model l.line).transcript;
+  none_faulty : IsTrue (g.N.Line.model l.initial.line).observable → (Rose (g.N.Line.model l.initial.line).faults (g.N.Line.model l.line).faults → ⊥)
+      → NoneFaulty (g.N.Line.model l.initial.line).transcript (g.N.Line.model l.line).transcript;
   counts : IsTrue (g.N.Line.model l.initial.line).observable → Counts l.fn.most l.left (g.N.Line.model l.initial.line).transcript.begun (g.N.Line.model l.line).transcript.begun;
   serves : ServesOver l.service.settings (RunTraces l.service)
       (world (g.N.Line.model l.initial.line) (g.W.Swift.history l.initial.store) l.initial.known (g.C.Clock.model l.initial.clock) (g.D.Draws.model l.initial.draws))
