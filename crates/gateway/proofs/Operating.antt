@@ -18,10 +18,10 @@ use Rattle.recovery.specs.declared.state.Known.TheVariants as known
 use Rattle.recovery.specs.declared.state.SettleFault.{SettleFault}
 use Rattle.recovery.specs.declared.state.SettleFault.TheVariants.{Failed, Memory, Inconsistent}
 use Rattle.recovery.specs.Answers.{most_calls, most_settling}
-use Rattle.recovery.specs.Calls.{Bound, always, by_account, amount, IsWithin, GoesOn, Met, Keeps}
+use Rattle.recovery.specs.Calls.{Bound, always, by_account, amount, IsWithin, GoesOn, Met, Keeps, Any}
 use Rattle.recovery.specs.Fault.{CausesFault}
 use Rattle.recovery.specs.Stutters.{Stutters, LastFailed}
-use Rattle.recovery.specs.Settling.{IsKnown, settle_fault, as_plan, Anything, SettlesIt, Settles}
+use Rattle.recovery.specs.Settling.{IsKnown, settle_fault, as_plan, SettlesIt, Settles}
 use Rattle.recovery.proofs.lemmas.Idle.{none_made, goes_none}
 use Rattle.planner.specs.Plan.{reply_of, Answered}
 use Rattle.gateway.specs.Exchange.{SettledBy, IsFault, unsettled, answered, Operated}
@@ -74,7 +74,7 @@ pub readied_at_once : {old middle : History} {was : Known} → was ≡ known.Set
 readied_at_once {old = old} is same = subst {A = History × Known} (λ x. Readied old x.0 x.1) (λ i. (sym same i, sym is i)) (at_once old)
 
 -- nothing is given of the account
-met_any : {given : SwiftAccount → Type 0} {h : History} → Met given h → Met Anything h
+met_any : {given : SwiftAccount → Type 0} {h : History} → Met given h → Met Any h
 met_any met = record { observable = met.observable; sound = met.sound; has = tt }
 
 -- no more calls than by which it may be settled

@@ -12,8 +12,8 @@ use Rattle.sigv4.specs.declared.keys.AccessKey.{AccessKey}
 use Rattle.sign_cmd.specs.Signing.{SignsOn}
 use Rattle.recovery.specs.declared.state.Known.{Known}
 use Rattle.recovery.specs.declared.state.Known.TheVariants.{Settled, Unsure}
-use Rattle.recovery.specs.Calls.{GoesOn, Met}
-use Rattle.recovery.specs.Settling.{IsKnown, Anything}
+use Rattle.recovery.specs.Calls.{GoesOn, Met, Any}
+use Rattle.recovery.specs.Settling.{IsKnown}
 use Rattle.gateway.specs.declared.ended.Ended.{Ended as Close}
 use Rattle.gateway.specs.declared.service.Service.{Service}
 use Rattle.gateway.specs.Connection.{ConnectionTrace, is_failed_end, cursor, progress}
@@ -86,7 +86,7 @@ next_none line line' store known clock draws same = ap (λ w. run_cursor_of (wor
 -- ---- a run but for its report
 
 -- nothing is known of the store as a run begins
-pub unsure_met : {h : History} → Met Anything h → Met (IsKnown Unsure) h
+pub unsure_met : {h : History} → Met Any h → Met (IsKnown Unsure) h
 unsure_met met = record { observable = met.observable; sound = met.sound; has = λ is. absurd (let clash : Unsure ≡ Settled = is in cc) }
 
 line_served_none : (serving : Serving) (failed complete : Bool) (line : LineModel) → failed ≡ false → complete ≡ false → LineServed serving failed complete line line
@@ -181,7 +181,7 @@ run_heard told run =
     record { known = run.known; spans = trace.0; trace = trace.1; follows = run_trace_follow trace.1 }
 
 -- and over an observable store
-pub run_told : {serving : Serving} {keys : List ℕ} {ended : RunOutcome} (old : World) (new : Known → World) (h : History) → ((known : Known) → (new known).store ≡ h) → IsObservable old → Met Anything old.store → old.known ≡ Unsure → RunServes serving keys ended old new → RunTold (service_of serving keys) h old new
+pub run_told : {serving : Serving} {keys : List ℕ} {ended : RunOutcome} (old : World) (new : Known → World) (h : History) → ((known : Known) → (new known).store ≡ h) → IsObservable old → Met Any old.store → old.known ≡ Unsure → RunServes serving keys ended old new → RunTold (service_of serving keys) h old new
 run_told {serving = serving} {keys = keys} old new h same told met unsure run =
     let given : Met (IsKnown old.known) old.store = subst (λ known. Met (IsKnown known) old.store) (sym unsure) (unsure_met met) in
     let trace = subst (λ h. (spans : List Span) × RunTrace (service_of serving keys) (RepliesBy true serving.settings h) (run_cursor_of old) spans (run_cursor_of (new run.known))) (same run.known) (run.serves.effect told true given) in

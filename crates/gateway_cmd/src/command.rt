@@ -2,8 +2,7 @@ ghost use Rattle.std.specs.Prelude.{◌≡◌, ◌==◌, ◌<◌, ℕ, true, fal
 ghost use Rattle.gate_base.specs.Causes.{Rose};
 ghost use Rattle.swift_calls.specs.History.{budget, FaultFree};
 ghost use Rattle.recovery.specs.declared.state.Known.TheVariants.{Unsure};
-ghost use Rattle.recovery.specs.Calls.{Met};
-ghost use Rattle.recovery.specs.Settling.{Anything};
+ghost use Rattle.recovery.specs.Calls.{Any, Met};
 ghost use Rattle.sigv4.specs.Keys.{keys_of, are_keys, secret_of};
 ghost use Rattle.sign_cmd.specs.Signing.{AnswersFirst, SendsFirst, SignsOn};
 ghost use Rattle.sign_cmd.specs.declared.first.Signing.{Signing};
@@ -94,12 +93,12 @@ pub fn run<N: Line<W>, R: Sink, W: Swift, C: Clock, D: Draws>(
 
     // Where the store is observable, and its account is consistent at entry, the account stays consistent, and goes
     // through the steps of requests that follow one another, whatever the line tells of them.
-    ensures stands { (serving : Serving) → serving_of (command_of words.now) ≡ Some serving → Met Anything (W.history store.old)
+    ensures stands { (serving : Serving) → serving_of (command_of words.now) ≡ Some serving → Met Any (W.history store.old)
         → RunStands serving.settings (W.history store.new) (W.history store.old).called (W.history store.new).called }
 
     // Under the premises of both, the replies are the machine's too, each after its step.
     ensures effect { (serving : Serving) → serving_of (command_of words.now) ≡ Some serving
-        → IsObservable (world (N.model line.old) (W.history store.old) Unsure (C.model clock.old) (D.model draws.old)) → Met Anything (W.history store.old)
+        → IsObservable (world (N.model line.old) (W.history store.old) Unsure (C.model clock.old) (D.model draws.old)) → Met Any (W.history store.old)
         → RunTold (service_of serving keys.now) (W.history store.new)
         (world (N.model line.old) (W.history store.old) Unsure (C.model clock.old) (D.model draws.old))
         (λ known. world (N.model line.new) (W.history store.new) known (C.model clock.new) (D.model draws.new)) }

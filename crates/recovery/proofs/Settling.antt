@@ -4,13 +4,14 @@ use Rattle.std.proofs.Common.{refl}
 use Rattle.swift_calls.specs.History.{History, present}
 use Rattle.upload_records.proofs.lemmas.Settled.{settled_always}
 use Rattle.recovery.specs.Answers.{most_settling}
-use Rattle.recovery.specs.Settling.{Anything, Settles}
+use Rattle.recovery.specs.Calls.{Any}
+use Rattle.recovery.specs.Settling.{Settles}
 use Rattle.recovery.proofs.lemmas.Idle.{none_made, grows_none}
 
 pub settles_idle : (h : History) → Settles h h (Ok tt)
 settles_idle h = record {
   asks = record {
-    grows = grows_none (most_settling (present h)) Anything h;
+    grows = grows_none (most_settling (present h)) Any h;
     cause = refl;
     effect = λ met. (none_made refl met.sound, refl, settled_always (present h));
     settled = λ observable settled. settled;

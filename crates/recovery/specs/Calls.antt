@@ -133,9 +133,9 @@ bytes_in object = object.bytes
 abbrev pub TellsBytes : List ℕ → List ℕ → Option (ℕ × ℕ) → State → Option (List ℕ) → Type 0
 TellsBytes bucket key range state told = option_and_then (ranged range) (option_map bytes_in (object_at (get state bucket) key)) ≡ told
 
--- nothing is given of the state
-abbrev pub Any : State → Type 0
-Any state = Unit {0}
+-- nothing is given, of a state or of an account
+abbrev pub Any : {A : Type 0} → A → Type 0
+Any a = Unit {0}
 
 -- the bucket is there
 abbrev pub HasBucket : List ℕ → State → Type 0

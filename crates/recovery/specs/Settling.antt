@@ -10,7 +10,7 @@ use Rattle.recovery.specs.declared.state.Known.TheVariants.{Settled}
 use Rattle.recovery.specs.declared.state.SettleFault.{SettleFault}
 use Rattle.recovery.specs.declared.state.SettleFault.TheVariants.{Failed, Memory, Inconsistent}
 use Rattle.recovery.specs.Answers.{most_settling}
-use Rattle.recovery.specs.Calls.{Asks}
+use Rattle.recovery.specs.Calls.{Any, Asks}
 
 -- what is known of an account is so
 abbrev pub IsKnown : Known → SwiftAccount → Type 0
@@ -26,15 +26,11 @@ abbrev pub as_plan : Result (Unit {0}) SettleFault → Result (Unit {0}) PlanFau
 as_plan (Ok done) = Ok done
 as_plan (Err fault) = Err (settle_fault fault)
 
--- nothing is given of the account
-abbrev pub Anything : SwiftAccount → Type 0
-Anything tree = Unit {0}
-
 -- what settling tells: no completion is sealed on the account after it
 abbrev pub SettlesIt : SwiftAccount → SwiftAccount → Unit {0} → Type 0
 SettlesIt old new done = IsSettled new
 
 -- a store was settled: the state stays, and after Ok no completion is sealed, also where the account is not consistent
 pub record Settles (old new : History) (result : Result (Unit {0}) SettleFault) : Type 0 where
-  pub asks : Asks (most_settling (present old)) old new Anything SettlesIt (as_plan result)
+  pub asks : Asks (most_settling (present old)) old new Any SettlesIt (as_plan result)
   pub done : IsTrue old.observable → result ≡ Ok tt → IsSettled (present new)
