@@ -11,7 +11,6 @@ use Rattle.s3_machine.specs.declared.operation.Reply.TheVariants as answer
 use Rattle.s3_machine.specs.Shown.{IsShowable}
 use Rattle.swift_calls.specs.Account.{SwiftAccount}
 use Rattle.swift_calls.specs.History.{History, present}
-use Rattle.swift_calls.proofs.lemmas.Histories.{extends_trans}
 use Rattle.upload_records.specs.Native.{IsSettled}
 use Rattle.recovery.specs.declared.state.Known.{Known}
 use Rattle.recovery.specs.declared.state.Known.TheVariants as known
@@ -22,20 +21,12 @@ use Rattle.recovery.specs.Calls.{Bound, always, by_account, amount, IsWithin, Go
 use Rattle.recovery.specs.Fault.{CausesFault}
 use Rattle.recovery.specs.Stutters.{Stutters, LastFailed}
 use Rattle.recovery.specs.Settling.{IsKnown, settle_fault, as_plan, SettlesIt, Settles}
-use Rattle.recovery.proofs.lemmas.Idle.{none_made, goes_none}
+use Rattle.recovery.proofs.lemmas.Idle.{none_made, goes_none, goes_trans}
 use Rattle.planner.specs.Plan.{reply_of, Answered}
 use Rattle.gateway.specs.Exchange.{SettledBy, IsFault, unsettled, answered, Operated}
 use Rattle.gateway.proofs.lemmas.Map.{settled_by_agree}
 
 -- ---- histories that go on
-
-pub goes_on_trans : {a b c : History} → GoesOn a b → GoesOn b c → GoesOn a c
-goes_on_trans first then = record {
-  ordered = (let near = first.ordered in let far = then.ordered in omega arith);
-  faults = (let near = first.faults in let far = then.faults in omega arith);
-  observable = λ observable. then.observable (first.observable observable);
-  kept = λ observable. extends_trans first.ordered (first.kept observable) (then.kept (first.observable observable));
-}
 
 -- the account that the history went on from
 pub from_present : {old new : History} → (on : GoesOn old new) → (observable : IsTrue old.observable) → new.tree_at old.called ≡ present old
@@ -106,7 +97,7 @@ readied_by {old = old} is same settles = subst {A = History × Known} (λ x. Rea
 pub operated_by : {settings : Settings} {op : Op} {label : Label} {old middle new : History} {was : Known} {reply : Reply} → Readied old middle was
     → Answered (most_calls op (present middle)) middle new settings op label known.Settled reply → Operated settings op label old new was known.Settled reply
 operated_by {settings = settings} {op = op} {label = label} {old = old} {middle = middle} {new = new} {reply = reply} readied given = record {
-  on = goes_on_trans readied.on given.grows.on;
+  on = goes_trans readied.on given.grows.on;
   showable = given.showable;
   caused = record {
     unavailable = λ is. rose_later old.faults middle.faults new.faults readied.on.faults (given.unavailable is);
@@ -120,7 +111,7 @@ operated_by {settings = settings} {op = op} {label = label} {old = old} {middle 
       let found : Met IsSettled middle = record { observable = observable; sound = by.quiet.sound middle.called by.quiet.ordered (omega arith); has = by.settled } in
       let told = given.effect found in
       let first = readied.on.ordered in
-      let faults = (goes_on_trans readied.on given.grows.on).faults in (
+      let faults = (goes_trans readied.on given.grows.on).faults in (
         record { from = old.called; begins = middle.called; committed = told.0; to = new.called; asked = Some (record { op = op; label = label }); takes = told.1 },
         record { from = refl; settles = first; first = told.2.passes.after_p; last = told.2.passes.up_to_q; to = refl; asked = refl; faults = faults },
         answered (settled_by_agree kept first (omega arith) by) told.2

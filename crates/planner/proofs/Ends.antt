@@ -12,19 +12,18 @@ use Rattle.s3_machine.specs.State.{State}
 use Rattle.s3_machine.specs.Step.{S3Step}
 use Rattle.swift_calls.specs.Account.{SwiftAccount}
 use Rattle.swift_calls.specs.History.{History, present}
-use Rattle.swift_calls.proofs.lemmas.Histories.{extends_trans}
 use Rattle.upload_records.specs.Native.{IsSettled, s3_state}
 use Rattle.recovery.specs.declared.fault.PlanFault.{PlanFault}
 use Rattle.recovery.specs.declared.fault.PlanFault.TheVariants.{Failed, Memory, Inconsistent}
 use Rattle.recovery.specs.declared.state.Known.TheVariants.{Settled}
 use Rattle.recovery.specs.Fault.{CausesFault}
 use Rattle.recovery.specs.Stutters.{Stutters, OldBefore, LastFailed, was_lost}
-use Rattle.recovery.specs.Calls.{Bound, always, by_account, IsWithin, Met, GoesOn, Grows, Given, Keeps, Tells, Asks, Commits, CommitsUntold, Writes, Changes, Any}
+use Rattle.recovery.specs.Calls.{Bound, always, by_account, IsWithin, Met, Grows, Given, Keeps, Tells, Asks, Commits, CommitsUntold, Writes, Changes, Any}
 use Rattle.recovery.specs.Answers.{Stepped, machine, unavailable, memory, ends_by_commit}
 use Rattle.recovery.proofs.lemmas.Agree.{quiet_agree, passes_still, passes_at_once, passes_once, same_ids, answers_after}
 use Rattle.recovery.proofs.lemmas.Causes.{due_cause}
 use Rattle.recovery.proofs.lemmas.Faults.{err_is}
-use Rattle.recovery.proofs.lemmas.Idle.{none_made, grows_none}
+use Rattle.recovery.proofs.lemmas.Idle.{none_made, goes_trans, grows_none}
 use Rattle.planner.specs.Plan.{reply_of, IsOwnReply, Ends, ended, CausesEnd, Plans, Answered}
 use Rattle.planner.proofs.Replies.{rose_of, steady_of, consistent_of, showable_of}
 
@@ -142,19 +141,6 @@ within_more (by_account n) (by_account most) p q wider from within = λ met. let
 
 grows_more : {n most : Bound} {given given' : SwiftAccount → Type 0} {a b : History} → IsWider n most → (Met given' a → Met given a) → Grows n given a b → Grows most given' a b
 grows_more {n = n} {most = most} {a = a} {b = b} wider from grows = record { on = grows.on; calls = within_more n most a.called b.called wider from grows.calls }
-
-goes_trans : {a b c : History} → GoesOn a b → GoesOn b c → GoesOn a c
-goes_trans first then =
-    let first_ordered = first.ordered in
-    let ordered = then.ordered in
-    let first_faults = first.faults in
-    let faults = then.faults in
-    record {
-      ordered = omega arith;
-      faults = omega arith;
-      observable = λ observable. then.observable (first.observable observable);
-      kept = λ observable. extends_trans first_ordered (first.kept observable) (then.kept (first.observable observable));
-    }
 
 within_trans : (m most : Bound) {P Q : Type 0} (p q r : ℕ) → IsOneMore m most → (Q → P) → q ≤ p + 1 → IsWithin m P q r → IsWithin most Q p r
 within_trans (always m) (always most) p q r more from first within = omega arith

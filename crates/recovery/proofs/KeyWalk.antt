@@ -28,8 +28,8 @@ use Rattle.recovery.specs.Calls.{Bound, always, by_account, GoesOn, Met, Keeps, 
 use Rattle.recovery.proofs.KeyPages.{keys_within}
 use Rattle.recovery.proofs.Taken.{keys_sorted, keys_fit}
 use Rattle.recovery.proofs.lemmas.Faults.{err_is}
-use Rattle.recovery.proofs.lemmas.Idle.{goes_none, none_made, grows_none}
-use Rattle.recovery.proofs.Walk.{goes_trans, Idles, idles_none, idles_trans, cause_after, keeps_after}
+use Rattle.recovery.proofs.lemmas.Idle.{goes_none, goes_trans, none_made, grows_none}
+use Rattle.recovery.proofs.Walk.{Idles, idles_none, idles_trans, cause_after, keeps_after}
 
 -- ---- the keys up to the marker
 

@@ -22,11 +22,11 @@ use Rattle.recovery.specs.declared.fault.PlanFault.{PlanFault}
 use Rattle.recovery.specs.Listing.{TellsOf, TellsAdded, TellsItems, Has, HasNames, heads, item_at, made_by}
 use Rattle.recovery.specs.Calls.{always, GoesOn, Met, Asks}
 use Rattle.recovery.proofs.lemmas.Faults.{err_is}
-use Rattle.recovery.proofs.lemmas.Idle.{goes_none}
+use Rattle.recovery.proofs.lemmas.Idle.{goes_none, goes_trans}
 use Rattle.recovery.proofs.Ascending.{front, back}
 use Rattle.recovery.proofs.Marks.{IsEntry, IsKey, entries_are, keys_are}
 use Rattle.recovery.proofs.Pages.{at_index}
-use Rattle.recovery.proofs.Walk.{Idles, idles_none, idles_trans, goes_trans, cause_after, keeps_after}
+use Rattle.recovery.proofs.Walk.{Idles, idles_none, idles_trans, cause_after, keeps_after}
 
 -- ---- the buckets of the state are those of the containers
 

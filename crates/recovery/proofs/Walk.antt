@@ -11,7 +11,6 @@ use Rattle.s3_names.proofs.lemmas.BucketLemmas.{bucket_length}
 use Rattle.swift_calls.specs.Account.{SwiftAccount}
 use Rattle.swift_calls.specs.Limits.{IsMark}
 use Rattle.swift_calls.specs.History.{History, present, Extends}
-use Rattle.swift_calls.proofs.lemmas.Histories.{extends_trans}
 use Rattle.upload_records.specs.Native.{IsSettled}
 use Rattle.upload_records.specs.Consistent.{IsConsistent, IsFolderName, head_of}
 use Rattle.upload_records.specs.Marks.{uploads_name, segments_name, gateway_name}
@@ -24,7 +23,7 @@ use Rattle.recovery.specs.Stutters.{Stutters}
 use Rattle.recovery.specs.Calls.{always, by_account, GoesOn, Met, Keeps, Asks}
 use Rattle.recovery.proofs.lemmas.Agree.{quiet_agree, quiet_trans, failed_after}
 use Rattle.recovery.proofs.lemmas.Faults.{err_is}
-use Rattle.recovery.proofs.lemmas.Idle.{none_made, goes_none}
+use Rattle.recovery.proofs.lemmas.Idle.{none_made, goes_none, goes_trans}
 use Rattle.recovery.proofs.Marks.{IsKey, keys_are, text_mark}
 
 -- ---- all names stand after the empty marker
@@ -58,19 +57,6 @@ pub length-keys : (tree : SwiftAccount) → length (keys tree) ≡ len tree
 length-keys tree = length-map (entries tree) (λ e. e.0) ∙ sym (len-entries tree)
 
 -- ---- stretches of calls
-
-pub goes_trans : {a b c : History} → GoesOn a b → GoesOn b c → GoesOn a c
-goes_trans first then =
-    let first_ordered = first.ordered in
-    let ordered = then.ordered in
-    let first_faults = first.faults in
-    let faults = then.faults in
-    record {
-      ordered = omega arith;
-      faults = omega arith;
-      observable = λ observable. then.observable (first.observable observable);
-      kept = λ observable. extends_trans first_ordered (first.kept observable) (then.kept (first.observable observable));
-    }
 
 -- calls that left the account, as they stand in the history b
 pub record Idles (b : History) (p q : ℕ) : Type 0 where

@@ -7,10 +7,9 @@ use Rattle.swift_calls.specs.History.{History, Extends}
 use Rattle.recovery.specs.declared.state.Known.{Known}
 use Rattle.recovery.specs.Calls.{Met}
 use Rattle.recovery.specs.Settling.{IsKnown}
-use Rattle.recovery.proofs.lemmas.Idle.{goes_none}
+use Rattle.recovery.proofs.lemmas.Idle.{goes_none, goes_trans}
 use Rattle.gateway.specs.Exchange.{ReplyRelation, RepliesBy, Where}
 use Rattle.gateway.specs.World.{World, world, IsObservable, Continues, ServesOver}
-use Rattle.gateway.proofs.Operating.{goes_on_trans}
 use Rattle.gateway.proofs.Replying.{stands_still}
 use Rattle.gateway.proofs.Looping.{where_map, met_now, stands_trans}
 
@@ -46,7 +45,7 @@ pub serves_trans : {settings : Settings} {T U V : ReplyRelation → World → Wo
 serves_trans {middle = middle} first then joined = record {
   on = record {
     line = λ t. then.on.line (first.on.line t);
-    store = goes_on_trans first.on.store then.on.store;
+    store = goes_trans first.on.store then.on.store;
     clock = λ t. then.on.clock (first.on.clock t);
     draws = λ t. then.on.draws (first.on.draws t);
   };

@@ -1,10 +1,10 @@
--- No call was made, or one that left the account.
+-- No call was made, or one that left the account; and how histories go on.
 use Rattle.std.specs.Prelude.{◌≡◌, ◌⊎◌, ◌≤◌, ℕ, ◌+◌}
 use Rattle.std.proofs.Common.{sym, ap, subst, ◌∙◌, inl, inr, arith}
 use Rattle.std.proofs.lemmas.Bool.{cases_lt}
 use Rattle.swift_calls.specs.Account.{SwiftAccount}
 use Rattle.swift_calls.specs.History.{History}
-use Rattle.swift_calls.proofs.lemmas.Histories.{extends_refl}
+use Rattle.swift_calls.proofs.lemmas.Histories.{extends_refl, extends_trans}
 use Rattle.upload_records.specs.Native.{s3_state}
 use Rattle.upload_records.specs.Consistent.{IsConsistent}
 use Rattle.recovery.specs.Stutters.{Stutters}
@@ -32,6 +32,20 @@ none_made {h = h} same sound = stays (omega arith) (omega arith) (ap h.tree_at s
 -- no call was made
 pub goes_none : (h : History) → GoesOn h h
 goes_none h = record { ordered = omega arith; faults = omega arith; observable = λ observable. observable; kept = λ observable. extends_refl h.called h }
+
+-- calls were made, and then more
+pub goes_trans : {a b c : History} → GoesOn a b → GoesOn b c → GoesOn a c
+goes_trans first then =
+    let first_ordered = first.ordered in
+    let ordered = then.ordered in
+    let first_faults = first.faults in
+    let faults = then.faults in
+    record {
+      ordered = omega arith;
+      faults = omega arith;
+      observable = λ observable. then.observable (first.observable observable);
+      kept = λ observable. extends_trans first_ordered (first.kept observable) (then.kept (first.observable observable));
+    }
 
 pub grows_none : (most : Bound) (given : SwiftAccount → Type 0) (h : History) → Grows most given h h
 grows_none (always n) given h = record { on = goes_none h; calls = omega arith }
