@@ -22,9 +22,9 @@ EndsWith end (Served ended) = (ended ≡ end) ⊎ (ended ≡ Some Memory)
 EndsWith end Broken = Unit {0}
 
 -- where a request was answered in whole, its end isn't that of a failed line; of a broken one nothing is said
-abbrev pub IsServed : Handled → Type 0
-IsServed (Served ended) = is_failed_step ended ≡ false
-IsServed Broken = Unit {0}
+abbrev pub NotFailedIfServed : Handled → Type 0
+NotFailedIfServed (Served ended) = is_failed_step ended ≡ false
+NotFailedIfServed Broken = Unit {0}
 
 -- the request was answered in whole, with this end of the connection; what it asks is known at its moment
 pub record AnswersWhole (R : ReplyRelation) (connection : ℕ) (old new : Progress) (asks : ℕ → Request) (end : Option Ended) : Type 0 where

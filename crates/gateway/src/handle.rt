@@ -1,7 +1,7 @@
 ghost use Rattle.std.specs.Prelude.{IsTrue};
 ghost use Rattle.gate_base.specs.Line.{OnlyWrites};
 ghost use Rattle.gateway.specs.Request.{asks_of, end_of};
-ghost use Rattle.gateway.specs.Handled.{HandledOnce, EndsWith, IsServed, is_failed_reply};
+ghost use Rattle.gateway.specs.Handled.{HandledOnce, EndsWith, NotFailedIfServed, is_failed_reply};
 ghost use Rattle.gateway.specs.World.{world, progress_of, ServesOver};
 
 use crate::label::{next_label, sent_by};
@@ -38,7 +38,7 @@ pub fn handle_request<N: Line<W>, W: Swift, C: Clock, D: Draws>(
 ) -> Handled
     requires { IsTrue (N.model line.old).is_open }
     ensures endings { EndsWith (end_of received) result }
-    ensures served { IsServed result }
+    ensures served { NotFailedIfServed result }
     ensures writes { OnlyWrites (is_failed_reply result) (N.model line.old) (N.model line.new) }
     ensures serves { ServesOver service.now.settings (λ R old new. HandledOnce R old.line.transcript.begun (progress_of old) (progress_of new) (asks_of service.now received) result)
         (world (N.model line.old) (W.history store.old) known.old (C.model clock.old) (D.model draws.old))
