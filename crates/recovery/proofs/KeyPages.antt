@@ -19,7 +19,7 @@ use Rattle.s3_machine.specs.Step.{listed_key}
 use Rattle.s3_machine.specs.declared.items.ItemHead.{ItemHead}
 use Rattle.swift_calls.specs.Account.{SwiftObject, SwiftAccount, files, size_of}
 use Rattle.swift_calls.specs.Bodies.{item_of}
-use Rattle.swift_calls.specs.Limits.{IsMark}
+use Rattle.swift_calls.specs.Limits.{IsMarker}
 use Rattle.swift_calls.specs.Step.{Fit, page, is_listed}
 use Rattle.swift_calls.specs.declared.heads.NameItem.{NameItem}
 use Rattle.swift_marks.specs.Tag.{read_stamp, stamp_of}
@@ -39,10 +39,10 @@ use Rattle.list_pages.proofs.lemmas.Sorted.{sorted_filter}
 use Rattle.list_pages.proofs.lemmas.Starting.{not_behind}
 use Rattle.list_pages.proofs.lemmas.Starts.{starts_begins}
 use Rattle.recovery.specs.Keys.{objects_in, keys_with, TellsKeys}
-use Rattle.recovery.proofs.Marks.{entries_are}
+use Rattle.recovery.proofs.Markers.{entries_are}
 use Rattle.recovery.proofs.Names.{container_name}
 
-pub page_fits : (bucket prefix marker : List ℕ) → is_bucket bucket ≡ true → IsMark prefix → IsMark marker → Fit (page_request bucket prefix marker)
+pub page_fits : (bucket prefix marker : List ℕ) → is_bucket bucket ≡ true → IsMarker prefix → IsMarker marker → Fit (page_request bucket prefix marker)
 page_fits bucket prefix marker is of_prefix of_marker = (container_name bucket is, of_prefix, of_marker, (omega arith, omega arith))
 
 -- ---- two tests, one after the other

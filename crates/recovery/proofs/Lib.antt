@@ -1,6 +1,6 @@
 pub mod Ask
 pub mod Ascending
-pub mod AskedMarks
+pub mod AskedMarkers
 pub mod Calm
 pub mod Created
 pub mod Dates
@@ -15,7 +15,7 @@ pub mod KeyPages
 pub mod KeyWalk
 pub mod Listed
 pub mod Made
-pub mod Marks
+pub mod Markers
 pub mod Names
 pub mod One
 pub mod Pages

@@ -24,7 +24,7 @@ use Rattle.recovery.specs.Calls.{always, GoesOn, Met, Asks}
 use Rattle.recovery.proofs.lemmas.Faults.{err_is}
 use Rattle.recovery.proofs.lemmas.Idle.{goes_none, goes_trans}
 use Rattle.recovery.proofs.Ascending.{front, back}
-use Rattle.recovery.proofs.Marks.{IsEntry, IsKey, entries_are, keys_are}
+use Rattle.recovery.proofs.Markers.{IsEntry, IsKey, entries_are, keys_are}
 use Rattle.recovery.proofs.Pages.{at_index}
 use Rattle.recovery.proofs.Walk.{Idles, idles_none, idles_trans, cause_after, keeps_after}
 

@@ -10,18 +10,18 @@ use Rattle.std.proofs.Math.Seq.{drop-cons}
 use Rattle.std.proofs.lemmas.Option.{slice_get-get_or}
 use Rattle.gate_base.specs.Maps.{name_cmp}
 use Rattle.swift_calls.specs.Account.{SwiftAccount}
-use Rattle.swift_calls.specs.Limits.{IsMark}
+use Rattle.swift_calls.specs.Limits.{IsMarker}
 use Rattle.swift_calls.specs.Step.{page, is_listed}
 use Rattle.swift_calls.specs.declared.calls.SwiftRequest.TheVariants.{ListContainers}
 use Rattle.upload_records.specs.Consistent.{IsConsistent}
-use Rattle.recovery.specs.Listing.{after, ascends, most_names, names_due, next_marker, IsMarked, GoesOnAfter, TellsPage, TellsNext}
+use Rattle.recovery.specs.Listing.{after, ascends, most_names, names_due, next_marker, MayListAfter, GoesOnAfter, TellsPage, TellsNext}
 use Rattle.recovery.proofs.Ascending.{after_at, after_later, filter_ascends, keys_ascend}
 use Rattle.recovery.proofs.Ask.{IsReadingOf}
 use Rattle.list_pages.specs.Listing.{Ascends}
 use Rattle.list_pages.proofs.lemmas.Sorted.{sorted_filter}
 use Rattle.recovery.specs.declared.fault.PlanFault.TheVariants.{Inconsistent}
 use Rattle.recovery.proofs.KeyPages.{below_chosen, ascends_by, ascends_take}
-use Rattle.recovery.proofs.Marks.{IsKey, keys_are, key_mark}
+use Rattle.recovery.proofs.Markers.{IsKey, keys_are, entry_is_marker}
 
 -- ---- what a page is
 
@@ -67,10 +67,10 @@ unfolding page
 page_within marker tree = let chosen = filter (λ e. is_listed [] marker e.0) (entries tree) in le-leb (length (take 1000 (map (λ e. e.0) chosen))) 1000 (omega (arith, length-take 1000 (map (λ e. e.0) chosen)))
 
 -- GET of the account tells a page
-pub page_reads : {name marker : List ℕ} → name ≡ marker → IsReadingOf (IsMarked marker) (ListContainers name 1000) (names_due marker) (TellsPage marker)
+pub page_reads : {name marker : List ℕ} → name ≡ marker → IsReadingOf (MayListAfter marker) (ListContainers name 1000) (names_due marker) (TellsPage marker)
 page_reads {name = name} {marker = marker} is = record {
   leaves = λ tree. refl;
-  tells = λ tree sound marked reply replied. (
+  tells = λ tree sound may_list reply replied. (
     page 1000 (λ e. e.0) (λ e. is_listed [] name e.0) (entries tree),
     ap (names_due marker) replied ∙ ap (λ t. cond t (Ok (page 1000 (λ e. e.0) (λ e. is_listed [] name e.0) (entries tree))) (Err Inconsistent))
         (and_from _ _ (page_within name tree) (ap (λ m. ascends m (page 1000 (λ e. e.0) (λ e. is_listed [] name e.0) (entries tree))) (sym is) ∙ page_passes name tree)),
@@ -135,7 +135,7 @@ module _ (marker : List ℕ) (old new told : List (List ℕ)) (tree : SwiftAccou
         names = ap (λ xs. xs ++ after next (keys tree)) added ∙ ap (λ xs. (old ++ xs) ++ after next (keys tree)) tells ∙ ap (λ xs. (old ++ take most_names rest) ++ xs) behind
             ∙ append_assoc old (take most_names rest) (drop 1000 rest) ∙ ap (λ xs. old ++ xs) (take-append-drop most_names rest);
         fewer = omega (arith, ap length behind, length-drop 1000 rest);
-        mark = subst IsMark at (key_mark tree sound (get_or rest 999 next) (at_index (IsKey tree) rest 999 next (kept (IsKey tree) (λ n. is_gt (name_cmp n marker)) (keys tree) (keys_are tree)) (omega arith)));
+        is_marker = subst IsMarker at (entry_is_marker tree sound (get_or rest 999 next) (at_index (IsKey tree) rest 999 next (kept (IsKey tree) (λ n. is_gt (name_cmp n marker)) (keys tree) (keys_are tree)) (omega arith)));
       }
 
   next_by : (t : Bool) → nat_lt (length told) most_names ≡ t → (o : Option (List ℕ)) → slice_get told (length told - 1) ≡ o → TellsNext marker old new tree (cond t None o)

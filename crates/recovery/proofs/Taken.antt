@@ -15,7 +15,7 @@ use Rattle.s3_machine.specs.State.{Object}
 use Rattle.s3_machine.specs.Step.{listed_key}
 use Rattle.s3_machine.specs.declared.items.ItemHead.{ItemHead}
 use Rattle.swift_calls.specs.Account.{SwiftAccount}
-use Rattle.swift_calls.specs.Limits.{IsMark}
+use Rattle.swift_calls.specs.Limits.{IsMarker}
 use Rattle.swift_calls.specs.declared.heads.NameItem.{NameItem}
 use Rattle.upload_records.specs.Native.{s3_state}
 use Rattle.list_pages.specs.Listing.{is_name_with, last_of, name_in}
@@ -74,18 +74,18 @@ short (suc n) [] near = refl
 short (suc n) (x ∷ xs) near = ap (λ ys. x ∷ ys) (short n xs (omega (arith, near)))
 
 -- a key may be a marker
-pub key_is_mark : (name : List ℕ) → is_key name ≡ true → IsMark name
-key_is_mark name is =
+pub key_is_marker : (name : List ℕ) → is_key name ≡ true → IsMarker name
+key_is_marker name is =
     let text = (object_name name is).1 in
     let within = text.within in
     record { within = omega (arith, within); utf8 = text.utf8; no_zero = text.no_zero }
 
 -- the last name of a page may be a marker
-pub last_mark : (prefix marker : List ℕ) (names : List (List ℕ)) → IsMark marker → list_all (is_name_with prefix) names ≡ true → IsMark (last_of marker names)
-last_mark prefix marker [] mark all = mark
-last_mark prefix marker (name ∷ names) mark all =
+pub last_is_marker : (prefix marker : List ℕ) (names : List (List ℕ)) → IsMarker marker → list_all (is_name_with prefix) names ≡ true → IsMarker (last_of marker names)
+last_is_marker prefix marker [] is_marker all = is_marker
+last_is_marker prefix marker (name ∷ names) is_marker all =
     let a = and_parts (is_name_with prefix name) (list_all (is_name_with prefix) names) all in
-    last_mark prefix name names (key_is_mark name (and_parts (is_key name) (begins prefix name) a.0).0) a.1
+    last_is_marker prefix name names (key_is_marker name (and_parts (is_key name) (begins prefix name) a.0).0) a.1
 
 -- ---- what was taken
 

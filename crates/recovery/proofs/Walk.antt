@@ -9,7 +9,7 @@ use Rattle.std.proofs.lemmas.List.{length-map, length-append}
 use Rattle.gate_base.specs.Maps.{name_cmp}
 use Rattle.s3_names.proofs.lemmas.BucketLemmas.{bucket_length}
 use Rattle.swift_calls.specs.Account.{SwiftAccount}
-use Rattle.swift_calls.specs.Limits.{IsMark}
+use Rattle.swift_calls.specs.Limits.{IsMarker}
 use Rattle.swift_calls.specs.History.{History, present, Extends}
 use Rattle.upload_records.specs.Native.{IsSettled}
 use Rattle.upload_records.specs.Consistent.{IsConsistent, IsFolderName, head_of}
@@ -18,13 +18,13 @@ use Rattle.recovery.specs.declared.fault.PlanFault.{PlanFault}
 use Rattle.recovery.specs.declared.fault.PlanFault.TheVariants.{Failed, Memory, Inconsistent}
 use Rattle.recovery.specs.Answers.{pages}
 use Rattle.recovery.specs.Fault.{CausesFault}
-use Rattle.recovery.specs.Listing.{after, TellsOf, TellsNames, TellsNext, IsMarked}
+use Rattle.recovery.specs.Listing.{after, TellsOf, TellsNames, TellsNext, MayListAfter}
 use Rattle.recovery.specs.Stutters.{Stutters}
 use Rattle.recovery.specs.Calls.{always, by_account, GoesOn, Met, Keeps, Asks}
 use Rattle.recovery.proofs.lemmas.Agree.{quiet_agree, quiet_trans, failed_after}
 use Rattle.recovery.proofs.lemmas.Faults.{err_is}
 use Rattle.recovery.proofs.lemmas.Idle.{none_made, goes_none, goes_trans}
-use Rattle.recovery.proofs.Marks.{IsKey, keys_are, text_mark}
+use Rattle.recovery.proofs.Markers.{IsKey, keys_are, text_is_marker}
 
 -- ---- all names stand after the empty marker
 
@@ -97,7 +97,7 @@ pub record Seen (a b : History) (marker : List ℕ) (names : List (List ℕ)) : 
   pub idles : Idles b a.called b.called
   pub listed : names ++ after marker (keys (present a)) ≡ keys (present a)
   pub fewer : length (after marker (keys (present a))) + 1000 * count ≤ length (keys (present a))
-  pub mark : IsMark marker
+  pub is_marker : IsMarker marker
 
 pub record Walked (a b : History) (marker : List ℕ) (names : List (List ℕ)) : Type 0 where
   pub on : GoesOn a b
@@ -116,26 +116,26 @@ walked_none a = record {
     idles = idles_none a met.sound;
     listed = keys_after (present a) met.sound;
     fewer = omega (arith, ap length (keys_after (present a) met.sound));
-    mark = text_mark [] refl (omega arith);
+    is_marker = text_is_marker [] refl (omega arith);
   };
 }
 
 module _ {a b : History} {marker : List ℕ} {names : List (List ℕ)} (walked : Walked a b marker names) where
-  met_here : Met IsSettled a → Met (IsMarked marker) b
+  met_here : Met IsSettled a → Met (MayListAfter marker) b
   met_here met =
       let seen = walked.seen met in
       let order = walked.on.ordered in
       record {
         observable = walked.on.observable met.observable;
         sound = seen.idles.quiet.sound b.called order (omega arith);
-        has = record { settled = walked.settled met.observable met.has; mark = seen.mark };
+        has = record { settled = walked.settled met.observable met.has; is_marker = seen.is_marker };
       }
 
   -- the account is still the one at the beginning
   same_here : Met IsSettled a → present b ≡ present a
   same_here met = (walked.seen met).idles.same ∙ (walked.on.kept met.observable).accounts a.called (omega arith)
 
-  module _ {new : List (List ℕ)} {c : History} {told : Option (List ℕ)} (asks : Asks (always 1) b c (IsMarked marker) (TellsOf (TellsNext marker names new)) (Ok told)) where
+  module _ {new : List (List ℕ)} {c : History} {told : Option (List ℕ)} (asks : Asks (always 1) b c (MayListAfter marker) (TellsOf (TellsNext marker names new)) (Ok told)) where
     later : Met IsSettled a → Extends b.called b c
     later met = asks.grows.on.kept (walked.on.observable met.observable)
 
@@ -168,7 +168,7 @@ module _ {a b : History} {marker : List ℕ} {names : List (List ℕ)} (walked :
             idles = idles_then met;
             listed = tells.names ∙ seen.listed;
             fewer = omega arith;
-            mark = tells.mark;
+            is_marker = tells.is_marker;
           };
     }
 
@@ -195,7 +195,7 @@ module _ {a b : History} {marker : List ℕ} {names : List (List ℕ)} (walked :
     }
 
   -- a page that wasn't told
-  pub walked_fault : {T : Type 0} {P : SwiftAccount → T → Type 0} {c : History} {f : PlanFault} → Asks (always 1) b c (IsMarked marker) (TellsOf P) (Err f)
+  pub walked_fault : {T : Type 0} {P : SwiftAccount → T → Type 0} {c : History} {f : PlanFault} → Asks (always 1) b c (MayListAfter marker) (TellsOf P) (Err f)
       → (result : Result (List (List ℕ)) PlanFault) → IsErrAnd result (λ e. e ≡ f) → Asks (by_account (pages (len (present a)))) a c IsSettled (TellsOf TellsNames) result
   walked_fault {T = T} {P = P} {c = c} {f = f} asks result is = subst (Asks (by_account (pages (len (present a)))) a c IsSettled (TellsOf TellsNames)) (sym (err_is result f is)) (record {
     grows = record {

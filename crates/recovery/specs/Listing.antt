@@ -39,7 +39,7 @@ use Rattle.s3_machine.specs.declared.items.BucketItem.{BucketItem}
 use Rattle.s3_machine.specs.State.{State}
 use Rattle.s3_machine.specs.Step.{bucket_items}
 use Rattle.swift_calls.specs.Account.{SwiftContainer, SwiftAccount}
-use Rattle.swift_calls.specs.Limits.{IsMark}
+use Rattle.swift_calls.specs.Limits.{IsMarker}
 use Rattle.swift_calls.specs.declared.calls.SwiftReply.{SwiftReply}
 use Rattle.swift_calls.specs.declared.calls.SwiftReply.TheVariants.{Containers, Readers}
 use Rattle.upload_records.specs.Native.{IsSettled}
@@ -75,9 +75,9 @@ abbrev pub TellsPage : List ℕ → SwiftAccount → List (List ℕ) → Type 0
 TellsPage marker tree told = told ≡ take most_names (after marker (keys tree))
 
 -- a settled account, of which a listing may be asked for after this marker
-pub record IsMarked (marker : List ℕ) (tree : SwiftAccount) : Type 0 where
+pub record MayListAfter (marker : List ℕ) (tree : SwiftAccount) : Type 0 where
   pub settled : IsSettled tree
-  pub mark : IsMark marker
+  pub is_marker : IsMarker marker
 
 -- the marker of the next page, by a page: a shorter page is the last one
 abbrev pub next_marker : List (List ℕ) → Option (List ℕ)
@@ -87,7 +87,7 @@ next_marker page = cond (nat_lt (length page) most_names) None (slice_get page (
 pub record GoesOnAfter (marker next : List ℕ) (old new : List (List ℕ)) (tree : SwiftAccount) : Type 0 where
   pub names : new ++ after next (keys tree) ≡ old ++ after marker (keys tree)
   pub fewer : length (after next (keys tree)) + most_names ≤ length (after marker (keys tree))
-  pub mark : IsMark next
+  pub is_marker : IsMarker next
 
 abbrev pub TellsNext : List ℕ → List (List ℕ) → List (List ℕ) → SwiftAccount → Option (List ℕ) → Type 0
 TellsNext marker old new tree None = new ≡ old ++ after marker (keys tree)

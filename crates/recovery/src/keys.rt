@@ -7,7 +7,7 @@ ghost use Rattle.s3_machine.specs.Shown.{IsShownItem};
 ghost use Rattle.s3_machine.specs.Step.{IsProperAsked};
 ghost use Rattle.swift_calls.specs.Account.{files};
 ghost use Rattle.swift_calls.specs.History.{budget, present};
-ghost use Rattle.swift_calls.specs.Limits.{IsMark};
+ghost use Rattle.swift_calls.specs.Limits.{IsMarker};
 ghost use Rattle.upload_records.specs.Native.{IsSettled};
 ghost use Rattle.list_pages.specs.Listing.{name_in, IsPageOf};
 ghost use Rattle.recovery.specs.Answers.{pages};
@@ -34,8 +34,8 @@ fn page<W: Swift>(
     marker: &[u8],
 ) -> Result<List<NameItem>, PlanFault>
     requires name { is_bucket bucket.now ≡ true }
-    requires prefix { IsMark prefix.now }
-    requires marker { IsMark marker.now }
+    requires prefix { IsMarker prefix.now }
+    requires marker { IsMarker marker.now }
     ensures stays { Stays state.old state.new }
     ensures counted { IfOk result (λ _. (W.history state.old.store.now).called < budget
         × ((W.history state.new.store.now).called ≡ (W.history state.old.store.now).called + 1)) }
@@ -61,9 +61,9 @@ fn take_page<W: Swift>(
     roll: &mut Roll,
 ) -> Result<bool, PlanFault>
     requires name { is_bucket bucket.now ≡ true }
-    requires prefix { IsMark prefix.now }
+    requires prefix { IsMarker prefix.now }
     requires same { roll.old.wanted.prefix ≡ prefix.now }
-    requires marker { IsMark roll.old.last }
+    requires marker { IsMarker roll.old.last }
     requires wants { 0 < roll.old.wanted.max }
     requires room { roll.old.more ≡ false }
     ensures stays { Stays state.old state.new }
@@ -71,7 +71,7 @@ fn take_page<W: Swift>(
         × ((W.history state.new.store.now).called ≡ (W.history state.old.store.now).called + 1)) }
     ensures wanted { roll.new.wanted ≡ roll.old.wanted }
     ensures room { result ≡ Ok true → roll.new.more ≡ false }
-    ensures mark { result ≡ Ok true → IsMark roll.new.last }
+    ensures is_marker { result ≡ Ok true → IsMarker roll.new.last }
     ensures asks { Asks (always 1) (W.history state.old.store.now) (W.history state.new.store.now) IsSettled (TellsOf (TellsTaken bucket.now prefix.now roll.old roll.new)) result }
 {
     let page = page(alloc, state, bucket, prefix, roll.next_marker())?;
@@ -86,7 +86,7 @@ fn take_page<W: Swift>(
 /// most as many calls as there are pages of the bucket's objects, where the store is observable and its account
 /// consistent; and the S3 state stays. One page is held at a time. Failed comes only where the store's count of faults
 /// rose; Memory where memory ran out; Inconsistent never over an observable consistent account.
-#[tactic(auto, using(crate::proofs::AskedMarks::prefix_mark))]
+#[tactic(auto, using(crate::proofs::AskedMarkers::prefix_is_marker))]
 pub fn list_objects<W: Swift>(
     alloc: Global,
     state: &mut Settled<'_, W>,

@@ -16,7 +16,7 @@ ghost use Rattle.recovery.specs.Listing.{
   Has,
   HasNames,
   heads,
-  IsMarked,
+  MayListAfter,
   names_due,
   next_marker,
   TellsAdded,
@@ -47,7 +47,7 @@ fn page<W: Swift>(state: &mut Settled<'_, W>, marker: &Bytes) -> Result<List<Byt
     ensures stays { Stays state.old state.new }
     ensures counted { IfOk result (λ _. (W.history state.old.store.now).called < budget
         × ((W.history state.new.store.now).called ≡ (W.history state.old.store.now).called + 1)) }
-    ensures asks { Asks (always 1) (W.history state.old.store.now) (W.history state.new.store.now) (IsMarked marker.now) (TellsOf (TellsPage marker.now)) result }
+    ensures asks { Asks (always 1) (W.history state.old.store.now) (W.history state.new.store.now) (MayListAfter marker.now) (TellsOf (TellsPage marker.now)) result }
 {
     let request = SwiftRequest::ListContainers {
         marker: marker.copy()?,
@@ -101,7 +101,7 @@ fn next_page<W: Swift>(
     ensures counted { IfOk result (λ _. (W.history state.old.store.now).called < budget
         × ((W.history state.new.store.now).called ≡ (W.history state.old.store.now).called + 1)) }
     ensures asks { Asks (always 1) (W.history state.old.store.now) (W.history state.new.store.now)
-        (IsMarked marker.now) (TellsOf (TellsNext marker.now names.old names.new)) result }
+        (MayListAfter marker.now) (TellsOf (TellsNext marker.now names.old names.new)) result }
 {
     let page = page(state, marker)?;
     add_names(names, page.as_slice())?;

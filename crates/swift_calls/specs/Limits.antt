@@ -14,8 +14,8 @@ abbrev pub IsObjectName : List ℕ → Type 0
 IsObjectName name = (0 < length name) × IsText 1024 name
 
 -- a prefix or a marker of a listing: up to 1028 bytes
-abbrev pub IsMark : List ℕ → Type 0
-IsMark mark = IsText 1028 mark
+abbrev pub IsMarker : List ℕ → Type 0
+IsMarker text = IsText 1028 text
 
 -- how many names a listing may give
 abbrev pub IsLimit : ℕ → Type 0

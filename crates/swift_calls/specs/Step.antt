@@ -7,7 +7,7 @@ use Rattle.gate_base.specs.Maps.{adjust, name_cmp}
 use Rattle.gate_base.specs.Told.{moment_limit}
 use Rattle.swift_calls.specs.Account.{SwiftAccount, SwiftObject, SwiftContainer, find_object, put_file, remove_file, with_head, with_readers, new_folder}
 use Rattle.swift_calls.specs.Bodies.{Look, etag_of, bytes_of, ranged, head_of, item_of}
-use Rattle.swift_calls.specs.Limits.{IsObjectName, IsMark, IsLimit, IsRange, is_content_type, is_meta, most_body}
+use Rattle.swift_calls.specs.Limits.{IsObjectName, IsMarker, IsLimit, IsRange, is_content_type, is_meta, most_body}
 use Rattle.swift_calls.specs.declared.account.ReadList.{ReadList}
 use Rattle.swift_calls.specs.declared.calls.SwiftRequest.{SwiftRequest}
 use Rattle.swift_calls.specs.declared.account.Content.TheVariants.{Plain}
@@ -53,12 +53,12 @@ IsMoment moment = moment < moment_limit
 
 -- what a store is asked: names and values within their limits
 abbrev pub Fit : SwiftRequest → Type 0
-Fit (ListContainers marker limit) = IsMark marker × IsLimit limit
+Fit (ListContainers marker limit) = IsMarker marker × IsLimit limit
 Fit (HeadContainer container) = IsContainerName container
 Fit (PutContainer container readers created) = IsContainerName container × IfSome created IsMoment
 Fit (PostContainer container readers) = IsContainerName container
 Fit (DeleteContainer container) = IsContainerName container
-Fit (ListNames container prefix marker limit) = IsContainerName container × IsMark prefix × IsMark marker × IsLimit limit
+Fit (ListNames container prefix marker limit) = IsContainerName container × IsMarker prefix × IsMarker marker × IsLimit limit
 Fit (PutObject container name content_type meta body) = IsContainerName container × IsObjectName name × IsTrue (is_content_type content_type)
     × IsTrue (is_meta meta) × (length body ≤ most_body)
 Fit (HeadObject container name) = IsContainerName container × IsObjectName name

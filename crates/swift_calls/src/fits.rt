@@ -1,7 +1,7 @@
 //! Whether a call is within the limits of a store.
 ghost use Rattle.std.specs.Prelude.{◌≡◌, ◌↔◌, ◌<◌, ◌≤◌, IsTrue, IfSome, IsUtf8, Contains};
 ghost use Rattle.std.specs.List.{list_all};
-ghost use Rattle.swift_calls.specs.Limits.{IsText, IsObjectName, IsMark, IsLimit, IsRange, is_value_byte, is_value, is_content_type, is_meta};
+ghost use Rattle.swift_calls.specs.Limits.{IsText, IsObjectName, IsMarker, IsLimit, IsRange, is_value_byte, is_value, is_content_type, is_meta};
 ghost use Rattle.swift_calls.specs.Step.{IsContainerName, IsMoment, Fit};
 
 use crate::SwiftRequest;
@@ -45,10 +45,10 @@ fn is_object_name(name: &[u8]) -> bool
     !name.is_empty() && is_text(1024, name)
 }
 
-fn is_mark(mark: &[u8]) -> bool
-    ensures { IsTrue result ↔ IsMark mark.now }
+fn is_marker(text: &[u8]) -> bool
+    ensures { IsTrue result ↔ IsMarker text.now }
 {
-    is_text(1028, mark)
+    is_text(1028, text)
 }
 
 fn is_limit(limit: u32) -> bool
@@ -116,7 +116,7 @@ pub fn is_fit(request: &SwiftRequest) -> bool
 {
     match request {
         SwiftRequest::ListContainers { marker, limit } => {
-            is_mark(marker.as_slice()) && is_limit(*limit)
+            is_marker(marker.as_slice()) && is_limit(*limit)
         }
         SwiftRequest::HeadContainer { container } => is_container_name(container.as_slice()),
         SwiftRequest::PutContainer {
@@ -133,8 +133,8 @@ pub fn is_fit(request: &SwiftRequest) -> bool
             limit,
         } => {
             is_container_name(container.as_slice())
-                && is_mark(prefix.as_slice())
-                && is_mark(marker.as_slice())
+                && is_marker(prefix.as_slice())
+                && is_marker(marker.as_slice())
                 && is_limit(*limit)
         }
         SwiftRequest::PutObject {

@@ -11,7 +11,7 @@ use Rattle.gate_base.specs.declared.page.Pair.{Pair}
 use Rattle.http_wire.specs.declared.message.Message.{Message}
 use Rattle.s3_names.specs.Escapes.{escaped_all, escaped_path}
 use Rattle.s3_names.specs.Target.{is_question, path_text, query_text}
-use Rattle.swift_calls.specs.Limits.{IsText, IsMark, IsLimit, IsRange, is_meta, is_value, is_content_type, most_body}
+use Rattle.swift_calls.specs.Limits.{IsText, IsMarker, IsLimit, IsRange, is_meta, is_value, is_content_type, most_body}
 use Rattle.swift_calls.specs.Step.{IsContainerName, IsMoment, Fit}
 use Rattle.swift_calls.specs.declared.account.ReadList.{ReadList}
 use Rattle.swift_calls.specs.declared.account.ReadList.TheVariants.{Nobody, Everybody}
@@ -198,7 +198,7 @@ range_read first last low high =
 
 -- ---- each call
 
-list_containers_read : (place : Place) (marker : List ℕ) (limit : ℕ) → All IsByte place.account → IsMark marker → limit ≤ 1000
+list_containers_read : (place : Place) (marker : List ℕ) (limit : ℕ) → All IsByte place.account → IsMarker marker → limit ≤ 1000
     → call_of place (call_message place (ListContainers marker limit)) ≡ Some (ListContainers marker limit)
 list_containers_read place marker limit small mark low =
     let call = ListContainers marker limit in
@@ -213,7 +213,7 @@ list_containers_read place marker limit small mark low =
     ∙ ap (option_and_then containers_listing) (account_values limit marker (omega (arith, low)) bytes)
     ∙ ap (option_map (λ most. ListContainers marker most)) (limit_read limit low))
 
-list_names_read : (place : Place) (c prefix marker : List ℕ) (limit : ℕ) → All IsByte place.account → IsContainerName c → IsMark prefix → IsMark marker → limit ≤ 1000
+list_names_read : (place : Place) (c prefix marker : List ℕ) (limit : ℕ) → All IsByte place.account → IsContainerName c → IsMarker prefix → IsMarker marker → limit ≤ 1000
     → call_of place (call_message place (ListNames c prefix marker limit)) ≡ Some (ListNames c prefix marker limit)
 list_names_read place c prefix marker limit small name before mark low =
     let call = ListNames c prefix marker limit in

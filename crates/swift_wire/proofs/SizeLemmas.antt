@@ -15,7 +15,7 @@ use Rattle.httparse.specs.Ascii.{crlf_bytes}
 use Rattle.httparse.specs.Grammar.{is_token, is_token_byte}
 use Rattle.s3_names.specs.Escapes.{is_unreserved, stays_in_path, is_escaped_byte, upper_digit, escaped_unless, escaped_all, escaped_path}
 use Rattle.s3_names.proofs.lemmas.EscapeLemmas.{escaped_bytes_all, escaped_bytes_path}
-use Rattle.swift_calls.specs.Limits.{is_value_byte as is_printable, IsMark, IsText, is_value, is_meta, IsRange}
+use Rattle.swift_calls.specs.Limits.{is_value_byte as is_printable, IsMarker, IsText, is_value, is_meta, IsRange}
 use Rattle.swift_calls.specs.Step.{IsMoment, IsContainerName, Fit}
 use Rattle.swift_calls.specs.declared.account.ReadList.{ReadList}
 use Rattle.swift_calls.specs.declared.account.ReadList.TheVariants.{Nobody, Everybody}

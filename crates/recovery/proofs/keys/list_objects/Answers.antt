@@ -1,7 +1,7 @@
 use Rattle.std.proofs.Common.{Ok, refl, ap, sym, subst, ◌∙◌}
-use Rattle.swift_calls.specs.Limits.{IsMark}
+use Rattle.swift_calls.specs.Limits.{IsMarker}
 use Rattle.list_pages.specs.Rolls.{Rolls}
-use Rattle.recovery.proofs.AskedMarks.{marker_mark}
+use Rattle.recovery.proofs.AskedMarkers.{asked_is_marker}
 use Rattle.recovery.proofs.KeyWalk.{none_wanted, not_truncated, rolling_end, rolling_fault, rolling_more, rolling_none, some_wanted}
 use Rattle.recovery.proofs.One.{not_asked}
 use Rattle.recovery.proofs.keys.list_objects.Goals as goal
@@ -19,7 +19,7 @@ pages-init g c = record {
   stays = record { store = refl; settings = refl };
   wants = ap (λ (r : Rolls). r.wanted) c.in_ok-roll.ensures;
   room = ap (λ (r : Rolls). r.more) c.in_ok-roll.ensures;
-  mark = subst IsMark (sym (ap (λ (r : Rolls). r.last) c.in_ok-roll.ensures)) (marker_mark c.args.asked.now c.requires.asked);
+  is_marker = subst IsMarker (sym (ap (λ (r : Rolls). r.last) c.in_ok-roll.ensures)) (asked_is_marker c.args.asked.now c.requires.asked);
   some = some_wanted c.args.asked.now.max c.if-asked-eq0.false;
   walked = rolling_none (g.W.Swift.history c.args.state.now.store.now) c.args.bucket.now c.args.asked.now c.in_ok-roll.roll c.in_ok-roll.ensures;
 }
@@ -40,7 +40,7 @@ pages-preserved g c = record {
   };
   wants = c.in_ok-take_page.ensures.wanted ∙ c.pages.invariant.wants;
   room = c.in_ok-take_page.ensures.room (ap Ok c.if-not-branch.false);
-  mark = c.in_ok-take_page.ensures.mark (ap Ok c.if-not-branch.false);
+  is_marker = c.in_ok-take_page.ensures.is_marker (ap Ok c.if-not-branch.false);
   some = c.pages.invariant.some;
   walked = rolling_more c.pages.invariant.walked c.in_ok-take_page.ensures.asks c.if-not-branch.false;
 }

@@ -1,6 +1,6 @@
 use Rattle.std.proofs.Common.{◌≡◌, ◌-◌, ◌<◌, false}
 use Rattle.swift_calls.specs.History.{budget}
-use Rattle.swift_calls.specs.Limits.{IsMark}
+use Rattle.swift_calls.specs.Limits.{IsMarker}
 use Rattle.list_pages.specs.Rolls.{wanted}
 use Rattle.recovery.specs.Lent.{Stays}
 use Rattle.recovery.proofs.KeyWalk.{Rolling}
@@ -14,7 +14,7 @@ invariant-pages g l = record {
   stays : Stays l.initial.state l.state;
   wants : l.roll.wanted ≡ wanted l.asked;
   room : l.roll.more ≡ false;
-  mark : IsMark l.roll.last;
+  is_marker : IsMarker l.roll.last;
   some : 0 < l.asked.max;
   walked : Rolling (g.W.Swift.history l.initial.state.store.now) (g.W.Swift.history l.state.store.now) l.bucket l.asked.prefix l.roll;
 }

@@ -1,13 +1,13 @@
 use Rattle.std.proofs.Common.{ℕ, ◌≤◌, List, map, length, true, false, nat_eq, Ok, Err, ap, sym, subst, ◌∙◌}
 use Rattle.std.specs.List.{list_all}
 use Rattle.std.proofs.lemmas.List.{length-map}
-use Rattle.swift_calls.specs.Limits.{IsMark}
+use Rattle.swift_calls.specs.Limits.{IsMarker}
 use Rattle.swift_calls.specs.declared.heads.NameItem.{NameItem}
 use Rattle.list_pages.specs.Listing.{is_name_with, name_in}
 use Rattle.recovery.specs.Keys.{TellsKeys}
 use Rattle.recovery.proofs.Ask.{asks_told}
 use Rattle.recovery.proofs.KeyAsks.{asks_rolled}
-use Rattle.recovery.proofs.Taken.{last_mark, not_false, taken_full, taken_next}
+use Rattle.recovery.proofs.Taken.{last_is_marker, not_false, taken_full, taken_next}
 use Rattle.recovery.proofs.keys.take_page.Goals as goal
 
 pub returns-in_err-push_page-clause-asks : goal.returns-in_err-push_page-clause-asks
@@ -20,9 +20,9 @@ returns-then-not-branch-clause-asks g c = asks_told (λ tree has. has) false
     c.in_ok-push_page.ensures.rolled (not_false c.push_page.new.self.more (sym c.in_ok-push_page.ensures.goes ∙ c.if-not-branch.true)))
     c.in_ok-page.ensures.asks
 
-pub returns-clause-mark : goal.returns-clause-mark
-returns-clause-mark g c = λ e. subst IsMark (sym (c.in_ok-push_page.ensures.last (ap Ok c.if-not-branch.false)))
-    (last_mark c.args.prefix.now c.args.roll.now.last (map name_in c.as_slice.result.now) c.requires.marker
+pub returns-clause-is_marker : goal.returns-clause-is_marker
+returns-clause-is_marker g c = λ e. subst IsMarker (sym (c.in_ok-push_page.ensures.last (ap Ok c.if-not-branch.false)))
+    (last_is_marker c.args.prefix.now c.args.roll.now.last (map name_in c.as_slice.result.now) c.requires.marker
     (ap (λ p. list_all (is_name_with c.args.prefix.now) (map name_in p)) c.as_slice.ensures ∙ c.in_ok-page.ensures.page.named))
 
 pub returns-clause-asks : goal.returns-clause-asks

@@ -18,7 +18,7 @@ use Rattle.gate_base.proofs.lemmas.Maps.{name_total}
 use Rattle.s3_names.specs.Bucket.{is_bucket, is_bucket_byte}
 use Rattle.s3_names.proofs.lemmas.BucketLemmas.{bucket_length, bucket_bytes}
 use Rattle.swift_calls.specs.Account.{SwiftContainer, SwiftAccount}
-use Rattle.swift_calls.specs.Limits.{IsMark}
+use Rattle.swift_calls.specs.Limits.{IsMarker}
 use Rattle.upload_records.specs.Consistent.{IsConsistent, IsFolderName, head_of}
 use Rattle.upload_records.specs.Marks.{uploads_name, segments_name, gateway_name}
 use Rattle.recovery.proofs.Ascending.{front, back, lt_is}
@@ -82,8 +82,8 @@ byte_small b e = grind (arith, nat_tests)
 byte_filled : (b : ℕ) → is_byte b ≡ true → not (b == 0) ≡ true
 byte_filled b e = grind (arith, nat_tests)
 
-pub text_mark : (text : List ℕ) → list_all is_byte text ≡ true → length text ≤ 1028 → IsMark text
-text_mark text bytes near = record {
+pub text_is_marker : (text : List ℕ) → list_all is_byte text ≡ true → length text ≤ 1028 → IsMarker text
+text_is_marker text bytes near = record {
   within = near;
   utf8 = IsUtf8-from_ascii text (IsAscii-from_all text (All-weaker (λ b. is_byte b ≡ true) (λ b. b < 128) byte_small text (AllPass-from_list_all is_byte text bytes)));
   no_zero = λ has.
@@ -103,19 +103,19 @@ with_more : (xs ys : List ℕ) → list_all is_byte xs ≡ true → list_all is_
 with_more [] ys e f = f
 with_more (x ∷ xs) ys e f = grind (arith, nat_tests, with_more xs ys)
 
-beside_mark : (bucket more : List ℕ) → is_bucket bucket ≡ true → list_all is_byte more ≡ true → length more ≤ 100 → IsMark (bucket ++ more)
-beside_mark bucket more is bytes near =
+beside_is_marker : (bucket more : List ℕ) → is_bucket bucket ≡ true → list_all is_byte more ≡ true → length more ≤ 100 → IsMarker (bucket ++ more)
+beside_is_marker bucket more is bytes near =
     let long = bucket_length bucket is in
-    text_mark (bucket ++ more) (with_more bucket more (of_bucket bucket (bucket_bytes bucket is)) bytes) (omega (arith, length-append bucket more))
+    text_is_marker (bucket ++ more) (with_more bucket more (of_bucket bucket (bucket_bytes bucket is)) bytes) (omega (arith, length-append bucket more))
 
-folder_mark : (name : List ℕ) → IsFolderName name → IsMark name
+folder_is_marker : (name : List ℕ) → IsFolderName name → IsMarker name
 unfolding uploads_name segments_name gateway_name
-folder_mark name (inl is) = let long = bucket_length name is in text_mark name (of_bucket name (bucket_bytes name is)) (omega arith)
-folder_mark name (inr (inl (bucket, beside))) = elim beside.is [
-  | inl e ↦ subst IsMark (sym e) (beside_mark bucket (codes "+uploads") beside.of_bucket refl (omega arith))
-  | inr e ↦ subst IsMark (sym e) (beside_mark bucket (codes "+segments") beside.of_bucket refl (omega arith))
+folder_is_marker name (inl is) = let long = bucket_length name is in text_is_marker name (of_bucket name (bucket_bytes name is)) (omega arith)
+folder_is_marker name (inr (inl (bucket, beside))) = elim beside.is [
+  | inl e ↦ subst IsMarker (sym e) (beside_is_marker bucket (codes "+uploads") beside.of_bucket refl (omega arith))
+  | inr e ↦ subst IsMarker (sym e) (beside_is_marker bucket (codes "+segments") beside.of_bucket refl (omega arith))
 ]
-folder_mark name (inr (inr e)) = subst IsMark (sym e) (text_mark (codes "+gateway") refl (omega arith))
+folder_is_marker name (inr (inr e)) = subst IsMarker (sym e) (text_is_marker (codes "+gateway") refl (omega arith))
 
-pub key_mark : (tree : SwiftAccount) → IsConsistent tree → (name : List ℕ) → IsKey tree name → IsMark name
-key_mark tree sound name key = folder_mark name (sound.folders.names name (head_of key.0) (ap (option_map head_of) key.1))
+pub entry_is_marker : (tree : SwiftAccount) → IsConsistent tree → (name : List ℕ) → IsKey tree name → IsMarker name
+entry_is_marker tree sound name key = folder_is_marker name (sound.folders.names name (head_of key.0) (ap (option_map head_of) key.1))
