@@ -7,13 +7,13 @@ use Rattle.std.proofs.lemmas.List.{get_or_past}
 use Rattle.std.proofs.lemmas.Slice.Eq.{bytes_eq-Decides}
 use Rattle.xml_forms.specs.Bodies.{Whole}
 use Rattle.xml_forms.specs.Forms.{Either, Exactly, Then, Word, RunThen}
-use Rattle.xml_forms.specs.Openings.{Declared, Marked, NoMark, Opening, RootEnd, RootTag}
+use Rattle.xml_forms.specs.Openings.{Declared, DeclarationText, NoDeclarationEnd, Opening, RootEnd, RootTag}
 use Rattle.xml_forms.specs.Runs.{has, Sized, Element, Spaced}
 use Rattle.xml_forms.specs.declared.class.Class.{Class}
 use Rattle.xml_forms.specs.declared.class.Class.TheVariants.{Space, Dashed, InDouble, InSingle}
 use Rattle.xml_forms.proofs.lemmas.Readers.{any_run}
 use Rattle.s3_bodies.specs.Location.{Constraint, IsLocation, Location, LocationInside, Region, AnswersLocation, location_end, location_start}
-use Rattle.s3_bodies.specs.LocationTest.{is_cut, is_any, is_spaced, is_element, has_no_mark, is_marked, is_root_end, is_root_tag, is_opening, is_inside, is_document, names_location, TellsLocation}
+use Rattle.s3_bodies.specs.LocationTest.{is_cut, is_any, is_spaced, is_element, has_no_declaration_end, is_declaration_text, is_root_end, is_root_tag, is_opening, is_inside, is_document, names_location, TellsLocation}
 use Rattle.s3_bodies.specs.declared.fault.BodyFault.{BodyFault}
 use Rattle.s3_bodies.specs.declared.fault.BodyFault.TheVariants.{NotTheBody, TooMany, Memory}
 use Rattle.s3_bodies.proofs.Locations.{location_unique}
@@ -138,33 +138,33 @@ element_tells start class end ok =
 
 -- ---- how a document begins
 
-no_mark_at : (byte : ℕ) (text : List ℕ) → (byte ≡ 63 → slice_index text 0 ≡ 62 → ⊥) → NoMark text → (k : ℕ) → slice_index (byte ∷ text) k ≡ 63 → slice_index (byte ∷ text) (k + 1) ≡ 62 → ⊥
-no_mark_at byte text first rest zero a b = first a b
-no_mark_at byte text first rest (suc k) a b =
+no_declaration_end_at : (byte : ℕ) (text : List ℕ) → (byte ≡ 63 → slice_index text 0 ≡ 62 → ⊥) → NoDeclarationEnd text → (k : ℕ) → slice_index (byte ∷ text) k ≡ 63 → slice_index (byte ∷ text) (k + 1) ≡ 62 → ⊥
+no_declaration_end_at byte text first rest zero a b = first a b
+no_declaration_end_at byte text first rest (suc k) a b =
     rest k a (ap (λ n. get_or text n 0) (add-one k) ∙ sym (ap (λ n. get_or (byte ∷ text) n 0) (add-one (suc k))) ∙ b)
 
-no_mark_sound : (text : List ℕ) → has_no_mark text ≡ true → NoMark text
-unfolding has_no_mark
-no_mark_sound [] e = λ k a b. let none : ◌≡◌ {A = ℕ} 0 63 = sym (get_or_past [] k 0 (omega arith)) ∙ a in omega (arith, none)
-no_mark_sound (byte ∷ text) e =
-    let p = and_parts (not (byte == 63 && slice_index text 0 == 62)) (has_no_mark text) e in
-    no_mark_at byte text (λ a b. (let t = p.0 in grind (arith, nat_tests))) (no_mark_sound text p.1)
+no_declaration_end_sound : (text : List ℕ) → has_no_declaration_end text ≡ true → NoDeclarationEnd text
+unfolding has_no_declaration_end
+no_declaration_end_sound [] e = λ k a b. let none : ◌≡◌ {A = ℕ} 0 63 = sym (get_or_past [] k 0 (omega arith)) ∙ a in omega (arith, none)
+no_declaration_end_sound (byte ∷ text) e =
+    let p = and_parts (not (byte == 63 && slice_index text 0 == 62)) (has_no_declaration_end text) e in
+    no_declaration_end_at byte text (λ a b. (let t = p.0 in grind (arith, nat_tests))) (no_declaration_end_sound text p.1)
 
-no_mark_complete : (text : List ℕ) → NoMark text → has_no_mark text ≡ true
-unfolding has_no_mark
-no_mark_complete [] none = refl
-no_mark_complete (byte ∷ text) none =
-    and_from (not (byte == 63 && slice_index text 0 == 62)) (has_no_mark text)
+no_declaration_end_complete : (text : List ℕ) → NoDeclarationEnd text → has_no_declaration_end text ≡ true
+unfolding has_no_declaration_end
+no_declaration_end_complete [] none = refl
+no_declaration_end_complete (byte ∷ text) none =
+    and_from (not (byte == 63 && slice_index text 0 == 62)) (has_no_declaration_end text)
     (not_from_false (byte == 63 && slice_index text 0 == 62)
     (false_from_ne_true (byte == 63 && slice_index text 0 == 62) (λ h. let p = and_parts (byte == 63) (slice_index text 0 == 62) h in none 0 (let t = p.0 in grind (arith, nat_tests)) (let t = p.1 in grind (arith, nat_tests)))))
-    (no_mark_complete text (λ k a b. none (k + 1) (ap (λ n. get_or (byte ∷ text) n 0) (add-one k) ∙ a) (ap (λ n. get_or (byte ∷ text) n 0) (add-one (k + 1)) ∙ b)))
+    (no_declaration_end_complete text (λ k a b. none (k + 1) (ap (λ n. get_or (byte ∷ text) n 0) (add-one k) ∙ a) (ap (λ n. get_or (byte ∷ text) n 0) (add-one (k + 1)) ∙ b)))
 
-marked_tells : Tells Marked (λ _. true) is_marked
-marked_tells = record {
+declaration_text_tells : Tells DeclarationText (λ _. true) is_declaration_text
+declaration_text_tells = record {
   sound = λ bytes e.
-      let c = cut_sound has_no_mark (bytes_eq (codes "?>")) bytes e in
-      record { value = c.front; spells = (no_mark_sound c.front c.fronts, c.at ∙ ap (λ w. c.front ++ w) (same (codes "?>") c.rest c.rests)); passes = refl };
-  complete = λ text bytes f e. is_cut_of has_no_mark (bytes_eq (codes "?>")) bytes text (codes "?>") f.1 (no_mark_complete text f.0) (equal (codes "?>") (codes "?>") refl);
+      let c = cut_sound has_no_declaration_end (bytes_eq (codes "?>")) bytes e in
+      record { value = c.front; spells = (no_declaration_end_sound c.front c.fronts, c.at ∙ ap (λ w. c.front ++ w) (same (codes "?>") c.rest c.rests)); passes = refl };
+  complete = λ text bytes f e. is_cut_of has_no_declaration_end (bytes_eq (codes "?>")) bytes text (codes "?>") f.1 (no_declaration_end_complete text f.0) (equal (codes "?>") (codes "?>") refl);
 }
 
 root_end_tells : Tells RootEnd is_any is_root_end
@@ -184,9 +184,9 @@ root_tag_tells name =
 
 opening_tells : (name : List ℕ) → Tells (Opening name) is_any (is_opening name)
 opening_tells name =
-    either_tells (Declared name) (RootTag name) is_any (is_cut (bytes_eq (codes "<?xml")) (is_cut is_marked (is_root_tag name))) (is_root_tag name)
-    (then_tells (Word (codes "<?xml")) (λ _. Then Marked (λ _. RootTag name)) (λ _. true) is_any (bytes_eq (codes "<?xml")) (is_cut is_marked (is_root_tag name)) (word_tells (codes "<?xml"))
-    (λ _ _. then_tells Marked (λ _. RootTag name) (λ _. true) is_any is_marked (is_root_tag name) marked_tells (λ _ _. root_tag_tells name) (λ _ _ _ _ _. refl))
+    either_tells (Declared name) (RootTag name) is_any (is_cut (bytes_eq (codes "<?xml")) (is_cut is_declaration_text (is_root_tag name))) (is_root_tag name)
+    (then_tells (Word (codes "<?xml")) (λ _. Then DeclarationText (λ _. RootTag name)) (λ _. true) is_any (bytes_eq (codes "<?xml")) (is_cut is_declaration_text (is_root_tag name)) (word_tells (codes "<?xml"))
+    (λ _ _. then_tells DeclarationText (λ _. RootTag name) (λ _. true) is_any is_declaration_text (is_root_tag name) declaration_text_tells (λ _ _. root_tag_tells name) (λ _ _ _ _ _. refl))
     (λ _ _ _ _ _. refl))
     (root_tag_tells name)
 

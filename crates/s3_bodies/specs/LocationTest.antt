@@ -26,12 +26,12 @@ abbrev pub is_element : List ℕ → Class → List ℕ → (List ℕ → Bool) 
 is_element start class end test = is_cut (bytes_eq start) (is_cut (λ text. list_all (has class) text && test text) (bytes_eq end))
 
 -- no `?` stands before a `>`
-unfoldable pub has_no_mark : List ℕ → Bool
-has_no_mark [] = true
-has_no_mark (byte ∷ text) = not (byte == 63 && slice_index text 0 == 62) && has_no_mark text
+unfoldable pub has_no_declaration_end : List ℕ → Bool
+has_no_declaration_end [] = true
+has_no_declaration_end (byte ∷ text) = not (byte == 63 && slice_index text 0 == 62) && has_no_declaration_end text
 
-abbrev pub is_marked : List ℕ → Bool
-is_marked = is_cut has_no_mark (bytes_eq (codes "?>"))
+abbrev pub is_declaration_text : List ℕ → Bool
+is_declaration_text = is_cut has_no_declaration_end (bytes_eq (codes "?>"))
 
 -- the end of the root's tag
 abbrev pub is_root_end : List ℕ → Bool
@@ -44,7 +44,7 @@ is_root_tag name = is_spaced (is_cut (bytes_eq name) is_root_end)
 
 -- how a document begins
 abbrev pub is_opening : List ℕ → List ℕ → Bool
-is_opening name bytes = is_cut (bytes_eq (codes "<?xml")) (is_cut is_marked (is_root_tag name)) bytes || is_root_tag name bytes
+is_opening name bytes = is_cut (bytes_eq (codes "<?xml")) (is_cut is_declaration_text (is_root_tag name)) bytes || is_root_tag name bytes
 
 -- what stands in the root, up to the root's end
 abbrev pub is_inside : (List ℕ → Bool) → List ℕ → Bool

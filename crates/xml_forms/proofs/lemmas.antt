@@ -1,7 +1,7 @@
 pub mod Choices
 pub mod Elements
 pub mod Manies
-pub mod Marks
+pub mod DeclarationTexts
 pub mod Openings
 pub mod Readers
 pub mod Runs

@@ -5,12 +5,12 @@ use Rattle.xml_forms.specs.Runs.{Element, Spaced}
 use Rattle.xml_forms.specs.declared.class.Class.TheVariants.{InDouble, InSingle}
 
 -- no `?` in a text stands before a `>`
-abbrev pub NoMark : List ℕ → Type 0
-NoMark text = (k : ℕ) → slice_index text k ≡ 63 → slice_index text (k + 1) ≡ 62 → ⊥
+abbrev pub NoDeclarationEnd : List ℕ → Type 0
+NoDeclarationEnd text = (k : ℕ) → slice_index text k ≡ 63 → slice_index text (k + 1) ≡ 62 → ⊥
 
 -- a text up to the first `?>`; the text is the value
-abbrev pub Marked : List ℕ → List ℕ → Type 0
-Marked text bytes = NoMark text × (bytes ≡ text ++ 63 ∷ 62 ∷ [])
+abbrev pub DeclarationText : List ℕ → List ℕ → Type 0
+DeclarationText text bytes = NoDeclarationEnd text × (bytes ≡ text ++ 63 ∷ 62 ∷ [])
 
 -- the end of the root's tag: behind one attribute, whose value is the value, or none
 abbrev pub RootEnd : List ℕ → List ℕ → Type 0
@@ -24,7 +24,7 @@ RootTag name = Spaced (Then (Word name) (λ _. RootEnd))
 
 -- a declaration and the root's tag
 abbrev pub Declared : List ℕ → List ℕ → List ℕ → Type 0
-Declared name = Then (Word (codes "<?xml")) (λ _. Then Marked (λ _. RootTag name))
+Declared name = Then (Word (codes "<?xml")) (λ _. Then DeclarationText (λ _. RootTag name))
 
 -- how a document begins whose root has this name
 abbrev pub Opening : List ℕ → List ℕ → List ℕ → Type 0

@@ -2,7 +2,7 @@
 ghost use Rattle.std.specs.Prelude.{◌≡◌, ◌<◌, ◌+◌, ◌↔◌, IsTrue, slice_index, length, ℕ, List, [], ◌∷◌, codes, ◌≢◌};
 ghost use Rattle.xml_forms.specs.Forms.{Exactly};
 ghost use Rattle.xml_forms.specs.Readers.{ReadsText};
-ghost use Rattle.xml_forms.specs.Openings.{Declared, Marked, Opening, RootEnd, RootTag};
+ghost use Rattle.xml_forms.specs.Openings.{Declared, DeclarationText, Opening, RootEnd, RootTag};
 
 use crate::{Class, element, nearer, skip_space, word};
 
@@ -52,10 +52,10 @@ fn plain_end(bytes: &[u8]) -> Result<(&[u8], &[u8]), usize>
 
 // The text up to the first `?>`, and the bytes behind it.
 fn declared_text(bytes: &[u8]) -> Result<(&[u8], &[u8]), usize>
-    ensures { ReadsText Marked bytes.now result }
+    ensures { ReadsText DeclarationText bytes.now result }
 {
     'bytes: for i in 0..bytes.len() {
-        if is_mark(bytes, i) {
+        if is_declaration_end(bytes, i) {
             let (text, rest) = bytes.split_at(i);
             let (_, last) = rest.split_at(2);
             return Ok((text, last));
@@ -65,7 +65,7 @@ fn declared_text(bytes: &[u8]) -> Result<(&[u8], &[u8]), usize>
 }
 
 // Whether `?>` stands at this place.
-fn is_mark(bytes: &[u8], i: usize) -> bool
+fn is_declaration_end(bytes: &[u8], i: usize) -> bool
     requires { i < length bytes.now }
     ensures { IsTrue result ↔ (slice_index bytes.now i ≡ 63) × (slice_index bytes.now (i + 1) ≡ 62) }
 {

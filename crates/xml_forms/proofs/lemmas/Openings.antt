@@ -4,13 +4,13 @@ use Rattle.std.specs.List.{list_all}
 use Rattle.std.proofs.lemmas.List.{get_or_past}
 use Rattle.xml_forms.specs.Forms.{Begins, Stops, Reads, Either, Then, Word, Exactly, RunThen, Unique, Apart, Possible, Opens}
 use Rattle.xml_forms.specs.Runs.{has, IsRun, Sized, Element}
-use Rattle.xml_forms.specs.Openings.{Declared, Document, Marked, Opening, RootEnd, RootTag}
+use Rattle.xml_forms.specs.Openings.{Declared, Document, DeclarationText, Opening, RootEnd, RootTag}
 use Rattle.xml_forms.specs.declared.class.Class.TheVariants.{Space, InDouble, InSingle}
 use Rattle.xml_forms.proofs.lemmas.Sequence.{then_stops_first, then_stops, then_unique, word_unique}
 use Rattle.xml_forms.proofs.lemmas.Runs.{ran_unique}
 use Rattle.xml_forms.proofs.lemmas.Choices.{either_unique, Heads, heads_apart, then_heads}
 use Rattle.xml_forms.proofs.lemmas.Elements.{element_unique, exactly_unique}
-use Rattle.xml_forms.proofs.lemmas.Marks.{marked_unique}
+use Rattle.xml_forms.proofs.lemmas.DeclarationTexts.{declaration_text_unique}
 use Rattle.xml_forms.proofs.lemmas.Readers.{any_run, apart_either, exactly_heads, spaced_reads, then_reads, word_heads}
 
 abbrev double : List ℕ → List ℕ → Type 0
@@ -37,8 +37,8 @@ root_end_unique =
 root_end_some : Possible RootEnd
 root_end_some = record { value = []; word = codes ">"; spells = inl (refl, refl) }
 
-marked_none : Marked [] (codes "?>")
-marked_none = ((λ k a b. let none : ◌≡◌ {A = ℕ} 0 63 = sym (get_or_past [] k 0 (omega arith)) ∙ a in omega (arith, none)), refl)
+declaration_text_none : DeclarationText [] (codes "?>")
+declaration_text_none = ((λ k a b. let none : ◌≡◌ {A = ℕ} 0 63 = sym (get_or_past [] k 0 (omega arith)) ∙ a in omega (arith, none)), refl)
 
 both_first : (a b : Bool) → (a && b) ≡ true → a ≡ true
 both_first true b e = refl
@@ -74,19 +74,19 @@ tag_some name = record {
   };
 }
 
-marked_some : (name : List ℕ) → Possible (Then Marked (λ _. RootTag name))
-marked_some name = let i = tag_some name in record { value = i.value; word = codes "?>" ++ i.word; spells = record { value = []; head = codes "?>"; tail = i.word; heads = marked_none; tails = i.spells; at = refl } }
+declaration_text_some : (name : List ℕ) → Possible (Then DeclarationText (λ _. RootTag name))
+declaration_text_some name = let i = tag_some name in record { value = i.value; word = codes "?>" ++ i.word; spells = record { value = []; head = codes "?>"; tail = i.word; heads = declaration_text_none; tails = i.spells; at = refl } }
 
 pub declared_breaks : (name bytes : List ℕ) (left : ℕ) → Stops (Word (codes "<?xml")) bytes left → Stops (Declared name) bytes left
-declared_breaks name bytes left s = then_stops_first (Word (codes "<?xml")) (λ _. Then Marked (λ _. RootTag name)) (λ _. marked_some name) bytes left s
+declared_breaks name bytes left s = then_stops_first (Word (codes "<?xml")) (λ _. Then DeclarationText (λ _. RootTag name)) (λ _. declaration_text_some name) bytes left s
 
-pub declared_open : (name bytes rest : List ℕ) (left : ℕ) → Begins (Word (codes "<?xml")) bytes tt rest → Stops Marked rest left → Stops (Declared name) bytes left
+pub declared_open : (name bytes rest : List ℕ) (left : ℕ) → Begins (Word (codes "<?xml")) bytes tt rest → Stops DeclarationText rest left → Stops (Declared name) bytes left
 declared_open name bytes rest left p s =
-    then_stops (Word (codes "<?xml")) (λ _. Then Marked (λ _. RootTag name)) (word_unique (codes "<?xml")) bytes rest tt left p (then_stops_first Marked (λ _. RootTag name) (λ _. tag_some name) rest left s)
+    then_stops (Word (codes "<?xml")) (λ _. Then DeclarationText (λ _. RootTag name)) (word_unique (codes "<?xml")) bytes rest tt left p (then_stops_first DeclarationText (λ _. RootTag name) (λ _. tag_some name) rest left s)
 
-pub declared_reads : (name bytes rest inner text : List ℕ) → Begins (Word (codes "<?xml")) bytes tt rest → Begins Marked rest text inner → (r : Result (List ℕ × List ℕ) ℕ) → Reads (RootTag name) inner r → Reads (Declared name) bytes r
+pub declared_reads : (name bytes rest inner text : List ℕ) → Begins (Word (codes "<?xml")) bytes tt rest → Begins DeclarationText rest text inner → (r : Result (List ℕ × List ℕ) ℕ) → Reads (RootTag name) inner r → Reads (Declared name) bytes r
 declared_reads name bytes rest inner text p q r s =
-    then_reads (Word (codes "<?xml")) (λ _. Then Marked (λ _. RootTag name)) (word_unique (codes "<?xml")) bytes rest tt p r (then_reads Marked (λ _. RootTag name) marked_unique rest inner text q r s)
+    then_reads (Word (codes "<?xml")) (λ _. Then DeclarationText (λ _. RootTag name)) (word_unique (codes "<?xml")) bytes rest tt p r (then_reads DeclarationText (λ _. RootTag name) declaration_text_unique rest inner text q r s)
 
 -- a root's tag begins with white space or with its name, a declaration with `<?`
 spaces_apart : (d : ℕ) (run u v : List ℕ) → d ≢ 63 → list_all (has Space) run ≡ true → codes "<?xml" ++ u ≡ run ++ 60 ∷ d ∷ v → ⊥
@@ -109,7 +109,7 @@ module _ (name : List ℕ) (d : ℕ) (t : List ℕ) (is : name ≡ 60 ∷ d ∷ 
 
   pub opening_unique : Unique (Opening name)
   opening_unique = either_unique (Declared name) (RootTag name)
-      (then_unique (Word (codes "<?xml")) (λ _. Then Marked (λ _. RootTag name)) (word_unique (codes "<?xml")) (λ _. then_unique Marked (λ _. RootTag name) marked_unique (λ _. tag_unique name (d ∷ t) is)))
+      (then_unique (Word (codes "<?xml")) (λ _. Then DeclarationText (λ _. RootTag name)) (word_unique (codes "<?xml")) (λ _. then_unique DeclarationText (λ _. RootTag name) declaration_text_unique (λ _. tag_unique name (d ∷ t) is)))
       (tag_unique name (d ∷ t) is) declared_apart
 
   module _ {A : Type 0} (inside : A → List ℕ → Type 0) where
