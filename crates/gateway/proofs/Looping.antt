@@ -9,7 +9,7 @@ use Rattle.upload_records.specs.Consistent.{IsConsistent}
 use Rattle.recovery.specs.declared.state.Known.{Known}
 use Rattle.recovery.specs.Calls.{GoesOn, Met}
 use Rattle.recovery.specs.Settling.{IsKnown}
-use Rattle.http_wire.specs.Gives.{Pending}
+use Rattle.http_wire.specs.Reading.{Pending}
 use Rattle.gateway.specs.declared.ended.Ended.{Ended}
 use Rattle.gateway.specs.declared.service.Service.{Service}
 use Rattle.gateway.specs.Exchange.{ReplyRelation, StoreCursor, Span, RepliesBy, Where}

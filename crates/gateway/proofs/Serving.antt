@@ -7,7 +7,7 @@ use Rattle.http_wire.specs.declared.message.Message.{Message}
 use Rattle.http_wire.specs.declared.message.Kind.{Kind}
 use Rattle.http_wire.specs.declared.message.Got.TheVariants as got
 use Rattle.http_wire.specs.FirstMessage.{FirstMessage, BeginsWith, nothing, cut_short}
-use Rattle.http_wire.specs.Gives.{Pending, Gives}
+use Rattle.http_wire.specs.Reading.{Pending, GivesFirstMessage}
 use Rattle.http_wire.specs.Interim.{OwesInterim, IsOwedFirst, SendsInterim, MaySendInterim, CutsInterim}
 use Rattle.http_wire.proofs.lemmas.OwedLemmas.{owed_first}
 use Rattle.http_wire.specs.Print.{memory_reply}
@@ -45,7 +45,7 @@ module _ (service : Service) (R : ReplyRelation) (connection : ℕ) where
 
 module _ (service : Service) (R : ReplyRelation) (here : StoreCursor) (moments draws : List ℕ) (begun : ℕ) (sent : List Piece) (pending pending' : Pending) (all rest : List ℕ) where
   -- what was read is a message
-  pub next_request : (transcript : Transcript) (message : Message) (left : List ℕ) (new : Progress) (ended : Option Ended) → Gives pending all (got.Request message) pending' left
+  pub next_request : (transcript : Transcript) (message : Message) (left : List ℕ) (new : Progress) (ended : Option Ended) → GivesFirstMessage pending all (got.Request message) pending' left
       → transcript.begun ≡ begun → SendsInterim (OwesInterim all) begun here.number sent transcript.sent → rest ≡ left
       → HandledEnds R transcript.begun (progress here moments draws transcript.sent) new (asks_of service (received.Message message)) ended
       → NextOne service R begun (cursor all pending.place (progress here moments draws sent)) ended (cursor rest pending'.place new)
@@ -55,7 +55,7 @@ module _ (service : Service) (R : ReplyRelation) (here : StoreCursor) (moments d
       (λ moment. read message gives.0 gives.2 refl (r ∙ gives.3) gives.4) owed (subst P b span)
 
   -- what was read is refused
-  pub next_refused : (transcript : Transcript) (kind : Kind) (place : ℕ) (head : Bool) (left : List ℕ) (new : Progress) (ended : Option Ended) → Gives pending all (got.Refused kind place head) pending' left
+  pub next_refused : (transcript : Transcript) (kind : Kind) (place : ℕ) (head : Bool) (left : List ℕ) (new : Progress) (ended : Option Ended) → GivesFirstMessage pending all (got.Refused kind place head) pending' left
       → transcript.begun ≡ begun → SendsInterim (OwesInterim all) begun here.number sent transcript.sent → rest ≡ left
       → HandledEnds R transcript.begun (progress here moments draws transcript.sent) new (asks_of service (received.Refused kind place head)) ended
       → NextOne service R begun (cursor all pending.place (progress here moments draws sent)) ended (cursor rest pending'.place new)
@@ -73,7 +73,7 @@ module _ (service : Service) (R : ReplyRelation) (here : StoreCursor) (moments d
   unowed front sent' first never (inr (not, e)) = e
 
   -- no byte was left
-  pub next_end : (sent' : List Piece) (left : List ℕ) → pending.ended ≡ false → Gives pending all got.End pending' left → SendsInterim (OwesInterim all) begun here.number sent sent'
+  pub next_end : (sent' : List Piece) (left : List ℕ) → pending.ended ≡ false → GivesFirstMessage pending all got.End pending' left → SendsInterim (OwesInterim all) begun here.number sent sent'
       → NextOne service R begun (cursor all pending.place (progress here moments draws sent)) (Some End) (cursor rest pending'.place (progress here moments draws sent'))
   next_end sent' left goes gives owed = elim gives.0 [
     | inl ended ↦ absurd (let no : true ≡ false = sym ended ∙ goes in cc)
@@ -81,7 +81,7 @@ module _ (service : Service) (R : ReplyRelation) (here : StoreCursor) (moments d
   ]
 
   -- the bytes ended inside a head
-  pub next_cut : (place : ℕ) (sent' : List Piece) (left : List ℕ) → Gives pending all (got.CutShort place) pending' left → SendsInterim (OwesInterim all) begun here.number sent sent'
+  pub next_cut : (place : ℕ) (sent' : List Piece) (left : List ℕ) → GivesFirstMessage pending all (got.CutShort place) pending' left → SendsInterim (OwesInterim all) begun here.number sent sent'
       → NextOne service R begun (cursor all pending.place (progress here moments draws sent)) (Some (CutShort place)) (cursor rest pending'.place (progress here moments draws sent'))
   next_cut place sent' left gives owed = ([], cut (ap CutShort gives.2) gives.1 (same_progress sent' (unowed cut_short sent' gives.1 (λ first. first) owed)))
 

@@ -9,7 +9,7 @@ use Rattle.gateway.specs.declared.service.Service.{Service}
 use Rattle.http_wire.specs.declared.message.Message.{Message}
 use Rattle.http_wire.specs.declared.message.Kind.{Kind}
 use Rattle.http_wire.specs.FirstMessage.{BeginsWith, asks, nothing, cut_short, refused}
-use Rattle.http_wire.specs.Gives.{place_after}
+use Rattle.http_wire.specs.Reading.{place_after}
 use Rattle.http_wire.specs.Interim.{OwesInterim, SendsInterim, MaySendInterim, CutsInterim}
 use Rattle.http_wire.specs.Print.{memory_reply}
 use Rattle.gateway.specs.declared.ended.Ended.{Ended}

@@ -2,7 +2,7 @@
 use Rattle.std.specs.Prelude.{Bool, IsTrue, ◌++◌}
 use Rattle.gate_base.specs.Line.{LineModel}
 use Rattle.gate_base.specs.Told.{SourceModel}
-use Rattle.http_wire.specs.Gives.{Pending}
+use Rattle.http_wire.specs.Reading.{Pending}
 use Rattle.s3_machine.specs.declared.operation.Settings.{Settings}
 use Rattle.swift_calls.specs.History.{History}
 use Rattle.recovery.specs.declared.state.Known.{Known}

@@ -1,6 +1,6 @@
 ghost use Rattle.std.specs.Prelude.{◌≡◌, ◌<◌, false, List, IsTrue, None};
 ghost use Rattle.gate_base.specs.Line.{LineServes, OnlyWrites};
-ghost use Rattle.http_wire.specs.Gives.{weight};
+ghost use Rattle.http_wire.specs.Reading.{weight};
 ghost use Rattle.gateway.specs.Exchange.{Span};
 ghost use Rattle.gateway.specs.Connection.{is_failed_end, ConnectionTrace};
 ghost use Rattle.gateway.specs.Request.{asks_of, end_of};

@@ -1,7 +1,7 @@
 ghost use Rattle.std.specs.Prelude.{◌≡◌, ◌≤◌, ◌<◌, ◌++◌, ◌==◌, ℕ, List, [], false, length, take, IsTrue, IfOk, IfSome, MatchOption};
 ghost use Rattle.gate_base.specs.Line.{OnlyReads};
 ghost use Rattle.httparse.specs.Grammar.{HasNoRequest};
-ghost use Rattle.http_wire.specs.Gives.{is_failed_read, weight};
+ghost use Rattle.http_wire.specs.Reading.{is_failed_read, weight};
 ghost use Rattle.http_wire.specs.Seen.{AtEnd, IsFound, IsOpen, end_of, window};
 
 use crate::ReadFault;

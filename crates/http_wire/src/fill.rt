@@ -2,7 +2,7 @@
 ghost use Rattle.std.specs.Prelude.{◌≡◌, ◌≤◌, ◌<◌, ◌+◌, ◌++◌, [], length, take, IsTrue, IfOk, OnErr};
 ghost use Rattle.gate_base.specs.Causes.{Spends};
 ghost use Rattle.gate_base.specs.Line.{OnlyReads};
-ghost use Rattle.http_wire.specs.Gives.{is_failed_read, weight};
+ghost use Rattle.http_wire.specs.Reading.{is_failed_read, weight};
 
 use crate::ReadFault;
 use gate_base::{Counted, Line};

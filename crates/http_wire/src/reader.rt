@@ -1,6 +1,6 @@
 ghost use Rattle.std.specs.Prelude.{◌≡◌, ◌≤◌, ◌<◌, ◌++◌, [], true, false, length, drop, IsTrue, IfOk, OnErr};
 ghost use Rattle.gate_base.specs.Line.{LineServes};
-ghost use Rattle.http_wire.specs.Gives.{Gives, OnRequest, ends, is_failed_read, weight};
+ghost use Rattle.http_wire.specs.Reading.{GivesFirstMessage, OnRequest, ends, is_failed_read, weight};
 ghost use Rattle.http_wire.specs.Interim.{OwesInterim, SendsOn};
 
 use crate::advance::{Found, HEAD_LIMIT, advance};
@@ -31,7 +31,7 @@ pub struct Reader {
 
 impl Model for Reader {
     ghost use Rattle.std.specs.Prelude.{◌≡◌, ◌≤◌, ◌++◌, [], false, length};
-    ghost use Rattle.http_wire.specs.Gives.{Pending};
+    ghost use Rattle.http_wire.specs.Reading.{Pending};
 
     ghost Value = { Pending };
 
@@ -82,7 +82,7 @@ impl Reader {
         ensures ended { self.old.ended ≡ true → (result ≡ Ok Got.End) × (line.new ≡ line.old) × (self.new ≡ self.old) }
 
         // Where the line is observable: the answer is the front of all that is left, read or not.
-        ensures effect { IsTrue (N.model line.old).observable → IfOk result (λ got. Gives
+        ensures effect { IsTrue (N.model line.old).observable → IfOk result (λ got. GivesFirstMessage
             self.old (self.old.bytes ++ (N.model line.old).transcript.rest) got self.new (self.new.bytes ++ (N.model line.new).transcript.rest)) }
         ensures effect_err { IsTrue (N.model line.old).observable → OnErr result
             (self.new.bytes ++ (N.model line.new).transcript.rest ≡ self.old.bytes ++ (N.model line.old).transcript.rest) }

@@ -7,7 +7,7 @@ ghost use Rattle.http_wire.specs.FirstMessage.{is_head, message_of};
 ghost use Rattle.http_wire.specs.Interim.{is_owed, SendsOn};
 ghost use Rattle.http_wire.specs.Seen.{window};
 ghost use Rattle.http_wire.specs.Taken.{BodyFrom, OnWhole, TakenFrom};
-ghost use Rattle.http_wire.specs.Gives.{is_failed_read};
+ghost use Rattle.http_wire.specs.Reading.{is_failed_read};
 
 use crate::advance::window;
 use crate::fill::read_room;

@@ -8,7 +8,7 @@ use Rattle.http_wire.specs.declared.message.Kind.{Kind}
 use Rattle.http_wire.specs.declared.message.Message.{Message}
 use Rattle.http_wire.specs.FirstMessage.{FirstMessage, asks, cut_short, refused, BeginsWith}
 use Rattle.http_wire.specs.Headers.{has_one}
-use Rattle.http_wire.specs.Gives.{Pending, Gives}
+use Rattle.http_wire.specs.Reading.{Pending, GivesFirstMessage}
 use Rattle.http_wire.specs.Interim.{OwesInterim, SendsInterim}
 use Rattle.sigv4.specs.Sign.{is_date_time}
 use Rattle.sigv4.specs.Verdict.{time_of}
@@ -36,14 +36,14 @@ answers_first secret region bytes message size NoRequest first answer = (asks me
 answers_first secret region bytes message size LineFailed first answer = tt
 answers_first secret region bytes message size Memory first answer = tt
 
-pub request_first : (secret region rest : List ℕ) (old new : Pending) (left : List ℕ) (message : Message) (signing : Signing) → old ≡ fresh → Gives old (old.bytes ++ rest) (Request message) new left → Answers secret region message signing → AnswersFrom secret region rest signing
+pub request_first : (secret region rest : List ℕ) (old new : Pending) (left : List ℕ) (message : Message) (signing : Signing) → old ≡ fresh → GivesFirstMessage old (old.bytes ++ rest) (Request message) new left → Answers secret region message signing → AnswersFrom secret region rest signing
 request_first secret region rest old new left message signing is gives answer =
     answers_first secret region rest message gives.0 signing (front_first rest old (asks message gives.0) is gives.2) answer
 
-pub cut_first : (secret region rest : List ℕ) (old new : Pending) (left : List ℕ) (place : ℕ) → old ≡ fresh → Gives old (old.bytes ++ rest) (CutShort place) new left → AnswersFrom secret region rest NoRequest
+pub cut_first : (secret region rest : List ℕ) (old new : Pending) (left : List ℕ) (place : ℕ) → old ≡ fresh → GivesFirstMessage old (old.bytes ++ rest) (CutShort place) new left → AnswersFrom secret region rest NoRequest
 cut_first secret region rest old new left place is gives = (cut_short, front_first rest old cut_short is gives.1, tt)
 
-pub refused_first : (secret region rest : List ℕ) (old new : Pending) (left : List ℕ) (kind : Kind) (place : ℕ) (head : Bool) → old ≡ fresh → Gives old (old.bytes ++ rest) (Refused kind place head) new left → AnswersFrom secret region rest NoRequest
+pub refused_first : (secret region rest : List ℕ) (old new : Pending) (left : List ℕ) (kind : Kind) (place : ℕ) (head : Bool) → old ≡ fresh → GivesFirstMessage old (old.bytes ++ rest) (Refused kind place head) new left → AnswersFrom secret region rest NoRequest
 refused_first secret region rest old new left kind place head is gives = (refused kind head, front_first rest old (refused kind head) is gives.1, tt)
 
 -- ---- what was sent

@@ -1,5 +1,5 @@
 use Rattle.std.proofs.Common.{ℕ, None, Some, refl, ap, subst, arith}
-use Rattle.http_wire.specs.Gives.{Pending}
+use Rattle.http_wire.specs.Reading.{Pending}
 use Rattle.gateway.specs.Exchange.{RepliesBy}
 use Rattle.gateway.specs.Serving.{NextOne}
 use Rattle.gateway.specs.World.{World, world, start_of, cursor_of}

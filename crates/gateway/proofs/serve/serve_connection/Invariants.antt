@@ -1,6 +1,6 @@
 use Rattle.std.proofs.Common.{◌≡◌, false}
 use Rattle.gate_base.specs.Line.{LineServes}
-use Rattle.http_wire.specs.Gives.{weight}
+use Rattle.http_wire.specs.Reading.{weight}
 use Rattle.gateway.specs.World.{world, start_of, cursor_of, ServesOver}
 use Rattle.gateway.proofs.Looping.{Answered}
 use Rattle.gateway.proofs.serve.serve_connection.Given as goal

@@ -1,6 +1,6 @@
 use Rattle.std.proofs.Common.{◌≡◌, ◌≤◌, ◌++◌, false, IsTrue, length}
 use Rattle.gate_base.specs.Line.{OnlyReads}
-use Rattle.http_wire.specs.Gives.{weight}
+use Rattle.http_wire.specs.Reading.{weight}
 use Rattle.http_wire.proofs.advance.advance.Given as goal
 
 -- what each round keeps of the clauses

@@ -1,6 +1,6 @@
 use Rattle.std.proofs.Common.{ap}
 use Rattle.sign_cmd.proofs.SigningLemmas.{request_first, cut_first, refused_first, request_sent}
-use Rattle.http_wire.specs.Gives.{Pending}
+use Rattle.http_wire.specs.Reading.{Pending}
 use Rattle.sign_cmd.proofs.first.sign_next.Goals as goal
 
 pub returns-in-Ok-Request-clause-effect : goal.returns-in-Ok-Request-clause-effect

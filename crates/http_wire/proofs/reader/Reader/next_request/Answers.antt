@@ -2,7 +2,7 @@ use Rattle.std.proofs.Common.{◌≡◌, ◌++◌, [], false, drop, append-nil, 
 use Rattle.std.proofs.lemmas.Result.{err_from_is_err_and}
 use Rattle.http_wire.specs.declared.message.Kind.TheVariants.{BadHead, LongHead}
 use Rattle.http_wire.specs.FirstMessage.{BeginsWith, asks, cut_short, refused}
-use Rattle.http_wire.specs.Gives.{place_after}
+use Rattle.http_wire.specs.Reading.{place_after}
 use Rattle.http_wire.specs.Seen.{window}
 use Rattle.httparse.specs.Spans.{IsRequestAt}
 use Rattle.http_wire.proofs.FirstMessageLemmas.{front_bad, front_cut, front_long, front_not, front_taken, whole_head, written}

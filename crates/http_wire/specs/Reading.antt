@@ -19,15 +19,15 @@ pub record Pending : Type 0 where
 abbrev pub place_after : ℕ → ℕ → ℕ
 place_after place size = min (place + size) (2 ^ 64 - 1)
 
--- the answer is the front of all bytes that are left, read or not, and just the bytes of a request are gone from them
-abbrev pub Gives : Pending → List ℕ → Got → Pending → List ℕ → Type 0
-Gives old all (Request message) new left =
+-- the answer is the first message of all bytes that are left, read or not, and just the bytes of a request are gone from them
+abbrev pub GivesFirstMessage : Pending → List ℕ → Got → Pending → List ℕ → Type 0
+GivesFirstMessage old all (Request message) new left =
     (size : ℕ) × (old.ended ≡ false) × BeginsWith all (asks message size) × (left ≡ drop size all) × (new.place ≡ place_after old.place size)
-Gives old all End new left =
+GivesFirstMessage old all End new left =
     ((old.ended ≡ true) ⊎ BeginsWith all nothing) × (left ≡ all) × (new.place ≡ old.place)
-Gives old all (CutShort place) new left =
+GivesFirstMessage old all (CutShort place) new left =
     (old.ended ≡ false) × BeginsWith all cut_short × (place ≡ old.place) × (left ≡ all) × (new.place ≡ old.place)
-Gives old all (Refused kind place head) new left =
+GivesFirstMessage old all (Refused kind place head) new left =
     (old.ended ≡ false) × BeginsWith all (refused kind head) × (place ≡ old.place) × (left ≡ all) × (new.place ≡ old.place)
 
 -- whether the reader answers End after this answer: after any but a request
