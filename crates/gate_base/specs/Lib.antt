@@ -1,5 +1,6 @@
 pub mod Ascii
 pub mod Causes
+pub mod Fields
 pub mod Line
 pub mod ListTold
 pub mod Listed

@@ -1,13 +1,11 @@
 -- What an object is put with keeps the limits of a store, and its marks have texts.
-use Rattle.std.proofs.Common.{◌≡◌, ℕ, ◌<◌, ◌≤◌, ◌+◌, ◌-◌, ◌^◌, true, false, not, ◌&&◌, ◌||◌, List, [], ◌∷◌, length, drop, nat_le, refl, sym, ap, subst, inl, inr, arith}
-use Rattle.std.specs.Prelude.{◌==◌, cond, sum_by, slice_get, slice_index, bytes_eq, codes, Option, None, Some, IsTrue}
+use Rattle.std.proofs.Common.{◌≡◌, ℕ, ◌<◌, ◌≤◌, ◌+◌, ◌-◌, ◌^◌, true, ◌&&◌, ◌||◌, List, [], ◌∷◌, length, drop, nat_le, refl, sym, ap, subst, inl, inr, arith}
+use Rattle.std.specs.Prelude.{◌==◌, cond, sum_by, bytes_eq, codes, IsTrue}
 use Rattle.std.specs.List.{list_all, list_any}
-use Rattle.std.specs.Option.{option_map_or}
 use Rattle.std.proofs.lemmas.Bool.{cases_Bool, or_cases, and_from, and_parts, eqb-true, lt-ltb, leb-true, le-leb}
 use Rattle.std.proofs.lemmas.Bool.Decides.{nat_tests}
 use Rattle.std.proofs.lemmas.List.Sums.{list_all-from_AllPass, get_or-le-sum_by}
 use Rattle.std.proofs.Common.{get_or}
-use Rattle.std.proofs.lemmas.Option.{get_or_from_slice_get}
 use Rattle.gate_base.specs.Told.{moment_limit}
 use Rattle.gate_base.specs.declared.page.Pair.{Pair}
 use Rattle.s3_names.specs.Meta.{names_ascend}
@@ -15,14 +13,14 @@ use Rattle.std.specs.Cmp.Lexicographic.{same_text}
 use Rattle.s3_names.specs.Bucket.{is_bucket, is_lower_or_digit}
 use Rattle.s3_names.specs.Key.{is_key}
 use Rattle.s3_machine.specs.ETag.{body_etag}
-use Rattle.gate_base.specs.Ascii as ascii
+use Rattle.gate_base.specs.Fields.{is_printable}
 use Rattle.s3_machine.specs.Limits as limits
 use Rattle.s3_machine.specs.Step.{IsProperContent}
 use Rattle.swift_calls.specs.Limits as store
 use Rattle.swift_calls.specs.Step.{Fit}
 use Rattle.swift_calls.specs.declared.calls.SwiftRequest.TheVariants.{PutObject}
 use Rattle.swift_marks.specs.Limits.{is_kept_metadata, is_printable_entry, counted_name, counted_size}
-use Rattle.swift_marks.specs.Tag.{is_printable, is_field, is_content_type, is_etag, has_text, tag_text}
+use Rattle.swift_marks.specs.Tag.{is_content_type, is_etag, has_text, tag_text}
 use Rattle.swift_marks.specs.Pack.{is_short, has_pack, pack_of}
 use Rattle.swift_marks.proofs.lemmas.TagLaws.{weaken}
 use Rattle.swift_marks.proofs.lemmas.FieldLaws.{tag_is_field, pack_is_small}
@@ -32,28 +30,9 @@ use Rattle.recovery.proofs.Names.{container_name, object_name}
 
 -- ---- the content type
 
-visible_is : (o : Option ℕ) → option_map_or ascii.is_visible o false ≡ true → (byte : ℕ) × (o ≡ Some byte) × (ascii.is_visible byte ≡ true)
-visible_is None e = cc
-visible_is (Some byte) e = (byte, refl, e)
-
-not_space : (text : List ℕ) (i : ℕ) → option_map_or ascii.is_visible (slice_get text i) false ≡ true → not (slice_index text i == 32) ≡ true
-not_space text i e =
-    let found = visible_is (slice_get text i) e in
-    let at : slice_index text i ≡ found.0 = get_or_from_slice_get text i found.0 0 found.1 in
-    let visible = found.2 in
-    subst (λ b. not (b == 32) ≡ true) (sym at) (grind (arith, nat_tests))
-
-filled : (text : List ℕ) → option_map_or ascii.is_visible (slice_get text 0) false ≡ true → nat_le 1 (length text) ≡ true
-filled [] e = cc
-filled (byte ∷ text) e = le-leb 1 (length (byte ∷ text)) (omega arith)
-
 pub typed : (text : List ℕ) → limits.is_content_type text ≡ true → is_content_type text ≡ true
 unfolding limits.is_content_type
-typed text e =
-    let outer = and_parts (nat_le (length text) 256 && list_all limits.is_printed text) (limits.has_visible_ends text) e in
-    let parts = and_parts (nat_le (length text) 256) (list_all limits.is_printed text) outer.0 in
-    let ends = and_parts (option_map_or ascii.is_visible (slice_get text 0) false) (option_map_or ascii.is_visible (slice_get text (length text - 1)) false) outer.1 in
-    and_from _ _ (and_from _ _ (and_from _ _ (and_from _ _ (filled text ends.0) parts.0) parts.1) (not_space text 0 ends.0)) (not_space text (length text - 1) ends.1)
+typed text e = e
 
 -- ---- the metadata
 
@@ -167,20 +146,6 @@ tag_has_text content_type etag body moment is of_body below =
 
 -- ---- what a store takes
 
-byte_taken : (byte : ℕ) → is_printable byte ≡ true → store.is_value_byte byte ≡ true
-byte_taken byte e = grind (arith, nat_tests)
-
-taken : (most : ℕ) (text : List ℕ) → is_field most text ≡ true → store.is_value most text ≡ true
-taken most text e =
-    let last = and_parts (nat_le 1 (length text) && nat_le (length text) most && list_all is_printable text && not (slice_index text 0 == 32)) (not (slice_index text (length text - 1) == 32)) e in
-    let first = and_parts (nat_le 1 (length text) && nat_le (length text) most && list_all is_printable text) (not (slice_index text 0 == 32)) last.0 in
-    let bytes = and_parts (nat_le 1 (length text) && nat_le (length text) most) (list_all is_printable text) first.0 in
-    and_from _ _ (and_from _ _ (and_from _ _ bytes.0 (weaken is_printable store.is_value_byte byte_taken text bytes.1)) first.1) last.1
-
-all_taken : (most : ℕ) (pieces : List (List ℕ)) → list_all (is_field most) pieces ≡ true → list_all (store.is_value most) pieces ≡ true
-all_taken most [] e = refl
-all_taken most (piece ∷ pieces) e = let parts = and_parts (is_field most piece) _ e in and_from _ _ (taken most piece parts.0) (all_taken most pieces parts.1)
-
 -- the PUT of an object's file is one that a store takes
 pub put_fits : (bucket key content_type body : List ℕ) (meta : List Pair) (moment : ℕ) (text : List ℕ) (pieces : List (List ℕ))
     → is_bucket bucket ≡ true → is_key key ≡ true → IsProperContent content_type meta body → moment < moment_limit
@@ -190,7 +155,7 @@ put_fits bucket key content_type body meta moment text pieces is keyed content b
     let small = pack_is_small meta (described meta content.described) in (
       container_name bucket is,
       object_name key keyed,
-      subst (λ t. IsTrue (store.is_content_type t)) (sym written) (taken 512 (tag_text (plain_tag content_type (body_etag body) moment)) (tag_is_field (plain_tag content_type (body_etag body) moment) (tag_has_text content_type (body_etag body) body moment content.typed refl below))),
-      subst (λ p. IsTrue (store.is_meta p)) (sym packed) (and_from _ _ (le-leb (length (pack_of meta)) 11 small.0) (all_taken 256 (pack_of meta) small.1)),
+      subst (λ t. IsTrue (store.is_content_type t)) (sym written) (tag_is_field (plain_tag content_type (body_etag body) moment) (tag_has_text content_type (body_etag body) body moment content.typed refl below)),
+      subst (λ p. IsTrue (store.is_meta p)) (sym packed) (and_from _ _ (le-leb (length (pack_of meta)) 11 small.0) small.1),
       content.sized,
     )

@@ -1,9 +1,9 @@
 -- The limits of what an object is put with, and of what is asked for. Source: Amazon S3 User Guide, "Working with object metadata", and RFC 9110,
 -- section 5.6.2, for tokens; the numbers are this profile's.
-use Rattle.std.specs.Prelude.{ℕ, Bool, false, ◌&&◌, ◌||◌, ◌==◌, ◌+◌, ◌-◌, nat_le, if◌then◌else◌, List, length, drop, slice_get, sum_by, codes, bytes_eq}
+use Rattle.std.specs.Prelude.{ℕ, Bool, false, ◌&&◌, ◌||◌, ◌==◌, ◌+◌, nat_le, if◌then◌else◌, List, length, drop, slice_get, sum_by, codes, bytes_eq}
 use Rattle.std.specs.List.{list_all, list_any}
 use Rattle.std.specs.Option.{option_map_or}
-use Rattle.gate_base.specs.Ascii.{is_visible}
+use Rattle.gate_base.specs.Fields.{is_field, is_printable}
 use Rattle.gate_base.specs.declared.page.Pair.{Pair}
 use Rattle.s3_names.specs.Bucket.{is_lower_or_digit}
 use Rattle.s3_names.specs.Key.{is_key}
@@ -13,21 +13,13 @@ use Rattle.s3_machine.specs.declared.limits.TheConstants.{MOST_BODY_BYTES, MOST_
 abbrev pub most_body_bytes : ℕ
 most_body_bytes = MOST_BODY_BYTES
 
--- visible ASCII and the space
-abbrev pub is_printed : ℕ → Bool
-is_printed byte = nat_le 32 byte && nat_le byte 126
-
--- no space, nor any other byte that isn't visible, at either end
-abbrev pub has_visible_ends : List ℕ → Bool
-has_visible_ends text = option_map_or is_visible (slice_get text 0) false && option_map_or is_visible (slice_get text (length text - 1)) false
-
 -- 1 to 256 bytes of visible ASCII and spaces, without a space at either end
 unfoldable pub is_content_type : List ℕ → Bool
-is_content_type text = nat_le (length text) MOST_CONTENT_TYPE_BYTES && list_all is_printed text && has_visible_ends text
+is_content_type text = is_field MOST_CONTENT_TYPE_BYTES text
 
 -- visible ASCII and spaces, or nothing
 unfoldable pub is_meta_value : List ℕ → Bool
-is_meta_value value = list_all is_printed value
+is_meta_value value = list_all is_printable value
 
 -- the bytes of a token, but for the upper-case letters
 abbrev pub is_lower_token_byte : ℕ → Bool

@@ -1,11 +1,10 @@
 //! The limits of what an object is put with, and of what is asked for.
-ghost use Rattle.std.specs.Prelude.{◌≡◌, ◌&&◌, ◌||◌, ◌==◌, ◌+◌, length, drop, nat_le, sum_by, codes};
+ghost use Rattle.std.specs.Prelude.{◌≡◌, ◌&&◌, ◌||◌, ◌==◌, ◌+◌, drop, nat_le, sum_by, codes};
 ghost use Rattle.std.specs.List.{list_all, list_any};
-ghost use Rattle.gate_base.specs.Ascii.{is_visible};
 ghost use Rattle.s3_names.specs.Bucket.{is_lower_or_digit};
-ghost use Rattle.s3_machine.specs.Limits.{bare_name, has_visible_ends, is_content_type, is_kept_header, is_listing_text, is_lower_token_byte, is_meta_name, is_meta_value, is_own_name, is_printed, is_proper_meta, is_proper_pair, pair_bytes};
+ghost use Rattle.s3_machine.specs.Limits.{bare_name, is_content_type, is_kept_header, is_listing_text, is_lower_token_byte, is_meta_name, is_meta_value, is_own_name, is_proper_meta, is_proper_pair, pair_bytes};
 
-use gate_base::Pair;
+use gate_base::{Pair, are_printable, is_field};
 use s3_names::{Meta, is_key};
 
 /// The most bytes of the body of a request.
@@ -38,7 +37,7 @@ const TOKEN_MARKS: &[u8] = b"!#$%&'*+-.^_`|~";
 pub fn is_content_type(text: &[u8]) -> bool
     ensures { result ≡ is_content_type text.now }
 {
-    text.len() <= MOST_CONTENT_TYPE_BYTES && are_printed(text) && has_visible_ends(text)
+    is_field(text, MOST_CONTENT_TYPE_BYTES)
 }
 
 /// Whether these bytes may be a value of user metadata: visible ASCII and spaces, or nothing. It takes no memory.
@@ -46,7 +45,7 @@ pub fn is_content_type(text: &[u8]) -> bool
 pub fn is_meta_value(value: &[u8]) -> bool
     ensures { result ≡ is_meta_value value.now }
 {
-    are_printed(value)
+    are_printable(value)
 }
 
 /// Whether these bytes may be a name of user metadata: `-` and the lower-case bytes of a token (RFC 9110, section
@@ -76,33 +75,6 @@ pub fn is_listing_text(text: &[u8]) -> bool
     ensures { result ≡ is_listing_text text.now }
 {
     text.len() == 0 || is_key(text)
-}
-
-fn is_visible(byte: u8) -> bool
-    ensures { result ≡ is_visible byte }
-{
-    33 <= byte && byte <= 126
-}
-
-fn is_printed(byte: u8) -> bool
-    ensures { result ≡ is_printed byte }
-{
-    32 <= byte && byte <= 126
-}
-
-fn are_printed(text: &[u8]) -> bool
-    ensures { result ≡ list_all is_printed text.now }
-{
-    text.iter().all(|byte| is_printed(*byte))
-}
-
-fn has_visible_ends(text: &[u8]) -> bool
-    ensures { result ≡ has_visible_ends text.now }
-{
-    match (text.first(), text.last()) {
-        (Some(first), Some(last)) => is_visible(*first) && is_visible(*last),
-        _ => false,
-    }
 }
 
 fn is_lower_or_digit(byte: u8) -> bool

@@ -1,11 +1,12 @@
 //! Whether a call is within the limits of a store.
-ghost use Rattle.std.specs.Prelude.{◌≡◌, ◌↔◌, ◌<◌, ◌≤◌, IsTrue, IfSome, IsUtf8, Contains};
+ghost use Rattle.std.specs.Prelude.{◌≡◌, ◌↔◌, IsTrue, IfSome, IsUtf8, Contains};
 ghost use Rattle.std.specs.List.{list_all};
-ghost use Rattle.swift_calls.specs.Limits.{IsText, IsObjectName, IsMarker, IsLimit, IsRange, is_value_byte, is_value, is_content_type, is_meta};
+ghost use Rattle.gate_base.specs.Fields.{is_field};
+ghost use Rattle.swift_calls.specs.Limits.{IsText, IsObjectName, IsMarker, IsLimit, IsRange, is_meta};
 ghost use Rattle.swift_calls.specs.Step.{IsContainerName, IsMoment, Fit};
 
 use crate::SwiftRequest;
-use gate_base::Bytes;
+use gate_base::{Bytes, is_field};
 
 /// The greatest body that a call puts, in bytes: 16 MiB.
 pub const MOST_BODY: usize = 16_777_216;
@@ -75,35 +76,16 @@ fn is_moment(moment: Option<u64>) -> bool
     }
 }
 
-fn is_value_byte(byte: u8) -> bool
-    ensures { result ≡ is_value_byte byte }
+fn are_fields(pieces: &[Bytes]) -> bool
+    ensures { result ≡ list_all (is_field 256) pieces.now }
 {
-    32 <= byte && byte < 127
-}
-
-fn has_value_bytes(text: &[u8]) -> bool
-    ensures { result ≡ list_all is_value_byte text.now }
-{
-    text.iter().all(|byte| is_value_byte(*byte))
-}
-
-fn is_value(most: usize, text: &[u8]) -> bool
-    ensures { result ≡ is_value most text.now }
-{
-    let size = text.len();
-    1 <= size && size <= most && has_value_bytes(text) && text[0] != b' ' && text[size - 1] != b' '
-}
-
-fn has_values(pieces: &[Bytes]) -> bool
-    ensures { result ≡ list_all (is_value 256) pieces.now }
-{
-    pieces.iter().all(|piece| is_value(256, piece.as_slice()))
+    pieces.iter().all(|piece| is_field(piece.as_slice(), 256))
 }
 
 fn is_meta(pieces: &[Bytes]) -> bool
     ensures { result ≡ is_meta pieces.now }
 {
-    pieces.len() <= 11 && has_values(pieces)
+    pieces.len() <= 11 && are_fields(pieces)
 }
 
 /// Whether a call is within the limits: names of containers have 1 to 256 bytes, of objects 1 to 1024, prefixes and
@@ -146,7 +128,7 @@ pub fn is_fit(request: &SwiftRequest) -> bool
         } => {
             is_container_name(container.as_slice())
                 && is_object_name(name.as_slice())
-                && is_value(512, content_type.as_slice())
+                && is_field(content_type.as_slice(), 512)
                 && is_meta(meta.as_slice())
                 && body.len() <= MOST_BODY
         }

@@ -2,8 +2,8 @@
 -- metadata"; Object Storage API v1; the figures are this profile's).
 use Rattle.std.specs.Prelude.{ℕ, ◌+◌, Bool, ◌&&◌, ◌==◌, nat_le, if◌then◌else◌, List, [], ◌∷◌, length, sum_by}
 use Rattle.std.specs.List.{list_all}
+use Rattle.gate_base.specs.Fields.{is_printable}
 use Rattle.gate_base.specs.declared.page.Pair.{Pair}
-use Rattle.swift_marks.specs.Tag.{is_printable}
 
 -- what counts of a name: a user's own name begins with `-`, which does not
 abbrev pub counted_name : List ℕ → List ℕ

@@ -1,9 +1,10 @@
 -- The tag of an object: the content type that the store keeps, with the object's own content type, its ETag, the
 -- moment of its putting and the upload that it is of (this profile).
-use Rattle.std.specs.Prelude.{◌≡◌, ⊤, ℕ, ◌-◌, Bool, true, not, ◌&&◌, ◌==◌, nat_eq, nat_le, nat_lt, if◌then◌else◌, Option, Some, None, Result, Ok, Err}
-use Rattle.std.specs.Prelude.{List, [], ◌∷◌, ◌++◌, length, take, drop, slice_index, codes, decimal}
+use Rattle.std.specs.Prelude.{◌≡◌, ⊤, ℕ, Bool, true, ◌&&◌, ◌==◌, nat_eq, nat_le, nat_lt, if◌then◌else◌, Option, Some, None, Result, Ok, Err}
+use Rattle.std.specs.Prelude.{List, [], ◌∷◌, ◌++◌, length, take, drop, codes, decimal}
 use Rattle.std.specs.List.{list_all, before_first, after_first, before_last, after_last, ends_with}
 use Rattle.std.specs.Str.{bytes_eq}
+use Rattle.gate_base.specs.Fields.{is_field}
 use Rattle.gate_base.specs.Told.{moment_limit}
 use Rattle.swift_marks.specs.declared.forms.TheConstants.{LONGEST_TYPE, MOST_PARTS}
 use Rattle.swift_marks.specs.Number.{number_of, is_lower_hex, id_text, fits_id, id_of}
@@ -11,16 +12,6 @@ use Rattle.swift_marks.specs.declared.tag.Stamp.{Stamp}
 use Rattle.swift_marks.specs.declared.tag.Tag.{Tag}
 use Rattle.swift_marks.specs.declared.fault.MarkFault.{MarkFault}
 use Rattle.swift_marks.specs.declared.fault.MarkFault.TheVariants.{NoTag, BadPack, Memory}
-
--- visible ASCII or a space
-abbrev pub is_printable : ℕ → Bool
-is_printable byte = nat_le 32 byte && nat_le byte 126
-
--- 1 to so many bytes of visible ASCII and spaces, no space at either end
-abbrev pub is_field : ℕ → List ℕ → Bool
-is_field most text =
-    nat_le 1 (length text) && nat_le (length text) most && list_all is_printable text
-    && not (slice_index text 0 == 32) && not (slice_index text (length text - 1) == 32)
 
 abbrev pub is_content_type : List ℕ → Bool
 is_content_type text = is_field LONGEST_TYPE text

@@ -1,10 +1,10 @@
 //! The forms of content types and ETags.
 ghost use Rattle.std.specs.Prelude.{◌≡◌, decimal};
-ghost use Rattle.std.specs.List.{list_all};
 ghost use Rattle.std.specs.Str.{bytes_eq};
-ghost use Rattle.swift_marks.specs.Tag.{is_printable, is_content_type, is_part_count, is_parts_mark, is_etag};
+ghost use Rattle.swift_marks.specs.Tag.{is_content_type, is_part_count, is_parts_mark, is_etag};
 
 use crate::number::{all_lower_hex, number_of};
+use gate_base::is_field;
 use itoa::Buffer;
 
 /// The longest content type, in bytes.
@@ -17,23 +17,7 @@ pub(crate) const MOST_PARTS: u64 = 10_000;
 pub(crate) fn is_content_type(text: &[u8]) -> bool
     ensures { result ≡ is_content_type text.now }
 {
-    let size = text.len();
-    if size < 1 || LONGEST_TYPE < size {
-        return false;
-    }
-    all_printable(text) && text[0] != b' ' && text[size - 1] != b' '
-}
-
-fn all_printable(text: &[u8]) -> bool
-    ensures { result ≡ list_all is_printable text.now }
-{
-    text.iter().all(|byte| is_printable(*byte))
-}
-
-fn is_printable(byte: u8) -> bool
-    ensures { result ≡ is_printable byte }
-{
-    b' ' <= byte && byte <= b'~'
+    is_field(text, LONGEST_TYPE)
 }
 
 /// 32 hexadecimal digits in lower case, and for an object of parts `-` and their number.

@@ -14,7 +14,8 @@ use Rattle.http1.specs.Head.{starts_visible, is_trimmed_value, is_header, are_he
 use Rattle.httparse.specs.Grammar.{is_token, is_token_byte, is_value_byte, is_ows}
 use Rattle.s3_names.specs.Escapes.{is_unreserved, stays_in_path, is_escaped_byte, escaped_all, escaped_path}
 use Rattle.s3_names.proofs.lemmas.EscapeLemmas.{escaped_bytes_all, escaped_bytes_path}
-use Rattle.swift_calls.specs.Limits.{is_value_byte as is_printable, is_value, is_meta, IsRange}
+use Rattle.gate_base.specs.Fields.{is_field, is_printable}
+use Rattle.swift_calls.specs.Limits.{is_meta, IsRange}
 use Rattle.swift_calls.specs.Step.{IsMoment, Fit}
 use Rattle.swift_calls.specs.declared.account.ReadList.{ReadList}
 use Rattle.swift_calls.specs.declared.account.ReadList.TheVariants.{Nobody, Everybody}
@@ -85,7 +86,7 @@ no_space_at (b ∷ text) (suc i) all = no_space_at text i (and_parts (is_visible
 pub visible_trimmed : (text : List ℕ) → list_all is_visible text ≡ true → is_trimmed_value text ≡ true
 visible_trimmed text all = trimmed text (weaker is_visible is_printable visible_printable text all) (no_space_at text 0 all) (no_space_at text (length text - 1) all)
 
-pub value_trimmed : (most : ℕ) (text : List ℕ) → is_value most text ≡ true → is_trimmed_value text ≡ true
+pub value_trimmed : (most : ℕ) (text : List ℕ) → is_field most text ≡ true → is_trimmed_value text ≡ true
 value_trimmed most text is =
     let last = and_parts _ (not (nat_eq (get_or text (length text - 1) 0) 32)) is in
     let first = and_parts _ (not (nat_eq (get_or text 0 0) 32)) last.0 in
@@ -121,10 +122,10 @@ meta_token index fits =
     (list_all-append is_token_byte (codes "X-Object-Meta-S3-") (decimal index)
     ∙ and_from _ _ refl (weaker is_digit is_token_byte digit_token (decimal index) (decimal_digits index fits)))
 
-meta_good : (index : ℕ) (pieces : List (List ℕ)) → index + length pieces < 2 ^ 63 → list_all (is_value 256) pieces ≡ true → AreGood (meta_fields index pieces)
+meta_good : (index : ℕ) (pieces : List (List ℕ)) → index + length pieces < 2 ^ 63 → list_all (is_field 256) pieces ≡ true → AreGood (meta_fields index pieces)
 meta_good index [] fits all = refl
 meta_good index (piece ∷ pieces) fits all =
-    let parts = and_parts (is_value 256 piece) (list_all (is_value 256) pieces) all in
+    let parts = and_parts (is_field 256 piece) (list_all (is_field 256) pieces) all in
     and_from _ _ (named_ok (codes "X-Object-Meta-S3-" ++ decimal index) piece (meta_token index (omega (arith, fits))) (value_trimmed 256 piece parts.0))
     (meta_good (index + 1) pieces (omega (arith, fits)) parts.1)
 
@@ -172,7 +173,7 @@ own_good (DeleteContainer container) fit = refl
 own_good (ListNames container prefix marker limit) fit = refl
 own_good (PutObject container name content_type meta body) fit =
     and_from _ _ (named_ok (codes "Content-Type") content_type tokens.type (value_trimmed 512 content_type fit.2))
-    (meta_good 0 meta (omega (arith, few meta fit.3)) (and_parts _ (list_all (is_value 256) meta) fit.3).1)
+    (meta_good 0 meta (omega (arith, few meta fit.3)) (and_parts _ (list_all (is_field 256) meta) fit.3).1)
 own_good (HeadObject container name) fit = refl
 own_good (GetObject container name range) fit = range_good range fit.2
 own_good (DeleteObject container name) fit = refl

@@ -11,7 +11,7 @@ use Rattle.gate_base.specs.declared.page.Pair.{Pair}
 use Rattle.http_wire.specs.declared.message.Message.{Message}
 use Rattle.s3_names.specs.Escapes.{escaped_all, escaped_path}
 use Rattle.s3_names.specs.Target.{is_question, path_text, query_text}
-use Rattle.swift_calls.specs.Limits.{IsText, IsMarker, IsLimit, IsRange, is_meta, is_value, is_content_type, most_body}
+use Rattle.swift_calls.specs.Limits.{IsText, IsMarker, IsLimit, IsRange, is_meta, is_content_type, most_body}
 use Rattle.swift_calls.specs.Step.{IsContainerName, IsMoment, Fit}
 use Rattle.swift_calls.specs.declared.account.ReadList.{ReadList}
 use Rattle.swift_calls.specs.declared.account.ReadList.TheVariants.{Nobody, Everybody}

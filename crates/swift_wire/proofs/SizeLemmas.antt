@@ -15,7 +15,8 @@ use Rattle.httparse.specs.Ascii.{crlf_bytes}
 use Rattle.httparse.specs.Grammar.{is_token, is_token_byte}
 use Rattle.s3_names.specs.Escapes.{is_unreserved, stays_in_path, is_escaped_byte, upper_digit, escaped_unless, escaped_all, escaped_path}
 use Rattle.s3_names.proofs.lemmas.EscapeLemmas.{escaped_bytes_all, escaped_bytes_path}
-use Rattle.swift_calls.specs.Limits.{is_value_byte as is_printable, IsMarker, IsText, is_value, is_meta, IsRange}
+use Rattle.gate_base.specs.Fields.{is_field, is_printable}
+use Rattle.swift_calls.specs.Limits.{IsMarker, IsText, is_meta, IsRange}
 use Rattle.swift_calls.specs.Step.{IsMoment, IsContainerName, Fit}
 use Rattle.swift_calls.specs.declared.account.ReadList.{ReadList}
 use Rattle.swift_calls.specs.declared.account.ReadList.TheVariants.{Nobody, Everybody}
@@ -198,18 +199,18 @@ listing_size limit marker low few =
 
 -- ---- the fields of a call's own
 
-value_most : (most : ℕ) (text : List ℕ) → is_value most text ≡ true → length text ≤ most
+value_most : (most : ℕ) (text : List ℕ) → is_field most text ≡ true → length text ≤ most
 value_most most text is =
     let last = and_parts _ (not (nat_eq (slice_index text (length text - 1)) 32)) is in
     let first = and_parts _ (not (nat_eq (slice_index text 0) 32)) last.0 in
     let all = and_parts _ (list_all is_printable text) first.0 in
     let second = (and_parts (nat_le 1 (length text)) (nat_le (length text) most) all.0).1 in grind (arith, nat_tests, second)
 
-meta_size : (index : ℕ) (pieces : List (List ℕ)) → index + length pieces < 1000 → list_all (is_value 256) pieces ≡ true
+meta_size : (index : ℕ) (pieces : List (List ℕ)) → index + length pieces < 1000 → list_all (is_field 256) pieces ≡ true
     → length (print_headers (meta_fields index pieces)) ≤ 296 * length pieces
 meta_size index [] fits all = omega arith
 meta_size index (piece ∷ pieces) fits all =
-    let parts = and_parts (is_value 256 piece) (list_all (is_value 256) pieces) all in
+    let parts = and_parts (is_field 256 piece) (list_all (is_field 256) pieces) all in
     let rest = meta_size (index + 1) pieces (omega (arith, fits)) parts.1 in
     let one = headers_size (codes "X-Object-Meta-S3-" ++ decimal index, piece) (meta_fields (index + 1) pieces) in
     let size = header_size (codes "X-Object-Meta-S3-" ++ decimal index) piece in
@@ -272,7 +273,7 @@ short place (PutObject c n content_type meta body) most fit =
     let base = object_size place c n most fit.0.within fit.1.1.within in
     let one = headers_size (codes "Content-Type", content_type) (meta_fields 0 meta) in
     let count = few meta fit.3 in
-    let rest = meta_size 0 meta (omega (arith, count)) (and_parts _ (list_all (is_value 256) meta) fit.3).1 in
+    let rest = meta_size 0 meta (omega (arith, count)) (and_parts _ (list_all (is_field 256) meta) fit.3).1 in
     record {
       filled = base.0;
       within = omega (arith, base.1, one, header_size (codes "Content-Type") content_type, value_most 512 content_type fit.2, rest, count);
