@@ -1,5 +1,5 @@
 -- XML that is written. Source: Extensible Markup Language 1.0; which bytes are escaped is this profile's.
-use Rattle.std.specs.Prelude.{ℕ, ◌+◌, ◌/◌, ◌%◌, ◌==◌, nat_lt, if◌then◌else◌, List, [], ◌∷◌, ◌++◌, codes}
+use Rattle.std.specs.Prelude.{ℕ, ◌==◌, nat_lt, if◌then◌else◌, List, [], ◌∷◌, ◌++◌, codes, decimal}
 use Rattle.std.specs.List.{flat_map}
 use Rattle.s3_machine.specs.declared.code.Code.{Code}
 use Rattle.s3_bodies.specs.Codes.{name_of, message_of}
@@ -8,10 +8,6 @@ use Rattle.s3_bodies.specs.Texts.{id_text}
 -- the first line of a document
 abbrev pub declaration : List ℕ
 declaration = codes "<?xml version=\"1.0\" encoding=\"UTF-8\"?>" ++ 10 ∷ []
-
--- a number below 100, in decimal
-abbrev pub decimal : ℕ → List ℕ
-decimal n = if nat_lt n 10 then (48 + n) ∷ [] else (48 + n / 10) ∷ (48 + n % 10) ∷ []
 
 -- `&`, `<`, `>` and `"` by their names, a byte below 32 by its number, and any other as it is
 abbrev pub escape_of : ℕ → List ℕ

@@ -200,8 +200,11 @@ impl Xml {
             b'<' => self.tags(b"&lt;"),
             b'>' => self.tags(b"&gt;"),
             b'"' => self.tags(b"&quot;"),
-            0..=9 => self.tags(&[b'&', b'#', b'0' + byte, b';']),
-            10..=31 => self.tags(&[b'&', b'#', b'0' + byte / 10, b'0' + byte % 10, b';']),
+            0..=31 => {
+                self.tags(b"&#")?;
+                texts::append_decimal(&mut self.text, u64::from(byte))?;
+                self.tags(b";")
+            }
             _ => self.text.push(byte),
         }
     }
