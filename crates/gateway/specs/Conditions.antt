@@ -1,6 +1,6 @@
 -- The conditions of a GET or a HEAD. Source: RFC 9110, sections 8.8.3 (entity tags), 13.1.1 to 13.1.4 (If-Match, If-None-Match,
 -- If-Modified-Since, If-Unmodified-Since) and 5.6.7 (dates); that tags stand with quotes or without them, and are compared
--- without the mark of a weak one, is this profile's.
+-- without the `W/` of a weak one, is this profile's.
 use Rattle.std.specs.Prelude.{ℕ, Bool, ◌&&◌, ◌==◌, ◌-◌, nat_eq, nat_le, if◌then◌else◌, List, map, take, drop, length, slice_get, codes, bytes_eq, Option, false}
 use Rattle.std.specs.List.{prefix_len, suffix_len, slice_split, starts_with}
 use Rattle.std.specs.Option.{option_map_or}
@@ -25,9 +25,9 @@ behind_spaces text = drop (prefix_len is_space text) text
 abbrev pub before_spaces : List ℕ → List ℕ
 before_spaces text = take (length text - suffix_len is_space text) text
 
--- the text without the mark of a weak tag
-abbrev pub without_mark : List ℕ → List ℕ
-without_mark text = if starts_with nat_eq text (codes "W/") then drop 2 text else text
+-- the text without the `W/` of a weak tag
+abbrev pub without_weak : List ℕ → List ℕ
+without_weak text = if starts_with nat_eq text (codes "W/") then drop 2 text else text
 
 -- a double quote at both ends, which aren't the same
 abbrev pub is_quoted : List ℕ → Bool
@@ -39,7 +39,7 @@ without_quotes text = if is_quoted text then drop 1 (take (length text - 1) text
 
 -- the tag that stands between two commas
 unfoldable pub etag_of : List ℕ → List ℕ
-etag_of piece = without_quotes (without_mark (before_spaces (behind_spaces piece)))
+etag_of piece = without_quotes (without_weak (before_spaces (behind_spaces piece)))
 
 -- the tags of a value, in order; `*` stands for all
 unfoldable pub etags_of : List ℕ → ETags

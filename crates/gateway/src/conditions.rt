@@ -3,7 +3,7 @@ ghost use Rattle.std.specs.Prelude.{◌≡◌, ◌-◌, ◌≤◌, ◌++◌, [],
 ghost use Rattle.std.specs.List.{prefix_len, suffix_len, slice_split};
 ghost use Rattle.std.specs.Option.{option_map_or};
 ghost use Rattle.gateway.specs.Closing.{is_comma};
-ghost use Rattle.gateway.specs.Conditions.{is_space, is_quote, behind_spaces, before_spaces, without_mark, is_quoted, without_quotes, etag_of, etags_of, given_etags, date_of, given_date, given_conditions};
+ghost use Rattle.gateway.specs.Conditions.{is_space, is_quote, behind_spaces, before_spaces, without_weak, is_quoted, without_quotes, etag_of, etags_of, given_etags, date_of, given_date, given_conditions};
 
 use crate::closing::{after_first, first_comma};
 use gate_base::{Bytes, List, Memory, Pair};
@@ -47,9 +47,9 @@ fn before_spaces(text: &[u8]) -> &[u8]
     &text[..text.len() - last_spaces(text)]
 }
 
-/// The text without the mark of a weak tag (RFC 9110, section 8.8.3).
-fn without_mark(text: &[u8]) -> &[u8]
-    ensures { result.now ≡ without_mark text.now }
+/// The text without the `W/` of a weak tag (RFC 9110, section 8.8.3).
+fn without_weak(text: &[u8]) -> &[u8]
+    ensures { result.now ≡ without_weak text.now }
 {
     if text.starts_with(b"W/") {
         &text[2..]
@@ -88,7 +88,7 @@ fn without_quotes(text: &[u8]) -> &[u8]
 fn etag_of(piece: &[u8]) -> &[u8]
     ensures { result.now ≡ etag_of piece.now }
 {
-    without_quotes(without_mark(before_spaces(behind_spaces(piece))))
+    without_quotes(without_weak(before_spaces(behind_spaces(piece))))
 }
 
 fn push_etag(alloc: Global, etags: &mut List<Bytes>, piece: &[u8]) -> Result<(), Memory>

@@ -23,7 +23,7 @@ impl Copying for Range {
 }
 
 /// What a condition asks of an object's ETag (RFC 9110, sections 13.1.1 and 13.1.2): nothing, where the header isn't
-/// there; that there is one; or that it is one of these, which stand without quotes and without the mark of a weak one.
+/// there; that there is one; or that it is one of these, which stand without quotes and without the `W/` of a weak one.
 #[derive(Debug, Drop)]
 pub enum ETags {
     Absent,
