@@ -1,4 +1,4 @@
--- What an object is put with keeps the limits of a store, and its marks have texts.
+-- What an object is put with keeps the limits of a store, and its tag and pack have texts.
 use Rattle.std.proofs.Common.{◌≡◌, ℕ, ◌<◌, ◌≤◌, ◌+◌, ◌-◌, ◌^◌, true, ◌&&◌, ◌||◌, List, [], ◌∷◌, length, drop, nat_le, refl, sym, ap, subst, inl, inr, arith}
 use Rattle.std.specs.Prelude.{◌==◌, cond, sum_by, bytes_eq, codes, IsTrue}
 use Rattle.std.specs.List.{list_all, list_any}
@@ -44,19 +44,19 @@ counts (byte ∷ name) = refl
 same_size : (pair : Pair) → limits.pair_bytes pair ≡ counted_size pair
 same_size pair = ap (λ n. n + length pair.value) (counts pair.name)
 
-any_printed : (marks : List ℕ) (byte : ℕ) → list_all is_printable marks ≡ true → list_any (λ mark. mark == byte) marks ≡ true → is_printable byte ≡ true
+any_printed : (symbols : List ℕ) (byte : ℕ) → list_all is_printable symbols ≡ true → list_any (λ symbol. symbol == byte) symbols ≡ true → is_printable byte ≡ true
 any_printed [] byte all any = cc
-any_printed (mark ∷ marks) byte all any =
-    let parts = and_parts (is_printable mark) (list_all is_printable marks) all in
-    elim (or_cases (mark == byte) (list_any (λ m. m == byte) marks) any) [
-      | inl same ↦ subst (λ b. is_printable b ≡ true) (eqb-true mark byte same) parts.0
-      | inr later ↦ any_printed marks byte parts.1 later
+any_printed (symbol ∷ symbols) byte all any =
+    let parts = and_parts (is_printable symbol) (list_all is_printable symbols) all in
+    elim (or_cases (symbol == byte) (list_any (λ m. m == byte) symbols) any) [
+      | inl same ↦ subst (λ b. is_printable b ≡ true) (eqb-true symbol byte same) parts.0
+      | inr later ↦ any_printed symbols byte parts.1 later
     ]
 
 token_printed : (byte : ℕ) → limits.is_lower_token_byte byte ≡ true → is_printable byte ≡ true
-token_printed byte e = elim (or_cases (is_lower_or_digit byte) (list_any (λ mark. mark == byte) (codes "!#$%&'*+-.^_`|~")) e) [
+token_printed byte e = elim (or_cases (is_lower_or_digit byte) (list_any (λ symbol. symbol == byte) (codes "!#$%&'*+-.^_`|~")) e) [
   | inl word ↦ word_printed byte word
-  | inr mark ↦ any_printed (codes "!#$%&'*+-.^_`|~") byte refl mark
+  | inr symbol ↦ any_printed (codes "!#$%&'*+-.^_`|~") byte refl symbol
 ]
   where
     word_printed : (byte : ℕ) → is_lower_or_digit byte ≡ true → is_printable byte ≡ true

@@ -23,7 +23,7 @@ is_meta_value value = list_all is_printable value
 
 -- the bytes of a token, but for the upper-case letters
 abbrev pub is_lower_token_byte : ℕ → Bool
-is_lower_token_byte byte = is_lower_or_digit byte || list_any (λ mark. mark == byte) (codes "!#$%&'*+-.^_`|~")
+is_lower_token_byte byte = is_lower_or_digit byte || list_any (λ symbol. symbol == byte) (codes "!#$%&'*+-.^_`|~")
 
 -- a name of the user's own begins with `-`
 abbrev pub is_own_name : List ℕ → Bool

@@ -28,8 +28,8 @@ pub const MOST_PARTS: usize = 1000;
 /// The least number of more than 18 digits, which no range has.
 pub const RANGE_LIMIT: u64 = 1_000_000_000_000_000_000;
 
-/// The marks of a token that are neither letters nor digits (RFC 9110, section 5.6.2).
-const TOKEN_MARKS: &[u8] = b"!#$%&'*+-.^_`|~";
+/// The bytes of a token that are neither letters nor digits (RFC 9110, section 5.6.2).
+const TOKEN_SYMBOLS: &[u8] = b"!#$%&'*+-.^_`|~";
 
 /// Whether these bytes may be an object's content type: 1 to 256 bytes of visible ASCII and spaces, without a space at
 /// either end. It takes no memory.
@@ -83,16 +83,16 @@ fn is_lower_or_digit(byte: u8) -> bool
     byte.is_ascii_lowercase() || byte.is_ascii_digit()
 }
 
-fn is_token_mark(byte: u8) -> bool
-    ensures { result ≡ list_any (λ mark. mark == byte) (codes "!#$%&'*+-.^_`|~") }
+fn is_token_symbol(byte: u8) -> bool
+    ensures { result ≡ list_any (λ symbol. symbol == byte) (codes "!#$%&'*+-.^_`|~") }
 {
-    TOKEN_MARKS.contains(&byte)
+    TOKEN_SYMBOLS.contains(&byte)
 }
 
 fn is_lower_token_byte(byte: u8) -> bool
     ensures { result ≡ is_lower_token_byte byte }
 {
-    is_lower_or_digit(byte) || is_token_mark(byte)
+    is_lower_or_digit(byte) || is_token_symbol(byte)
 }
 
 fn are_lower_token_bytes(text: &[u8]) -> bool
