@@ -12,13 +12,13 @@ use Rattle.http_wire.specs.Reading.{Pending, GivesFirstMessage}
 use Rattle.http_wire.specs.Interim.{OwesInterim, SendsInterim}
 use Rattle.sigv4.specs.Sign.{is_date_time}
 use Rattle.sigv4.specs.Verdict.{time_of}
-use Rattle.sign_cmd.specs.Signing.{has_marks, Answers, AnswersFrom, SendsBy, is_failed_signing}
+use Rattle.sign_cmd.specs.Signing.{has_signing_headers, Answers, AnswersFrom, SendsBy, is_failed_signing}
 use Rattle.sign_cmd.specs.declared.first.Signing.{Signing}
 use Rattle.sign_cmd.specs.declared.first.Signing.TheVariants.{Signed, NoRequest, LineFailed, Memory}
 
 -- a request with the headers has a date of the form
-pub marks_dated : (headers : List Pair) → has_marks headers ≡ true → is_date_time (time_of headers) ≡ true
-marks_dated headers h =
+pub signing_headers_dated : (headers : List Pair) → has_signing_headers headers ≡ true → is_date_time (time_of headers) ≡ true
+signing_headers_dated headers h =
     let one : Bool = has_one (codes "x-amz-date") headers in
     (and_parts one (is_date_time (time_of headers)) (and_parts (one && is_date_time (time_of headers)) (has_one (codes "x-amz-content-sha256") headers) h).0).1
 

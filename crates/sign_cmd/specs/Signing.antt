@@ -23,13 +23,13 @@ use Rattle.sign_cmd.specs.declared.first.Signing.{Signing}
 use Rattle.sign_cmd.specs.declared.first.Signing.TheVariants.{Signed, NoRequest, LineFailed, Memory}
 
 -- exactly one header is the date, of the form `YYYYMMDDTHHMMSSZ`, and exactly one the hash of the payload
-abbrev pub has_marks : List Pair → Bool
-has_marks headers =
+abbrev pub has_signing_headers : List Pair → Bool
+has_signing_headers headers =
     has_one (codes "x-amz-date") headers && is_date_time (time_of headers) && has_one (codes "x-amz-content-sha256") headers
 
 -- a request is signed where its target reads and it has these headers
 abbrev pub can_sign : Message → Bool
-can_sign message = is_ok (target_of message.target) && has_marks message.headers
+can_sign message = is_ok (target_of message.target) && has_signing_headers message.headers
 
 -- the target, where it reads
 abbrev pub target_read : Result Target NameFault → Option Target

@@ -1,8 +1,8 @@
 ghost use Rattle.std.specs.Prelude.{◌≡◌, true, false, MatchOption, IfOk};
 ghost use Rattle.s3_names.specs.Target.{target_of};
-ghost use Rattle.sign_cmd.specs.Signing.{has_marks, can_sign, target_read, SignsFor, Signs};
+ghost use Rattle.sign_cmd.specs.Signing.{has_signing_headers, can_sign, target_read, SignsFor, Signs};
 
-use crate::headers::has_marks;
+use crate::headers::has_signing_headers;
 use crate::names::names_of;
 use gate_base::Memory;
 use http_wire::Message;
@@ -19,7 +19,7 @@ pub(crate) fn sign_message(
 ) -> Result<Option<Signed>, Memory>
     ensures { IfOk result (λ answer. MatchOption answer (can_sign message.now ≡ false) (Signs secret.now region.now message.now)) }
 {
-    if !has_marks(message.headers.as_slice()) {
+    if !has_signing_headers(message.headers.as_slice()) {
         return Ok(None);
     }
     match read_target(alloc, message.target.as_slice())? {
@@ -47,7 +47,7 @@ fn sign_for(
     message: &Message,
     target: &Target,
 ) -> Result<Signed, Memory>
-    requires { has_marks message.now.headers ≡ true }
+    requires { has_signing_headers message.now.headers ≡ true }
     ensures { IfOk result (SignsFor secret.now region.now message.now target.now) }
 {
     let headers = message.headers.as_slice();
