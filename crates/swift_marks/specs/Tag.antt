@@ -21,13 +21,13 @@ abbrev pub is_part_count : List ℕ → Bool
 is_part_count text = nat_le 1 (number_of text) && nat_le (number_of text) MOST_PARTS && bytes_eq text (decimal (number_of text))
 
 -- nothing, or `-` and a number of parts
-abbrev pub is_parts_mark : List ℕ → Bool
-is_parts_mark [] = true
-is_parts_mark (byte ∷ count) = byte == 45 && is_part_count count
+abbrev pub is_parts_suffix : List ℕ → Bool
+is_parts_suffix [] = true
+is_parts_suffix (byte ∷ count) = byte == 45 && is_part_count count
 
 -- an ETag: 32 hexadecimal digits in lower case, and for an object of parts `-` and their number
 abbrev pub is_etag : List ℕ → Bool
-is_etag etag = nat_le 32 (length etag) && list_all is_lower_hex (take 32 etag) && is_parts_mark (drop 32 etag)
+is_etag etag = nat_le 32 (length etag) && list_all is_lower_hex (take 32 etag) && is_parts_suffix (drop 32 etag)
 
 -- the tags that have a text
 unfoldable pub has_text : Tag → Bool

@@ -1,7 +1,7 @@
 //! The forms of content types and ETags.
 ghost use Rattle.std.specs.Prelude.{◌≡◌, decimal};
 ghost use Rattle.std.specs.Str.{bytes_eq};
-ghost use Rattle.swift_marks.specs.Tag.{is_content_type, is_part_count, is_parts_mark, is_etag};
+ghost use Rattle.swift_marks.specs.Tag.{is_content_type, is_part_count, is_parts_suffix, is_etag};
 
 use crate::number::{all_lower_hex, number_of};
 use gate_base::is_field;
@@ -27,14 +27,14 @@ pub(crate) fn is_etag(etag: &[u8]) -> bool
     if etag.len() < 32 {
         return false;
     }
-    let (digits, mark) = etag.split_at(32);
-    all_lower_hex(digits) && is_parts_mark(mark)
+    let (digits, suffix) = etag.split_at(32);
+    all_lower_hex(digits) && is_parts_suffix(suffix)
 }
 
-fn is_parts_mark(mark: &[u8]) -> bool
-    ensures { result ≡ is_parts_mark mark.now }
+fn is_parts_suffix(suffix: &[u8]) -> bool
+    ensures { result ≡ is_parts_suffix suffix.now }
 {
-    match mark {
+    match suffix {
         [] => true,
         [byte, count @ ..] => *byte == b'-' && is_part_count(count),
     }

@@ -18,7 +18,7 @@ use Rattle.gate_base.specs.Ascii.{is_digit}
 use Rattle.gate_base.specs.Fields.{is_field, is_printable}
 use Rattle.swift_marks.specs.Number.{is_lower_hex, number_of, id_text, fits_id}
 use Rattle.swift_marks.specs.Pack.{entry_text, cut_in, bracketed, pack_of}
-use Rattle.swift_marks.specs.Tag.{is_content_type, is_part_count, is_parts_mark, is_etag, has_text, tag_text}
+use Rattle.swift_marks.specs.Tag.{is_content_type, is_part_count, is_parts_suffix, is_etag, has_text, tag_text}
 use Rattle.swift_marks.specs.declared.tag.Tag.{Tag}
 use Rattle.swift_marks.proofs.NumberLemmas.{number_of_decimal, decimal_has_digits, front_passes}
 use Rattle.swift_marks.proofs.IdLemmas.{length_of_id}
@@ -41,11 +41,11 @@ count_is_part_count parts low high =
     ap (λ n. nat_le 1 n && nat_le n 10000 && bytes_eq (decimal parts) (decimal n)) read
     ∙ and_from _ _ (and_from _ _ low_test high_test) ((bytes_eq-Decides (decimal parts) (decimal parts)).1 refl)
 
-etag_from : (digits mark : List ℕ) → length digits ≡ 32 → list_all is_lower_hex digits ≡ true → is_parts_mark mark ≡ true → is_etag (digits ++ mark) ≡ true
-etag_from digits mark size hex marked =
-    let long : nat_le 32 (length (digits ++ mark)) ≡ true = grind (arith, nat_tests, length-append digits mark) in
-    let front : list_all is_lower_hex (take 32 (digits ++ mark)) ≡ true = ap (list_all is_lower_hex) (take_at digits mark 32 size) ∙ hex in
-    let back : is_parts_mark (drop 32 (digits ++ mark)) ≡ true = ap is_parts_mark (drop_at digits mark 32 size) ∙ marked in
+etag_from : (digits suffix : List ℕ) → length digits ≡ 32 → list_all is_lower_hex digits ≡ true → is_parts_suffix suffix ≡ true → is_etag (digits ++ suffix) ≡ true
+etag_from digits suffix size hex parts =
+    let long : nat_le 32 (length (digits ++ suffix)) ≡ true = grind (arith, nat_tests, length-append digits suffix) in
+    let front : list_all is_lower_hex (take 32 (digits ++ suffix)) ≡ true = ap (list_all is_lower_hex) (take_at digits suffix 32 size) ∙ hex in
+    let back : is_parts_suffix (drop 32 (digits ++ suffix)) ≡ true = ap is_parts_suffix (drop_at digits suffix 32 size) ∙ parts in
     and_from _ _ (and_from _ _ long front) back
 
 pub etag_of_one : (digits : List ℕ) → length digits ≡ 32 → list_all is_lower_hex digits ≡ true → is_etag digits ≡ true
@@ -81,9 +81,9 @@ field_from most front back some more few front_prints back_prints begins ends =
     get_or-append_right front back (length (front ++ back) - 1) 0 (omega arith) ∙ ap (λ i. get_or back i 0) at in
     and_from _ _ (and_from _ _ (and_from _ _ (and_from _ _ low high) (both is_printable front back front_prints back_prints)) (ap (λ byte. not (byte == 32)) first ∙ begins)) (ap (λ byte. not (byte == 32)) last ∙ ends)
 
-mark_length : (mark : List ℕ) → is_parts_mark mark ≡ true → length mark ≤ 6
-mark_length [] h = lit≤ tt
-mark_length (byte ∷ count) h =
+suffix_length : (suffix : List ℕ) → is_parts_suffix suffix ≡ true → length suffix ≤ 6
+suffix_length [] h = lit≤ tt
+suffix_length (byte ∷ count) h =
     let parts = and_parts (byte == 45) (is_part_count count) h in
     let form = and_parts (nat_le 1 (number_of count) && nat_le (number_of count) 10000) (bytes_eq count (decimal (number_of count))) parts.1 in
     let bounds = and_parts (nat_le 1 (number_of count)) (nat_le (number_of count) 10000) form.0 in
@@ -93,8 +93,8 @@ mark_length (byte ∷ count) h =
 
 etag_length : (etag : List ℕ) → is_etag etag ≡ true → length etag ≤ 38
 etag_length etag h =
-    let parts = and_parts (nat_le 32 (length etag) && list_all is_lower_hex (take 32 etag)) (is_parts_mark (drop 32 etag)) h in
-    omega (arith, mark_length (drop 32 etag) parts.1, length-drop 32 etag)
+    let parts = and_parts (nat_le 32 (length etag) && list_all is_lower_hex (take 32 etag)) (is_parts_suffix (drop 32 etag)) h in
+    omega (arith, suffix_length (drop 32 etag) parts.1, length-drop 32 etag)
 
 -- the text of a tag up to its id
 abbrev front_of : List ℕ → List ℕ → List ℕ → List ℕ

@@ -10,13 +10,13 @@ use Rattle.std.proofs.lemmas.Slice.Eq.{bytes_eq-Decides}
 use Rattle.gate_base.specs.Told.{moment_limit}
 use Rattle.gate_base.specs.Ascii.{is_digit}
 use Rattle.swift_marks.specs.Number.{is_lower_hex, number_of, id_digits, id_text, id_of, fits_id}
-use Rattle.swift_marks.specs.Tag.{is_content_type, is_part_count, is_parts_mark, is_etag, has_text, tag_text, tag_parts, read_tag, is_equals, is_semicolon, is_dot}
+use Rattle.swift_marks.specs.Tag.{is_content_type, is_part_count, is_parts_suffix, is_etag, has_text, tag_text, tag_parts, read_tag, is_equals, is_semicolon, is_dot}
 use Rattle.swift_marks.specs.declared.tag.Tag.{Tag}
 use Rattle.swift_marks.proofs.Cuts.{before_first_at, after_first_at, before_last_at, after_last_at}
 use Rattle.swift_marks.proofs.NumberLemmas.{number_of_decimal, decimal_has_digits}
 use Rattle.swift_marks.proofs.IdLemmas.{id_has_digits, id_of_text}
 
--- the bytes of a mark, but for its dots
+-- the bytes of a stamp, but for its dots
 abbrev pub is_word : ℕ → Bool
 is_word byte = is_lower_hex byte || byte == 45
 
@@ -49,9 +49,9 @@ count_has_words text h =
     let same : text ≡ decimal (number_of text) = (bytes_eq-Decides text (decimal (number_of text))).0 parts.1 in
     ap (list_all is_word) same ∙ number_has_words (number_of text) fits
 
-mark_has_words : (mark : List ℕ) → is_parts_mark mark ≡ true → list_all is_word mark ≡ true
-mark_has_words [] h = refl
-mark_has_words (byte ∷ count) h =
+suffix_has_words : (suffix : List ℕ) → is_parts_suffix suffix ≡ true → list_all is_word suffix ≡ true
+suffix_has_words [] h = refl
+suffix_has_words (byte ∷ count) h =
     let parts = and_parts (byte == 45) (is_part_count count) h in
     and_from _ _ (dash byte parts.0) (count_has_words count parts.1)
   where
@@ -60,11 +60,11 @@ mark_has_words (byte ∷ count) h =
 
 pub etag_has_words : (etag : List ℕ) → is_etag etag ≡ true → list_all is_word etag ≡ true
 etag_has_words etag h =
-    let parts = and_parts (nat_le 32 (length etag) && list_all is_lower_hex (take 32 etag)) (is_parts_mark (drop 32 etag)) h in
+    let parts = and_parts (nat_le 32 (length etag) && list_all is_lower_hex (take 32 etag)) (is_parts_suffix (drop 32 etag)) h in
     let front = and_parts (nat_le 32 (length etag)) (list_all is_lower_hex (take 32 etag)) parts.0 in
     ap (list_all is_word) (sym (take-append-drop 32 etag))
     ∙ list_all-append is_word (take 32 etag) (drop 32 etag)
-    ∙ and_from _ _ (weaken is_lower_hex is_word hex_is_word (take 32 etag) front.1) (mark_has_words (drop 32 etag) parts.1)
+    ∙ and_from _ _ (weaken is_lower_hex is_word hex_is_word (take 32 etag) front.1) (suffix_has_words (drop 32 etag) parts.1)
 
 pub id_has_words : (id : Option ℕ) → list_all is_word (id_text id) ≡ true
 id_has_words None = refl
@@ -87,20 +87,20 @@ parts_of_text tag h =
     let dec = decimal tag.moment in
     let id = id_text tag.id in
     let numbers = dec ++ 46 ∷ id in
-    let mark = tag.etag ++ 46 ∷ numbers in
+    let stamp = tag.etag ++ 46 ∷ numbers in
     let front = tag.content_type ++ 59 ∷ 115 ∷ 51 ∷ [] in
     let etag_words = etag_has_words tag.etag some.1 in
     let dec_words = number_has_words tag.moment (omega arith) in
     let id_words = id_has_words tag.id in
     let clear = weaken is_word (λ byte. not (is_equals byte)) word_is_no_equals in
     let undotted = weaken is_word (λ byte. not (is_dot byte)) word_is_no_dot in
-    let plain : list_all (λ byte. not (is_equals byte)) mark ≡ true = no_equals tag.etag numbers (clear tag.etag etag_words) (no_equals dec id (clear dec dec_words) (clear id id_words)) in
-    let text : tag_text tag ≡ front ++ 61 ∷ mark = regroup tag.content_type tag.etag dec id in
-    let marked : after_last is_equals (tag_text tag) ≡ mark = ap (after_last is_equals) text ∙ after_last_at is_equals front 61 mark refl plain in
-    let fronted : before_last is_equals (tag_text tag) ≡ front = ap (before_last is_equals) text ∙ before_last_at is_equals front 61 mark refl plain in
-    let numbered : after_first is_dot (after_last is_equals (tag_text tag)) ≡ numbers = ap (after_first is_dot) marked ∙ after_first_at is_dot tag.etag 46 numbers refl (undotted tag.etag etag_words) in
+    let plain : list_all (λ byte. not (is_equals byte)) stamp ≡ true = no_equals tag.etag numbers (clear tag.etag etag_words) (no_equals dec id (clear dec dec_words) (clear id id_words)) in
+    let text : tag_text tag ≡ front ++ 61 ∷ stamp = regroup tag.content_type tag.etag dec id in
+    let stamped : after_last is_equals (tag_text tag) ≡ stamp = ap (after_last is_equals) text ∙ after_last_at is_equals front 61 stamp refl plain in
+    let fronted : before_last is_equals (tag_text tag) ≡ front = ap (before_last is_equals) text ∙ before_last_at is_equals front 61 stamp refl plain in
+    let numbered : after_first is_dot (after_last is_equals (tag_text tag)) ≡ numbers = ap (after_first is_dot) stamped ∙ after_first_at is_dot tag.etag 46 numbers refl (undotted tag.etag etag_words) in
     let typed : before_last is_semicolon (before_last is_equals (tag_text tag)) ≡ tag.content_type = ap (before_last is_semicolon) fronted ∙ before_last_at is_semicolon tag.content_type 59 (115 ∷ 51 ∷ []) refl refl in
-    let tagged : before_first is_dot (after_last is_equals (tag_text tag)) ≡ tag.etag = ap (before_first is_dot) marked ∙ before_first_at is_dot tag.etag 46 numbers refl (undotted tag.etag etag_words) in
+    let tagged : before_first is_dot (after_last is_equals (tag_text tag)) ≡ tag.etag = ap (before_first is_dot) stamped ∙ before_first_at is_dot tag.etag 46 numbers refl (undotted tag.etag etag_words) in
     let timed : number_of (before_first is_dot (after_first is_dot (after_last is_equals (tag_text tag)))) ≡ tag.moment = ap (λ t. number_of (before_first is_dot t)) numbered ∙ ap number_of (before_first_at is_dot dec 46 id refl (undotted dec dec_words)) ∙ number_of_decimal tag.moment (omega arith) in
     let known : id_of (after_first is_dot (after_first is_dot (after_last is_equals (tag_text tag)))) ≡ tag.id = ap (λ t. id_of (after_first is_dot t)) numbered ∙ ap id_of (after_first_at is_dot dec 46 id refl (undotted dec dec_words)) ∙ id_of_text tag.id all.1 in
     λ i. record { content_type = typed i; etag = tagged i; moment = timed i; id = known i }
