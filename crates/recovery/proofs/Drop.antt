@@ -11,7 +11,7 @@ use Rattle.swift_calls.specs.Step.{Answer, delete_by, delete_container, post_con
 use Rattle.swift_calls.specs.Step as store
 use Rattle.swift_calls.specs.declared.account.ReadList.{ReadList}
 use Rattle.swift_calls.specs.declared.calls.SwiftRequest.TheVariants.{DeleteContainer, PostContainer}
-use Rattle.upload_records.specs.Marks.{readers_of}
+use Rattle.upload_records.specs.Layout.{readers_of}
 use Rattle.upload_records.specs.Native.{IsSettled, s3_state}
 use Rattle.upload_records.specs.Consistent.{IsConsistent}
 use Rattle.upload_records.proofs.lemmas.Buckets.{s3_state_there, s3_state_bare, bucket_gone, acl_replaced}

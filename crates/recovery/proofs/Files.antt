@@ -28,7 +28,7 @@ use Rattle.swift_marks.specs.Tag.{tag_text}
 use Rattle.swift_marks.specs.Pack.{pack_of}
 use Rattle.swift_marks.proofs.lemmas.TagLaws.{tag_text_reads}
 use Rattle.swift_marks.proofs.lemmas.PackLaws.{pack_unpacks}
-use Rattle.upload_records.specs.Marks.{segments_name}
+use Rattle.upload_records.specs.Layout.{segments_name}
 use Rattle.upload_records.specs.Native.{IsSettled, s3_state}
 use Rattle.upload_records.specs.Consistent.{IsConsistent, IsPlainObject, in_one_piece, IsStored}
 use Rattle.upload_records.specs.Laws.{ChangesBy, FindsObject, file_put, object_in}

@@ -24,7 +24,7 @@ use Rattle.swift_calls.specs.Step.{Fit, page, is_listed}
 use Rattle.swift_calls.specs.declared.heads.NameItem.{NameItem}
 use Rattle.swift_marks.specs.Tag.{read_stamp, stamp_of}
 use Rattle.swift_marks.proofs.lemmas.Stamps.{tag_has_stamp}
-use Rattle.upload_records.specs.Marks.{segments_name}
+use Rattle.upload_records.specs.Layout.{segments_name}
 use Rattle.upload_records.specs.Native.{object_of, IsSettled, s3_state}
 use Rattle.upload_records.specs.Consistent.{IsConsistent, IsObject, in_one_piece, IsPlainObject}
 use Rattle.upload_records.specs.Laws.{object_in}

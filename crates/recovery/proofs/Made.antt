@@ -15,7 +15,7 @@ use Rattle.s3_machine.specs.declared.items.BucketItem.{BucketItem}
 use Rattle.s3_machine.specs.Step.{bucket_item, bucket_items}
 use Rattle.swift_calls.specs.Account.{SwiftContainer, SwiftAccount, files}
 use Rattle.swift_calls.specs.History.{History, present}
-use Rattle.upload_records.specs.Marks.{uploads_name, segments_name}
+use Rattle.upload_records.specs.Layout.{uploads_name, segments_name}
 use Rattle.upload_records.specs.Native.{IsSettled, s3_state, plain, bucket_of, bucket_from}
 use Rattle.upload_records.proofs.lemmas.Settled.{s3_state_settled}
 use Rattle.recovery.specs.declared.fault.PlanFault.{PlanFault}

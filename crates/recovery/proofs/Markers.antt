@@ -20,7 +20,7 @@ use Rattle.s3_names.proofs.lemmas.BucketLemmas.{bucket_length, bucket_bytes}
 use Rattle.swift_calls.specs.Account.{SwiftContainer, SwiftAccount}
 use Rattle.swift_calls.specs.Limits.{IsMarker}
 use Rattle.upload_records.specs.Consistent.{IsConsistent, IsFolderName, head_of}
-use Rattle.upload_records.specs.Marks.{uploads_name, segments_name, gateway_name}
+use Rattle.upload_records.specs.Layout.{uploads_name, segments_name, gateway_name}
 use Rattle.recovery.proofs.Ascending.{front, back, lt_is}
 
 -- ---- what is found under the name of an entry

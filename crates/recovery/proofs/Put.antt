@@ -9,7 +9,7 @@ use Rattle.swift_calls.specs.Account.{SwiftContainer, SwiftAccount}
 use Rattle.swift_calls.specs.Step.{Answer, put_container, swift_step}
 use Rattle.swift_calls.specs.declared.account.ReadList.{ReadList}
 use Rattle.swift_calls.specs.declared.calls.SwiftRequest.TheVariants.{PutContainer}
-use Rattle.upload_records.specs.Marks.{readers_of}
+use Rattle.upload_records.specs.Layout.{readers_of}
 use Rattle.upload_records.specs.Native.{IsSettled, s3_state}
 use Rattle.upload_records.specs.Consistent.{IsConsistent}
 use Rattle.upload_records.proofs.lemmas.Buckets.{s3_state_there, bucket_made}

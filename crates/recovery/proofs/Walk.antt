@@ -13,7 +13,7 @@ use Rattle.swift_calls.specs.Limits.{IsMarker}
 use Rattle.swift_calls.specs.History.{History, present, Extends}
 use Rattle.upload_records.specs.Native.{IsSettled}
 use Rattle.upload_records.specs.Consistent.{IsConsistent, IsFolderName, head_of}
-use Rattle.upload_records.specs.Marks.{uploads_name, segments_name, gateway_name}
+use Rattle.upload_records.specs.Layout.{uploads_name, segments_name, gateway_name}
 use Rattle.recovery.specs.declared.fault.PlanFault.{PlanFault}
 use Rattle.recovery.specs.declared.fault.PlanFault.TheVariants.{Failed, Memory, Inconsistent}
 use Rattle.recovery.specs.Answers.{pages}

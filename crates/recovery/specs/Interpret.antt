@@ -15,7 +15,7 @@ use Rattle.swift_calls.specs.declared.heads.StoredHead.{StoredHead}
 use Rattle.swift_marks.specs.declared.tag.Tag.{Tag}
 use Rattle.swift_marks.specs.Tag.{read_tag, tag_text}
 use Rattle.swift_marks.specs.Pack.{unpacked, pack_of}
-use Rattle.upload_records.specs.Marks.{acl_of}
+use Rattle.upload_records.specs.Layout.{acl_of}
 use Rattle.recovery.specs.declared.bucket.Dropped.{Dropped}
 use Rattle.recovery.specs.declared.bucket.Dropped.TheVariants as dropped
 use Rattle.recovery.specs.declared.fault.PlanFault.{PlanFault}

@@ -8,7 +8,7 @@ use Rattle.gate_base.specs.Maps.{name_cmp}
 use Rattle.gate_base.proofs.lemmas.Maps.{by_name, apart}
 use Rattle.s3_names.specs.Bucket.{is_bucket}
 use Rattle.s3_names.proofs.lemmas.BucketLemmas.{bucket_has_no_plus}
-use Rattle.upload_records.specs.Marks.{uploads_name, segments_name}
+use Rattle.upload_records.specs.Layout.{uploads_name, segments_name}
 
 or_true : (a : Bool) → (a || true) ≡ true
 or_true true = refl

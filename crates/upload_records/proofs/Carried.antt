@@ -12,7 +12,7 @@ use Rattle.s3_names.specs.Bucket.{is_bucket}
 use Rattle.swift_calls.specs.declared.account.ReadList.{ReadList}
 use Rattle.swift_calls.specs.declared.account.ReadList.TheVariants.{Nobody}
 use Rattle.swift_calls.specs.Account.{SwiftObject, SwiftContainer, SwiftAccount, files, files_of, find_object, new_folder, on_files, with_readers, put_file, remove_file}
-use Rattle.upload_records.specs.Marks.{uploads_name, segments_name, readers_of}
+use Rattle.upload_records.specs.Layout.{uploads_name, segments_name, readers_of}
 use Rattle.upload_records.specs.Consistent.{Head, heads, head_of, IsFolderName, ConsistentBucket, bucket_sound, IsObject, IsStored, IsThere, IsConsistent}
 use Rattle.upload_records.proofs.Apart.{uploads_apart, segments_apart}
 use Rattle.upload_records.proofs.lemmas.Settled.{OffSame}

@@ -13,7 +13,7 @@ use Rattle.s3_machine.specs.State.{Object, Bucket}
 use Rattle.s3_machine.specs.Step.{new_bucket, with_acl, put_object, drop_object}
 use Rattle.swift_calls.specs.declared.account.ReadList.{ReadList}
 use Rattle.swift_calls.specs.Account.{SwiftObject, SwiftContainer, SwiftAccount, files, files_of, find_object, new_folder, on_files, with_readers, put_file, remove_file}
-use Rattle.upload_records.specs.Marks.{uploads_name, segments_name, readers_of, acl_of}
+use Rattle.upload_records.specs.Layout.{uploads_name, segments_name, readers_of, acl_of}
 use Rattle.upload_records.specs.Native.{object_of, object_at, upload_of, kept_of, bucket_from, bucket_of, plain}
 use Rattle.upload_records.proofs.lemmas.Readers.{acl_of_folder}
 use Rattle.upload_records.proofs.Apart.{uploads_apart, segments_apart}

@@ -15,7 +15,7 @@ use Rattle.swift_calls.specs.declared.account.ReadList.{ReadList}
 use Rattle.swift_calls.specs.declared.account.ReadList.TheVariants.{Nobody}
 use Rattle.swift_calls.specs.declared.account.Content.TheVariants.{Plain}
 use Rattle.swift_calls.specs.Account.{SwiftObject, SwiftContainer, SwiftAccount, files, find_object, size_of}
-use Rattle.upload_records.specs.Marks.{uploads_name, segments_name, gateway_name}
+use Rattle.upload_records.specs.Layout.{uploads_name, segments_name, gateway_name}
 
 -- a container, but for its objects
 pub record Head : Type 0 where

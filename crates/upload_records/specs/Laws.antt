@@ -17,7 +17,7 @@ use Rattle.swift_calls.specs.Step as store
 use Rattle.swift_calls.specs.declared.account.Content.TheVariants.{Plain}
 use Rattle.swift_calls.specs.declared.calls.SwiftRequest.{SwiftRequest}
 use Rattle.swift_calls.specs.declared.calls.SwiftRequest.TheVariants.{PutContainer, PostContainer, DeleteContainer, PutObject, DeleteObject}
-use Rattle.upload_records.specs.Marks.{segments_name, readers_of}
+use Rattle.upload_records.specs.Layout.{segments_name, readers_of}
 use Rattle.upload_records.specs.Native.{object_of, object_at, IsSettled, IsUnsealed, s3_state}
 use Rattle.upload_records.specs.Consistent.{IsConsistent, IsPlainObject, IsObject, IsStored}
 

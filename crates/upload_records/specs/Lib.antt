@@ -1,4 +1,4 @@
 pub mod Consistent
 pub mod Laws
-pub mod Marks
+pub mod Layout
 pub mod Native

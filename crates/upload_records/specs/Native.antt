@@ -13,7 +13,7 @@ use Rattle.swift_calls.specs.Bodies.{Look, bytes_of}
 use Rattle.swift_marks.specs.declared.tag.Tag.{Tag}
 use Rattle.swift_marks.specs.Tag.{read_tag}
 use Rattle.swift_marks.specs.Pack.{unpacked}
-use Rattle.upload_records.specs.Marks.{uploads_name, segments_name, acl_of}
+use Rattle.upload_records.specs.Layout.{uploads_name, segments_name, acl_of}
 
 -- segments are looked up beside the bucket, whatever container they name
 abbrev pub within : Names SwiftObject → Look

@@ -2,10 +2,10 @@
 #![tactic(auto)]
 
 mod laws;
-mod marks;
+mod layout;
 
 pub use laws::{
     law_acl_replaced, law_bucket_bare, law_bucket_gone, law_bucket_made, law_bucket_there,
     law_empty_consistent, law_object_found, law_object_gone, law_object_put, law_reads_stutter,
 };
-pub use marks::{acl, readers};
+pub use layout::{acl, readers};

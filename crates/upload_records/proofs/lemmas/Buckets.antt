@@ -16,7 +16,7 @@ use Rattle.swift_calls.specs.declared.calls.SwiftRequest.TheVariants.{PutContain
 use Rattle.swift_calls.specs.Account.{SwiftContainer, SwiftAccount, files, files_of, new_folder, with_readers}
 use Rattle.swift_calls.specs.Step.{put_container, post_container, delete_container, delete_by}
 use Rattle.swift_calls.specs.Step as store
-use Rattle.upload_records.specs.Marks.{segments_name, uploads_name, readers_of}
+use Rattle.upload_records.specs.Layout.{segments_name, uploads_name, readers_of}
 use Rattle.upload_records.specs.Native.{object_of, bucket_from, bucket_of, IsSettled, s3_state}
 use Rattle.upload_records.specs.Consistent.{IsConsistent}
 use Rattle.upload_records.specs.Laws.{ChangesBy}

@@ -8,7 +8,7 @@ use Rattle.gate_base.proofs.lemmas.Maps.{by_name, picked_empty}
 use Rattle.s3_names.specs.Bucket.{is_bucket}
 use Rattle.s3_machine.specs.State.{Object, Bucket}
 use Rattle.swift_calls.specs.Account.{SwiftContainer, SwiftAccount, files, files_of}
-use Rattle.upload_records.specs.Marks.{uploads_name, segments_name}
+use Rattle.upload_records.specs.Layout.{uploads_name, segments_name}
 use Rattle.upload_records.specs.Native.{object_of, bucket_of, bucket_from, IsSettled, s3_state}
 use Rattle.upload_records.proofs.lemmas.Settled.{s3_state_settled}
 use Rattle.upload_records.proofs.Plain.{get_plain}

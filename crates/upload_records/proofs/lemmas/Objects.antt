@@ -13,7 +13,7 @@ use Rattle.swift_calls.specs.declared.calls.SwiftRequest.TheVariants.{PutObject,
 use Rattle.swift_calls.specs.Account.{SwiftObject, SwiftContainer, SwiftAccount, files, files_of, find_object, on_files, put_file, remove_file}
 use Rattle.swift_calls.specs.Bodies.{bytes_of}
 use Rattle.swift_calls.specs.Step as store
-use Rattle.upload_records.specs.Marks.{segments_name}
+use Rattle.upload_records.specs.Layout.{segments_name}
 use Rattle.upload_records.specs.Native.{within, object_by, object_of, object_at, IsSettled, s3_state}
 use Rattle.upload_records.specs.Consistent.{IsConsistent, IsPlainObject, IsObject, in_one_piece, IsStored}
 use Rattle.upload_records.specs.Laws.{ChangesBy, FindsObject, file_put, object_in}

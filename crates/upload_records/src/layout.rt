@@ -1,5 +1,5 @@
 ghost use Rattle.std.specs.Prelude.{◌≡◌};
-ghost use Rattle.upload_records.specs.Marks.{acl_of, readers_of};
+ghost use Rattle.upload_records.specs.Layout.{acl_of, readers_of};
 
 use s3_names::Acl;
 use swift_calls::ReadList;
