@@ -1,5 +1,3 @@
-ghost use Rattle.std.specs.Prelude.{◌≡◌};
-
 use std::alloc::{AllocError, AllocFailed};
 
 /// A fault of the outside: a line, a sink, a store or a peer failed. Its count of faults rose.

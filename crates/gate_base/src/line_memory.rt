@@ -1,5 +1,5 @@
 ghost use Rattle.std.specs.Prelude.{◌≡◌, ◌<◌, ◌≤◌, ◌+◌, false, not, ◌&&◌, ◌||◌, IsTrue, IsErr, is_err, IfOk, OnErr};
-ghost use Rattle.std.specs.Prelude.{[], length, min};
+ghost use Rattle.std.specs.Prelude.{length, min};
 ghost use Rattle.gate_base.specs.Causes.{one_more, one_more_if};
 ghost use Rattle.gate_base.specs.Transcript.{empty, with_fault};
 ghost use Rattle.gate_base.specs.Line.{LineNext, LineRead, LineWrite, LineClose};

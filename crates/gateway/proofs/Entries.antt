@@ -1,11 +1,11 @@
 -- The entries that headers make.
-use Rattle.std.proofs.Common.{◌≡◌, ℕ, Bool, true, false, not, ◌&&◌, ◌||◌, cond, List, [], ◌∷◌, ◌++◌, take, drop, codes, bytes_eq, refl, sym, ap, subst, ◌∙◌, inl, inr, arith}
+use Rattle.std.proofs.Common.{◌≡◌, ℕ, Bool, true, false, not, ◌&&◌, ◌||◌, cond, List, [], ◌∷◌, ◌++◌, take, drop, codes, bytes_eq, refl, sym, ap, subst, ◌∙◌, inl, inr}
 use Rattle.std.specs.Prelude.{◌⊎◌, fold, Contains}
 use Rattle.std.proofs.lemmas.List.{take-append-drop}
 use Rattle.std.proofs.lemmas.List.Elements.{Contains-append_left, Contains-append_right, Contains-append_cases, Contains-push}
 use Rattle.std.proofs.lemmas.Slice.Eq.{bytes_eq-Decides}
 use Rattle.gate_base.specs.declared.page.Pair.{Pair}
-use Rattle.s3_names.specs.Meta.{names_ascend, has_name, place_of, with_pair}
+use Rattle.s3_names.specs.Meta.{names_ascend, has_name, with_pair}
 use Rattle.s3_names.proofs.lemmas.MetaLemmas.{with_pair_ascends, with_pair_keeps, with_pair_has, with_pair_only, nowhere, is_one}
 use Rattle.s3_machine.specs.Limits.{is_kept_header}
 use Rattle.gateway.specs.Content.{is_own_header, is_entry, entry_name, entered, given_meta}

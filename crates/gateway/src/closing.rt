@@ -1,7 +1,6 @@
-ghost use Rattle.std.specs.Prelude.{◌≡◌, ◌||◌, ◌-◌, ◌≤◌, map, filter, take, drop, length, codes, bytes_eq, position, IfSome, ◌<◌};
-ghost use Rattle.std.specs.Char.{to_ascii_lowercase};
-ghost use Rattle.std.specs.List.{list_any, prefix_len, suffix_len, slice_split};
-ghost use Rattle.http_wire.specs.Headers.{has_name, value_of, values_of};
+ghost use Rattle.std.specs.Prelude.{◌≡◌, ◌||◌, ◌-◌, ◌≤◌, drop, length, codes, position, IfSome, ◌<◌};
+ghost use Rattle.std.specs.List.{list_any, prefix_len, suffix_len};
+ghost use Rattle.http_wire.specs.Headers.{has_name, values_of};
 ghost use Rattle.gate_base.specs.Ascii.{is_blank};
 ghost use Rattle.gateway.specs.Closing.{behind_blanks, before_blanks, is_close, is_comma, has_close, is_closing};
 

@@ -1,13 +1,11 @@
 //! What an object is put with, the digest of its body, its content type and its user metadata; and the location that a
 //! bucket is made with.
-ghost use Rattle.std.specs.Prelude.{◌≡◌, ◌&&◌, ◌||◌, not, nat_eq, nat_lt, ◌==◌, [], ◌∷◌, ◌++◌, length, drop, codes, bytes_eq, IfOk, OnOk, Ok, if◌then◌else◌, fold, take, true, false};
-ghost use Rattle.std.specs.List.{list_any, starts_with};
+ghost use Rattle.std.specs.Prelude.{◌≡◌, ◌&&◌, ◌||◌, ◌==◌, IfOk, OnOk, Ok, true, false};
+ghost use Rattle.std.specs.List.{starts_with};
 ghost use Rattle.base64.specs.Engines.{standard};
-ghost use Rattle.base64.specs.GeneralPurpose.{decode_of, encode_of, IsBytes};
+ghost use Rattle.base64.specs.GeneralPurpose.{encode_of};
 ghost use Rattle.md5.specs.Md5.{md5};
-ghost use Rattle.s3_names.specs.Meta.{with_pair};
-ghost use Rattle.s3_bodies.specs.LocationTest.{is_any, names_location};
-ghost use Rattle.s3_machine.specs.Limits.{is_content_type, is_proper_pair, is_proper_meta, is_kept_header};
+ghost use Rattle.s3_machine.specs.Limits.{is_kept_header};
 ghost use Rattle.http_wire.specs.Headers.{has_header, text_of};
 ghost use Rattle.gateway.specs.Rows.{shape_of};
 ghost use Rattle.gateway.specs.Content.{is_digest, has_bad_digest, is_other_body, given_type, taken_type, is_own_header, is_entry, entry_name, entered, given_meta, taken_meta, is_bad_entry, has_bad_entry, is_long_body, is_here, has_bad_location, has_other_location};

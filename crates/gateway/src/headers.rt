@@ -1,6 +1,6 @@
 //! What the headers of a request say, and which of them no row takes.
-ghost use Rattle.std.specs.Prelude.{◌≡◌, ◌&&◌, ◌||◌, not, nat_eq, ◌==◌, [], ◌∷◌, length, codes, bytes_eq, IfOk, is_none, take, map, filter};
-ghost use Rattle.std.specs.List.{list_any, starts_with, join_with_byte};
+ghost use Rattle.std.specs.Prelude.{◌≡◌, ◌&&◌, ◌||◌, ◌==◌, IfOk, is_none};
+ghost use Rattle.std.specs.List.{starts_with};
 ghost use Rattle.http_wire.specs.Headers.{has_header, text_of};
 ghost use Rattle.gateway.specs.Rows.{shape_of};
 ghost use Rattle.gateway.specs.Headers.{is_unsupported_name, is_unsupported_kind, is_unsupported, has_unsupported, has_part, is_chunked, is_read, is_conditional_write, acl_named, names_acl, given_acl, has_other_acl, lacks_acl, has_other_class};

@@ -1,7 +1,7 @@
 //! What a request means.
-ghost use Rattle.std.specs.Prelude.{◌≡◌, ◌≢◌, ◌&&◌, ◌||◌, not, nat_lt, length, IfOk};
+ghost use Rattle.std.specs.Prelude.{◌≡◌, ◌≢◌, ◌&&◌, IfOk};
 ghost use Rattle.gateway.specs.ResolvedRequest.{IsProperMeant};
-ghost use Rattle.gateway.specs.Meaning.{first_refusal, target_reasons, judged, reasons, header_reasons, digest_reasons, argument_reasons, content_reasons, caller_reasons, meaning_of, op_of, or_private, put_acl, KeepsFront, is_denied, has_bad_bucket, row_of};
+ghost use Rattle.gateway.specs.Meaning.{first_refusal, reasons, header_reasons, digest_reasons, argument_reasons, content_reasons, meaning_of, op_of, or_private, put_acl, KeepsFront, is_denied, has_bad_bucket, row_of};
 ghost use Rattle.gateway.specs.declared.meant.Meant.TheVariants as variant;
 ghost use Rattle.gateway.specs.Rows.{shape_of, level_of};
 ghost use Rattle.gateway.specs.Meaning.{has_long_key, has_bad_key};

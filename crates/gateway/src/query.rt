@@ -1,8 +1,7 @@
 //! The names of a query and their values. `x-id`, by which clients name the operation a second time, is none of the names.
-ghost use Rattle.std.specs.Prelude.{◌≡◌, not, nat_lt, count_by, filter, find, codes, bytes_eq};
-ghost use Rattle.std.specs.List.{list_any};
+ghost use Rattle.std.specs.Prelude.{◌≡◌, filter, find, bytes_eq};
 ghost use Rattle.std.specs.Option.{option_copied};
-ghost use Rattle.gateway.specs.Rows.{counts, asked, is_asked};
+ghost use Rattle.gateway.specs.Rows.{counts, is_asked};
 ghost use Rattle.gateway.specs.Query.{is_foreign, has_foreign_name, is_unknown, has_unknown_name, count_of, is_given_twice, has_name_twice, text_at};
 
 use crate::rows::{Row, is_known, is_name_of};

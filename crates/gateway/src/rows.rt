@@ -1,8 +1,8 @@
 //! The table of requests: which method, at which level, with which names in the query asks for which operation.
-ghost use Rattle.std.specs.Prelude.{◌≡◌, Bool, true, false, not, ◌&&◌, find, codes, bytes_eq};
+ghost use Rattle.std.specs.Prelude.{◌≡◌, true, false, ◌&&◌, find, bytes_eq};
 ghost use Rattle.std.specs.List.{list_any};
 ghost use Rattle.std.specs.Option.{option_copied};
-ghost use Rattle.gateway.specs.Rows.{rows, plain, built, for_all, with_content, with_location, with_acl, shape_of, level_of, is_same_level, is_same, is_asked, is_among, is_name_of, texts, agrees, is_same_set, fits, is_method};
+ghost use Rattle.gateway.specs.Rows.{rows, plain, built, for_all, with_content, with_location, with_acl, shape_of, level_of, is_same_level, is_asked, is_among, is_name_of, texts, agrees, is_same_set, fits, is_method};
 
 use crate::query::is_asked;
 use gate_base::Pair;

@@ -1,4 +1,4 @@
-ghost use Rattle.std.specs.Prelude.{◌≡◌, ◌≤◌, ◌<◌, ◌++◌, [], true, false, length, drop, IsTrue, IfOk, OnErr};
+ghost use Rattle.std.specs.Prelude.{◌≡◌, ◌≤◌, ◌<◌, ◌++◌, [], true, false, length, IsTrue, IfOk, OnErr};
 ghost use Rattle.gate_base.specs.Line.{LineServes};
 ghost use Rattle.http_wire.specs.Reading.{GivesFirstMessage, OnRequest, ends, is_failed_read, weight};
 ghost use Rattle.http_wire.specs.Interim.{OwesInterim, SendsOn};

@@ -1,5 +1,5 @@
 //! Where a key's text ends.
-ghost use Rattle.std.specs.Prelude.{◌≡◌, ◌≤◌, ℕ, true, IfSome, length, take, Option};
+ghost use Rattle.std.specs.Prelude.{◌≡◌, ◌≤◌, true, IfSome, length, take, Option};
 ghost use Rattle.std.specs.Option.{option_map};
 ghost use Rattle.s3_machine.specs.Items.{begins, rolled, row_of};
 ghost use Rattle.list_pages.specs.Rolls.{under_of};

@@ -1,5 +1,5 @@
 //! A store that gives the answers of a list in turn, whatever it is asked, and tells nothing.
-ghost use Rattle.std.specs.Prelude.{◌≡◌, false, refl};
+ghost use Rattle.std.specs.Prelude.{false, refl};
 ghost use Rattle.std.specs.FinMap.{empty};
 ghost use Rattle.std.proofs.Common.{lit≤};
 

@@ -23,7 +23,7 @@ use Rattle.swift_calls.specs.Account.{SwiftAccount, files}
 use Rattle.swift_calls.specs.History.{History, present}
 use Rattle.upload_records.specs.Native.{IsSettled}
 use Rattle.list_pages.specs.Rolling.{first_rows}
-use Rattle.list_pages.specs.Rolls.{row_view, rows_of, wanted}
+use Rattle.list_pages.specs.Rolls.{rows_of, wanted}
 use Rattle.recovery.specs.Calls.{always, by_account, Asks, Given, Met, Tells, TellsBucket}
 use Rattle.recovery.specs.Keys.{objects_in, TellsListing}
 use Rattle.recovery.specs.declared.fault.PlanFault.{PlanFault}

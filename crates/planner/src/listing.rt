@@ -1,9 +1,7 @@
 //! The plan of ListObjects.
 ghost use Rattle.std.specs.Prelude.{◌≡◌, ◌+◌, true, Some};
-ghost use Rattle.std.specs.List.{All};
 ghost use Rattle.std.specs.FinMap.{len};
 ghost use Rattle.s3_names.specs.Bucket.{is_bucket};
-ghost use Rattle.s3_machine.specs.Shown.{IsShownItem};
 ghost use Rattle.s3_machine.specs.Step.{IsProperAsked};
 ghost use Rattle.s3_machine.specs.declared.operation.Op.TheVariants.{ListObjects};
 ghost use Rattle.swift_calls.specs.Account.{files};

@@ -7,7 +7,7 @@ use Rattle.s3_names.specs.declared.acl.Acl.{Acl}
 use Rattle.s3_names.specs.Bucket.{is_bucket}
 use Rattle.s3_machine.specs.Step as machine
 use Rattle.swift_calls.specs.Account.{SwiftContainer, SwiftAccount}
-use Rattle.swift_calls.specs.Step.{Answer, delete_by, delete_container, post_container, swift_step}
+use Rattle.swift_calls.specs.Step.{delete_by, delete_container, post_container}
 use Rattle.swift_calls.specs.Step as store
 use Rattle.swift_calls.specs.declared.account.ReadList.{ReadList}
 use Rattle.swift_calls.specs.declared.calls.SwiftRequest.TheVariants.{DeleteContainer, PostContainer}

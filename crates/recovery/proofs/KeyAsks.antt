@@ -8,7 +8,7 @@ use Rattle.s3_names.specs.Bucket.{is_bucket}
 use Rattle.swift_calls.specs.Account.{SwiftObject, SwiftContainer, SwiftAccount, files, files_of}
 use Rattle.swift_calls.specs.Bodies.{item_of}
 use Rattle.swift_calls.specs.History.{History, Calls}
-use Rattle.swift_calls.specs.Step.{swift_step, page, is_listed, items_reply}
+use Rattle.swift_calls.specs.Step.{page, is_listed, items_reply}
 use Rattle.swift_calls.specs.declared.calls.SwiftFault.TheVariants as swift
 use Rattle.swift_calls.specs.declared.calls.SwiftReply.{SwiftReply}
 use Rattle.swift_calls.specs.declared.calls.SwiftReply.TheVariants.{Made, There, Gone, Stored, NotFound, NotEmpty, Unsatisfiable, Containers, Readers, Names, Head, Bytes}

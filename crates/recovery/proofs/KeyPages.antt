@@ -1,9 +1,9 @@
 -- What a page of the names of a bucket's container is, over a consistent account.
-use Rattle.std.proofs.Common.{◌≡◌, ℕ, zero, suc, ◌≤◌, ◌<◌, Bool, true, false, cond, ◌&&◌, nat_eq, T, List, [], ◌∷◌, map, length, take, is_some, Option, Some, None, refl, sym, ap, subst, ◌∙◌, arith}
-use Rattle.std.specs.List.{filter, filter_map, cons_option, list_all, starts_with, AllByRecursion}
+use Rattle.std.proofs.Common.{◌≡◌, ℕ, zero, suc, ◌≤◌, Bool, true, false, cond, ◌&&◌, T, List, [], ◌∷◌, map, length, take, is_some, Option, Some, None, refl, sym, ap, subst, ◌∙◌, arith}
+use Rattle.std.specs.List.{filter, filter_map, cons_option, list_all, AllByRecursion}
 use Rattle.std.specs.Option.{option_map}
-use Rattle.std.specs.Ordering.{is_gt, is_lt}
-use Rattle.std.specs.FinMap.{entries, empty, get, is_sorted, entries_sorted, len, len-entries}
+use Rattle.std.specs.Ordering.{is_lt}
+use Rattle.std.specs.FinMap.{entries, get, is_sorted, entries_sorted, len, len-entries}
 use Rattle.std.specs.FinMap.Entries.{below_all}
 use Rattle.std.proofs.lemmas.Bool.{and_parts, and_from}
 use Rattle.std.proofs.lemmas.List.{take-map, length-map, length-take}
@@ -22,16 +22,16 @@ use Rattle.swift_calls.specs.Bodies.{item_of}
 use Rattle.swift_calls.specs.Limits.{IsMarker}
 use Rattle.swift_calls.specs.Step.{Fit, page, is_listed}
 use Rattle.swift_calls.specs.declared.heads.NameItem.{NameItem}
-use Rattle.swift_marks.specs.Tag.{read_stamp, stamp_of}
+use Rattle.swift_marks.specs.Tag.{read_stamp}
 use Rattle.swift_marks.proofs.lemmas.Stamps.{tag_has_stamp}
 use Rattle.upload_records.specs.Layout.{segments_name}
 use Rattle.upload_records.specs.Native.{object_of, IsSettled, s3_state}
-use Rattle.upload_records.specs.Consistent.{IsConsistent, IsObject, in_one_piece, IsPlainObject}
+use Rattle.upload_records.specs.Consistent.{IsConsistent, IsObject, in_one_piece}
 use Rattle.upload_records.specs.Laws.{object_in}
 use Rattle.upload_records.proofs.lemmas.Listing.{objects_there, objects_missing}
 use Rattle.upload_records.proofs.lemmas.Objects.{plain_object, file_is_object}
 use Rattle.list_pages.specs.Listing.{Ascends, IsPageOf, is_name_with, name_in, page_request}
-use Rattle.list_pages.specs.Rolls.{head_by, seen_of, HasUntagged}
+use Rattle.list_pages.specs.Rolls.{head_by, seen_of}
 use Rattle.list_pages.proofs.lemmas.Pages.{parts}
 use Rattle.list_pages.proofs.lemmas.PickedEntries.{entries_picked}
 use Rattle.list_pages.proofs.lemmas.Pushing.{is_less}

@@ -1,23 +1,21 @@
 -- The keys of a bucket, rolled up page by page.
-use Rattle.std.proofs.Common.{◌≡◌, ℕ, zero, suc, ◌+◌, ◌*◌, ◌/◌, ◌<◌, ◌≤◌, IsTrue, Bool, true, false, not, cond, ◌&&◌, nat_lt, T, List, [], ◌∷◌, ◌++◌, map, length, take, Result, Ok, Err, refl, sym, ap, subst, ◌∙◌, arith}
+use Rattle.std.proofs.Common.{◌≡◌, ℕ, zero, suc, ◌+◌, ◌*◌, ◌<◌, ◌≤◌, IsTrue, Bool, true, false, not, cond, ◌&&◌, nat_lt, T, List, [], ◌∷◌, length, take, Result, Ok, Err, refl, sym, ap, subst, ◌∙◌, arith}
 use Rattle.std.specs.Result.{IsErrAnd}
-use Rattle.std.specs.List.{filter, list_all}
+use Rattle.std.specs.List.{filter}
 use Rattle.std.specs.Ordering.{is_lt}
-use Rattle.std.specs.FinMap.{entries, get, is_sorted, len, len-entries}
-use Rattle.std.proofs.lemmas.List.{length-map}
+use Rattle.std.specs.FinMap.{len}
 use Rattle.gate_base.specs.Maps.{name_cmp}
 use Rattle.s3_names.specs.Bucket.{is_bucket}
-use Rattle.s3_machine.specs.Items.{begins, behind, with_prefix}
+use Rattle.s3_machine.specs.Items.{behind}
 use Rattle.s3_machine.specs.declared.items.Asked.{Asked}
 use Rattle.s3_machine.specs.declared.items.Item.{Item}
 use Rattle.s3_machine.specs.declared.items.ItemHead.{ItemHead}
 use Rattle.swift_calls.specs.Account.{SwiftAccount, files}
 use Rattle.swift_calls.specs.History.{History, present, Extends}
 use Rattle.upload_records.specs.Native.{IsSettled, s3_state}
-use Rattle.upload_records.specs.Consistent.{IsConsistent}
-use Rattle.list_pages.specs.Rolling.{Wanted, all_rows, first_rows, Rises, Rolled}
+use Rattle.list_pages.specs.Rolling.{Wanted, all_rows, first_rows, Rolled}
 use Rattle.list_pages.specs.Rolls.{Rolls, rows_of, wanted}
-use Rattle.list_pages.proofs.lemmas.Sorted.{filter_passes, rises_sorted, sorted_filter, with_prefix_behind}
+use Rattle.list_pages.proofs.lemmas.Sorted.{rises_sorted, sorted_filter}
 use Rattle.list_pages.proofs.lemmas.Starting.{AllKept, rolled_none, rolled_before}
 use Rattle.recovery.specs.declared.fault.PlanFault.{PlanFault}
 use Rattle.recovery.specs.declared.fault.PlanFault.TheVariants.{Failed, Memory, Inconsistent}

@@ -1,16 +1,16 @@
 -- A page of keys was taken.
-use Rattle.std.proofs.Common.{◌≡◌, ℕ, zero, suc, ◌+◌, ◌≤◌, ◌<◌, Bool, true, false, not, ◌&&◌, nat_eq, T, List, [], ◌∷◌, ◌++◌, map, length, take, drop, refl, sym, ap, subst, ◌∙◌, arith, append_assoc}
+use Rattle.std.proofs.Common.{◌≡◌, ℕ, zero, suc, ◌+◌, ◌≤◌, ◌<◌, Bool, true, false, not, nat_eq, T, List, [], ◌∷◌, ◌++◌, map, length, take, drop, refl, sym, ap, subst, ◌∙◌, arith, append_assoc}
 use Rattle.std.specs.List.{filter, list_all}
 use Rattle.std.specs.Ordering.{is_lt}
 use Rattle.std.specs.FinMap.{entries, entries_sorted, get, is_sorted}
 use Rattle.std.specs.FinMap.Entries.{below_all}
 use Rattle.std.proofs.lemmas.Bool.{and_parts}
 use Rattle.std.proofs.lemmas.Bool.Decides.{nat_tests}
-use Rattle.std.proofs.lemmas.List.{append-nil, length-map, length-take, length-append, take-append-drop}
+use Rattle.std.proofs.lemmas.List.{length-map, length-take, length-append, take-append-drop}
 use Rattle.std.proofs.lemmas.List.Folds.{list_all-append}
 use Rattle.gate_base.specs.Maps.{name_cmp}
 use Rattle.s3_names.specs.Key.{is_key}
-use Rattle.s3_machine.specs.Items.{begins, behind, with_prefix}
+use Rattle.s3_machine.specs.Items.{begins, behind}
 use Rattle.s3_machine.specs.State.{Object}
 use Rattle.s3_machine.specs.Step.{listed_key}
 use Rattle.s3_machine.specs.declared.items.ItemHead.{ItemHead}

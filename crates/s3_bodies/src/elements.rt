@@ -1,12 +1,12 @@
 //! The elements of a part, in the body of a CompleteMultipartUpload.
-ghost use Rattle.std.specs.Prelude.{◌≡◌, ◌≤◌, ℕ, true, length};
+ghost use Rattle.std.specs.Prelude.{◌≡◌, ◌≤◌, true, length};
 ghost use Rattle.std.specs.List.{list_all};
 ghost use Rattle.std.specs.Str.Parse.{digits_value};
 ghost use Rattle.gate_base.specs.Ascii.{is_digit};
 ghost use Rattle.xml_forms.specs.Forms.{Reads};
 ghost use Rattle.xml_forms.specs.Readers.{ReadsRest, ReadsText, read_by};
 ghost use Rattle.xml_forms.specs.Runs.{Spaced};
-ghost use Rattle.s3_bodies.specs.Completion.{Bare, Checksum, ChecksumEnd, ChecksumName, ChecksumText, Etag, EtagText, Number, Quote, Quoted, QuotedEnd};
+ghost use Rattle.s3_bodies.specs.Completion.{Checksum, ChecksumEnd, ChecksumName, ChecksumText, Etag, EtagText, Number, Quote, Quoted, QuotedEnd};
 
 use xml_forms::{Class, nearer, run, short_element, skip_space, word};
 

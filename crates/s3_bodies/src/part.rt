@@ -1,5 +1,5 @@
 //! A part, in the body of a CompleteMultipartUpload.
-ghost use Rattle.std.specs.Prelude.{ℕ, List, codes};
+ghost use Rattle.std.specs.Prelude.{codes};
 ghost use Rattle.xml_forms.specs.Forms.{Word};
 ghost use Rattle.xml_forms.specs.Readers.{ReadsRest};
 ghost use Rattle.xml_forms.specs.Runs.{Spaced};

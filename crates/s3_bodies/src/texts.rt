@@ -1,7 +1,6 @@
 //! Texts of numbers and moments.
 ghost use Rattle.std.specs.Prelude.{◌≡◌, ◌<◌, ◌++◌, decimal, IfOk, OnOk};
 ghost use Rattle.gate_base.specs.Told.{moment_limit};
-ghost use Rattle.httpdate.specs.Calendar.{IsCivilDate};
 ghost use Rattle.httpdate.specs.Date.{date_text};
 ghost use Rattle.httpdate.specs.declared.date.HttpDate.{HttpDate as Date};
 ghost use Rattle.s3_bodies.specs.Date.{http_date, iso_text, iso_time, month_digits};

@@ -1,4 +1,4 @@
-ghost use Rattle.std.specs.Prelude.{◌≡◌, ◌&&◌, ◌==◌, length, nat_le, slice_get, count_by, Err};
+ghost use Rattle.std.specs.Prelude.{◌≡◌, ◌&&◌, ◌==◌, length, nat_le, count_by, Err};
 ghost use Rattle.std.specs.List.{list_all, slice_split};
 ghost use Rattle.gate_base.specs.Ascii.{is_digit};
 ghost use Rattle.s3_names.specs.Bucket.{is_lower_or_digit, is_bucket_byte, begins_and_ends, has_two_dots, is_short_number, is_address, is_dot, is_bucket, bucket_of};

@@ -1,6 +1,6 @@
 -- The canonical request. Source: Amazon S3 API Reference, "Authenticating requests: using the Authorization header",
 -- task 1; that runs of spaces become one is of the AWS General Reference, "Create a canonical request".
-use Rattle.std.specs.Prelude.{ℕ, Bool, true, false, not, ◌&&◌, ◌||◌, ◌==◌, if◌then◌else◌, List, [], ◌∷◌, ◌++◌, map, fold, insert, reverse, flat_map}
+use Rattle.std.specs.Prelude.{ℕ, Bool, true, false, not, ◌&&◌, ◌==◌, if◌then◌else◌, List, [], ◌∷◌, ◌++◌, map, fold, insert, reverse, flat_map}
 use Rattle.std.specs.List.{join_with_byte, position_or_len}
 use Rattle.std.specs.Cmp.Lexicographic.{slice_cmp}
 use Rattle.std.specs.Ordering.{nat_cmp, is_lt, ordering_then}

@@ -1,4 +1,4 @@
-ghost use Rattle.std.specs.Prelude.{◌≡◌, length, drop, nat_eq, codes, IfOk};
+ghost use Rattle.std.specs.Prelude.{◌≡◌, drop, IfOk};
 ghost use Rattle.std.specs.List.{list_all, starts_with, slice_split};
 ghost use Rattle.sigv4.specs.Authorization.{is_part_byte, is_part, is_name_byte, is_name, stands_before, are_ascending, are_names, is_hex_digit, is_hex, is_formed, is_semicolon, skip_spaces, algorithm_section, credential_section, names_section, signature_section, behind_service, credential_of, is_labelled, parts_of, authorization_of};
 

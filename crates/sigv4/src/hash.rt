@@ -1,6 +1,6 @@
 ghost use Rattle.std.specs.Prelude.{◌≡◌, ◌-◌, ◌≤◌, ◌++◌, length, map, replicate, bit_xor};
 ghost use Rattle.sha2.specs.Sha256.{sha256};
-ghost use Rattle.sigv4.specs.Hmac.{key_block, padded_key, hmac};
+ghost use Rattle.sigv4.specs.Hmac.{key_block, hmac};
 
 use sha2::{Digest, Sha256};
 

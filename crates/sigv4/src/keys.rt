@@ -2,7 +2,7 @@ ghost use Rattle.std.specs.Prelude.{◌≡◌, is_some, IfOk};
 ghost use Rattle.std.specs.Option.{option_copied};
 ghost use Rattle.std.specs.List.{list_all, list_any as any_of};
 ghost use Rattle.gate_base.specs.Ascii.{is_letter_or_digit, is_visible};
-ghost use Rattle.sigv4.specs.Keys.{is_newline, is_space, has_word_length, is_key, key_of, keys_of, has_id, are_keys, ReadsKeys, secret_of};
+ghost use Rattle.sigv4.specs.Keys.{has_word_length, is_key, key_of, keys_of, has_id, are_keys, ReadsKeys, secret_of};
 
 use crate::index::Index;
 use gate_base::{Bytes, Copying, List, Memory, cut};

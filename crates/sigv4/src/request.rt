@@ -1,7 +1,7 @@
-ghost use Rattle.std.specs.Prelude.{◌≡◌, ◌==◌, ◌++◌, map, flat_map, IfOk, OnOk};
+ghost use Rattle.std.specs.Prelude.{◌≡◌, ◌==◌, ◌++◌, map, IfOk, OnOk};
 ghost use Rattle.http_wire.specs.Headers.{values_of};
 ghost use Rattle.gate_base.specs.Ascii.{is_blank};
-ghost use Rattle.sigv4.specs.Canonical.{skip_blanks, cut_blanks, begins_with_space, single_spaced, clean, canonical_value, canonical_header, canonical_headers, escaped_pair, pair_cmp, ordered, pair_text, canonical_query, canonical_text};
+ghost use Rattle.sigv4.specs.Canonical.{skip_blanks, cut_blanks, begins_with_space, single_spaced, clean, canonical_header, canonical_headers, escaped_pair, pair_cmp, ordered, pair_text, canonical_query, canonical_text};
 
 use gate_base::{Bytes, Copying, List, Memory, Pair};
 use http_wire::{Message, has_name, joined};

@@ -1,4 +1,4 @@
-ghost use Rattle.std.specs.Prelude.{◌≡◌, ◌<◌, ◌≤◌, sum};
+ghost use Rattle.std.specs.Prelude.{◌<◌, ◌≤◌, sum};
 ghost use Rattle.slo_manifest.specs.Cover.{Lies};
 
 use crate::ranges::Cover;

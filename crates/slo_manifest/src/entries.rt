@@ -1,6 +1,6 @@
-ghost use Rattle.std.specs.Prelude.{◌≡◌, option_and_then, option_map, codes, IfOk, true};
+ghost use Rattle.std.specs.Prelude.{◌≡◌, option_map, IfOk, true};
 ghost use Rattle.std.specs.Str.{IsUtf8, is_utf8};
-ghost use Rattle.serde_json.specs.Find.{get, as_number, as_str, as_u64};
+ghost use Rattle.serde_json.specs.Find.{get, as_str, as_u64};
 ghost use Rattle.serde_json.specs.View.{view};
 ghost use Rattle.slo_manifest.specs.Segments.{is_segment};
 ghost use Rattle.slo_manifest.specs.Entry.{etag_field, path_field, size_field, text_at, number_at, entry_of, segment_of, EntryGives};

@@ -2,8 +2,6 @@
 //! as JSON, the ETag of the joined object, and where its bytes lie.
 #![tactic(auto)]
 
-ghost use Rattle.std.specs.Prelude.{◌≡◌};
-
 mod covering;
 mod entries;
 mod etags;

@@ -1,6 +1,5 @@
 //! Listings of an account that is kept in memory.
 ghost use Rattle.std.specs.Prelude.{◌≡◌, [], IfOk};
-ghost use Rattle.swift_calls.specs.Account.{file_of};
 ghost use Rattle.swift_calls.specs.Bodies.{item_of};
 ghost use Rattle.swift_calls.specs.Step.{is_listed, page};
 ghost use Rattle.swift_calls.specs.Lists.{name_of, stored_item, AreSizedObjects};

@@ -1,5 +1,5 @@
 //! Numbers in decimal and in hexadecimal.
-ghost use Rattle.std.specs.Prelude.{◌≡◌, ◌≤◌, ◌&&◌, ◌++◌, true, nat_le, length, OnOk, decimal};
+ghost use Rattle.std.specs.Prelude.{◌≡◌, ◌&&◌, ◌++◌, true, nat_le, length, OnOk, decimal};
 ghost use Rattle.std.specs.List.{list_all};
 ghost use Rattle.std.specs.Str.Parse.{digits_value};
 ghost use Rattle.gate_base.specs.Ascii.{is_digit};

@@ -9,7 +9,7 @@
 //! HeadBucket, GetBucketLocation, GetBucketAcl and PutBucketAcl; `put`, `get`, `head`, `delete` and `object-acl` for
 //! PutObject, GetObject, HeadObject, DeleteObject and GetObjectAcl; and `items` for ListObjects, with its version in the place
 //! of the key. What `get`, `head` and `items` ask for beside stands in the place of the body, as words of [`crate::asks`].
-ghost use Rattle.std.specs.Prelude.{◌≡◌, IsTrue};
+ghost use Rattle.std.specs.Prelude.{IsTrue};
 ghost use Rattle.s3_machine.specs.Step.{IsPlace, IsProperContent, IsProperOp};
 
 use crate::answers::{

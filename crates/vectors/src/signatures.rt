@@ -9,7 +9,6 @@
 //! of a wrong signature. `canonical NAMES PAYLOAD` is the canonical request, with `;` between the signed names. `sign TIME
 //! NAMES PAYLOAD` answers the canonical request's hash and the signature. `hmac KEY TEXT` has its key in hexadecimal digits.
 //! `secret ID | TEXT` is the secret of an id in a text of keys.
-ghost use Rattle.std.specs.Prelude.{◌≡◌, IsTrue, true};
 
 use crate::answers::{NO_VERB, number, parts, refused, text as told, two_words, yes_or_no};
 use crate::first::show_signed;

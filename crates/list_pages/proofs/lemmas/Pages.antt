@@ -9,9 +9,8 @@ use Rattle.std.specs.Cmp.Lexicographic.{nat_list_cmp_total}
 use Rattle.std.specs.FinMap.{is_sorted}
 use Rattle.std.specs.FinMap.Entries.{below_all}
 use Rattle.gate_base.specs.Maps.{name_cmp}
-use Rattle.s3_machine.specs.Items.{begins}
 use Rattle.list_pages.specs.Rolling.{Wanted}
-use Rattle.list_pages.specs.Rolling.{Before, Rises, Rolled}
+use Rattle.list_pages.specs.Rolling.{Rises, Rolled}
 use Rattle.list_pages.proofs.lemmas.Rolling.{push_over}
 
 -- once one is left over, no further key changes anything

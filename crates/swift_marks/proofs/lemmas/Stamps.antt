@@ -1,6 +1,6 @@
 -- A tag ends in its stamp.
-use Rattle.std.proofs.Common.{◌≡◌, ℕ, ◌+◌, ◌-◌, Bool, true, cond, List, [], ◌∷◌, ◌++◌, length, drop, refl, ap, sym, ◌∙◌, arith, append_assoc}
-use Rattle.std.specs.Prelude.{◌&&◌, nat_eq, nat_lt, decimal, Option, Some, None}
+use Rattle.std.proofs.Common.{◌≡◌, ℕ, ◌+◌, ◌-◌, true, cond, List, [], ◌∷◌, ◌++◌, length, drop, refl, ap, ◌∙◌, arith, append_assoc}
+use Rattle.std.specs.Prelude.{◌&&◌, nat_eq, nat_lt, decimal, Some, None}
 use Rattle.std.specs.List.{ends_with}
 use Rattle.std.specs.Str.{bytes_eq}
 use Rattle.std.specs.Cmp.Lexicographic.{pointwise}
@@ -10,7 +10,6 @@ use Rattle.std.proofs.lemmas.Slice.Eq.{bytes_eq-Decides}
 use Rattle.gate_base.specs.Told.{moment_limit}
 use Rattle.swift_marks.specs.Number.{id_text, fits_id}
 use Rattle.swift_marks.specs.Tag.{is_content_type, is_etag, has_text, tag_text, tag_parts, read_tag, stamp_of, is_stamp, stamp_text, read_stamp}
-use Rattle.swift_marks.specs.declared.tag.Stamp.{Stamp}
 use Rattle.swift_marks.specs.declared.tag.Tag.{Tag}
 use Rattle.swift_marks.proofs.lemmas.TagLaws.{kept, tag_has_one_text}
 

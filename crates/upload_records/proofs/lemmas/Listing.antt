@@ -2,11 +2,11 @@
 use Rattle.std.specs.Prelude.{◌≡◌, ℕ, List, true, cond, Option, None, Some}
 use Rattle.std.specs.Option.{option_and_then}
 use Rattle.std.specs.FinMap.{get, empty}
-use Rattle.std.proofs.Common.{refl, sym, ap, subst, ◌∙◌}
+use Rattle.std.proofs.Common.{sym, ap, ◌∙◌}
 use Rattle.gate_base.specs.Maps.{picked}
 use Rattle.gate_base.proofs.lemmas.Maps.{by_name, picked_empty}
 use Rattle.s3_names.specs.Bucket.{is_bucket}
-use Rattle.s3_machine.specs.State.{Object, Bucket}
+use Rattle.s3_machine.specs.State.{Bucket}
 use Rattle.swift_calls.specs.Account.{SwiftContainer, SwiftAccount, files, files_of}
 use Rattle.upload_records.specs.Layout.{uploads_name, segments_name}
 use Rattle.upload_records.specs.Native.{object_of, bucket_of, bucket_from, IsSettled, s3_state}

@@ -1,4 +1,4 @@
-use Rattle.std.proofs.Common.{◌<◌, ap, sym, subst, ◌∙◌}
+use Rattle.std.proofs.Common.{◌<◌, sym, subst, ◌∙◌}
 use Rattle.list_pages.proofs.Paging.{has_room, is_full, paged_end, paged_fits, paged_full, paged_more}
 use Rattle.list_pages.proofs.roll.Roll.push_page.Goals as goal
 

@@ -1,4 +1,3 @@
-use Rattle.std.proofs.Common.{◌≡◌, false, take}
 use Rattle.list_pages.proofs.Paging.{Paged}
 use Rattle.list_pages.proofs.roll.Roll.push_page.Given as goal
 
