@@ -24,7 +24,7 @@ use Rattle.recovery.proofs.lemmas.Agree.{quiet_agree, passes_still, passes_at_on
 use Rattle.recovery.proofs.lemmas.Causes.{due_cause}
 use Rattle.recovery.proofs.lemmas.Faults.{err_is}
 use Rattle.recovery.proofs.lemmas.Idle.{none_made, goes_trans, grows_none}
-use Rattle.planner.specs.Plan.{reply_of, IsOwnReply, Ends, ended, CausesEnd, Plans, Answered}
+use Rattle.planner.specs.Plan.{reply_of, IsOwnReply, EndsPlan, ended, CausesEnd, Plans, Answered}
 use Rattle.planner.proofs.Replies.{rose_of, steady_of, consistent_of, showable_of}
 
 -- quiet calls leave the old state at each number
@@ -33,7 +33,7 @@ old_quiet quiet = λ k from to. quiet.same k from (omega arith)
 
 module _ (settings : Settings) (h : History) (p q : ℕ) (op : Op) (label : Label) where
   -- quiet calls, and one failed
-  quiet_failed : Stutters h p q → LastFailed h p q → Ends settings h p q op label (Err Failed)
+  quiet_failed : Stutters h p q → LastFailed h p q → EndsPlan settings h p q op label (Err Failed)
   quiet_failed quiet failed = record {
     committed = p;
     takes = 0;
@@ -42,7 +42,7 @@ module _ (settings : Settings) (h : History) (p q : ℕ) (op : Op) (label : Labe
   }
 
   -- quiet calls, and memory ran out
-  quiet_memory : Stutters h p q → Ends settings h p q op label (Err Memory)
+  quiet_memory : Stutters h p q → EndsPlan settings h p q op label (Err Memory)
   quiet_memory quiet = record {
     committed = p;
     takes = 0;
@@ -51,7 +51,7 @@ module _ (settings : Settings) (h : History) (p q : ℕ) (op : Op) (label : Labe
   }
 
   -- what was read is answered, after quiet calls: a step that leaves the state, at the last number
-  quiet_step : (reply : Reply) → Stutters h p q → S3Step settings (s3_state (h.tree_at p)) op label reply (s3_state (h.tree_at p)) → Ends settings h p q op label (Ok reply)
+  quiet_step : (reply : Reply) → Stutters h p q → S3Step settings (s3_state (h.tree_at p)) op label reply (s3_state (h.tree_at p)) → EndsPlan settings h p q op label (Ok reply)
   quiet_step reply quiet step =
       let stepped : Stepped settings (h.tree_at p) op label reply (s3_state (h.tree_at p)) = record { step = step; id = tt } in
       record {
@@ -67,7 +67,7 @@ module _ (settings : Settings) (h : History) (p q : ℕ) (op : Op) (label : Labe
 
   module _ {T : Type 0} (P : SwiftAccount → SwiftAccount → T → Type 0) where
     -- the calls told nothing
-    not_read : (fault : PlanFault) → Keeps h p q P (Err fault) → Ends settings h p q op label (Err fault)
+    not_read : (fault : PlanFault) → Keeps h p q P (Err fault) → EndsPlan settings h p q op label (Err fault)
     not_read Failed (quiet, failed) = quiet_failed quiet failed
     not_read Memory (quiet, same) = quiet_memory quiet
     not_read Inconsistent never = absurd never
@@ -82,7 +82,7 @@ module _ (settings : Settings) (h : History) (p q : ℕ) (op : Op) (label : Labe
     last_lost : {told : T} → Commits h p q (S told) → Rose (h.faults_at p) (h.faults_at q) → LastFailed h p q
     last_lost done rose = let ordered = done.quiet.ordered in was_lost done.last ordered done.next done.no_fault (subst (λ n. Rose n (h.faults_at q)) (sym done.no_fault) rose)
 
-    commit_failed : CommitsUntold h p q S → Rose (h.faults_at p) (h.faults_at q) → Ends settings h p q op label (Err Failed)
+    commit_failed : CommitsUntold h p q S → Rose (h.faults_at p) (h.faults_at q) → EndsPlan settings h p q op label (Err Failed)
     commit_failed (told, done) rose = record {
       committed = q;
       takes = 1;
@@ -90,7 +90,7 @@ module _ (settings : Settings) (h : History) (p q : ℕ) (op : Op) (label : Labe
       consistent = λ e. cc;
     }
 
-    write_memory : Stutters h p q ⊎ CommitsUntold h p q S → Ends settings h p q op label (Err Memory)
+    write_memory : Stutters h p q ⊎ CommitsUntold h p q S → EndsPlan settings h p q op label (Err Memory)
     write_memory (inl quiet) = quiet_memory quiet
     write_memory (inr (told, done)) = record {
       committed = q;
@@ -100,7 +100,7 @@ module _ (settings : Settings) (h : History) (p q : ℕ) (op : Op) (label : Labe
     }
 
     -- the call that may change the state ended
-    is_written : (end : Result T PlanFault) → Writes h p q S end → Ends settings h p q op label (ended end reply)
+    is_written : (end : Result T PlanFault) → Writes h p q S end → EndsPlan settings h p q op label (ended end reply)
     is_written (Ok told) (done, same) = record {
       committed = q;
       takes = 1;
@@ -222,7 +222,7 @@ module _ {settings : Settings} {given : State → Type 0} {op : Op} {label : Lab
           let reads = asks.effect (met_settled met) in
           let from : b.tree_at a.called ≡ present a = (asks.grows.on.kept met.observable).accounts a.called (omega arith) in
           let does = step _ (subst (λ tree. given (s3_state tree)) (sym from) met.has.state) (subst (P (s3_state (b.tree_at a.called))) is reads.2.of_state) in
-          subst (Ends settings b a.called b.called op label) (sym does.1) (quiet_step settings b a.called b.called op label does.0 reads.0 does.2);
+          subst (EndsPlan settings b a.called b.called op label) (sym does.1) (quiet_step settings b a.called b.called op label does.0 reads.0 does.2);
       knows = λ observable settled is. asks.settled observable settled;
     }
 
@@ -249,7 +249,7 @@ module _ {settings : Settings} {given : State → Type 0} {op : Op} {label : Lab
     own = rest.own;
     effect = λ met.
         let reads = asks.effect (met_settled met) in
-        let ends = subst (λ s. Ends s c b.called c.called op label end) same (rest.effect (met_after is asks gives met)) in
+        let ends = subst (λ s. EndsPlan s c b.called c.called op label end) same (rest.effect (met_after is asks gives met)) in
         let later = rest.grows.on.kept (asks.grows.on.observable met.observable) in
         let ordered = asks.grows.on.ordered in
         let unchanged : c.tree_at b.called ≡ c.tree_at a.called = later.accounts b.called (omega arith) ∙ reads.2.same ∙ sym (later.accounts a.called (omega arith)) in

@@ -34,7 +34,7 @@ pub record IsOwnReply (reply : Reply) : Type 0 where
   pub no_inconsistency : reply ≢ Refused InconsistentStore
 
 -- the calls of a plan, or of the rest of one, amount to the operation
-pub record Ends (settings : Settings) (h : History) (p q : ℕ) (op : Op) (label : Label) (end : Result Reply PlanFault) : Type 0 where
+pub record EndsPlan (settings : Settings) (h : History) (p q : ℕ) (op : Op) (label : Label) (end : Result Reply PlanFault) : Type 0 where
   pub committed : ℕ
   pub takes : ℕ
   pub answers : Answers settings h p committed q op label takes (reply_of end)
@@ -57,7 +57,7 @@ pub record Plans (most : Bound) (old new : History) (settings : Settings) (given
   pub grows : Grows most given old new
   pub cause : CausesEnd (ends_by_commit op) old.faults new.faults end
   pub own : IfOk end IsOwnReply
-  pub effect : Met given old → Ends settings new old.called new.called op label end
+  pub effect : Met given old → EndsPlan settings new old.called new.called op label end
   pub knows : IsTrue old.observable → IsSettled (present old) → IsKnown after (present new)
 
 -- an operation was answered on a settled store, of which this is known after it
