@@ -1,7 +1,7 @@
 -- The body of a CreateBucket, part by part.
 use Rattle.std.proofs.Common.{◌≡◌, ◌==◌, ℕ, true, inl, inr, List, [], ◌++◌, length, take, refl, sym, ◌∙◌, ap, false, None, Result, Ok, Err, Bor, arith, codes}
 use Rattle.std.proofs.lemmas.List.{length-append, length-take}
-use Rattle.xml_forms.specs.Bodies.{Ends, NotABody, OfSome, Whole}
+use Rattle.xml_forms.specs.Bodies.{OnlySpaceLeft, NotABody, OfSome, Whole}
 use Rattle.xml_forms.specs.Forms.{Begins, Stops, Reads, Either, Exactly, Word, RunThen, Unique, Possible, Opens, nearer}
 use Rattle.xml_forms.specs.Openings.{Opening}
 use Rattle.xml_forms.specs.Readers.{ReadsText, read_by}
@@ -78,10 +78,10 @@ location_unique = document_unique location_start 67 (codes "reateBucketConfigura
 pub location_stops : (bytes : List ℕ) (left : ℕ) → Stops Location bytes left → Stuck Location bytes left
 location_stops bytes left s = stuck_within Location bytes left s
 
-pub location_ends : (bytes rest : List ℕ) (text : List ℕ) (left : ℕ) → Begins Location bytes text rest → Ends rest (Err left) → Stuck Location bytes left
+pub location_ends : (bytes rest : List ℕ) (text : List ℕ) (left : ℕ) → Begins Location bytes text rest → OnlySpaceLeft rest (Err left) → Stuck Location bytes left
 location_ends bytes rest text left p e = stuck_behind Location bytes location_unique rest text left p e
 
-pub location_whole : (bytes rest text : List ℕ) → Begins Location bytes text rest → Ends rest (Ok tt) → Whole Location text bytes
+pub location_whole : (bytes rest text : List ℕ) → Begins Location bytes text rest → OnlySpaceLeft rest (Ok tt) → Whole Location text bytes
 location_whole bytes rest text p e = whole Location bytes rest text p e
 
 -- bytes that aren't none are a body where they are a document

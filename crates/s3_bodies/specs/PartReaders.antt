@@ -1,7 +1,7 @@
 -- What the readers of a completion and of its parts answer.
 use Rattle.std.specs.Prelude.{◌≡◌, ℕ, ◌⊎◌, List, map, Bool, true, false, Result, Ok, Err}
 use Rattle.std.specs.Borrow.{Bor}
-use Rattle.xml_forms.specs.Bodies.{Ends, NotABody, OfSome}
+use Rattle.xml_forms.specs.Bodies.{OnlySpaceLeft, NotABody, OfSome}
 use Rattle.xml_forms.specs.Forms.{Reads, Skips, Word, nearer}
 use Rattle.xml_forms.specs.Readers.{read_by}
 use Rattle.xml_forms.specs.Runs.{Spaced}
@@ -28,10 +28,10 @@ EndsParts false bytes left result =
 
 -- the root's end, and white space behind it
 abbrev pub ClosesParts : Bool → List ℕ → ℕ → Result (Unit {0}) ℕ → Type 0
-ClosesParts none bytes left (Ok u) = (rest : List ℕ) × EndsParts none bytes left (Ok (tt, rest)) × Ends rest (Ok tt)
+ClosesParts none bytes left (Ok u) = (rest : List ℕ) × EndsParts none bytes left (Ok (tt, rest)) × OnlySpaceLeft rest (Ok tt)
 ClosesParts none bytes left (Err stop) =
     EndsParts none bytes left (Err stop)
-    ⊎ (rest : List ℕ) × EndsParts none bytes left (Ok (tt, rest)) × Ends rest (Err stop)
+    ⊎ (rest : List ℕ) × EndsParts none bytes left (Ok (tt, rest)) × OnlySpaceLeft rest (Err stop)
 
 -- what reading the parts of a body gives
 abbrev pub AnswersParts : List ℕ → Result (List (ℕ × Bor (List ℕ))) BodyFault → Type 0

@@ -24,6 +24,6 @@ pub record NotABody (body : List ℕ → Type 0) (bytes : List ℕ) (n : ℕ) : 
   pub longest : (m : ℕ) (more : List ℕ) → n < m → m ≤ length bytes → body (take m bytes ++ more) → ⊥
 
 -- nothing but white space is left, or so many bytes from the first one on that is none
-abbrev pub Ends : List ℕ → Result (Unit {0}) ℕ → Type 0
-Ends bytes (Ok u) = list_all (has Space) bytes ≡ true
-Ends bytes (Err left) = (run rest : List ℕ) × IsRun Space (length bytes) bytes run rest × (length rest ≡ left) × (0 < left)
+abbrev pub OnlySpaceLeft : List ℕ → Result (Unit {0}) ℕ → Type 0
+OnlySpaceLeft bytes (Ok u) = list_all (has Space) bytes ≡ true
+OnlySpaceLeft bytes (Err left) = (run rest : List ℕ) × IsRun Space (length bytes) bytes run rest × (length rest ≡ left) × (0 < left)

@@ -1,7 +1,7 @@
 //! Reading at the front of bytes. What can't be read there is answered by how many bytes were left where it stopped.
 ghost use Rattle.std.specs.Prelude.{◌≡◌, ◌≤◌, ◌<◌, ℕ, List, ◌∷◌, length, take, slice_index, true, false, Some, None};
 ghost use Rattle.std.specs.List.{list_all};
-ghost use Rattle.xml_forms.specs.Bodies.{Ends};
+ghost use Rattle.xml_forms.specs.Bodies.{OnlySpaceLeft};
 ghost use Rattle.xml_forms.specs.Forms.{Word, nearer};
 ghost use Rattle.xml_forms.specs.Runs.{has, Element, IsRun, IsPositive, SkipsSpace};
 ghost use Rattle.xml_forms.specs.Readers.{ReadsRest, ReadsText};
@@ -104,7 +104,7 @@ fn sized_element<'a>(
 
 /// Whether nothing but white space is left.
 pub fn only_space(bytes: &[u8]) -> Result<(), usize>
-    ensures { Ends bytes.now result }
+    ensures { OnlySpaceLeft bytes.now result }
 {
     let rest = skip_space(bytes);
     if rest.is_empty() {

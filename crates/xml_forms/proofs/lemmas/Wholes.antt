@@ -3,7 +3,7 @@ use Rattle.std.proofs.Common.{◌≡◌, ℕ, ◌+◌, ◌-◌, ◌≤◌, ◌<�
 use Rattle.std.specs.List.{list_all}
 use Rattle.std.proofs.lemmas.List.{append_cancel_left, append-nil, length-append, take-append-drop, length-drop, length-take}
 use Rattle.xml_forms.specs.Forms.{Begins, Follows, Stops, Unique}
-use Rattle.xml_forms.specs.Bodies.{Whole, OfSome, NotABody, Ends}
+use Rattle.xml_forms.specs.Bodies.{Whole, OfSome, NotABody, OnlySpaceLeft}
 use Rattle.xml_forms.specs.Runs.{has, IsRun}
 use Rattle.xml_forms.specs.declared.class.Class.TheVariants.{Space}
 use Rattle.xml_forms.proofs.lemmas.Choices.{cut_twice}
@@ -92,12 +92,12 @@ module _ {A : Type 0} (form : A → List ℕ → Type 0) where
   behind unique bytes rest run (c ∷ last) a p r some = other_behind unique bytes rest run (c ∷ last) a c last p r.at r.passes refl (no_space c last rest run r (has Space c) refl)
 
   -- where something else than white space stands behind it
-  pub whole_ends : Unique form → (bytes rest : List ℕ) (a : A) (left : ℕ) → Begins form bytes a rest → Ends rest (Err left) → NotABody body bytes (length bytes - left)
+  pub whole_ends : Unique form → (bytes rest : List ℕ) (a : A) (left : ℕ) → Begins form bytes a rest → OnlySpaceLeft rest (Err left) → NotABody body bytes (length bytes - left)
   whole_ends unique bytes rest a left p e =
       subst (λ n. NotABody body bytes (length bytes - n)) e.3 (behind unique bytes rest e.0 e.1 a p e.2 (subst (λ n. 0 < n) (sym e.3) e.4))
 
   -- where nothing else does
-  pub whole : (bytes rest : List ℕ) (a : A) → Begins form bytes a rest → Ends rest (Ok tt) → Whole form a bytes
+  pub whole : (bytes rest : List ℕ) (a : A) → Begins form bytes a rest → OnlySpaceLeft rest (Ok tt) → Whole form a bytes
   whole bytes rest a p e = record { word = p.word; tail = rest; spells = p.spells; spaces = e; at = p.at }
 
 -- where it stops, as a reader answers it: so many bytes are left, of those that were there
@@ -108,7 +108,7 @@ module _ {A : Type 0} (form : A → List ℕ → Type 0) (bytes : List ℕ) wher
   stops_within : (left : ℕ) → Stops form bytes left → left ≤ length bytes
   stops_within left s = let e = ap length s.at in omega (arith, e, length-append s.front s.rest, s.counts)
 
-  ends_within : (rest : List ℕ) (a : A) (left : ℕ) → Begins form bytes a rest → Ends rest (Err left) → left ≤ length bytes
+  ends_within : (rest : List ℕ) (a : A) (left : ℕ) → Begins form bytes a rest → OnlySpaceLeft rest (Err left) → left ≤ length bytes
   ends_within rest a left p e =
       let d = ap length p.at in
       let f = ap length e.2.at in
@@ -117,5 +117,5 @@ module _ {A : Type 0} (form : A → List ℕ → Type 0) (bytes : List ℕ) wher
   pub stuck_within : (left : ℕ) → Stops form bytes left → Stuck form bytes left
   stuck_within left s = (stops_within left s, whole_stops form bytes left s)
 
-  pub stuck_behind : Unique form → (rest : List ℕ) (a : A) (left : ℕ) → Begins form bytes a rest → Ends rest (Err left) → Stuck form bytes left
+  pub stuck_behind : Unique form → (rest : List ℕ) (a : A) (left : ℕ) → Begins form bytes a rest → OnlySpaceLeft rest (Err left) → Stuck form bytes left
   stuck_behind unique rest a left p e = (ends_within rest a left p e, whole_ends form unique bytes rest a left p e)
