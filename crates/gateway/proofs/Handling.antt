@@ -20,7 +20,7 @@ use Rattle.gateway.specs.Request.{Request, reply_text, print}
 use Rattle.gateway.specs.Exchange.{ReplyRelation, StoreCursor, RepliesExpected, printed, out_of_memory, Sends, SendsPart, IsPiece}
 use Rattle.gateway.specs.Connection.{LabelGiven, sent_by, progress}
 use Rattle.gateway.specs.Handled.{HandledOnce}
-use Rattle.gateway.specs.Write.{IsText}
+use Rattle.gateway.specs.Write.{IsReplyText}
 
 only : (connection t q : ℕ) (bytes : List ℕ) → t ≤ q → All (IsPiece connection t q) (record { connection = connection; at = q; bytes = bytes } ∷ [])
 only connection t q bytes near =
@@ -97,7 +97,7 @@ module _ {R : ReplyRelation} (old new : StoreCursor) (moments draws moments' dra
         };
       }
 
-  pub handled_broken : (bytes : List ℕ) → IsText given label (asks label.moment).method (asks label.moment).resource (is_some (asks label.moment).end) bytes → SendsPrefix transcript new.number bytes transcript'
+  pub handled_broken : (bytes : List ℕ) → IsReplyText given label (asks label.moment).method (asks label.moment).resource (is_some (asks label.moment).end) bytes → SendsPrefix transcript new.number bytes transcript'
       → HandledOnce R transcript.begun (progress old moments draws transcript.sent) (progress new moments' draws' transcript'.sent) asks Broken
   handled_broken bytes (inl text) part =
       let request = asks label.moment in
@@ -165,8 +165,8 @@ module _ {R : ReplyRelation} (old new : StoreCursor) (moments draws moments' dra
       (wrote ∙ ap (λ m. with_piece transcript new.number (memory_reply (is_head m))) is.method)
 
   -- the text that was begun, of the label that is expected
-  due_text : (closing : Bool) (bytes : List ℕ) → closing ≡ is_some resolved.end → IsText given label resolved.method.now resolved.resource.now closing bytes
-      → IsText given due_label (asks next.moment).method (asks next.moment).resource (is_some (asks next.moment).end) bytes
+  due_text : (closing : Bool) (bytes : List ℕ) → closing ≡ is_some resolved.end → IsReplyText given label resolved.method.now resolved.resource.now closing bytes
+      → IsReplyText given due_label (asks next.moment).method (asks next.moment).resource (is_some (asks next.moment).end) bytes
   due_text closing bytes ends (inl text) =
       let same : reply_text given label resolved.method.now resolved.resource.now closing ≡ print given due_label (asks next.moment)
       = ap (reply_text given label resolved.method.now resolved.resource.now) ends ∙ (λ i. reply_text given (same_label text.0 i) (is.method i) (is.resource i) (is_some (is.end i))) in
@@ -174,7 +174,7 @@ module _ {R : ReplyRelation} (old new : StoreCursor) (moments draws moments' dra
   due_text closing bytes ends (inr text) = inr (text ∙ ap (λ m. memory_reply (is_head m)) is.method)
 
   pub resolved_broken : (closing : Bool) → closing ≡ is_some resolved.end
-      → ((bytes : List ℕ) × IsText given label resolved.method.now resolved.resource.now closing bytes × SendsPrefix transcript new.number bytes transcript')
+      → ((bytes : List ℕ) × IsReplyText given label resolved.method.now resolved.resource.now closing bytes × SendsPrefix transcript new.number bytes transcript')
       → HandledOnce R transcript.begun (progress old moments draws transcript.sent) (progress new moments' draws' transcript'.sent) asks Broken
   resolved_broken closing ends wrote =
       handled_broken old new moments draws moments' draws' transcript transcript' asks due_label given (labels (asks next.moment).caller) due_replied wrote.0 (due_text closing wrote.0 ends wrote.1) wrote.2

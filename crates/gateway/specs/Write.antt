@@ -11,17 +11,17 @@ use Rattle.gateway.specs.declared.write.Written.{Written}
 use Rattle.gateway.specs.declared.write.Written.TheVariants.{Whole, Memory, Failed}
 
 -- the text of the reply, or that of the out-of-memory reply
-abbrev pub IsText : Reply → Label → List ℕ → List ℕ → Bool → List ℕ → Type 0
-IsText reply label method resource closing bytes =
+abbrev pub IsReplyText : Reply → Label → List ℕ → List ℕ → Bool → List ℕ → Type 0
+IsReplyText reply label method resource closing bytes =
     ((reply ≢ answer.Memory) × (bytes ≡ reply_text reply label method resource closing)) ⊎ (bytes ≡ memory_reply (is_head method))
 
 -- one piece was sent, after `at` calls: the whole text, the out-of-memory reply, or the first bytes of either, or none
-abbrev pub Writes : Transcript → ℕ → Reply → Label → List ℕ → List ℕ → Bool → Written → Transcript → Type 0
-Writes old at reply label method resource closing Whole new =
+abbrev pub WritesReply : Transcript → ℕ → Reply → Label → List ℕ → List ℕ → Bool → Written → Transcript → Type 0
+WritesReply old at reply label method resource closing Whole new =
     (reply ≢ answer.Memory) × (new ≡ with_piece old at (reply_text reply label method resource closing))
-Writes old at reply label method resource closing Memory new = new ≡ with_piece old at (memory_reply (is_head method))
-Writes old at reply label method resource closing Failed new =
-    (bytes : List ℕ) × IsText reply label method resource closing bytes × SendsPrefix old at bytes new
+WritesReply old at reply label method resource closing Memory new = new ≡ with_piece old at (memory_reply (is_head method))
+WritesReply old at reply label method resource closing Failed new =
+    (bytes : List ℕ) × IsReplyText reply label method resource closing bytes × SendsPrefix old at bytes new
 
 -- these bytes, the out-of-memory reply, were sent after `at` calls, or the first of them, or none
 abbrev pub WritesOutOfMemory : Transcript → ℕ → List ℕ → Written → Transcript → Type 0

@@ -7,7 +7,7 @@ ghost use Rattle.s3_machine.specs.declared.operation.Reply.TheVariants as answer
 ghost use Rattle.s3_machine.specs.Shown.{IsShowable};
 ghost use Rattle.gateway.specs.declared.write.Written.TheVariants as written;
 ghost use Rattle.gateway.specs.Request.{reply_text};
-ghost use Rattle.gateway.specs.Write.{Writes, WritesOutOfMemory, is_failed_write};
+ghost use Rattle.gateway.specs.Write.{WritesReply, WritesOutOfMemory, is_failed_write};
 
 use gate_base::{Bytes, Line, Memory};
 use http_wire::{print_memory, print_page};
@@ -43,7 +43,7 @@ pub fn write_reply<N: Line<W>, W: Swift>(
     requires moment { label.now.moment < moment_limit }
     ensures writes { OnlyWrites (is_failed_write result) (N.model line.old) (N.model line.new) }
     ensures effect { IsTrue (N.model line.old).observable
-        → Writes (N.model line.old).transcript (W.history store.now).called reply label.now method.now resource.now closing result (N.model line.new).transcript }
+        → WritesReply (N.model line.old).transcript (W.history store.now).called reply label.now method.now resource.now closing result (N.model line.new).transcript }
 {
     match print_reply(alloc, reply, label, method, resource, closing) {
         Ok(text) => match line.write(store, text.as_slice()) {
