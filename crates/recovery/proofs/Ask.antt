@@ -1,76 +1,17 @@
--- One call that tells of the account, and what is made of its answer.
-use Rattle.std.specs.Prelude.{◌≡◌, ◌≢◌, ℕ, Result, Ok, Err}
+-- What is made of what calls told of the account.
+use Rattle.std.specs.Prelude.{◌≡◌, ℕ, Result, Ok, Err}
 use Rattle.std.specs.Result.{IsErrAnd}
-use Rattle.std.proofs.Common.{refl, sym, ap, subst, ◌∙◌, inl, inr, arith}
+use Rattle.std.proofs.Common.{refl, sym, subst, arith}
 use Rattle.swift_calls.specs.Account.{SwiftAccount}
-use Rattle.swift_calls.specs.Step.{swift_step}
-use Rattle.swift_calls.specs.History.{History, present, Either, Called, Replied, Calls}
-use Rattle.swift_calls.specs.declared.calls.SwiftRequest.{SwiftRequest}
-use Rattle.swift_calls.specs.declared.calls.SwiftReply.{SwiftReply}
-use Rattle.swift_calls.specs.declared.calls.SwiftFault.{SwiftFault}
-use Rattle.swift_calls.specs.declared.calls.SwiftFault.TheVariants.{Failed, Memory}
-use Rattle.upload_records.specs.Native.{IsSettled}
+use Rattle.swift_calls.specs.History.{History, present}
 use Rattle.upload_records.specs.Consistent.{IsConsistent}
 use Rattle.recovery.specs.declared.fault.PlanFault.{PlanFault}
 use Rattle.recovery.specs.declared.fault.PlanFault.TheVariants as fault
-use Rattle.recovery.specs.Fault.{plan_fault, CausesFault}
+use Rattle.recovery.specs.Fault.{CausesFault}
 use Rattle.recovery.specs.Listing.{TellsOf}
 use Rattle.recovery.specs.Calls.{Bound, always, by_account, IsWithin, Met, Grows, Keeps, Asks}
-use Rattle.recovery.proofs.lemmas.Causes.{due_cause}
 use Rattle.recovery.proofs.lemmas.Faults.{err_is}
-use Rattle.recovery.proofs.lemmas.Idle.{stays, none_made, grows_none}
-use Rattle.recovery.proofs.One.{grows_one, found, fault_cause, lost_last, spent_last, stays_settled}
-
--- over each consistent account of which the given holds the request leaves it, and its answer comes to what P says
-pub record IsReadingOf {T : Type 0} (given : SwiftAccount → Type 0) (request : SwiftRequest) (due : SwiftReply → Result T PlanFault) (P : SwiftAccount → T → Type 0) : Type 0 where
-  pub leaves : (tree : SwiftAccount) → (swift_step request tree).tree ≡ tree
-  pub tells : (tree : SwiftAccount) → IsConsistent tree → given tree → (reply : SwiftReply) → reply ≡ (swift_step request tree).reply → (told : T) × (due reply ≡ Ok told) × P tree told
-
-module _ {T : Type 0} {given : SwiftAccount → Type 0} {request : SwiftRequest} {due : SwiftReply → Result T PlanFault} {P : SwiftAccount → T → Type 0} (reading : IsReadingOf given request due P)
-    (h : History) (p q : ℕ) (sound : IsConsistent (h.tree_at p)) (has : given (h.tree_at p)) where
-  left : Either h p q request → h.tree_at q ≡ h.tree_at p
-  left (inl same) = same
-  left (inr done) = done ∙ reading.leaves (h.tree_at p)
-
-  unread : (fault : SwiftFault) → Called h p q request (Err fault) → Keeps h p q (TellsOf P) (Err (plan_fault fault))
-  unread Failed (inl c) = let next = c.next in (stays (omega arith) (omega arith) (left c.either) sound, lost_last c)
-  unread Failed (inr (spent, same)) = (none_made same sound, spent_last spent same)
-  unread Memory (inl c) = let next = c.next in (stays (omega arith) (omega arith) (left c.either) sound, c.quiet)
-  unread Memory (inr same) = (none_made same sound, ap h.faults_at same)
-
-  read : (reply : SwiftReply) (result : Result T PlanFault) → Replied h p q request reply → result ≡ due reply → Keeps h p q (TellsOf P) result
-  read reply result c is =
-      let told = reading.tells (h.tree_at p) sound has reply c.reply in
-      let same = c.tree ∙ reading.leaves (h.tree_at p) in
-      subst (Keeps h p q (TellsOf P)) (sym (is ∙ told.1)) (let next = c.next in (stays (omega arith) (omega arith) same sound, c.quiet, record { of_account = told.2; same = same }))
-
-leaves_settled : {T : Type 0} {given : SwiftAccount → Type 0} {request : SwiftRequest} {due : SwiftReply → Result T PlanFault} {P : SwiftAccount → T → Type 0} → IsReadingOf given request due P
-    → (tree : SwiftAccount) → IsSettled tree → IsSettled (swift_step request tree).tree
-leaves_settled reading tree settled = subst IsSettled (sym (reading.leaves tree)) settled
-
-module _ {T : Type 0} {given : SwiftAccount → Type 0} {request : SwiftRequest} {due : SwiftReply → Result T PlanFault} {P : SwiftAccount → T → Type 0} (reading : IsReadingOf given request due P)
-    {old new : History} where
-  -- it was not answered
-  pub asked_of_in_vain : {fault : SwiftFault} → Calls old new request (Err fault) → (result : Result T PlanFault) → IsErrAnd result (λ e. e ≡ plan_fault fault) → Asks (always 1) old new given (TellsOf P) result
-  asked_of_in_vain {fault = fault} calls result is = subst (Asks (always 1) old new given (TellsOf P)) (sym (err_is result (plan_fault fault) is)) (record {
-    grows = grows_one given calls;
-    cause = fault_cause T old.faults new.faults fault calls.faults;
-    effect = λ met.
-        let same = sym (found calls met.observable) in
-        unread reading new old.called new.called (subst IsConsistent same met.sound) (subst given same met.has) fault (calls.effect met.observable);
-    settled = stays_settled (leaves_settled reading) calls;
-  })
-
-  -- it was answered
-  pub asked_of : {reply : SwiftReply} → Calls old new request (Ok reply) → (result : Result T PlanFault) → result ≡ due reply → result ≢ Err fault.Failed → Asks (always 1) old new given (TellsOf P) result
-  asked_of {reply = reply} calls result is own = record {
-    grows = grows_one given calls;
-    cause = due_cause old.faults new.faults result calls.faults own;
-    effect = λ met.
-        let same = sym (found calls met.observable) in
-        read reading new old.called new.called (subst IsConsistent same met.sound) (subst given same met.has) reply result (calls.effect met.observable) is;
-    settled = stays_settled (leaves_settled reading) calls;
-  }
+use Rattle.recovery.proofs.lemmas.Idle.{grows_none}
 
 -- what isn't given was found before a call
 pub not_given : {T : Type 0} {given : SwiftAccount → Type 0} {P : SwiftAccount → SwiftAccount → T → Type 0} (most : Bound) (h : History) → ((tree : SwiftAccount) → given tree → ⊥) → Asks most h h given P (Err fault.Inconsistent)

@@ -1,5 +1,5 @@
 -- One page of the names of a bucket's container, asked for by one call.
-use Rattle.std.proofs.Common.{◌≡◌, ℕ, zero, suc, List, [], ◌∷◌, map, length, take, Bool, true, Option, Some, None, Result, Ok, Err, refl, sym, ap, subst, ◌∙◌, arith}
+use Rattle.std.proofs.Common.{◌≡◌, ℕ, zero, suc, List, [], ◌∷◌, map, length, take, Bool, true, Option, Some, None, Result, Ok, Err, refl, sym, ap, subst, ◌∙◌, inr, arith}
 use Rattle.std.specs.Result.{IsErrAnd}
 use Rattle.std.specs.List.{filter}
 use Rattle.std.specs.FinMap.{entries, get, len-empty, len-entries}
@@ -30,10 +30,10 @@ use Rattle.recovery.specs.Keys.{TellsKeys}
 use Rattle.recovery.specs.Listing.{TellsOf}
 use Rattle.recovery.proofs.lemmas.Faults.{err_is}
 use Rattle.recovery.proofs.lemmas.Idle.{stays}
-use Rattle.recovery.proofs.Ask.{IsReadingOf, asked_of, asked_of_in_vain, asks_out_of_memory}
+use Rattle.recovery.proofs.Ask.{asks_out_of_memory}
 use Rattle.recovery.proofs.KeyPages.{page_is_one, page_tells}
 use Rattle.recovery.proofs.One as one
-use Rattle.recovery.proofs.One.{grows_one, found, stays_settled}
+use Rattle.recovery.proofs.One.{IsReadingOf, asked_of, asked_of_in_vain, grows_one, found, stays_settled}
 
 -- what a listing answers, where it is a page
 abbrev page_due : SwiftReply → Result (List NameItem) PlanFault
@@ -101,7 +101,7 @@ module _ (bucket prefix marker : List ℕ) (is : is_bucket bucket ≡ true) wher
 
   module _ {a b : History} where
     pub keys_told : {told : List NameItem} → AsksPage a b bucket prefix marker (Ok told) → Asks (always 1) a b IsSettled (TellsOf (TellsKeys bucket prefix marker)) (Ok told)
-    keys_told {told = told} (asked (Ok reply) calls comes) = asked_of keys_read calls (Ok told) (told_due prefix marker reply told comes) (λ e. cc)
+    keys_told {told = told} (asked (Ok reply) calls comes) = asked_of keys_read calls (Ok told) (inr (told_due prefix marker reply told comes)) (λ e. cc)
     keys_told (asked (Err swift.Failed) calls e) = cc
     keys_told (asked (Err swift.Memory) calls e) = cc
     keys_told (not_asked same e) = cc

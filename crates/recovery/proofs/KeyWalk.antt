@@ -18,15 +18,15 @@ use Rattle.list_pages.specs.Rolls.{Rolls, rows_of, wanted}
 use Rattle.list_pages.proofs.lemmas.Sorted.{rises_sorted, sorted_filter}
 use Rattle.list_pages.proofs.lemmas.Starting.{AllKept, rolled_none, rolled_before}
 use Rattle.recovery.specs.declared.fault.PlanFault.{PlanFault}
-use Rattle.recovery.specs.declared.fault.PlanFault.TheVariants.{Failed, Memory, Inconsistent}
 use Rattle.recovery.specs.Answers.{pages}
 use Rattle.recovery.specs.Keys.{keys_with, up_to, HasRolled, TellsListing, TellsTaken}
 use Rattle.recovery.specs.Listing.{TellsOf}
-use Rattle.recovery.specs.Calls.{Bound, always, by_account, GoesOn, Met, Keeps, Asks, Tells}
+use Rattle.recovery.specs.Calls.{Bound, always, by_account, GoesOn, Met, Asks, Tells}
 use Rattle.recovery.proofs.KeyPages.{keys_within}
 use Rattle.recovery.proofs.Taken.{keys_sorted, keys_fit}
 use Rattle.recovery.proofs.lemmas.Faults.{err_is}
 use Rattle.recovery.proofs.lemmas.Idle.{goes_none, goes_trans, none_made, grows_none}
+use Rattle.recovery.proofs.One.{tells_state}
 use Rattle.recovery.proofs.Walk.{Idles, idles_none, idles_trans, cause_after, keeps_after}
 
 -- ---- the keys up to the marker
@@ -175,15 +175,10 @@ module _ {a b : History} {bucket prefix : List ℕ} {roll : Rolls} (walked : Rol
           omega (arith, calls, before, fewer, within);
     };
     cause = cause_after T (List Item × Bool) a.faults b.faults c.faults f walked.faults asks.cause;
-    effect = λ met. as_told f (keeps_after T (List Item × Bool) P (λ tree told. TellsListing bucket asked (s3_state tree) told) b c a.called b.called c.called f walked.on.ordered
+    effect = λ met. tells_state (TellsListing bucket asked) c a.called c.called (Err f) (keeps_after T (List Item × Bool) P (λ tree told. TellsListing bucket asked (s3_state tree) told) b c a.called b.called c.called f walked.on.ordered
         (asks.grows.on.kept (walked.on.observable met.observable)) (walked.so met).idles (asks.effect (met_here met)));
     settled = λ observable settled. asks.settled (walked.on.observable observable) (walked.settled observable settled);
   })
-    where
-      as_told : (f : PlanFault) → Keeps c a.called c.called (TellsOf (λ tree told. TellsListing bucket asked (s3_state tree) told)) (Err f) → Keeps c a.called c.called (Tells (TellsListing bucket asked)) (Err f)
-      as_told Failed keeps = keeps
-      as_told Memory keeps = keeps
-      as_told Inconsistent never = never
 
 -- ---- no item is wanted
 

@@ -17,6 +17,7 @@ use Rattle.recovery.specs.declared.fault.PlanFault.{PlanFault}
 use Rattle.recovery.specs.declared.fault.PlanFault.TheVariants as fault
 use Rattle.recovery.specs.Fault.{plan_fault, CausesFault}
 use Rattle.recovery.specs.Interpret.{Gives}
+use Rattle.recovery.specs.Listing.{TellsOf}
 use Rattle.recovery.specs.Stutters.{LastFailed, was_lost, had_none}
 use Rattle.recovery.specs.Calls.{Bound, always, GoesOn, Met, Grows, Given, Keeps, Tells, Asks, Commits, Writes, Changes}
 use Rattle.recovery.proofs.lemmas.Causes.{due_cause}
@@ -83,32 +84,32 @@ lost_last {p = p} c = was_lost p (omega arith) c.next refl c.rose
 pub spent_last : {h : History} {p q : ℕ} → budget ≤ p → q ≡ p → LastFailed h p q
 spent_last {h = h} spent same = had_none (omega arith) (ap h.faults_at same) (ap (λ k. s3_state (h.tree_at k)) same)
 
--- ---- a call that tells of the state
+-- ---- a call that tells of the account
 
--- over each consistent and settled account the request leaves it, and its answer comes to what P says
-pub record IsReading {T : Type 0} (request : SwiftRequest) (due : SwiftReply → Result T PlanFault) (P : State → T → Type 0) : Type 0 where
+-- over each consistent account of which the given holds the request leaves it, and its answer comes to what P says
+pub record IsReadingOf {T : Type 0} (given : SwiftAccount → Type 0) (request : SwiftRequest) (due : SwiftReply → Result T PlanFault) (P : SwiftAccount → T → Type 0) : Type 0 where
   pub leaves : (tree : SwiftAccount) → (swift_step request tree).tree ≡ tree
-  pub tells : (tree : SwiftAccount) → IsConsistent tree → IsSettled tree → (reply : SwiftReply) → reply ≡ (swift_step request tree).reply → (told : T) × (due reply ≡ Ok told) × P (s3_state tree) told
+  pub tells : (tree : SwiftAccount) → IsConsistent tree → given tree → (reply : SwiftReply) → reply ≡ (swift_step request tree).reply → (told : T) × (due reply ≡ Ok told) × P tree told
 
-module _ {T : Type 0} {request : SwiftRequest} {due : SwiftReply → Result T PlanFault} {P : State → T → Type 0} (reading : IsReading request due P) (h : History) (p q : ℕ)
-    (sound : IsConsistent (h.tree_at p)) (settled : IsSettled (h.tree_at p)) where
+module _ {T : Type 0} {given : SwiftAccount → Type 0} {request : SwiftRequest} {due : SwiftReply → Result T PlanFault} {P : SwiftAccount → T → Type 0} (reading : IsReadingOf given request due P)
+    (h : History) (p q : ℕ) (sound : IsConsistent (h.tree_at p)) (has : given (h.tree_at p)) where
   left : Either h p q request → h.tree_at q ≡ h.tree_at p
   left (inl same) = same
   left (inr done) = done ∙ reading.leaves (h.tree_at p)
 
-  unread : (fault : SwiftFault) → Called h p q request (Err fault) → Keeps h p q (Tells P) (Err (plan_fault fault))
+  unread : (fault : SwiftFault) → Called h p q request (Err fault) → Keeps h p q (TellsOf P) (Err (plan_fault fault))
   unread Failed (inl c) = let next = c.next in (stays (omega arith) (omega arith) (left c.either) sound, lost_last c)
   unread Failed (inr (spent, same)) = (none_made same sound, spent_last spent same)
   unread Memory (inl c) = let next = c.next in (stays (omega arith) (omega arith) (left c.either) sound, c.quiet)
   unread Memory (inr same) = (none_made same sound, ap h.faults_at same)
 
-  read : (reply : SwiftReply) (result : Result T PlanFault) → Replied h p q request reply → Gives result (due reply) → Keeps h p q (Tells P) result
+  read : (reply : SwiftReply) (result : Result T PlanFault) → Replied h p q request reply → Gives result (due reply) → Keeps h p q (TellsOf P) result
   read reply result c (inl out_of_memory) =
-      subst (Keeps h p q (Tells P)) (sym out_of_memory) (let next = c.next in (stays (omega arith) (omega arith) (c.tree ∙ reading.leaves (h.tree_at p)) sound, c.quiet))
+      subst (Keeps h p q (TellsOf P)) (sym out_of_memory) (let next = c.next in (stays (omega arith) (omega arith) (c.tree ∙ reading.leaves (h.tree_at p)) sound, c.quiet))
   read reply result c (inr is) =
-      let told = reading.tells (h.tree_at p) sound settled reply c.reply in
+      let told = reading.tells (h.tree_at p) sound has reply c.reply in
       let same = c.tree ∙ reading.leaves (h.tree_at p) in
-      subst (Keeps h p q (Tells P)) (sym (is ∙ told.1)) (let next = c.next in (stays (omega arith) (omega arith) same sound, c.quiet, record { of_state = told.2; same = same }))
+      subst (Keeps h p q (TellsOf P)) (sym (is ∙ told.1)) (let next = c.next in (stays (omega arith) (omega arith) same sound, c.quiet, record { of_account = told.2; same = same }))
 
 -- memory ran out before the call
 pub not_asked : {T : Type 0} {given : SwiftAccount → Type 0} {P : SwiftAccount → SwiftAccount → T → Type 0} (most : Bound) (h : History) (result : Result T PlanFault) → IsErrAnd result (λ e. e ≡ fault.Memory) → Asks most h h given P result
@@ -116,32 +117,59 @@ not_asked {given = given} {P = P} most h result is =
     subst (Asks most h h given P) (sym (err_is result fault.Memory is)) (record { grows = grows_none most given h; cause = refl; effect = λ met. (none_made refl met.sound, refl); settled = λ observable settled. settled })
 
 -- a request that leaves each account leaves it settled
-leaves_settled : {T : Type 0} {request : SwiftRequest} {due : SwiftReply → Result T PlanFault} {P : State → T → Type 0} → IsReading request due P → LeavesSettled request
+leaves_settled : {T : Type 0} {given : SwiftAccount → Type 0} {request : SwiftRequest} {due : SwiftReply → Result T PlanFault} {P : SwiftAccount → T → Type 0} → IsReadingOf given request due P → LeavesSettled request
 leaves_settled reading tree settled = subst IsSettled (sym (reading.leaves tree)) settled
+
+module _ {T : Type 0} {given : SwiftAccount → Type 0} {request : SwiftRequest} {due : SwiftReply → Result T PlanFault} {P : SwiftAccount → T → Type 0} (reading : IsReadingOf given request due P)
+    {old new : History} where
+  -- it was not answered
+  pub asked_of_in_vain : {fault : SwiftFault} → Calls old new request (Err fault) → (result : Result T PlanFault) → IsErrAnd result (λ e. e ≡ plan_fault fault) → Asks (always 1) old new given (TellsOf P) result
+  asked_of_in_vain {fault = fault} calls result is = subst (Asks (always 1) old new given (TellsOf P)) (sym (err_is result (plan_fault fault) is)) (record {
+    grows = grows_one given calls;
+    cause = fault_cause T old.faults new.faults fault calls.faults;
+    effect = λ met.
+        let same = sym (found calls met.observable) in
+        unread reading new old.called new.called (subst IsConsistent same met.sound) (subst given same met.has) fault (calls.effect met.observable);
+    settled = stays_settled (leaves_settled reading) calls;
+  })
+
+  -- it was answered
+  pub asked_of : {reply : SwiftReply} → Calls old new request (Ok reply) → (result : Result T PlanFault) → Gives result (due reply) → result ≢ Err fault.Failed → Asks (always 1) old new given (TellsOf P) result
+  asked_of {reply = reply} calls result gives own = record {
+    grows = grows_one given calls;
+    cause = due_cause old.faults new.faults result calls.faults own;
+    effect = λ met.
+        let same = sym (found calls met.observable) in
+        read reading new old.called new.called (subst IsConsistent same met.sound) (subst given same met.has) reply result (calls.effect met.observable) gives;
+    settled = stays_settled (leaves_settled reading) calls;
+  }
+
+-- ---- a call that tells of the state
+
+-- over each consistent and settled account the request leaves it, and its answer comes to what P says of the state
+abbrev pub IsReading : {T : Type 0} → SwiftRequest → (SwiftReply → Result T PlanFault) → (State → T → Type 0) → Type 0
+IsReading request due P = IsReadingOf IsSettled request due (λ tree. P (s3_state tree))
+
+-- what is told of an account by its state
+pub tells_state : {T : Type 0} (P : State → T → Type 0) (h : History) (p q : ℕ) (result : Result T PlanFault) → Keeps h p q (TellsOf (λ tree. P (s3_state tree))) result → Keeps h p q (Tells P) result
+tells_state P h p q (Ok told) keeps = (keeps.0, keeps.1, record { of_state = keeps.2.of_account; same = keeps.2.same })
+tells_state P h p q (Err fault.Failed) keeps = keeps
+tells_state P h p q (Err fault.Memory) keeps = keeps
+tells_state P h p q (Err fault.Inconsistent) keeps = keeps
+
+asks_state : {T : Type 0} {P : State → T → Type 0} {most : Bound} {old new : History} {given : SwiftAccount → Type 0} {result : Result T PlanFault} → Asks most old new given (TellsOf (λ tree. P (s3_state tree))) result
+    → Asks most old new given (Tells P) result
+asks_state {P = P} {old = old} {new = new} {result = result} asks = record { grows = asks.grows; cause = asks.cause; effect = λ met. tells_state P new old.called new.called result (asks.effect met); settled = asks.settled }
 
 -- it was not answered
 pub asked_in_vain : {T : Type 0} {old new : History} {request : SwiftRequest} {due : SwiftReply → Result T PlanFault} {P : State → T → Type 0} {fault : SwiftFault} → IsReading request due P
     → Calls old new request (Err fault) → (result : Result T PlanFault) → IsErrAnd result (λ e. e ≡ plan_fault fault) → Asks (always 1) old new IsSettled (Tells P) result
-asked_in_vain {T = T} {old = old} {new = new} {P = P} {fault = fault} reading calls result is = subst (Asks (always 1) old new IsSettled (Tells P)) (sym (err_is result (plan_fault fault) is)) (record {
-  grows = grows_one IsSettled calls;
-  cause = fault_cause T old.faults new.faults fault calls.faults;
-  effect = λ met.
-      let same = sym (found calls met.observable) in
-      unread reading new old.called new.called (subst IsConsistent same met.sound) (subst IsSettled same met.has) fault (calls.effect met.observable);
-  settled = stays_settled (leaves_settled reading) calls;
-})
+asked_in_vain reading calls result is = asks_state (asked_of_in_vain reading calls result is)
 
 -- it was answered
 pub asked : {T : Type 0} {old new : History} {request : SwiftRequest} {due : SwiftReply → Result T PlanFault} {P : State → T → Type 0} {reply : SwiftReply} → IsReading request due P
     → Calls old new request (Ok reply) → (result : Result T PlanFault) → Gives result (due reply) → result ≢ Err fault.Failed → Asks (always 1) old new IsSettled (Tells P) result
-asked {old = old} {new = new} {reply = reply} reading calls result gives own = record {
-  grows = grows_one IsSettled calls;
-  cause = due_cause old.faults new.faults result calls.faults own;
-  effect = λ met.
-      let same = sym (found calls met.observable) in
-      read reading new old.called new.called (subst IsConsistent same met.sound) (subst IsSettled same met.has) reply result (calls.effect met.observable) gives;
-  settled = stays_settled (leaves_settled reading) calls;
-}
+asked reading calls result gives own = asks_state (asked_of reading calls result gives own)
 
 -- ---- a call that may change the state
 

@@ -16,7 +16,7 @@ use Rattle.swift_calls.specs.declared.calls.SwiftRequest.TheVariants.{ListContai
 use Rattle.upload_records.specs.Consistent.{IsConsistent}
 use Rattle.recovery.specs.Listing.{after, ascends, most_names, names_due, next_marker, MayListAfter, GoesOnAfter, TellsPage, TellsNext}
 use Rattle.recovery.proofs.Ascending.{after_at, after_later, filter_ascends, keys_ascend}
-use Rattle.recovery.proofs.Ask.{IsReadingOf}
+use Rattle.recovery.proofs.One.{IsReadingOf}
 use Rattle.list_pages.specs.Listing.{Ascends}
 use Rattle.list_pages.proofs.lemmas.Sorted.{sorted_filter}
 use Rattle.recovery.specs.declared.fault.PlanFault.TheVariants.{Inconsistent}

@@ -1,6 +1,6 @@
-use Rattle.recovery.proofs.Ask.{asked_of, asked_of_in_vain}
+use Rattle.std.proofs.Common.{inr}
 use Rattle.recovery.proofs.Created.{created_reads}
-use Rattle.recovery.proofs.One.{not_asked}
+use Rattle.recovery.proofs.One.{not_asked, asked_of, asked_of_in_vain}
 use Rattle.recovery.proofs.listing.created.Goals as goal
 
 pub returns-in_err-copy-clause-asks : goal.returns-in_err-copy-clause-asks
@@ -10,4 +10,4 @@ pub returns-in_err-reply-clause-asks : goal.returns-in_err-reply-clause-asks
 returns-in_err-reply-clause-asks g c = asked_of_in_vain (created_reads c.in_ok-copy.ensures c.requires) c.in_err-reply.ensures _ c.from_residual-in_err-reply.ensures.1
 
 pub returns-clause-asks : goal.returns-clause-asks
-returns-clause-asks g c = asked_of (created_reads c.in_ok-copy.ensures c.requires) c.in_ok-reply.ensures _ c.created_in.ensures.due c.created_in.ensures.own
+returns-clause-asks g c = asked_of (created_reads c.in_ok-copy.ensures c.requires) c.in_ok-reply.ensures _ (inr c.created_in.ensures.due) c.created_in.ensures.own
