@@ -5,6 +5,7 @@ mod effects;
 mod faults;
 mod folder;
 mod kept;
+mod laws;
 mod map_shelf;
 mod reading;
 mod replies;
@@ -14,6 +15,7 @@ mod store_link;
 mod table;
 
 pub use faults::StoreFault;
+pub use laws::{law_has_spelling, law_stays_made};
 pub use map_shelf::MapShelf;
 pub use shelf::Shelf;
 pub use store::{Store, serve};

@@ -7,4 +7,6 @@ pub mod ListRows
 pub mod ReadBack
 pub mod ReadersRow
 pub mod ReadsBack
+pub mod Sizes
+pub mod SmallHeads
 pub mod ValueRows
