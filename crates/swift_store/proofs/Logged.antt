@@ -96,7 +96,7 @@ module _ {E T : Type 0} (told : T → Bool) (account : T → SwiftAccount) (was 
 
       either_by : (call : SwiftRequest) → (account new ≡ account old) ⊎ (account new ≡ (swift_step call (account old)).tree)
           → (account (state_at was (log ++ e ∷ []) new (length (log ++ e ∷ []))) ≡ account (state_at was (log ++ e ∷ []) new (length log)))
-            ⊎ (account (state_at was (log ++ e ∷ []) new (length (log ++ e ∷ []))) ≡ (swift_step call (account (state_at was (log ++ e ∷ []) new (length log)))).tree)
+          ⊎ (account (state_at was (log ++ e ∷ []) new (length (log ++ e ∷ []))) ≡ (swift_step call (account (state_at was (log ++ e ∷ []) new (length log)))).tree)
       either_by call (inl same) = inl (after ∙ same ∙ sym before)
       either_by call (inr done) = inr (stepped call done)
 
@@ -116,9 +116,10 @@ module _ {E T : Type 0} (told : T → Bool) (account : T → SwiftAccount) (was 
             faults = risen _ _ (one_lost lost log e (is_lost ∙ is_none));
             observable = on;
             kept = λ o. kept_by;
-            effect = λ o call fit spells.
-                (either_by call (subst (λ b. Hands call (account old) (account new) answer (Ok b)) is_none (hands o call fit spells)),
-                risen _ _ (lost_at_end ∙ one_lost lost log e (is_lost ∙ is_none) ∙ ap (λ n. n + 1) (sym lost_before)));
+            effect = λ o call fit spells. (
+              either_by call (subst (λ b. Hands call (account old) (account new) answer (Ok b)) is_none (hands o call fit spells)),
+              risen _ _ (lost_at_end ∙ one_lost lost log e (is_lost ∙ is_none) ∙ ap (λ n. n + 1) (sym lost_before)),
+            );
           })
 
       -- or answered

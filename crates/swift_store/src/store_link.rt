@@ -9,7 +9,7 @@ ghost use Rattle.swift_calls.specs.Step.{Fit};
 ghost use Rattle.swift_calls.specs.declared.calls.SwiftRequest.{SwiftRequest};
 ghost use Rattle.swift_wire.specs.Calls.{SpellsRequest};
 ghost use Rattle.swift_store.specs.Handing.{Goes, Hands};
-ghost use Rattle.swift_store.specs.Log.{history_by, lost_after};
+ghost use Rattle.swift_store.specs.Log.{IsFresh, history_by, lost_after};
 
 use crate::{Shelf, Store};
 use gate_base::{Bytes, Counted, List, Memory};
@@ -39,8 +39,8 @@ impl<S: Shelf> StoreLink<S> {
     /// A link to the store. The exchanges numbered in `before` lose their request, and those in `after` their answer; a
     /// number in both lists counts as one of `before`. No exchange was made.
     pub fn new(store: Store<S>, before: List<u64>, after: List<u64>) -> StoreLink<S>
-        ensures store { result.store ≡ store }
-        ensures log { result.log.items ≡ [] }
+        ensures fresh { IsFresh (S.observable store.shelf) (S.account store.shelf) (⟦<StoreLink<S> as Link>⟧.history result) }
+        ensures place { ⟦<StoreLink<S> as Link>⟧.place result ≡ store.place }
         ensures before { result.before ≡ before }
         ensures after { result.after ≡ after }
     {
