@@ -1,5 +1,5 @@
 //! A link to a store that is at hand.
-ghost use Rattle.std.specs.Prelude.{◌≡◌, ◌<◌, ◌≤◌, [], ◌∷◌, ◌++◌, length, take, count_by, vec_len, vec_capacity, IsTrue, OnErr};
+ghost use Rattle.std.specs.Prelude.{◌≡◌, ◌<◌, ◌≤◌, ◌^◌, [], ◌∷◌, ◌++◌, length, take, count_by, vec_len, vec_capacity, IsTrue, OnErr};
 ghost use Rattle.std.proofs.Common.{refl, ap, subst};
 ghost use Rattle.std.proofs.Math.Seq.{take-length};
 ghost use Rattle.std.proofs.lemmas.List.{take-take};
@@ -88,8 +88,8 @@ fn hand_by<S: Shelf>(
     ensures observable { IsTrue (S.observable store.old.shelf) → IsTrue (S.observable store.new.shelf) }
     ensures same { IsTrue (S.observable store.old.shelf) → OnErr result (S.account store.new.shelf ≡ S.account store.old.shelf) }
     ensures goes { Goes (λ s. S.faults s.shelf) outcome store.old store.new result }
-    ensures hands { answer.old ≡ [] → IsTrue (S.observable store.old.shelf) → (call : SwiftRequest) → Fit call → SpellsRequest store.old.place call request.now
-        → Hands call (S.account store.old.shelf) (S.account store.new.shelf) answer.new result }
+    ensures hands { answer.old ≡ [] → length answer.new < 2 ^ 63 → IsTrue (S.observable store.old.shelf) → (call : SwiftRequest) → Fit call
+        → SpellsRequest store.old.place call request.now → Hands call (S.account store.old.shelf) (S.account store.new.shelf) answer.new result }
 {
     match outcome {
         Outcome::LostBefore => Ok(true),
