@@ -1,10 +1,14 @@
 //! A store at the end of a TCP connection, and one over a shelf that is at hand.
+ghost use Rattle.std.specs.Prelude.{true, IfOk};
+ghost use Rattle.std.specs.FinMap.{empty};
 ghost use Rattle.swift_wire.specs.Place.{IsPlace};
+ghost use Rattle.swift_store.specs.Log.{IsFresh};
 
 use crate::{SwiftClient, TcpLink};
 use gate_base::{Bytes, Copying, List, Memory};
 use std::alloc::Global;
 use std::net::Net;
+use swift_calls::Swift;
 use swift_store::{MapShelf, Shelf, Store, StoreLink};
 use swift_wire::Place;
 
@@ -33,14 +37,18 @@ pub fn client_over<S: Shelf + Drop>(
     after: List<u64>,
 ) -> Result<SwiftClient<StoreLink<S>>, Memory>
     requires { IsPlace place }
+    ensures { IfOk result (λ store. IsFresh (S.observable shelf) (S.account shelf) (⟦<SwiftClient<StoreLink<S>> as Swift>⟧.history store)) }
 {
-    let store = Store::new(alloc, shelf, place.copy()?);
+    let there = place.copy()?;
+    let store = Store::new(alloc, shelf, there);
     let link = StoreLink::new(store, before, after);
     Ok(SwiftClient::new(alloc, link, place))
 }
 
-/// A store in memory without a container.
-pub fn memory_store(alloc: Global) -> Result<SwiftClient<StoreLink<MapShelf>>, Memory> {
+/// A store in memory without a container. Each call is answered, as far as memory goes.
+pub fn memory_store(alloc: Global) -> Result<SwiftClient<StoreLink<MapShelf>>, Memory>
+    ensures { IfOk result (λ store. IsFresh true empty (⟦<SwiftClient<StoreLink<MapShelf>> as Swift>⟧.history store)) }
+{
     let place = memory_place(alloc)?;
     let shelf = MapShelf::new(alloc);
     client_over(alloc, shelf, place, List::new(alloc), List::new(alloc))
