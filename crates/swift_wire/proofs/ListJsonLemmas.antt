@@ -1,7 +1,5 @@
 -- The text of a listing is read as the JSON that it was written for, and that as the listing.
-use Rattle.std.proofs.Common.{
-  ◌≡◌, ◌<◌, ◌≤◌, ◌^◌, ℕ, Bool, true, false, List, [], ◌∷◌, ◌++◌, map, codes, decimal, IsUtf8, Option, Some, option_map, option_and_then, refl, sym, ap, ◌∙◌, arith, append-nil
-}
+use Rattle.std.proofs.Common.{◌≡◌, ℕ, ◌^◌, ◌<◌, ◌≤◌, Bool, true, false, List, [], ◌∷◌, ◌++◌, map, codes, decimal, IsUtf8, Option, Some, option_map, option_and_then, refl, sym, ap, ◌∙◌, arith, append-nil}
 use Rattle.std.specs.Prelude.{⊤}
 use Rattle.std.specs.List.{list_all}
 use Rattle.std.specs.Str.{is_utf8}
@@ -97,8 +95,7 @@ items_back ds all =
     ap (option_and_then as_array) (sym (json_read (compact_text (array ds)) (array ds) (behind 91 _ refl (items_utf8 false ds all)) (text_value ds all)))
 
 module _ {X : Type 0} (test : X → Bool) (entry : X → Data) (f : Data → Option X)
-  (written : (x : X) → test x ≡ true → IsRead (entry x)) (back : (x : X) → test x ≡ true → f (entry x) ≡ Some x) where
-
+    (written : (x : X) → test x ≡ true → IsRead (entry x)) (back : (x : X) → test x ≡ true → f (entry x) ≡ Some x) where
   are_read : (xs : List X) → list_all test xs ≡ true → AreRead (items_of (map entry xs))
   are_read [] all = tt
   are_read (x ∷ xs) all =
@@ -133,10 +130,10 @@ container_read name fine = record {
   numbers = (IsNumber-decimal 0 zero_fits, (IsNumber-decimal 0 zero_fits, (tt, tt)));
   flat = refl;
   text =
-    behind 123 _ refl
-    (one_member false (codes "bytes") _ _ refl (utf8_number 0 zero_fits)
-    (one_member true (codes "count") _ _ refl (utf8_number 0 zero_fits)
-    (one_member true (codes "name") _ _ refl (utf8_text name fine) closed)));
+      behind 123 _ refl
+      (one_member false (codes "bytes") _ _ refl (utf8_number 0 zero_fits)
+      (one_member true (codes "count") _ _ refl (utf8_number 0 zero_fits)
+      (one_member true (codes "name") _ _ refl (utf8_text name fine) closed)));
 }
 
 pub container_back : (name : List ℕ) → is_utf8 name ≡ true → container_name (container_value name) ≡ Some name
@@ -150,12 +147,12 @@ item_read i fine =
       numbers = (IsNumber-decimal i.size parts.size, (tt, (tt, (tt, (tt, tt)))));
       flat = refl;
       text =
-        behind 123 _ refl
-        (one_member false (codes "bytes") _ _ refl (utf8_number i.size parts.size)
-        (one_member true (codes "content_type") _ _ refl (utf8_text i.content_type parts.content_type)
-        (one_member true (codes "hash") _ _ refl (utf8_text i.hash parts.hash)
-        (one_member true (codes "last_modified") _ _ refl (IsUtf8-quoted _ (IsUtf8-are_ascii (codes "1970-01-01T00:00:00.000000") refl))
-        (one_member true (codes "name") _ _ refl (utf8_text i.name parts.name) closed)))));
+          behind 123 _ refl
+          (one_member false (codes "bytes") _ _ refl (utf8_number i.size parts.size)
+          (one_member true (codes "content_type") _ _ refl (utf8_text i.content_type parts.content_type)
+          (one_member true (codes "hash") _ _ refl (utf8_text i.hash parts.hash)
+          (one_member true (codes "last_modified") _ _ refl (IsUtf8-quoted _ (IsUtf8-are_ascii (codes "1970-01-01T00:00:00.000000") refl))
+          (one_member true (codes "name") _ _ refl (utf8_text i.name parts.name) closed)))));
     }
 
 pub item_back : (i : NameItem) → is_item i ≡ true → name_item (item_value i) ≡ Some i
