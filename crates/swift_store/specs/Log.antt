@@ -5,11 +5,11 @@ use Rattle.swift_calls.specs.Account.{SwiftAccount}
 use Rattle.swift_calls.specs.History.{History, present}
 
 -- a history at its beginning: no call was counted, none failed, and the account is this one
-pub record IsFresh (observable : Bool) (account : SwiftAccount) (h : History) : Type 0 where
+pub record IsFresh (told : Bool) (held : SwiftAccount) (h : History) : Type 0 where
   pub called : h.called ≡ 0
   pub faults : h.faults ≡ 0
-  pub observable : h.observable ≡ observable
-  pub account : present h ≡ account
+  pub observable : h.observable ≡ told
+  pub account : present h ≡ held
 
 -- what stood after so many of the exchanges: what the next one found, or what is there now
 abbrev pub state_at : {E T : Type 0} → (E → T) → List E → T → ℕ → T
