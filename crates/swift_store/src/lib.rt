@@ -10,6 +10,7 @@ mod map_shelf;
 mod reading;
 mod replies;
 mod shelf;
+mod shelf_ref;
 mod store;
 mod store_link;
 mod table;
