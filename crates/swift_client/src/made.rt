@@ -1,10 +1,14 @@
 //! A store at the end of a TCP connection, and one over a shelf that is at hand.
+ghost use Rattle.std.specs.Prelude.{true, IfOk};
+ghost use Rattle.std.specs.FinMap.{empty};
 ghost use Rattle.swift_wire.specs.Place.{IsPlace};
+ghost use Rattle.swift_store.specs.Log.{IsFresh};
 
 use crate::{SwiftClient, TcpLink};
 use gate_base::{Bytes, Copying, List, Memory};
 use std::alloc::Global;
 use std::net::Net;
+use swift_calls::Swift;
 use swift_store::{MapShelf, Shelf, Store, StoreLink};
 use swift_wire::Place;
 
@@ -25,6 +29,7 @@ pub fn over_tcp<R: Net + Drop>(
 
 /// A store whose calls are served from the shelf, as requests and answers at `place`. The calls numbered in `before`, from
 /// 1, lose their request, and those in `after` their answer.
+#[tactic(auto, using(crate::proofs::Made::fresh_over))]
 pub fn client_over<S: Shelf + Drop>(
     alloc: Global,
     shelf: S,
@@ -33,20 +38,26 @@ pub fn client_over<S: Shelf + Drop>(
     after: List<u64>,
 ) -> Result<SwiftClient<StoreLink<S>>, Memory>
     requires { IsPlace place }
+    ensures { IfOk result (λ store. IsFresh (S.observable shelf) (S.account shelf) (⟦<SwiftClient<StoreLink<S>> as Swift>⟧.history store)) }
 {
-    let store = Store::new(alloc, shelf, place.copy()?);
+    let there = place.copy()?;
+    let store = Store::new(alloc, shelf, there);
     let link = StoreLink::new(store, before, after);
     Ok(SwiftClient::new(alloc, link, place))
 }
 
-/// A store in memory without a container.
-pub fn memory_store(alloc: Global) -> Result<SwiftClient<StoreLink<MapShelf>>, Memory> {
+/// A store in memory without a container. Each call is answered, as far as memory goes.
+#[tactic(auto, using(crate::proofs::Made::fresh_empty))]
+pub fn memory_store(alloc: Global) -> Result<SwiftClient<StoreLink<MapShelf>>, Memory>
+    ensures { IfOk result (λ store. IsFresh true empty (⟦<SwiftClient<StoreLink<MapShelf>> as Swift>⟧.history store)) }
+{
     let place = memory_place(alloc)?;
     let shelf = MapShelf::new(alloc);
     client_over(alloc, shelf, place, List::new(alloc), List::new(alloc))
 }
 
 /// The place of a store that is reached over no network.
+#[tactic(auto, using(crate::proofs::Made::memory_is_place))]
 fn memory_place(alloc: Global) -> Result<Place, Memory>
     ensures { IfOk result IsPlace }
 {

@@ -1,5 +1,5 @@
 -- What handing the bytes of a request to a store comes to, by what serving its message did.
-use Rattle.std.specs.Prelude.{◌≡◌, ◌⊎◌, ℕ, Bool, true, false, IsTrue, List, [], ◌++◌, length, take, Option, Some, None, Result, Ok, Err}
+use Rattle.std.specs.Prelude.{◌≡◌, ◌⊎◌, ℕ, ◌<◌, ◌^◌, Bool, true, false, IsTrue, List, [], ◌++◌, length, take, Option, Some, None, Result, Ok, Err}
 use Rattle.std.proofs.Common.{refl, sym, ap, subst, ◌∙◌, inl, inr}
 use Rattle.std.proofs.Math.Nat.{le_refl}
 use Rattle.std.proofs.Math.Seq.{take-length}
@@ -18,7 +18,8 @@ use Rattle.swift_wire.specs.Place.{HasToken}
 use Rattle.swift_wire.specs.declared.place.Place.{Place}
 use Rattle.swift_store.specs.Handing.{Hands, IsMessageIn}
 use Rattle.swift_store.specs.Serving.{Answers, Served}
-use Rattle.swift_store.specs.declared.faults.StoreFault.TheVariants.{Failed, Memory}
+use Rattle.swift_store.specs.declared.faults.StoreFault.{StoreFault}
+use Rattle.swift_store.specs.declared.faults.StoreFault.TheVariants.{Failed}
 
 one_message : (bytes : List ℕ) (a b : Message) → Spells bytes a → Spells bytes b → a ≡ b
 one_message bytes a b is_a is_b =
@@ -38,25 +39,29 @@ module _ (place : Place) (message : Message) (bytes : List ℕ) (call : SwiftReq
 
   module _ (told : Bool) (old new : SwiftAccount) (before after : List ℕ) (empty : before ≡ []) (o : IsTrue told) where
     -- it was answered
-    pub handed : SpellsAnswer call (swift_step call old).reply (answer_text call (swift_step call old).reply) → Served told place message old new before after (Ok tt)
-        → Hands call old new after (Ok false)
-    handed reads (inl (stranger, refused)) = absurd (stranger is_call.0)
-    handed reads (inr (inl (none, refused))) = absurd (none.1 call is_call.1)
-    handed reads (inr (inr (other, is_other, reply, text, done))) =
-        let same = same_call place message other call is_other.1 is_call.1 in
-        let said : reply ≡ (swift_step call old).reply = (done o).0 ∙ ap (λ c. (swift_step c old).reply) same in
-        let all : after ≡ answer_text call (swift_step call old).reply = text ∙ ap (λ b. b ++ answer_text other reply) empty ∙ (λ i. answer_text (same i) (said i)) in
-        (subst (λ t. SpellsAnswer call (swift_step call old).reply t) (sym all) reads, (done o).1 ∙ ap (λ c. (swift_step c old).tree) same)
+    pub handed : Served told place message old new before after (Ok tt) → (length (answer_text call (swift_step call old).reply) < 2 ^ 63 → SpellsAnswer call (swift_step call old).reply (answer_text call (swift_step call old).reply))
+        → length after < 2 ^ 63 → Hands call old new after (Ok false)
+    handed (inl (stranger, refused)) reads bound = absurd (stranger is_call.0)
+    handed (inr (inl (none, refused))) reads bound = absurd (none.1 call is_call.1)
+    handed (inr (inr (other, is_other, answers))) reads bound = by answers
+      where
+        by : Answers told other old new before after (Ok tt) → Hands call old new after (Ok false)
+        by (reply, text, done) =
+            let same : other ≡ call = same_call place message other call is_other.1 is_call.1 in
+            let said : reply ≡ (swift_step call old).reply = (done o).0 ∙ ap (λ c. (swift_step c old).reply) same in
+            let all : after ≡ answer_text call (swift_step call old).reply = text ∙ ap (λ b. b ++ answer_text other reply) empty ∙ (λ i. answer_text (same i) (said i)) in
+            (subst (λ t. SpellsAnswer call (swift_step call old).reply t) (sym all) (reads (subst (λ t. length t < 2 ^ 63) all bound)), (done o).1 ∙ ap (λ c. (swift_step c old).tree) same)
 
     -- the shelf failed
-    pub failed : Served told place message old new before after (Err Failed) → Hands call old new after (Ok true)
-    failed (other, is_other, text, done) =
-        let same = same_call place message other call is_other.1 is_call.1 in
-        by same (done o)
+    pub failed : (fault : StoreFault) → fault ≡ Failed → Served told place message old new before after (Err fault) → Hands call old new after (Ok true)
+    failed fault is served = by (subst (λ f. Served told place message old new before after (Err f)) is served)
       where
-        by : other ≡ call → (new ≡ old) ⊎ (new ≡ (swift_step other old).tree) → (new ≡ old) ⊎ (new ≡ (swift_step call old).tree)
-        by same (inl stayed) = inl stayed
-        by same (inr all) = inr (all ∙ ap (λ c. (swift_step c old).tree) same)
+        either : (other : SwiftRequest) → other ≡ call → (new ≡ old) ⊎ (new ≡ (swift_step other old).tree) → (new ≡ old) ⊎ (new ≡ (swift_step call old).tree)
+        either other same (inl stayed) = inl stayed
+        either other same (inr all) = inr (all ∙ ap (λ c. (swift_step c old).tree) same)
+
+        by : Served told place message old new before after (Err Failed) → Hands call old new after (Ok true)
+        by (other, is_other, answers) = either other (same_call place message other call is_other.1 is_call.1) (answers.1 o)
 
 -- bytes that spell a request are a message
 pub no_request : {A : Type 0} (place : Place) (bytes : List ℕ) (call : SwiftRequest) → ((message : Message) → ¬ (Spells bytes message)) → SpellsRequest place call bytes → A

@@ -1,10 +1,13 @@
 -- What a link tells that writes down what each exchange found: its history, and what one more exchange does to it.
-use Rattle.std.specs.Prelude.{◌≡◌, ◌⊎◌, ℕ, zero, suc, ◌≤◌, ◌+◌, Bool, true, false, cond, List, [], ◌∷◌, ◌++◌, length, take, count_by, IsTrue, Result, Ok, Err}
+use Rattle.std.specs.Prelude.{◌≡◌, ◌⊎◌, ℕ, zero, suc, ◌≤◌, ◌<◌, ◌^◌, ◌+◌, Bool, true, false, cond, List, [], ◌∷◌, ◌++◌, length, take, count_by, IsTrue, Result, Ok, Err}
 use Rattle.std.proofs.Common.{refl, sym, ap, subst, ◌∙◌, inl, inr, arith, length-append}
 use Rattle.std.proofs.Math.Nat.{le_refl}
 use Rattle.std.proofs.Math.Seq.{take-length}
 use Rattle.std.proofs.lemmas.List.{take-append-le}
 use Rattle.std.proofs.lemmas.List.Sums.{sum_by_push}
+use Rattle.std.proofs.lemmas.Result.{err_from_is_err_and}
+use Rattle.std.specs.Result.{IsErrAnd}
+use Rattle.std.specs.Global.{Vec}
 use Rattle.gate_base.specs.Causes.{Rose}
 use Rattle.swift_calls.specs.Account.{SwiftAccount}
 use Rattle.swift_calls.specs.Step.{Fit, swift_step}
@@ -18,6 +21,10 @@ use Rattle.swift_wire.specs.declared.link.LinkFault.{LinkFault}
 use Rattle.swift_wire.specs.declared.link.LinkFault.TheVariants.{Failed as NoLink, Memory as NoMemory}
 use Rattle.swift_store.specs.Handing.{Hands}
 use Rattle.swift_store.specs.Log.{state_at, lost_after, history_by}
+
+-- a vector has fewer than 2^63 items
+pub vec_small : (v : Vec ℕ) → length v.items < 2 ^ 63
+vec_small v = let ok = v.ok in let small = v.small in omega (arith, ok, small)
 
 -- ---- the states
 
@@ -68,7 +75,7 @@ risen before now e = omega (arith, e)
 module _ {E T : Type 0} (told : T → Bool) (account : T → SwiftAccount) (was : E → T) (lost : E → Bool) where
   module _ (place : Place) (request reply : List ℕ) (log : List E) (old new : T) (on : IsTrue (told old) → IsTrue (told new)) where
     -- memory ran out, and nothing was written down
-    pub wanted : (log' : List E) → log' ≡ log → (IsTrue (told old) → account new ≡ account old)
+    wanted : (log' : List E) → log' ≡ log → (IsTrue (told old) → account new ≡ account old)
         → Exchanges place (history_by told account was lost log old) request reply (Err NoMemory) (history_by told account was lost log' new)
     wanted log' e same = subst (λ (l : List E). Exchanges place (history_by told account was lost log old) request reply (Err NoMemory) (history_by told account was lost l new)) (sym e)
         (record {
@@ -96,7 +103,7 @@ module _ {E T : Type 0} (told : T → Bool) (account : T → SwiftAccount) (was 
 
       either_by : (call : SwiftRequest) → (account new ≡ account old) ⊎ (account new ≡ (swift_step call (account old)).tree)
           → (account (state_at was (log ++ e ∷ []) new (length (log ++ e ∷ []))) ≡ account (state_at was (log ++ e ∷ []) new (length log)))
-            ⊎ (account (state_at was (log ++ e ∷ []) new (length (log ++ e ∷ []))) ≡ (swift_step call (account (state_at was (log ++ e ∷ []) new (length log)))).tree)
+          ⊎ (account (state_at was (log ++ e ∷ []) new (length (log ++ e ∷ []))) ≡ (swift_step call (account (state_at was (log ++ e ∷ []) new (length log)))).tree)
       either_by call (inl same) = inl (after ∙ same ∙ sym before)
       either_by call (inr done) = inr (stepped call done)
 
@@ -107,7 +114,7 @@ module _ {E T : Type 0} (told : T → Bool) (account : T → SwiftAccount) (was 
       lost_before = lost_kept lost log e (length log) (le_refl (length log)) ∙ lost_of_all lost log
 
       -- the exchange was lost
-      pub noted_lost : (answer : List ℕ) (none : Bool) → none ≡ true → lost e ≡ none → (log' : List E) → log' ≡ log ++ e ∷ []
+      noted_lost : (answer : List ℕ) (none : Bool) → none ≡ true → lost e ≡ none → (log' : List E) → log' ≡ log ++ e ∷ []
           → (IsTrue (told old) → (call : SwiftRequest) → Fit call → SpellsRequest place call request → Hands call (account old) (account new) answer (Ok none))
           → Exchanges place (history_by told account was lost log old) request reply (Err NoLink) (history_by told account was lost log' new)
       noted_lost answer none is_none is_lost log' more hands = subst (λ (l : List E). Exchanges place (history_by told account was lost log old) request reply (Err NoLink) (history_by told account was lost l new)) (sym more)
@@ -116,13 +123,14 @@ module _ {E T : Type 0} (told : T → Bool) (account : T → SwiftAccount) (was 
             faults = risen _ _ (one_lost lost log e (is_lost ∙ is_none));
             observable = on;
             kept = λ o. kept_by;
-            effect = λ o call fit spells.
-                (either_by call (subst (λ b. Hands call (account old) (account new) answer (Ok b)) is_none (hands o call fit spells)),
-                risen _ _ (lost_at_end ∙ one_lost lost log e (is_lost ∙ is_none) ∙ ap (λ n. n + 1) (sym lost_before)));
+            effect = λ o call fit spells. (
+              either_by call (subst (λ b. Hands call (account old) (account new) answer (Ok b)) is_none (hands o call fit spells)),
+              risen _ _ (lost_at_end ∙ one_lost lost log e (is_lost ∙ is_none) ∙ ap (λ n. n + 1) (sym lost_before)),
+            );
           })
 
       -- or answered
-      pub noted_answered : (none : Bool) → none ≡ false → lost e ≡ none → (log' : List E) → log' ≡ log ++ e ∷ []
+      noted_answered : (none : Bool) → none ≡ false → lost e ≡ none → (log' : List E) → log' ≡ log ++ e ∷ []
           → (IsTrue (told old) → (call : SwiftRequest) → Fit call → SpellsRequest place call request → Hands call (account old) (account new) reply (Ok none))
           → Exchanges place (history_by told account was lost log old) request reply (Ok tt) (history_by told account was lost log' new)
       noted_answered none is_none is_lost log' more hands = subst (λ (l : List E). Exchanges place (history_by told account was lost log old) request reply (Ok tt) (history_by told account was lost l new)) (sym more)
@@ -140,3 +148,26 @@ module _ {E T : Type 0} (told : T → Bool) (account : T → SwiftAccount) (was 
                   quiet = lost_at_end ∙ none_lost lost log e (is_lost ∙ is_none) ∙ sym lost_before;
                 };
           })
+
+    -- the same, by what each step of the exchange gave
+    pub wanted_by : (log' : List E) → log' ≡ log → (IsTrue (told old) → account new ≡ account old) → (result : Result (Unit {0}) LinkFault) → IsErrAnd result (λ fault. fault ≡ NoMemory)
+        → Exchanges place (history_by told account was lost log old) request reply result (history_by told account was lost log' new)
+    wanted_by log' e same result is =
+        let p = err_from_is_err_and result is in
+        subst (λ (r : Result (Unit {0}) LinkFault). Exchanges place (history_by told account was lost log old) request reply r (history_by told account was lost log' new)) (sym (p.1 ∙ ap Err p.2)) (wanted log' e same)
+
+    module _ (middle log' : List E) (later : T) (e : E) (same : middle ≡ log) (more : log' ≡ middle ++ e ∷ []) (stays : later ≡ new) (is : was e ≡ old) where
+      grown : log' ≡ log ++ e ∷ []
+      grown = more ∙ ap (λ (l : List E). l ++ e ∷ []) same
+
+      pub lost_by : (answer : List ℕ) (none : Bool) → none ≡ true → lost e ≡ none
+          → (IsTrue (told old) → (call : SwiftRequest) → Fit call → SpellsRequest place call request → Hands call (account old) (account new) answer (Ok none))
+          → Exchanges place (history_by told account was lost log old) request reply (Err NoLink) (history_by told account was lost log' later)
+      lost_by answer none is_none is_lost hands = subst (λ (s : T). Exchanges place (history_by told account was lost log old) request reply (Err NoLink) (history_by told account was lost log' s)) (sym stays)
+          (noted_lost e is answer none is_none is_lost log' grown hands)
+
+      pub answered_by : (none : Bool) → none ≡ false → lost e ≡ none
+          → (IsTrue (told old) → (call : SwiftRequest) → Fit call → SpellsRequest place call request → Hands call (account old) (account new) reply (Ok none))
+          → Exchanges place (history_by told account was lost log old) request reply (Ok tt) (history_by told account was lost log' later)
+      answered_by none is_none is_lost hands = subst (λ (s : T). Exchanges place (history_by told account was lost log old) request reply (Ok tt) (history_by told account was lost log' s)) (sym stays)
+          (noted_answered e is none is_none is_lost log' grown hands)

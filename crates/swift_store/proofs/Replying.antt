@@ -17,7 +17,9 @@ use Rattle.swift_calls.specs.declared.heads.StoredHead.{StoredHead}
 use Rattle.swift_calls.specs.declared.heads.NameItem.{NameItem}
 use Rattle.swift_calls.specs.declared.calls.SwiftRequest.TheVariants.{HeadContainer, PutContainer, PostContainer, DeleteContainer, ListNames, PutObject, HeadObject, GetObject, DeleteObject}
 use Rattle.swift_calls.specs.declared.calls.SwiftReply.TheVariants.{Made, There, Gone, Stored, NotFound, NotEmpty, Unsatisfiable, Readers, Names, Head, Bytes}
-use Rattle.swift_store.specs.Shelf.{HasNoLists, container_head, object_page, part, part_of}
+use Rattle.swift_store.specs.Made.{IsMade}
+use Rattle.swift_store.specs.Shelf.{container_head, object_page, part, part_of}
+use Rattle.swift_store.proofs.MadeChanges.{made_found}
 use Rattle.swift_store.specs.Serving.{bounds}
 
 -- ---- containers
@@ -204,18 +206,14 @@ module _ (looks : Look) (content_type : List ℕ) (meta : List (List ℕ)) where
   beyond_content range (Segments segments) plain e = absurd (true≢false plain)
 
 -- an object that is found lists no segments
-plain_found : (c n : List ℕ) (account : SwiftAccount) → HasNoLists account → (object : SwiftObject) → find_object account c n ≡ Some object → is_list object.content ≡ false
-plain_found c n account plain object found = by (get account c) refl found
-  where
-    by : (v : Option SwiftContainer) → get account c ≡ v → get (files_of v) n ≡ Some object → is_list object.content ≡ false
-    by None at found = absurd (none-some _ (sym (get_empty by_name n) ∙ found))
-    by (Some folder) at found = plain c folder at n object found
+own_found : (c n : List ℕ) (account : SwiftAccount) → IsMade account → (object : SwiftObject) → find_object account c n ≡ Some object → is_list object.content ≡ false
+own_found c n account made object found = (made_found c n account object made found).own
 
 module _ (c n : List ℕ) (account : SwiftAccount) (range : Option (ℕ × ℕ)) where
   -- the bytes are read a call later, of the same account
-  pub bytes_some : (head : StoredHead) (from end : ℕ) (body : List ℕ) (later : SwiftAccount) → Some head ≡ option_map head_of (find_object account c n) → HasNoLists account → Some (from, end) ≡ bounds range head.size
+  pub bytes_some : (head : StoredHead) (from end : ℕ) (body : List ℕ) (later : SwiftAccount) → Some head ≡ option_map head_of (find_object account c n) → IsMade account → Some (from, end) ≡ bounds range head.size
       → later ≡ account → body ≡ part_of from end (find_object later c n) → Bytes head body ≡ (swift_step (GetObject c n range) account).reply
-  bytes_some head from end body later e plain asked same read = ap (Bytes head) (read ∙ ap (λ a. part_of from end (find_object a c n)) same) ∙ by (find_object account c n) e (plain_found c n account plain)
+  bytes_some head from end body later e made asked same read = ap (Bytes head) (read ∙ ap (λ a. part_of from end (find_object a c n)) same) ∙ by (find_object account c n) e (own_found c n account made)
     where
       by : (v : Option SwiftObject) → Some head ≡ option_map head_of v → ((f : SwiftObject) → v ≡ Some f → is_list f.content ≡ false) → Bytes head (part_of from end v) ≡ get_reply (find_object account) range v
       by None e plain = absurd (none-some _ (sym e))
@@ -224,8 +222,8 @@ module _ (c n : List ℕ) (account : SwiftAccount) (range : Option (ℕ × ℕ))
           ap (λ h. Bytes h (part_of from end (Some f))) is
           ∙ read_content (find_object account) f.content_type f.meta range f.content from end (plain f refl) (asked ∙ ap (λ h. bounds range h.size) is)
 
-  pub bytes_beyond : (head : StoredHead) → Some head ≡ option_map head_of (find_object account c n) → HasNoLists account → None ≡ bounds range head.size → Unsatisfiable ≡ (swift_step (GetObject c n range) account).reply
-  bytes_beyond head e plain asked = by (find_object account c n) e (plain_found c n account plain)
+  pub bytes_beyond : (head : StoredHead) → Some head ≡ option_map head_of (find_object account c n) → IsMade account → None ≡ bounds range head.size → Unsatisfiable ≡ (swift_step (GetObject c n range) account).reply
+  bytes_beyond head e made asked = by (find_object account c n) e (own_found c n account made)
     where
       by : (v : Option SwiftObject) → Some head ≡ option_map head_of v → ((f : SwiftObject) → v ≡ Some f → is_list f.content ≡ false) → Unsatisfiable ≡ get_reply (find_object account) range v
       by None e plain = absurd (none-some _ (sym e))

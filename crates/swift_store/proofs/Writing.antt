@@ -1,19 +1,19 @@
 -- The account after each call, by what was written.
-use Rattle.std.specs.Prelude.{◌≡◌, ℕ, ◌<◌, ◌≤◌, ◌^◌, Bool, true, false, List, length, Option, None, Some, Result, Ok, Err}
+use Rattle.std.specs.Prelude.{◌≡◌, ℕ, Bool, true, false, List, Option, None, Some, IfSome, Result, Ok, Err}
 use Rattle.std.specs.Option.{option_map}
 use Rattle.std.specs.FinMap.{get, remove}
-use Rattle.std.proofs.Common.{refl, sym, ap, ◌∙◌, inl, inr, arith, true≢false}
+use Rattle.std.proofs.Common.{subst, refl, sym, ap, ◌∙◌, inl, inr, true≢false}
 use Rattle.std.proofs.lemmas.Option.{none-some, same_Some}
 use Rattle.gate_base.proofs.lemmas.Maps.{by_name, adjust_same}
-use Rattle.swift_calls.specs.Account.{SwiftAccount, SwiftContainer, SwiftObject, find_object, put_file, remove_file, with_head, with_readers, size_of}
+use Rattle.swift_calls.specs.Account.{SwiftAccount, SwiftContainer, SwiftObject, find_object, put_file, remove_file, with_head, with_readers}
 use Rattle.swift_calls.specs.Bodies.{etag_text, etag_of}
-use Rattle.swift_calls.specs.Limits.{most_body}
-use Rattle.swift_calls.specs.Step.{swift_step, is_bare, head_container, put_container, post_container, delete_container, delete_by, put_object, delete_object}
+use Rattle.swift_calls.specs.Step.{Fit, IsMoment, swift_step, is_bare, head_container, put_container, post_container, delete_container, delete_by, put_object, delete_object}
 use Rattle.swift_calls.specs.declared.account.ReadList.{ReadList}
 use Rattle.swift_calls.specs.declared.account.Content.TheVariants.{Plain}
 use Rattle.swift_calls.specs.declared.calls.SwiftRequest.TheVariants.{HeadContainer, PostContainer, DeleteContainer, PutObject, DeleteObject}
 use Rattle.swift_calls.specs.declared.calls.SwiftReply.{SwiftReply}
 use Rattle.swift_calls.specs.declared.calls.SwiftReply.TheVariants as replies
+use Rattle.swift_store.specs.Made.{IsMadeObject}
 use Rattle.swift_store.specs.Shelf.{Writes, container_head, with_container}
 use Rattle.swift_store.specs.Serving.{TagsWith, etag_in, is_gone}
 use Rattle.swift_store.specs.declared.faults.StoreFault.{StoreFault}
@@ -42,6 +42,11 @@ posted n readers kept created account later e same = ap (with_container n reader
     by (Some c) at e =
         let given : created ≡ c.created = ap (λ (p : ReadList × Option ℕ). p.1) (same_Some (kept, created) (container_head c) e) in
         adjust_same by_name n (with_head readers created) (with_readers readers) account (λ x is. λ i. record x { readers = readers; created = (given ∙ ap (λ (y : SwiftContainer). y.created) (same_Some c x (sym at ∙ is))) i })
+
+-- the creation time that is told can be given again
+pub moment_told : (readers : ReadList) (created : Option ℕ) (head : Option (ReadList × Option ℕ)) → Some (readers, created) ≡ head
+    → IfSome head (λ told. IfSome told.1 IsMoment) → IfSome created IsMoment
+moment_told readers created head is told = subst (λ (h : Option (ReadList × Option ℕ)). IfSome h (λ t. IfSome t.1 IsMoment)) (sym is) told
 
 -- what was written of it, or failed
 pub posted_by : (n : List ℕ) (readers kept : ReadList) (created : Option ℕ) (account later new : SwiftAccount) (result : Result (Unit {0}) StoreFault) → Some (kept, created) ≡ option_map container_head (get account n) → later ≡ account
@@ -121,8 +126,10 @@ tagged body reply etag tags e = by reply tags e
     by (replies.Head head) tags e = absurd (none-some _ (sym e))
     by (replies.Bytes head bytes) tags e = absurd (none-some _ (sym e))
 
-pub small : (body : List ℕ) → length body ≤ most_body → size_of (Plain body) < 2 ^ 63
-small body within = omega (arith, within)
+-- an object that a call puts
+pub put_made : (c n content_type : List ℕ) (meta : List (List ℕ)) (body : List ℕ) → Fit (PutObject c n content_type meta body)
+    → IsMadeObject n (record { content_type = content_type; meta = meta; content = Plain body })
+put_made c n content_type meta body fit = record { named = fit.1; content_type = fit.2; meta = fit.3; own = refl; within = fit.4 }
 
 -- ---- DELETE of an object
 

@@ -3,6 +3,8 @@ pub mod Handing
 pub mod Kept
 pub mod Listing
 pub mod Log
+pub mod Made
+pub mod MadeLaws
 pub mod Serving
 pub mod Shelf
 pub mod Table

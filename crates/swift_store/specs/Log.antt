@@ -1,14 +1,21 @@
 -- What a link tells that wrote down what each exchange found, and whether it was lost. E is an entry of its log, and T what
 -- an exchange finds. Source: this profile.
-use Rattle.std.specs.Prelude.{ℕ, zero, suc, Bool, List, [], ◌∷◌, length, take, count_by}
+use Rattle.std.specs.Prelude.{◌≡◌, ℕ, zero, suc, Bool, List, [], ◌∷◌, length, take, count_by}
 use Rattle.swift_calls.specs.Account.{SwiftAccount}
-use Rattle.swift_calls.specs.History.{History}
+use Rattle.swift_calls.specs.History.{History, present}
+
+-- a history at its beginning: no call was counted, none failed, and the account is this one
+pub record IsFresh (observable : Bool) (account : SwiftAccount) (h : History) : Type 0 where
+  pub called : h.called ≡ 0
+  pub faults : h.faults ≡ 0
+  pub observable : h.observable ≡ observable
+  pub account : present h ≡ account
 
 -- what stood after so many of the exchanges: what the next one found, or what is there now
 abbrev pub state_at : {E T : Type 0} → (E → T) → List E → T → ℕ → T
-state_at was [] present k = present
-state_at was (e ∷ log) present zero = was e
-state_at was (e ∷ log) present (suc k) = state_at was log present k
+state_at was [] now k = now
+state_at was (e ∷ log) now zero = was e
+state_at was (e ∷ log) now (suc k) = state_at was log now k
 
 -- how many of the first exchanges were lost
 abbrev pub lost_after : {E : Type 0} → (E → Bool) → List E → ℕ → ℕ
@@ -16,10 +23,10 @@ lost_after lost log k = count_by lost (take k log)
 
 -- the history of a link whose exchanges these are
 abbrev pub history_by : {E T : Type 0} → (T → Bool) → (T → SwiftAccount) → (E → T) → (E → Bool) → List E → T → History
-history_by told account was lost log present = record {
-  observable = told present;
+history_by told account was lost log now = record {
+  observable = told now;
   called = length log;
   faults = count_by lost log;
-  tree_at = λ k. account (state_at was log present k);
+  tree_at = λ k. account (state_at was log now k);
   faults_at = λ k. lost_after lost log k;
 }

@@ -1,11 +1,11 @@
 -- What the calls of a shelf tell and do, in the words of a store's step. Source: Object Storage API v1; that a shelf may
 -- fail is this profile's.
-use Rattle.std.specs.Prelude.{◌≡◌, ◌⊎◌, ℕ, false, ◌&&◌, nat_le, cond, List, [], slice_range, length, Option, None, Some, Result, Ok, Err}
+use Rattle.std.specs.Prelude.{◌≡◌, ◌⊎◌, ℕ, ◌&&◌, nat_le, cond, List, [], slice_range, length, Option, None, Some, Result, Ok, Err}
 use Rattle.std.specs.FinMap.{entries, get}
 use Rattle.gate_base.specs.Causes.{Rose}
 use Rattle.gate_base.specs.Maps.{Names}
 use Rattle.swift_calls.specs.Account.{SwiftAccount, SwiftContainer, SwiftObject}
-use Rattle.swift_calls.specs.Bodies.{is_list, item_of}
+use Rattle.swift_calls.specs.Bodies.{item_of}
 use Rattle.swift_calls.specs.Step.{page, is_listed, put_container as put_container_step}
 use Rattle.swift_calls.specs.declared.account.ReadList.{ReadList}
 use Rattle.swift_calls.specs.declared.account.Content.{Content}
@@ -60,8 +60,3 @@ with_container name readers created account = (put_container_step (get account n
 
 abbrev pub object_of : Stored → SwiftObject
 object_of s = record { content_type = s.content_type; meta = s.meta; content = s.content }
-
--- no object lists segments, as none does that a call puts
-abbrev pub HasNoLists : SwiftAccount → Type 0
-HasNoLists account = (container : List ℕ) (c : SwiftContainer) → get account container ≡ Some c
-    → (name : List ℕ) (object : SwiftObject) → get c.files name ≡ Some object → is_list object.content ≡ false

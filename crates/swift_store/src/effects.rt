@@ -1,7 +1,6 @@
 //! What each call writes, once its answer is there.
-ghost use Rattle.std.specs.Prelude.{◌≡◌, ◌≤◌, IsTrue, IsErrOf, length};
-ghost use Rattle.swift_calls.specs.Step.{Fit, swift_step};
-ghost use Rattle.swift_calls.specs.Limits.{most_body};
+ghost use Rattle.std.specs.Prelude.{◌≡◌, IsTrue, IsErrOf};
+ghost use Rattle.swift_calls.specs.Step.{Fit, IsContainerName, swift_step};
 ghost use Rattle.swift_calls.specs.declared.calls.SwiftRequest.TheVariants as asked;
 ghost use Rattle.swift_store.specs.Shelf.{CountsStoreFaults, Writes};
 ghost use Rattle.swift_store.specs.Serving.{TagsBody, TagsWith, etag_in, is_gone};
@@ -29,8 +28,9 @@ fn etag_in(reply: SwiftReply) -> Option<Bytes>
     }
 }
 
-#[tactic(auto, using(crate::proofs::Writing::posted_by, crate::proofs::Writing::not_posted, crate::proofs::Writing::unwritten))]
+#[tactic(auto, using(crate::proofs::Writing::posted_by, crate::proofs::Writing::not_posted, crate::proofs::Writing::moment_told, crate::proofs::Writing::unwritten))]
 fn post_container<S: Shelf>(shelf: &mut S, name: &[u8], readers: ReadList) -> Result<(), StoreFault>
+    requires name { IsContainerName name.now }
     ensures faults { CountsStoreFaults (S.faults shelf.old) (S.faults shelf.new) result }
     ensures sure { IsTrue (S.sure shelf.old) → IsTrue (S.sure shelf.new) }
     ensures never { IsTrue (S.sure shelf.old) → IsErrOf result fault.Failed → ⊥ }
@@ -61,7 +61,7 @@ fn delete_container<S: Shelf>(
     Ok(())
 }
 
-#[tactic(auto, using(crate::proofs::Writing::put, crate::proofs::Writing::not_put, crate::proofs::Writing::tagged, crate::proofs::Writing::small))]
+#[tactic(auto, using(crate::proofs::Writing::put, crate::proofs::Writing::not_put, crate::proofs::Writing::tagged, crate::proofs::Writing::put_made))]
 fn put_object<S: Shelf>(
     shelf: &mut S,
     container: &[u8],
@@ -71,7 +71,7 @@ fn put_object<S: Shelf>(
     body: Bytes,
     reply: SwiftReply,
 ) -> Result<(), StoreFault>
-    requires within { length body ≤ most_body }
+    requires fit { Fit (asked.PutObject container.now name content_type meta body) }
     requires tags { TagsWith body reply }
     ensures faults { CountsStoreFaults (S.faults shelf.old) (S.faults shelf.new) result }
     ensures sure { IsTrue (S.sure shelf.old) → IsTrue (S.sure shelf.new) }

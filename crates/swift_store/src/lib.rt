@@ -5,15 +5,18 @@ mod effects;
 mod faults;
 mod folder;
 mod kept;
+mod laws;
 mod map_shelf;
 mod reading;
 mod replies;
 mod shelf;
+mod shelf_ref;
 mod store;
 mod store_link;
 mod table;
 
 pub use faults::StoreFault;
+pub use laws::{law_has_spelling, law_stays_made};
 pub use map_shelf::MapShelf;
 pub use shelf::Shelf;
 pub use store::{Store, serve};

@@ -2,7 +2,7 @@
 ghost use Rattle.std.specs.Prelude.{◌≡◌, true, option_copied};
 ghost use Rattle.std.specs.FinMap.{empty};
 ghost use Rattle.swift_calls.specs.Account.{find_object};
-ghost use Rattle.swift_store.specs.Shelf.{HasNoLists};
+ghost use Rattle.swift_store.specs.Made.{IsMade};
 
 use crate::folder::Folder;
 use crate::kept::Kept;
@@ -19,12 +19,12 @@ use swift_calls::{NameItem, ReadList, Stored, StoredHead};
 pub struct MapShelf {
     alloc: Global,
     folders: Table<Folder>,
-    ghost plain: { HasNoLists folders },
+    ghost made: { IsMade folders },
 }
 
 impl MapShelf {
     /// An account without a container. It takes no memory.
-    #[tactic(auto, using(crate::proofs::Shelves::none_empty))]
+    #[tactic(auto, using(crate::proofs::MadeChanges::made_empty))]
     pub fn new(alloc: Global) -> MapShelf
         ensures { result.folders ≡ empty }
     {
@@ -54,12 +54,13 @@ impl Shelf for MapShelf {
 
     ghost account = { λ s. s.folders };
 
-    ghost plain = { λ s observable. s.plain };
+    ghost made = { λ s observable. s.made };
 
     fn containers(&mut self, marker: &[u8], limit: u32) -> Result<List<Bytes>, StoreFault> {
         Ok(self.folders.page(self.alloc, marker, limit as usize)?)
     }
 
+    #[tactic(auto, using(crate::proofs::Shelves::moment_found))]
     fn container(&mut self, name: &[u8]) -> Result<Option<(ReadList, Option<u64>)>, StoreFault> {
         match self.folders.get(name) {
             Some(folder) => Ok(Some(folder.head())),
@@ -74,7 +75,7 @@ impl Shelf for MapShelf {
         }
     }
 
-    #[tactic(auto, using(crate::proofs::Shelves::head_written, crate::proofs::Shelves::container_made, crate::proofs::Shelves::plain_head, crate::proofs::Shelves::plain_made))]
+    #[tactic(auto, using(crate::proofs::Shelves::head_written, crate::proofs::Shelves::container_made, crate::proofs::Shelves::made_written, crate::proofs::Shelves::made_with))]
     fn put_container(
         &mut self,
         name: &[u8],
@@ -90,7 +91,7 @@ impl Shelf for MapShelf {
         Ok(())
     }
 
-    #[tactic(auto, using(crate::proofs::Shelves::plain_removed))]
+    #[tactic(auto, using(crate::proofs::Shelves::made_without))]
     fn drop_container(&mut self, name: &[u8]) -> Result<(), StoreFault> {
         self.folders.drop_at(name);
         Ok(())
@@ -131,13 +132,14 @@ impl Shelf for MapShelf {
         }
     }
 
+    #[tactic(auto, using(crate::proofs::Shelves::small_object))]
     fn put(&mut self, container: &[u8], object: Stored, etag: Bytes) -> Result<(), StoreFault> {
         let name = object.name.copy()?;
         let object = Kept::new(object, etag);
         Ok(self.folders.put_object(container, name.as_slice(), object)?)
     }
 
-    #[tactic(auto, using(crate::proofs::Shelves::plain_taken))]
+    #[tactic(auto, using(crate::proofs::Shelves::made_less))]
     fn remove(&mut self, container: &[u8], name: &[u8]) -> Result<bool, StoreFault> {
         let there = self.object(container, name).is_some();
         self.folders.drop_object(container, name);

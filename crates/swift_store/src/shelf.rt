@@ -1,12 +1,12 @@
 //! What keeps an account for a store.
-ghost use Rattle.std.specs.Prelude.{◌≡◌, false, ◌<◌, ◌^◌, ◌++◌, Bool, ℕ, IsTrue, is_some, IfOk, OnErr, OnOk, IsErrOf};
+ghost use Rattle.std.specs.Prelude.{◌≡◌, ◌++◌, Bool, ℕ, IsTrue, is_some, IfSome, IfOk, OnErr, OnOk, IsErrOf};
 ghost use Rattle.std.specs.Option.{option_map};
 ghost use Rattle.std.specs.FinMap.{get, remove};
-ghost use Rattle.swift_calls.specs.Account.{SwiftAccount, files, find_object, put_file, remove_file, size_of};
-ghost use Rattle.swift_calls.specs.Bodies.{etag_of, head_of, is_list};
-ghost use Rattle.swift_calls.specs.Step.{is_bare};
+ghost use Rattle.swift_calls.specs.Account.{SwiftAccount, files, find_object, put_file, remove_file};
+ghost use Rattle.swift_calls.specs.Bodies.{etag_of, head_of};
+ghost use Rattle.swift_calls.specs.Step.{IsContainerName, IsMoment, is_bare};
+ghost use Rattle.swift_store.specs.Made.{IsMade, IsMadeObject};
 ghost use Rattle.swift_store.specs.Shelf.{
-  HasNoLists,
   CountsStoreFaults,
   Writes,
   container_head,
@@ -24,6 +24,7 @@ use swift_calls::{NameItem, ReadList, Stored, StoredHead};
 
 /// What keeps the containers and objects of an account. Where it is observable, it tells the account. Each call answers
 /// Failed only with a higher count of faults; one that writes then changed nothing or all. After Memory nothing changed.
+/// What is put is within the limits of a call, and so is the account, where it is observable.
 pub trait Shelf {
     /// Whether it tells the account.
     ghost observable: { Self → Bool };
@@ -46,14 +47,16 @@ pub trait Shelf {
         ensures same { IsTrue (observable self.old) → account self.new ≡ account self.old }
         ensures effect { IsTrue (observable self.old) → IfOk result (λ names. names ≡ container_page limit marker.now (account self.old)) };
 
-    /// The read list and the creation time of a container.
+    /// The read list and the creation time of a container. The time is a moment, so that it can be given to
+    /// `put_container` again, also where nothing is told of the account.
     fn container(&mut self, name: &[u8]) -> Result<Option<(ReadList, Option<u64>)>, StoreFault>
         ensures faults { CountsStoreFaults (faults self.old) (faults self.new) result }
         ensures sure { IsTrue (sure self.old) → IsTrue (sure self.new) }
         ensures never { IsTrue (sure self.old) → IsErrOf result fault.Failed → ⊥ }
         ensures observable { IsTrue (observable self.old) → IsTrue (observable self.new) }
         ensures same { IsTrue (observable self.old) → account self.new ≡ account self.old }
-        ensures effect { IsTrue (observable self.old) → IfOk result (λ head. head ≡ option_map container_head (get (account self.old) name.now)) };
+        ensures effect { IsTrue (observable self.old) → IfOk result (λ head. head ≡ option_map container_head (get (account self.old) name.now)) }
+        ensures moment { IfOk result (λ head. IfSome head (λ told. IfSome told.1 IsMoment)) };
 
     /// Whether a container has no objects, where it is there.
     fn is_bare(&mut self, container: &[u8]) -> Result<Option<bool>, StoreFault>
@@ -71,6 +74,8 @@ pub trait Shelf {
         readers: ReadList,
         created: Option<u64>,
     ) -> Result<(), StoreFault>
+        requires name { IsContainerName name.now }
+        requires moment { IfSome created IsMoment }
         ensures faults { CountsStoreFaults (faults self.old) (faults self.new) result }
         ensures sure { IsTrue (sure self.old) → IsTrue (sure self.new) }
         ensures never { IsTrue (sure self.old) → IsErrOf result fault.Failed → ⊥ }
@@ -131,8 +136,7 @@ pub trait Shelf {
     /// Puts an object with its ETag into a container, if it is there, in place of the one of its name.
     fn put(&mut self, container: &[u8], object: Stored, etag: Bytes) -> Result<(), StoreFault>
         requires etag { etag ≡ etag_of object.content }
-        requires size { size_of object.content < 2 ^ 63 }
-        requires plain { is_list object.content ≡ false }
+        requires made { IsMadeObject object.name (object_of object) }
         ensures faults { CountsStoreFaults (faults self.old) (faults self.new) result }
         ensures sure { IsTrue (sure self.old) → IsTrue (sure self.new) }
         ensures never { IsTrue (sure self.old) → IsErrOf result fault.Failed → ⊥ }
@@ -148,6 +152,6 @@ pub trait Shelf {
         ensures effect { IsTrue (observable self.old) → Writes (account self.old) (remove_file container.now name.now (account self.old)) (account self.new) result }
         ensures told { IsTrue (observable self.old) → IfOk result (λ there. there ≡ is_some (find_object (account self.old) container.now name.now)) };
 
-    /// Where it is observable, no object lists segments.
-    ghost plain: { (s : Self) → IsTrue (observable s) → HasNoLists (account s) };
+    /// Where it is observable, calls within their limits made its account.
+    ghost made: { (s : Self) → IsTrue (observable s) → IsMade (account s) };
 }

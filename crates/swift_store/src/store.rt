@@ -1,5 +1,5 @@
 //! A store of one account: requests in, answers out.
-ghost use Rattle.std.specs.Prelude.{◌≡◌, [], ◌++◌, IsTrue, IfOk, OnErr, IsErrOf};
+ghost use Rattle.std.specs.Prelude.{◌≡◌, ◌<◌, ◌^◌, [], ◌++◌, length, IsTrue, IfOk, OnErr, IsErrOf};
 ghost use Rattle.gate_base.specs.Causes.{RisesIf};
 ghost use Rattle.swift_calls.specs.Step.{Fit};
 ghost use Rattle.swift_calls.specs.declared.calls.SwiftRequest.{SwiftRequest};
@@ -153,8 +153,8 @@ impl<S: Shelf> Store<S> {
         ensures faults { IfOk result (λ lost. RisesIf lost (S.faults self.old.shelf) (S.faults self.new.shelf)) }
         ensures observable { IsTrue (S.observable self.old.shelf) → IsTrue (S.observable self.new.shelf) }
         ensures same { IsTrue (S.observable self.old.shelf) → OnErr result (S.account self.new.shelf ≡ S.account self.old.shelf) }
-        ensures hands { out.old ≡ [] → IsTrue (S.observable self.old.shelf) → (call : SwiftRequest) → Fit call → SpellsRequest self.old.place call bytes.now
-            → Hands call (S.account self.old.shelf) (S.account self.new.shelf) out.new result }
+        ensures hands { out.old ≡ [] → length out.new < 2 ^ 63 → IsTrue (S.observable self.old.shelf) → (call : SwiftRequest) → Fit call
+            → SpellsRequest self.old.place call bytes.now → Hands call (S.account self.old.shelf) (S.account self.new.shelf) out.new result }
     {
         match message_in(self.alloc, bytes)? {
             Some(message) => match self.serve(message, out) {

@@ -100,13 +100,13 @@ decimal_visible n fits = weaker is_digit is_visible digit_visible (decimal n) (d
 
 -- ---- fields
 
-named_ok : (name value : List ℕ) → is_token name ≡ true → is_trimmed_value value ≡ true → is_header (name, value) ≡ true
+pub named_ok : (name value : List ℕ) → is_token name ≡ true → is_trimmed_value value ≡ true → is_header (name, value) ≡ true
 named_ok name value token fit = and_from (is_token name) (is_trimmed_value value) token fit
 
 abbrev AreGood : List Header → Type 0
 AreGood fields = list_all is_header fields ≡ true
 
-good-append : (front back : List Header) → AreGood front → AreGood back → AreGood (front ++ back)
+pub good-append : (front back : List Header) → AreGood front → AreGood back → AreGood (front ++ back)
 good-append front back one two = list_all-append is_header front back ∙ and_from _ _ one two
 
 digit_token : (b : ℕ) → is_digit b ≡ true → is_token_byte b ≡ true
@@ -121,12 +121,18 @@ meta_token index fits =
     (list_all-append is_token_byte (codes "X-Object-Meta-S3-") (decimal index)
     ∙ and_from _ _ refl (weaker is_digit is_token_byte digit_token (decimal index) (decimal_digits index fits)))
 
-meta_good : (index : ℕ) (pieces : List (List ℕ)) → index + length pieces < 2 ^ 63 → list_all (is_value 256) pieces ≡ true → AreGood (meta_fields index pieces)
+pub meta_good : (index : ℕ) (pieces : List (List ℕ)) → index + length pieces < 2 ^ 63 → list_all is_trimmed_value pieces ≡ true → AreGood (meta_fields index pieces)
 meta_good index [] fits all = refl
 meta_good index (piece ∷ pieces) fits all =
-    let parts = and_parts (is_value 256 piece) (list_all (is_value 256) pieces) all in
-    and_from _ _ (named_ok (codes "X-Object-Meta-S3-" ++ decimal index) piece (meta_token index (omega (arith, fits))) (value_trimmed 256 piece parts.0))
+    let parts = and_parts (is_trimmed_value piece) (list_all is_trimmed_value pieces) all in
+    and_from _ _ (named_ok (codes "X-Object-Meta-S3-" ++ decimal index) piece (meta_token index (omega (arith, fits))) parts.0)
     (meta_good (index + 1) pieces (omega (arith, fits)) parts.1)
+
+pieces_trimmed : (pieces : List (List ℕ)) → list_all (is_value 256) pieces ≡ true → list_all is_trimmed_value pieces ≡ true
+pieces_trimmed [] all = refl
+pieces_trimmed (piece ∷ pieces) all =
+    let parts = and_parts (is_value 256 piece) (list_all (is_value 256) pieces) all in
+    and_from _ _ (value_trimmed 256 piece parts.0) (pieces_trimmed pieces parts.1)
 
 record Tokens : Type 0 where
   host : is_token (codes "Host") ≡ true
@@ -172,7 +178,7 @@ own_good (DeleteContainer container) fit = refl
 own_good (ListNames container prefix marker limit) fit = refl
 own_good (PutObject container name content_type meta body) fit =
     and_from _ _ (named_ok (codes "Content-Type") content_type tokens.type (value_trimmed 512 content_type fit.2))
-    (meta_good 0 meta (omega (arith, few meta fit.3)) (and_parts _ (list_all (is_value 256) meta) fit.3).1)
+    (meta_good 0 meta (omega (arith, few meta fit.3)) (pieces_trimmed meta (and_parts _ (list_all (is_value 256) meta) fit.3).1))
 own_good (HeadObject container name) fit = refl
 own_good (GetObject container name range) fit = range_good range fit.2
 own_good (DeleteObject container name) fit = refl

@@ -1,9 +1,9 @@
 -- Listings in JSON, as they are written.
-use Rattle.std.proofs.Common.{◌≡◌, ℕ, zero, suc, ◌+◌, ◌<◌, Bool, true, false, List, [], ◌∷◌, ◌++◌, length, get_or, map, take, refl, sym, ap, ◌∙◌, arith}
+use Rattle.std.proofs.Common.{◌≡◌, ℕ, zero, suc, ◌+◌, ◌^◌, ◌<◌, Bool, true, false, List, [], ◌∷◌, ◌++◌, length, get_or, map, take, refl, sym, ap, ◌∙◌, arith}
 use Rattle.std.proofs.Common.{Vec, Global}
 use Rattle.std.specs.List.{list_all}
 use Rattle.std.specs.Str.{IsUtf8, is_utf8}
-use Rattle.std.proofs.lemmas.Bool.{and_parts, false_from_ne_true}
+use Rattle.std.proofs.lemmas.Bool.{and_parts, false_from_ne_true, ltb-true}
 use Rattle.std.proofs.lemmas.List.{take_more, map-append}
 use Rattle.std.proofs.lemmas.Str.{is_utf8-from_IsUtf8, IsUtf8-from_is_utf8}
 use Rattle.serde_json.specs.Data.{Data, array}
@@ -26,14 +26,29 @@ is_utf8_unless bytes h = false_from_ne_true (is_utf8 bytes) (λ valid. h (IsUtf8
 pub utf8_after_all : (bytes : List ℕ) → is_utf8 bytes ≡ true → ¬ (IsUtf8 bytes) → ⊥
 utf8_after_all bytes passes not_utf8 = not_utf8 (IsUtf8-from_is_utf8 bytes passes)
 
+-- ---- what an entry that is written has
+
+pub record Parts (i : NameItem) : Type 0 where
+  pub name : is_utf8 i.name ≡ true
+  pub hash : is_utf8 i.hash ≡ true
+  pub content_type : is_utf8 i.content_type ≡ true
+  pub size : i.size < 2 ^ 64
+
+pub parts_of : (i : NameItem) → is_item i ≡ true → Parts i
+parts_of i fine =
+    let first = and_parts (is_utf8 i.name) _ fine in
+    let second = and_parts (is_utf8 i.hash) _ first.1 in
+    let third = and_parts (is_utf8 i.content_type) _ second.1 in
+    record { name = first.0; hash = second.0; content_type = third.0; size = ltb-true i.size (2 ^ 64) third.1 }
+
 pub name_is_utf8 : (i : NameItem) → is_item i ≡ true → is_utf8 i.name ≡ true
-name_is_utf8 i fine = (and_parts (is_utf8 i.name) _ fine).0
+name_is_utf8 i fine = (parts_of i fine).name
 
 pub hash_is_utf8 : (i : NameItem) → is_item i ≡ true → is_utf8 i.hash ≡ true
-hash_is_utf8 i fine = (and_parts (is_utf8 i.hash) _ (and_parts (is_utf8 i.name) _ fine).1).0
+hash_is_utf8 i fine = (parts_of i fine).hash
 
 pub type_is_utf8 : (i : NameItem) → is_item i ≡ true → is_utf8 i.content_type ≡ true
-type_is_utf8 i fine = (and_parts (is_utf8 i.hash) _ (and_parts (is_utf8 i.name) _ fine).1).1
+type_is_utf8 i fine = (parts_of i fine).content_type
 
 -- ---- entries
 

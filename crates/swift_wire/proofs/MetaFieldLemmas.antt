@@ -57,7 +57,7 @@ At : List Pair → ℕ → List (List ℕ) → Type 0
 At headers i [] = values_of (meta_name i) headers ≡ []
 At headers i (piece ∷ pieces) = (values_of (meta_name i) headers ≡ piece ∷ []) × At headers (i + 1) pieces
 
-none_has : (name : List ℕ) (headers : List Pair) → values_of name headers ≡ [] → has_header name headers ≡ false
+pub none_has : (name : List ℕ) (headers : List Pair) → values_of name headers ≡ [] → has_header name headers ≡ false
 none_has name [] none = refl
 none_has name (h ∷ headers) none = by_test (has_name name h) none (none_has name headers)
   where

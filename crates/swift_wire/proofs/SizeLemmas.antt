@@ -1,22 +1,19 @@
 -- The request line of a call is accepted, and the head of a call is short.
-use Rattle.std.proofs.Common.{◌≡◌, ℕ, zero, suc, ◌+◌, ◌-◌, ◌*◌, ◌/◌, ◌%◌, ◌^◌, ◌<◌, ◌≤◌, Bool, true, false, not, ◌&&◌, ◌||◌, cond, List, [], ◌∷◌, ◌++◌, length, map, All, Some, None, Option, refl, ap, sym, ◌∙◌, arith, length-append}
-use Rattle.std.specs.Prelude.{codes, decimal, nat_lt, nat_le, nat_eq, slice_index, IfSome, IsTrue, flat_map}
+use Rattle.std.proofs.Common.{◌≡◌, ℕ, suc, ◌+◌, ◌*◌, ◌/◌, ◌%◌, ◌^◌, ◌<◌, ◌≤◌, Bool, true, false, ◌&&◌, cond, List, [], ◌∷◌, ◌++◌, length, All, Some, None, Option, refl, ap, ◌∙◌, arith, length-append}
+use Rattle.std.specs.Prelude.{codes, decimal, nat_lt, nat_le, IfSome, flat_map}
 use Rattle.std.specs.List.{list_all}
 use Rattle.std.specs.Char.{is_ascii_graphic}
 use Rattle.std.proofs.lemmas.Bool.{and_parts, and_from, cond-true}
 use Rattle.std.proofs.lemmas.Bool.Decides.{nat_tests}
 use Rattle.std.proofs.lemmas.List.Folds.{list_all-append}
-use Rattle.std.proofs.lemmas.Fmt.{length-decimal-le}
 use Rattle.gate_base.specs.Ascii.{is_visible, is_digit}
-use Rattle.gate_base.specs.Told.{moment_limit}
-use Rattle.http1.specs.Fields.{Header}
-use Rattle.http1.specs.Head.{are_headers, is_target, is_request_line, head_refusal, request_text, print_header, print_headers}
+use Rattle.http1.specs.Head.{are_headers, is_request_line, head_refusal, request_text, print_header, print_headers}
 use Rattle.httparse.specs.Ascii.{crlf_bytes}
 use Rattle.httparse.specs.Grammar.{is_token, is_token_byte}
 use Rattle.s3_names.specs.Escapes.{is_unreserved, stays_in_path, is_escaped_byte, upper_digit, escaped_unless, escaped_all, escaped_path}
 use Rattle.s3_names.proofs.lemmas.EscapeLemmas.{escaped_bytes_all, escaped_bytes_path}
-use Rattle.swift_calls.specs.Limits.{is_value_byte as is_printable, IsMark, IsText, is_value, is_meta, IsRange}
-use Rattle.swift_calls.specs.Step.{IsMoment, IsContainerName, Fit}
+use Rattle.swift_calls.specs.Limits.{is_value, IsRange}
+use Rattle.swift_calls.specs.Step.{IsMoment, Fit}
 use Rattle.swift_calls.specs.declared.account.ReadList.{ReadList}
 use Rattle.swift_calls.specs.declared.account.ReadList.TheVariants.{Nobody, Everybody}
 use Rattle.swift_calls.specs.declared.calls.SwiftRequest.{SwiftRequest}
@@ -41,6 +38,7 @@ use Rattle.swift_wire.proofs.CallLemmas.{few, account_bytes, name_bytes, text_by
 use Rattle.swift_wire.proofs.CutLemmas.{IsByte, weaker}
 use Rattle.swift_wire.proofs.QueryLemmas.{decimal_digits}
 use Rattle.swift_wire.proofs.TextLemmas.{last_header, head_is}
+use Rattle.swift_wire.proofs.lemmas.Sizes.{decimal_size, header_size, headers_size, meta_size, value_most}
 
 -- ---- the request line
 
@@ -153,17 +151,6 @@ path_size : (text : List ℕ) → length (escaped_path text) ≤ 3 * length text
 unfolding escaped_path
 path_size text = escaped_size stays_in_path text
 
-decimal_size : (n : ℕ) → n < 10 ^ 19 → length (decimal n) ≤ 19
-decimal_size n small = length-decimal-le 19 n (omega arith) small (omega arith)
-
-header_size : (name value : List ℕ) → length (print_header (name, value)) ≡ length name + length value + 4
-header_size name value =
-    let outer : length (print_header (name, value)) ≡ length (name ++ 58 ∷ (32 ∷ value)) + 2 = length-append (name ++ 58 ∷ (32 ∷ value)) crlf_bytes in
-    omega (arith, outer, length-append name (58 ∷ (32 ∷ value)))
-
-headers_size : (h : Header) (fields : List Header) → length (print_headers (h ∷ fields)) ≡ length (print_header h) + length (print_headers fields)
-headers_size h fields = length-append (print_header h) (print_headers fields)
-
 pub text_most : (text : List ℕ) → is_place_text text ≡ true → length text ≤ 1024
 text_most text is =
     let first = (and_parts _ (list_all is_visible text) is).0 in
@@ -197,24 +184,6 @@ listing_size limit marker low few =
     omega (arith, one, two, three, decimal_size limit (omega (arith, low)), all_size marker, few)
 
 -- ---- the fields of a call's own
-
-value_most : (most : ℕ) (text : List ℕ) → is_value most text ≡ true → length text ≤ most
-value_most most text is =
-    let last = and_parts _ (not (nat_eq (slice_index text (length text - 1)) 32)) is in
-    let first = and_parts _ (not (nat_eq (slice_index text 0) 32)) last.0 in
-    let all = and_parts _ (list_all is_printable text) first.0 in
-    let second = (and_parts (nat_le 1 (length text)) (nat_le (length text) most) all.0).1 in grind (arith, nat_tests, second)
-
-meta_size : (index : ℕ) (pieces : List (List ℕ)) → index + length pieces < 1000 → list_all (is_value 256) pieces ≡ true
-    → length (print_headers (meta_fields index pieces)) ≤ 296 * length pieces
-meta_size index [] fits all = omega arith
-meta_size index (piece ∷ pieces) fits all =
-    let parts = and_parts (is_value 256 piece) (list_all (is_value 256) pieces) all in
-    let rest = meta_size (index + 1) pieces (omega (arith, fits)) parts.1 in
-    let one = headers_size (codes "X-Object-Meta-S3-" ++ decimal index, piece) (meta_fields (index + 1) pieces) in
-    let size = header_size (codes "X-Object-Meta-S3-" ++ decimal index) piece in
-    let name = length-append (codes "X-Object-Meta-S3-") (decimal index) in
-    omega (arith, rest, one, size, name, decimal_size index (omega (arith, fits)), value_most 256 piece parts.0)
 
 created_size : (created : Option ℕ) → IfSome created IsMoment → length (print_headers (created_fields created)) ≤ 50
 created_size None moment = omega arith

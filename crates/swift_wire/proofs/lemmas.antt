@@ -1,6 +1,12 @@
 pub mod AnswerLaws
 pub mod BareRows
 pub mod FieldLemmas
+pub mod HeadFields
+pub mod HeadRows
+pub mod ListRows
 pub mod ReadBack
 pub mod ReadersRow
+pub mod ReadsBack
+pub mod Sizes
+pub mod SmallHeads
 pub mod ValueRows

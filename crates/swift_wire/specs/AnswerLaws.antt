@@ -1,23 +1,7 @@
 -- Laws of the answers: of the definitions alone, without code. Source: Object Storage API v1 and RFC 9112 as the definitions cite them.
-use Rattle.std.specs.Prelude.{◌≡◌, ℕ, Bool, true, false, List, length, Option}
-use Rattle.swift_calls.specs.declared.account.ReadList.{ReadList}
+use Rattle.std.specs.Prelude.{◌≡◌, ℕ, ◌<◌, ◌^◌, true, List, length}
 use Rattle.swift_calls.specs.declared.calls.SwiftRequest.{SwiftRequest}
-use Rattle.swift_calls.specs.declared.calls.SwiftRequest.TheVariants.{HeadContainer, PutObject}
 use Rattle.swift_calls.specs.declared.calls.SwiftReply.{SwiftReply}
-use Rattle.swift_calls.specs.declared.calls.SwiftReply.TheVariants.{
-  Made,
-  There,
-  Gone,
-  Stored,
-  NotFound,
-  NotEmpty,
-  Unsatisfiable,
-  Containers,
-  Readers,
-  Names,
-  Head,
-  Bytes,
-}
 use Rattle.swift_wire.specs.Framing.{Ends}
 use Rattle.swift_wire.specs.Answers.{asks_head, SpellsAnswer}
 use Rattle.swift_wire.specs.AnswerText.{answer_text, is_spelled}
@@ -31,35 +15,7 @@ OneReply = (call : SwiftRequest) (first second : SwiftReply) (bytes : List ℕ) 
 abbrev pub OneAnswer : Type 0
 OneAnswer = (call : SwiftRequest) (reply : SwiftReply) (bytes : List ℕ) → SpellsAnswer call reply bytes → Ends (asks_head call) bytes (At (length bytes))
 
--- the replies that say their status alone
-abbrev pub is_bare : SwiftReply → Bool
-is_bare Made = true
-is_bare There = true
-is_bare Gone = true
-is_bare NotFound = true
-is_bare NotEmpty = true
-is_bare Unsatisfiable = true
-is_bare (Stored etag) = false
-is_bare (Containers names) = false
-is_bare (Readers readers created) = false
-is_bare (Names items) = false
-is_bare (Head head) = false
-is_bare (Bytes head body) = false
-
--- what is written for a reply that has a spelling, and says its status alone, spells it
-abbrev pub BareReadsBack : Type 0
-BareReadsBack = (call : SwiftRequest) (reply : SwiftReply) → is_bare reply ≡ true → is_spelled call reply ≡ true
+-- what is written for a reply that has a spelling spells it, where it is no longer than bytes can be
+abbrev pub ReadsBack : Type 0
+ReadsBack = (call : SwiftRequest) (reply : SwiftReply) → is_spelled call reply ≡ true → length (answer_text call reply) < 2 ^ 63
     → SpellsAnswer call reply (answer_text call reply)
-
--- the same for an ETag
-abbrev pub StoredReadsBack : Type 0
-StoredReadsBack =
-    (container name content_type : List ℕ) (meta : List (List ℕ)) (body etag : List ℕ)
-    → is_spelled (PutObject container name content_type meta body) (Stored etag) ≡ true
-    → SpellsAnswer (PutObject container name content_type meta body) (Stored etag) (answer_text (PutObject container name content_type meta body) (Stored etag))
-
--- the same for a read list and a creation time
-abbrev pub ReadersReadBack : Type 0
-ReadersReadBack =
-    (container : List ℕ) (readers : ReadList) (created : Option ℕ) → is_spelled (HeadContainer container) (Readers readers created) ≡ true
-    → SpellsAnswer (HeadContainer container) (Readers readers created) (answer_text (HeadContainer container) (Readers readers created))

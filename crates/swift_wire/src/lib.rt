@@ -27,10 +27,7 @@ mod values;
 mod written;
 
 pub use announced::{Announced, read_front};
-pub use answer_laws::{
-    law_bare_reads_back, law_one_answer, law_one_reply, law_readers_read_back,
-    law_stored_reads_back,
-};
+pub use answer_laws::{law_one_answer, law_one_reply, law_reads_back};
 pub use answers::read_answer;
 pub use call_reader::read_call;
 pub use call_writer::write_call;

@@ -1,5 +1,5 @@
 //! Listings in JSON, as they are written.
-ghost use Rattle.std.specs.Prelude.{◌≡◌, ◌&&◌, map, IfOk, true, Option, Some, None, if◌then◌else◌};
+ghost use Rattle.std.specs.Prelude.{◌≡◌, ◌&&◌, ◌^◌, nat_lt, map, IfOk, true, Option, Some, None, if◌then◌else◌};
 ghost use Rattle.std.specs.List.{list_all};
 ghost use Rattle.std.specs.Str.{is_utf8};
 ghost use Rattle.serde_json.specs.View.{view};
@@ -49,7 +49,15 @@ fn is_item(item: &NameItem) -> bool
     ensures { result ≡ is_item item.now }
 {
     is_utf8(item.name.as_slice())
-        && (is_utf8(item.hash.as_slice()) && is_utf8(item.content_type.as_slice()))
+        && (is_utf8(item.hash.as_slice())
+            && (is_utf8(item.content_type.as_slice()) && is_whole(item.size)))
+}
+
+/// Whether a size is read as a whole number, which each `u64` is.
+fn is_whole(size: u64) -> bool
+    ensures { result ≡ nat_lt size (2 ^ 64) }
+{
+    true
 }
 
 #[tactic(auto, using(crate::proofs::ListTextLemmas::is_utf8_where, crate::proofs::ListTextLemmas::is_utf8_unless))]

@@ -56,7 +56,7 @@ sendable readers created fine =
 
 -- ---- the head is short
 
-header_length : (name value : List ℕ) → length (print_header (name, value)) ≡ length name + length value + 4
+pub header_length : (name value : List ℕ) → length (print_header (name, value)) ≡ length name + length value + 4
 header_length name value =
     omega (arith, length-append (name ++ 58 ∷ 32 ∷ value) (13 ∷ 10 ∷ []), length-append name (58 ∷ 32 ∷ value), length-append name (58 ∷ 32 ∷ (value ++ 13 ∷ 10 ∷ [])), length-append value (13 ∷ 10 ∷ []))
 

@@ -7,6 +7,6 @@ use Rattle.swift_store.proofs.reading.message_in.Goals as goal
 pub returns : goal.returns
 returns c =
     let all : c.in_ok-reader.reader.bytes ++ (transcript_of c.in_ok-line.line).rest ≡ c.args.bytes.now =
-        ap (λ (r : Pending). r.bytes ++ (transcript_of c.in_ok-line.line).rest) c.in_ok-reader.ensures ∙ c.in_ok-line.ensures.rest
+    ap (λ (r : Pending). r.bytes ++ (transcript_of c.in_ok-line.line).rest) c.in_ok-reader.ensures ∙ c.in_ok-line.ensures.rest
     in
     subst (λ b. IfOk c.read_alone.result (IsMessageIn b)) all c.read_alone.ensures

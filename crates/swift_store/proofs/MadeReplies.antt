@@ -1,0 +1,190 @@
+-- The reply to each call on an account that calls make has a spelling.
+use Rattle.std.specs.Prelude.{◌≡◌, ℕ, ◌+◌, ◌-◌, ◌<◌, ◌≤◌, min, Bool, true, false, cond, not, nat_eq, nat_lt, if◌then◌else◌, List, [], length, drop, slice_index, slice_range, Option, None, Some, is_some, IfSome}
+use Rattle.std.specs.List.{All, list_all}
+use Rattle.std.specs.Str.{is_utf8}
+use Rattle.std.specs.FinMap.{entries, get}
+use Rattle.std.proofs.Common.{refl, ap, ◌∙◌, arith, true≢false}
+use Rattle.std.proofs.lemmas.Bool.{and_parts, and_from, eq-eqb, lt-ltb, ltb-true}
+use Rattle.std.proofs.lemmas.Bool.Decides.{nat_tests}
+use Rattle.std.proofs.lemmas.List.{length-drop, length-take-le}
+use Rattle.std.proofs.lemmas.List.Elements.{All-weaker}
+use Rattle.std.proofs.lemmas.List.Sums.{AllPass-from_list_all}
+use Rattle.std.proofs.lemmas.Str.{IsUtf8-from_ascii, is_utf8-from_IsUtf8}
+use Rattle.std.proofs.lemmas.Str.Ascii.{IsAscii-from_all}
+use Rattle.gate_base.specs.Told.{moment_limit}
+use Rattle.swift_calls.specs.Account.{SwiftAccount, SwiftContainer, SwiftObject, find_object}
+use Rattle.swift_calls.specs.Bodies.{Look, etag_text, head_of, item_of}
+use Rattle.swift_calls.specs.Limits.{IsRange, is_content_type, is_value, is_value_byte}
+use Rattle.swift_calls.specs.Step.{IsMoment, is_bare, is_listed, names_reply, items_reply, head_container, put_container, post_container, delete_by, delete_container, put_object, head_reply, get_reply, part_reply, delete_object}
+use Rattle.swift_calls.specs.declared.account.ReadList.{ReadList}
+use Rattle.swift_calls.specs.declared.account.Content.{Content}
+use Rattle.swift_calls.specs.declared.account.Content.TheVariants.{Plain, Segments}
+use Rattle.swift_wire.specs.Answers.{is_part}
+use Rattle.swift_wire.specs.AnswerText.{
+  Sent,
+  is_created,
+  is_item,
+  list_containers_sent,
+  head_container_sent,
+  put_sent,
+  post_sent,
+  delete_sent,
+  list_names_sent,
+  put_object_sent,
+  head_object_sent,
+  get_sent,
+}
+use Rattle.swift_wire.proofs.lemmas.SmallHeads.{IsSmallHead, stored_spelled, head_spelled, bytes_spelled}
+use Rattle.swift_store.specs.Made.{IsMade, IsMadeObject}
+use Rattle.swift_store.proofs.MadeChanges.{made_found}
+use Rattle.swift_store.proofs.MadeEntries.{IsEntry, entries_found, page_passes}
+use Rattle.swift_store.proofs.MadeEtags.{etag_length, etag_tag, etag_utf8}
+
+-- what is sent where the test passes
+sent_if : (b : Bool) (sent : Option Sent) → b ≡ true → is_some sent ≡ true → is_some (if b then sent else None) ≡ true
+sent_if b sent is some = ap (λ v. is_some (if v then sent else None)) is ∙ some
+
+-- ---- values
+
+value_bytes : (most : ℕ) (text : List ℕ) → is_value most text ≡ true → list_all is_value_byte text ≡ true
+value_bytes most text is =
+    let last = and_parts _ (not (nat_eq (slice_index text (length text - 1)) 32)) is in
+    let first = and_parts _ (not (nat_eq (slice_index text 0) 32)) last.0 in
+    (and_parts _ (list_all is_value_byte text) first.0).1
+
+value_ascii : (b : ℕ) → is_value_byte b ≡ true → b < 128
+value_ascii b is = grind (arith, nat_tests)
+
+type_utf8 : (text : List ℕ) → is_content_type text ≡ true → is_utf8 text ≡ true
+type_utf8 text is =
+    is_utf8-from_IsUtf8 text
+    (IsUtf8-from_ascii text
+    (IsAscii-from_all text
+    (All-weaker (λ b. is_value_byte b ≡ true) (λ b. b < 128) value_ascii text (AllPass-from_list_all is_value_byte text (value_bytes 512 text is)))))
+
+created_read : (created : Option ℕ) → IfSome created IsMoment → is_created created ≡ true
+created_read None moment = refl
+created_read (Some at) moment = lt-ltb at moment_limit moment
+
+-- ---- objects
+
+module _ (n content_type : List ℕ) (meta : List (List ℕ)) where
+  abbrev object : Content → SwiftObject
+  object content = record { content_type = content_type; meta = meta; content = content }
+
+  item_is : (content : Content) → IsMadeObject n (object content) → is_item (item_of n (object content)) ≡ true
+  item_is (Plain bytes) own = and_from _ _ (is_utf8-from_IsUtf8 n own.named.1.utf8) (and_from _ _ (etag_utf8 bytes) (type_utf8 content_type own.content_type))
+  item_is (Segments segments) own = absurd (true≢false own.own)
+
+  head_small : (bytes : List ℕ) → IsMadeObject n (object (Plain bytes)) → IsSmallHead (head_of (object (Plain bytes)))
+  head_small bytes own = record {
+    content_type = own.content_type;
+    tag = etag_tag bytes;
+    etag = omega (arith, etag_length bytes);
+    size = omega (arith, own.within);
+    meta = own.meta;
+  }
+
+  head_sent_is : (content : Content) → IsMadeObject n (object content) → is_some (head_object_sent (head_reply (Some (object content)))) ≡ true
+  head_sent_is (Plain bytes) own = head_spelled (head_of (object (Plain bytes))) (head_small bytes own)
+  head_sent_is (Segments segments) own = absurd (true≢false own.own)
+
+  -- the bytes of a range
+  part_is : (range : ℕ × ℕ) (bytes : List ℕ) → IsRange range → nat_lt range.0 (length bytes) ≡ true
+      → is_part (Some range) (length bytes) (length (slice_range bytes range.0 (min (range.1 + 1) (length bytes)))) ≡ true
+  part_is range bytes within below =
+      let size = length-drop range.0 bytes in
+      let first : range.0 < length bytes = ltb-true range.0 (length bytes) below in
+      let order : range.0 ≤ range.1 = within.0 in
+      let last : min (range.1 + 1) (length bytes) ≤ length bytes = grind arith in
+      let room : min (range.1 + 1) (length bytes) - range.0 ≤ length (drop range.0 bytes) = omega (arith, size, last) in
+      and_from _ _ below
+      (eq-eqb (length (slice_range bytes range.0 (min (range.1 + 1) (length bytes)))) (min (range.1 + 1) (length bytes) - range.0)
+      (length-take-le (min (range.1 + 1) (length bytes) - range.0) (drop range.0 bytes) room))
+
+  range_is : (range : ℕ × ℕ) (bytes : List ℕ) → IsRange range → IsMadeObject n (object (Plain bytes)) → (b : Bool) → nat_lt range.0 (length bytes) ≡ b
+      → is_some (get_sent (Some range)
+      (part_reply (head_of (object (Plain bytes))) (cond b (Some (slice_range bytes range.0 (min (range.1 + 1) (length bytes)))) None))) ≡ true
+  range_is range bytes within own true below = bytes_spelled (Some range) (head_of (object (Plain bytes))) _ (head_small bytes own) (part_is range bytes within below)
+  range_is range bytes within own false past = refl
+
+  get_sent_is : (looks : Look) (range : Option (ℕ × ℕ)) (content : Content) → IfSome range IsRange → IsMadeObject n (object content)
+      → is_some (get_sent range (get_reply looks range (Some (object content)))) ≡ true
+  get_sent_is looks None (Plain bytes) within own =
+      bytes_spelled None (head_of (object (Plain bytes))) bytes (head_small bytes own) (eq-eqb (length bytes) (length bytes) refl)
+  get_sent_is looks (Some range) (Plain bytes) within own = range_is range bytes within own (nat_lt range.0 (length bytes)) refl
+  get_sent_is looks range (Segments segments) within own = absurd (true≢false own.own)
+
+-- ---- each row
+
+module _ (account : SwiftAccount) (made : IsMade account) where
+  pub containers_row : (limit : ℕ) (marker : List ℕ) → is_some (list_containers_sent (names_reply limit marker account)) ≡ true
+  containers_row limit marker = sent_if _ _ (page_passes is_utf8 limit (λ e. e.0) (λ e. is_listed [] marker e.0) (entries account) names) refl
+    where
+      names : All (λ e. is_utf8 e.0 ≡ true) (entries account)
+      names =
+          All-weaker (IsEntry account) (λ e. is_utf8 e.0 ≡ true) (λ e found. is_utf8-from_IsUtf8 e.0 (made e.0 e.1 found).named.text) (entries account)
+          (entries_found account)
+
+  pub names_row : (c : List ℕ) (limit : ℕ) (prefix marker : List ℕ) → is_some (list_names_sent (items_reply limit prefix marker (get account c))) ≡ true
+  names_row c limit prefix marker = by (get account c) refl
+    where
+      by : (v : Option SwiftContainer) → get account c ≡ v → is_some (list_names_sent (items_reply limit prefix marker v)) ≡ true
+      by None at = refl
+      by (Some folder) at =
+          sent_if _ _ (page_passes is_item limit (λ e. item_of e.0 e.1) (λ e. is_listed prefix marker e.0) (entries folder.files)
+          (All-weaker (IsEntry folder.files) (λ e. is_item (item_of e.0 e.1) ≡ true)
+          (λ e found. item_is e.0 e.1.content_type e.1.meta e.1.content ((made c folder at).objects e.0 e.1 found)) (entries folder.files)
+          (entries_found folder.files))) refl
+
+  pub readers_row : (c : List ℕ) → is_some (head_container_sent (head_container (get account c) account).reply) ≡ true
+  readers_row c = by (get account c) refl
+    where
+      by : (v : Option SwiftContainer) → get account c ≡ v → is_some (head_container_sent (head_container v account).reply) ≡ true
+      by None at = refl
+      by (Some folder) at = sent_if _ _ (created_read folder.created (made c folder at).created) refl
+
+  pub head_row : (c n : List ℕ) → is_some (head_object_sent (head_reply (find_object account c n))) ≡ true
+  head_row c n = by (find_object account c n) refl
+    where
+      by : (v : Option SwiftObject) → find_object account c n ≡ v → is_some (head_object_sent (head_reply v)) ≡ true
+      by None at = refl
+      by (Some file) at = head_sent_is n file.content_type file.meta file.content (made_found c n account file made at)
+
+  pub get_row : (c n : List ℕ) (range : Option (ℕ × ℕ)) → IfSome range IsRange
+      → is_some (get_sent range (get_reply (find_object account) range (find_object account c n))) ≡ true
+  get_row c n range within = by (find_object account c n) refl
+    where
+      by : (v : Option SwiftObject) → find_object account c n ≡ v → is_some (get_sent range (get_reply (find_object account) range v)) ≡ true
+      by None at = refl
+      by (Some file) at = get_sent_is n file.content_type file.meta (find_object account) range file.content within (made_found c n account file made at)
+
+-- the rows that say their status alone, and an ETag
+
+pub put_row : (v : Option SwiftContainer) (c : List ℕ) (readers : ReadList) (created : Option ℕ) (account : SwiftAccount)
+    → is_some (put_sent (put_container v c readers created account).reply) ≡ true
+put_row None c readers created account = refl
+put_row (Some folder) c readers created account = refl
+
+pub post_row : (v : Option SwiftContainer) (c : List ℕ) (readers : ReadList) (account : SwiftAccount)
+    → is_some (post_sent (post_container v c readers account).reply) ≡ true
+post_row None c readers account = refl
+post_row (Some folder) c readers account = refl
+
+pub delete_row : (v : Option SwiftContainer) (c : List ℕ) (account : SwiftAccount) → is_some (delete_sent (delete_container v c account).reply) ≡ true
+delete_row None c account = refl
+delete_row (Some folder) c account = by (is_bare folder)
+  where
+    by : (b : Bool) → is_some (delete_sent (delete_by b c account).reply) ≡ true
+    by true = refl
+    by false = refl
+
+pub stored_row : (v : Option SwiftContainer) (c n content_type : List ℕ) (meta : List (List ℕ)) (body : List ℕ) (account : SwiftAccount)
+    → is_some (put_object_sent (put_object v c n (record { content_type = content_type; meta = meta; content = Plain body }) account).reply) ≡ true
+stored_row None c n content_type meta body account = refl
+stored_row (Some folder) c n content_type meta body account =
+    stored_spelled (etag_text body) (etag_tag body) (omega (arith, etag_length body))
+
+pub remove_row : (v : Option SwiftObject) (c n : List ℕ) (account : SwiftAccount) → is_some (post_sent (delete_object v c n account).reply) ≡ true
+remove_row None c n account = refl
+remove_row (Some file) c n account = refl
