@@ -62,9 +62,13 @@ module _ (c : List ℕ) (account : SwiftAccount) (made : IsMade account) where
       → IsMade new
   made_written readers created new moment is = subst IsMade (sym is) (made_head c readers created account made moment)
 
-  pub made_with : (readers : ReadList) (created : Option ℕ) (new : SwiftAccount) → IsContainerName c → IfSome created IsMoment
-      → new ≡ insert account c (new_folder readers created) → IsMade new
-  made_with readers created new name moment is = subst IsMade (sym is) (made_new c readers created account made name moment)
+  -- whether it was made or memory ran out
+  pub made_with : {A E : Type 0} (readers : ReadList) (created : Option ℕ) (folder : SwiftContainer) (new : SwiftAccount) (result : Result A E)
+      → IsContainerName c → IfSome created IsMoment → folder ≡ new_folder readers created → OnOk result (new ≡ insert account c folder)
+      → OnErr result (new ≡ account) → IsMade new
+  made_with readers created folder new (Ok done) name moment is put same =
+      subst IsMade (sym (put ∙ ap (insert account c) is)) (made_new c readers created account made name moment)
+  made_with readers created folder new (Err fault) name moment is put same = subst IsMade (sym same) made
 
   pub made_without : (new : SwiftAccount) → new ≡ remove account c → IsMade new
   made_without new is = subst IsMade (sym is) (made_removed c account made)
