@@ -1,5 +1,5 @@
 -- The reply to each call on an account that calls make has a spelling.
-use Rattle.std.specs.Prelude.{◌≡◌, ℕ, ◌+◌, ◌-◌, ◌<◌, ◌≤◌, min, Bool, true, false, cond, not, nat_eq, nat_lt, if◌then◌else◌, List, [], length, drop, slice_index, slice_range, Option, None, Some, is_some, IfSome}
+use Rattle.std.specs.Prelude.{◌≡◌, ℕ, ◌+◌, ◌-◌, ◌^◌, ◌<◌, ◌≤◌, min, Bool, true, false, cond, not, nat_eq, nat_lt, if◌then◌else◌, List, [], length, drop, slice_index, slice_range, Option, None, Some, is_some, IfSome}
 use Rattle.std.specs.List.{All, list_all}
 use Rattle.std.specs.Str.{is_utf8}
 use Rattle.std.specs.FinMap.{entries, get}
@@ -12,7 +12,7 @@ use Rattle.std.proofs.lemmas.List.Sums.{AllPass-from_list_all}
 use Rattle.std.proofs.lemmas.Str.{IsUtf8-from_ascii, is_utf8-from_IsUtf8}
 use Rattle.std.proofs.lemmas.Str.Ascii.{IsAscii-from_all}
 use Rattle.gate_base.specs.Told.{moment_limit}
-use Rattle.swift_calls.specs.Account.{SwiftAccount, SwiftContainer, SwiftObject, find_object}
+use Rattle.swift_calls.specs.Account.{SwiftAccount, SwiftContainer, SwiftObject, find_object, size_of}
 use Rattle.swift_calls.specs.Bodies.{Look, etag_text, head_of, item_of}
 use Rattle.gate_base.specs.Fields.{is_field, is_printable}
 use Rattle.swift_calls.specs.Limits.{IsRange, is_content_type}
@@ -76,6 +76,10 @@ module _ (n content_type : List ℕ) (meta : List (List ℕ)) where
   item_is : (content : Content) → IsMadeObject n (object content) → is_item (item_of n (object content)) ≡ true
   item_is (Plain bytes) own = and_from _ _ (is_utf8-from_IsUtf8 n own.named.1.utf8) (and_from _ _ (etag_utf8 bytes) (type_utf8 content_type own.content_type))
   item_is (Segments segments) own = absurd (true≢false own.own)
+
+  -- a number that JSON has
+  pub item_size : (content : Content) → IsMadeObject n (object content) → nat_lt (size_of content) (2 ^ 64) ≡ true
+  item_size content own = lt-ltb (size_of content) (2 ^ 64) (omega (arith, own.within))
 
   head_small : (bytes : List ℕ) → IsMadeObject n (object (Plain bytes)) → IsSmallHead (head_of (object (Plain bytes)))
   head_small bytes own = record {

@@ -6,7 +6,6 @@ use Rattle.std.proofs.Common.{refl, sym, ap, ◌∙◌, arith, inl, inr, true≢
 use Rattle.std.proofs.lemmas.Bool.{cases_lt, cond-true, cond-false, le-leb, lt-leb}
 use Rattle.std.proofs.lemmas.Option.{none-some, same_Some}
 use Rattle.std.proofs.lemmas.List.{take_all}
-use Rattle.gate_base.proofs.lemmas.Maps.{by_name, get_empty}
 use Rattle.swift_calls.specs.Account.{SwiftAccount, SwiftContainer, SwiftObject, files, files_of, find_object, size_of}
 use Rattle.swift_calls.specs.Bodies.{Look, etag_text, head_of, is_list}
 use Rattle.swift_calls.specs.Step.{swift_step, is_bare, head_container, put_container, post_container, delete_container, delete_by, items_reply, put_object, head_reply, delete_object, get_reply, part_reply}

@@ -1,12 +1,10 @@
 -- What a shelf in memory finds and does, by what stands under a container's name.
 use Rattle.std.specs.Prelude.{◌≡◌, ◌<◌, ◌^◌, IfSome, ℕ, zero, suc, Bool, List, [], ◌∷◌, length, Option, None, Some, is_some, true, false, Result, Ok, Err, OnOk, OnErr}
 use Rattle.std.specs.FinMap.{get, insert, remove, empty, len-entries, len-empty}
-use Rattle.std.specs.Option.{option_map}
-use Rattle.std.proofs.lemmas.Option.{none-some, same_Some}
-use Rattle.std.proofs.Common.{arith, inl, inr, subst, refl, sym, ap, ◌∙◌, true≢false}
-use Rattle.gate_base.specs.Maps.{Names, adjust, name_cmp}
-use Rattle.gate_base.proofs.lemmas.Maps.{by_name, get_empty, same_key, at_adjust, off_adjust, insert_is, remove_is}
-use Rattle.swift_calls.specs.Account.{SwiftAccount, SwiftContainer, SwiftObject, files, files_of, find_object, new_folder, on_files, put_file, remove_file, size_of, with_head}
+use Rattle.std.proofs.Common.{arith, subst, refl, sym, ap, ◌∙◌, true≢false}
+use Rattle.gate_base.specs.Maps.{adjust, name_cmp}
+use Rattle.gate_base.proofs.lemmas.Maps.{by_name, get_empty}
+use Rattle.swift_calls.specs.Account.{SwiftAccount, SwiftContainer, SwiftObject, files, files_of, find_object, new_folder, put_file, remove_file, size_of, with_head}
 use Rattle.swift_calls.specs.Bodies.{item_of}
 use Rattle.swift_calls.specs.Step.{IsContainerName, IsMoment, page, is_listed, put_container}
 use Rattle.swift_calls.specs.declared.account.Content.{Content}
@@ -62,9 +60,13 @@ module _ (c : List ℕ) (account : SwiftAccount) (made : IsMade account) where
       → IsMade new
   made_written readers created new moment is = subst IsMade (sym is) (made_head c readers created account made moment)
 
-  pub made_with : (readers : ReadList) (created : Option ℕ) (new : SwiftAccount) → IsContainerName c → IfSome created IsMoment
-      → new ≡ insert account c (new_folder readers created) → IsMade new
-  made_with readers created new name moment is = subst IsMade (sym is) (made_new c readers created account made name moment)
+  -- whether it was made or memory ran out
+  pub made_with : {A E : Type 0} (readers : ReadList) (created : Option ℕ) (folder : SwiftContainer) (new : SwiftAccount) (result : Result A E)
+      → IsContainerName c → IfSome created IsMoment → folder ≡ new_folder readers created → OnOk result (new ≡ insert account c folder)
+      → OnErr result (new ≡ account) → IsMade new
+  made_with readers created folder new (Ok done) name moment is put same =
+      subst IsMade (sym (put ∙ ap (insert account c) is)) (made_new c readers created account made name moment)
+  made_with readers created folder new (Err fault) name moment is put same = subst IsMade (sym same) made
 
   pub made_without : (new : SwiftAccount) → new ≡ remove account c → IsMade new
   made_without new is = subst IsMade (sym is) (made_removed c account made)

@@ -25,7 +25,6 @@ pub struct MapShelf {
 
 impl MapShelf {
     /// An account without a container. It takes no memory.
-    #[tactic(auto, using(crate::proofs::MadeChanges::made_empty))]
     pub fn new(alloc: Global) -> MapShelf
         ensures { result.folders ≡ empty }
     {
@@ -76,7 +75,7 @@ impl Shelf for MapShelf {
         }
     }
 
-    #[tactic(auto, using(crate::proofs::Shelves::head_written, crate::proofs::Shelves::container_made, crate::proofs::Shelves::made_written, crate::proofs::Shelves::made_with))]
+    #[tactic(auto, using(crate::proofs::Shelves::head_written, crate::proofs::Shelves::container_made))]
     fn put_container(
         &mut self,
         name: &[u8],
@@ -92,7 +91,6 @@ impl Shelf for MapShelf {
         Ok(())
     }
 
-    #[tactic(auto, using(crate::proofs::Shelves::made_without))]
     fn drop_container(&mut self, name: &[u8]) -> Result<(), StoreFault> {
         self.folders.drop_at(name);
         Ok(())
@@ -140,7 +138,6 @@ impl Shelf for MapShelf {
         Ok(self.folders.put_object(container, name.as_slice(), object)?)
     }
 
-    #[tactic(auto, using(crate::proofs::Shelves::made_less))]
     fn remove(&mut self, container: &[u8], name: &[u8]) -> Result<bool, StoreFault> {
         let there = self.object(container, name).is_some();
         self.folders.drop_object(container, name);

@@ -1,7 +1,6 @@
 -- The laws of the accounts that calls make.
 use Rattle.std.specs.Prelude.{ℕ, true, Bool, false, List, Option, None, Some, IfSome}
 use Rattle.std.specs.FinMap.{get}
-use Rattle.std.proofs.Common.{refl}
 use Rattle.swift_calls.specs.Account.{SwiftAccount, SwiftContainer, SwiftObject, find_object}
 use Rattle.swift_calls.specs.Step.{IsContainerName, IsMoment, is_bare, head_container, put_container, post_container, delete_by, delete_container, put_object, delete_object}
 use Rattle.swift_calls.specs.declared.account.ReadList.{ReadList}
