@@ -73,13 +73,15 @@ module _ (n content_type : List ℕ) (meta : List (List ℕ)) where
   abbrev object : Content → SwiftObject
   object content = record { content_type = content_type; meta = meta; content = content }
 
-  item_is : (content : Content) → IsMadeObject n (object content) → is_item (item_of n (object content)) ≡ true
-  item_is (Plain bytes) own = and_from _ _ (is_utf8-from_IsUtf8 n own.named.1.utf8) (and_from _ _ (etag_utf8 bytes) (type_utf8 content_type own.content_type))
-  item_is (Segments segments) own = absurd (true≢false own.own)
-
   -- a number that JSON has
-  pub item_size : (content : Content) → IsMadeObject n (object content) → nat_lt (size_of content) (2 ^ 64) ≡ true
+  item_size : (content : Content) → IsMadeObject n (object content) → nat_lt (size_of content) (2 ^ 64) ≡ true
   item_size content own = lt-ltb (size_of content) (2 ^ 64) (omega (arith, own.within))
+
+  item_is : (content : Content) → IsMadeObject n (object content) → is_item (item_of n (object content)) ≡ true
+  item_is (Plain bytes) own =
+      and_from _ _ (is_utf8-from_IsUtf8 n own.named.1.utf8)
+      (and_from _ _ (etag_utf8 bytes) (and_from _ _ (type_utf8 content_type own.content_type) (item_size (Plain bytes) own)))
+  item_is (Segments segments) own = absurd (true≢false own.own)
 
   head_small : (bytes : List ℕ) → IsMadeObject n (object (Plain bytes)) → IsSmallHead (head_of (object (Plain bytes)))
   head_small bytes own = record {
