@@ -1,2 +1,2 @@
 pub mod Calling
-pub mod Made
+pub mod Fresh

@@ -29,7 +29,7 @@ pub fn over_tcp<R: Net + Drop>(
 
 /// A store whose calls are served from the shelf, as requests and answers at `place`. The calls numbered in `before`, from
 /// 1, lose their request, and those in `after` their answer.
-#[tactic(auto, using(crate::proofs::Made::fresh_over))]
+#[tactic(auto, using(crate::proofs::Fresh::fresh_over))]
 pub fn client_over<S: Shelf + Drop>(
     alloc: Global,
     shelf: S,
@@ -47,7 +47,7 @@ pub fn client_over<S: Shelf + Drop>(
 }
 
 /// A store in memory without a container. Each call is answered, as far as memory goes.
-#[tactic(auto, using(crate::proofs::Made::fresh_empty))]
+#[tactic(auto, using(crate::proofs::Fresh::fresh_empty))]
 pub fn memory_store(alloc: Global) -> Result<SwiftClient<StoreLink<MapShelf>>, Memory>
     ensures { IfOk result (λ store. IsFresh true empty (⟦<SwiftClient<StoreLink<MapShelf>> as Swift>⟧.history store)) }
 {
@@ -57,7 +57,7 @@ pub fn memory_store(alloc: Global) -> Result<SwiftClient<StoreLink<MapShelf>>, M
 }
 
 /// The place of a store that is reached over no network.
-#[tactic(auto, using(crate::proofs::Made::memory_is_place))]
+#[tactic(auto, using(crate::proofs::Fresh::memory_is_place))]
 fn memory_place(alloc: Global) -> Result<Place, Memory>
     ensures { IfOk result IsPlace }
 {
