@@ -29,7 +29,6 @@ pub fn over_tcp<R: Net + Drop>(
 
 /// A store whose calls are served from the shelf, as requests and answers at `place`. The calls numbered in `before`, from
 /// 1, lose their request, and those in `after` their answer.
-#[tactic(auto, using(crate::proofs::Fresh::fresh_over))]
 pub fn client_over<S: Shelf + Drop>(
     alloc: Global,
     shelf: S,
