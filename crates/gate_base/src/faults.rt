@@ -1,4 +1,3 @@
-
 use std::alloc::{AllocError, AllocFailed};
 
 /// A fault of the outside: a line, a sink, a store or a peer failed. Its count of faults rose.

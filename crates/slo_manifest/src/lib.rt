@@ -2,7 +2,6 @@
 //! as JSON, the ETag of the joined object, and where its bytes lie.
 #![tactic(auto)]
 
-
 mod covering;
 mod entries;
 mod etags;
