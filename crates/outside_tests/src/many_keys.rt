@@ -48,7 +48,7 @@ impl Counted for ManyKeys {
 }
 
 impl Swift for ManyKeys {
-    ghost history = { λ store. record { observable = false; called = store.made; faults = store.faults; tree_at = λ _. empty; faults_at = λ _. 0 } };
+    ghost history = { λ store. record { observable = false; sure = false; called = store.made; faults = store.faults; tree_at = λ _. empty; faults_at = λ _. 0 } };
 
     ghost counted = { λ store. refl };
 

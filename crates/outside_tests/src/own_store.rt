@@ -48,7 +48,7 @@ impl Counted for OwnStore {
 }
 
 impl Swift for OwnStore {
-    ghost history = { λ store. record { observable = false; called = store.made; faults = 0; tree_at = λ _. empty; faults_at = λ _. 0 } };
+    ghost history = { λ store. record { observable = false; sure = false; called = store.made; faults = 0; tree_at = λ _. empty; faults_at = λ _. 0 } };
 
     ghost counted = { λ store. refl };
 

@@ -1,5 +1,5 @@
 -- What one call of the store amounts to, from what the store told when it ended.
-use Rattle.std.specs.Prelude.{◌≡◌, ◌≢◌, ◌≤◌, ℕ, ◌+◌, IsTrue, Result, Ok, Err}
+use Rattle.std.specs.Prelude.{◌≡◌, ◌≢◌, ◌≤◌, ℕ, ◌+◌, IsTrue, IsErrOf, Result, Ok, Err}
 use Rattle.std.specs.Result.{IsErrAnd}
 use Rattle.std.proofs.Common.{refl, sym, ap, subst, ◌∙◌, inl, inr, arith}
 use Rattle.s3_machine.specs.State.{State}
@@ -32,9 +32,24 @@ faults_near before now (Ok reply) counts = omega arith
 faults_near before now (Err Failed) counts = omega arith
 faults_near before now (Err Memory) counts = omega arith
 
+-- a call that didn't fail leaves it
+faults_same : (before now : ℕ) (result : Result SwiftReply SwiftFault) → CountsFaults before now result → (IsErrOf result Failed → ⊥) → now ≡ before
+faults_same before now (Ok reply) counts never = counts
+faults_same before now (Err Failed) counts never = absurd (never refl)
+faults_same before now (Err Memory) counts never = counts
+
 -- one call was
 pub goes_one : {old new : History} {request : SwiftRequest} {result : Result SwiftReply SwiftFault} → Calls old new request result → GoesOn old new
-goes_one {old = old} {new = new} {result = result} calls = record { ordered = (counts_near old.called new.called result calls.counts).0; faults = faults_near old.faults new.faults result calls.faults; observable = calls.observable; kept = calls.kept }
+goes_one {old = old} {new = new} {result = result} calls =
+    let ordered : old.called ≤ new.called = (counts_near old.called new.called result calls.counts).0 in
+    record {
+      ordered = ordered;
+      faults = faults_near old.faults new.faults result calls.faults;
+      observable = calls.observable;
+      sure = calls.sure;
+      never = λ observable sure left. faults_same old.faults new.faults result calls.faults (calls.never observable sure (omega (arith, ordered, left)));
+      kept = calls.kept;
+    }
 
 pub grows_one : {old new : History} {request : SwiftRequest} {result : Result SwiftReply SwiftFault} (given : SwiftAccount → Type 0) → Calls old new request result → Grows (always 1) given old new
 grows_one {old = old} {new = new} {result = result} given calls = record { on = goes_one calls; calls = (counts_near old.called new.called result calls.counts).1 }

@@ -1,5 +1,5 @@
 -- What a call adds to the record is what the history tells of it.
-use Rattle.std.specs.Prelude.{◌≡◌, ◌⊎◌, ℕ, ◌+◌, cond, Bool, true, false, List, [], ◌∷◌, ◌++◌, length, take, Result, Ok, Err, IfOk}
+use Rattle.std.specs.Prelude.{◌≡◌, ◌⊎◌, ℕ, ◌+◌, cond, Bool, true, false, List, [], ◌∷◌, ◌++◌, length, take, Result, Ok, Err, IfOk, IsTrue, IsErrOf}
 use Rattle.std.proofs.Common.{sym, ap, subst, ◌∙◌, inl, inr, true≢false, arith}
 use Rattle.std.proofs.Math.Seq.{take-append_seam, take-length}
 use Rattle.std.proofs.lemmas.List.{length-append}
@@ -8,7 +8,8 @@ use Rattle.gate_base.specs.Causes.{Rose}
 use Rattle.swift_calls.specs.Account.{tree_of}
 use Rattle.swift_calls.specs.Step.{swift_step}
 use Rattle.swift_calls.specs.History.{History, Called}
-use Rattle.swift_calls.specs.Replay.{left_by, replayed, is_lost, failures, Logs, Goes}
+use Rattle.swift_calls.specs.MemSwift.{SamePlan, history_of, planned}
+use Rattle.swift_calls.specs.Replay.{left_by, loses_none, replayed, is_lost, failures, Logs, Goes}
 use Rattle.swift_calls.specs.declared.account.Account.{Account}
 use Rattle.swift_calls.specs.declared.calls.SwiftRequest.{SwiftRequest}
 use Rattle.swift_calls.specs.declared.calls.SwiftReply.{SwiftReply}
@@ -17,6 +18,8 @@ use Rattle.swift_calls.specs.declared.calls.SwiftFault.TheVariants.{Failed, Memo
 use Rattle.swift_calls.specs.declared.memory.Outcome.{Outcome}
 use Rattle.swift_calls.specs.declared.memory.Outcome.TheVariants.{Answered, LostBefore, LostAfter}
 use Rattle.swift_calls.specs.declared.memory.Entry.{Entry}
+use Rattle.swift_calls.specs.declared.memory.MemSwift.{MemSwift}
+use Rattle.swift_calls.proofs.lemmas.Outcomes.{all_answered}
 use Rattle.swift_calls.proofs.Replaying.{replayed_more}
 use Rattle.swift_calls.proofs.Serving.{tree_served}
 
@@ -65,14 +68,14 @@ rose_by true n m is e = omega arith
 rose_by false n m is e = absurd (true≢false (sym is))
 
 -- the history of a store that began with this account, by the record of its calls
-abbrev told_by : Account → List Entry → History
-told_by first log = record { observable = true; called = length log; faults = failures log; tree_at = λ k. tree_of (account_at first log k); faults_at = λ k. failures (take k log) }
+abbrev told_by : Bool → Account → List Entry → History
+told_by sure first log = record { observable = true; sure = sure; called = length log; faults = failures log; tree_at = λ k. tree_of (account_at first log k); faults_at = λ k. failures (take k log) }
 
-abbrev TellsOf : Account → SwiftRequest → List Entry → List Entry → Result SwiftReply SwiftFault → Type 0
-TellsOf first request old new result = Called (told_by first new) (length old) (length new) request result
+abbrev TellsOf : Bool → Account → SwiftRequest → List Entry → List Entry → Result SwiftReply SwiftFault → Type 0
+TellsOf sure first request old new result = Called (told_by sure first new) (length old) (length new) request result
 
-answered : (first : Account) (request : SwiftRequest) (outcome : Outcome) (reply : SwiftReply) (old : List Entry) → outcome ≡ Answered → reply ≡ (swift_step request (tree_of (account_at first old (length old)))).reply → TellsOf first request old (logged old request outcome) (Ok reply)
-answered first request outcome reply old is replies =
+answered : (sure : Bool) (first : Account) (request : SwiftRequest) (outcome : Outcome) (reply : SwiftReply) (old : List Entry) → outcome ≡ Answered → reply ≡ (swift_step request (tree_of (account_at first old (length old)))).reply → TellsOf sure first request old (logged old request outcome) (Ok reply)
+answered sure first request outcome reply old is replies =
     let before = account_at first old (length old) in
     let from : tree_of (account_at first (logged old request outcome) (length old)) ≡ tree_of before = ap tree_of (at_old first old request outcome) in
     record {
@@ -82,20 +85,34 @@ answered first request outcome reply old is replies =
       quiet = counted old request outcome ∙ ap (λ o. failures (take (length old) (logged old request outcome)) + cond (is_lost o) 1 0) is ∙ omega arith;
     }
 
-lost : (first : Account) (request : SwiftRequest) (outcome : Outcome) (old : List Entry) → is_lost outcome ≡ true → TellsOf first request old (logged old request outcome) (Err Failed)
-lost first request outcome old is = inl (record {
+lost : (sure : Bool) (first : Account) (request : SwiftRequest) (outcome : Outcome) (old : List Entry) → is_lost outcome ≡ true → TellsOf sure first request old (logged old request outcome) (Err Failed)
+lost sure first request outcome old is = inl (record {
   next = length_logged old request outcome;
   either = either_by request outcome _ _ (at_new first old request outcome ∙ ap (left_by outcome request) (sym (at_old first old request outcome)));
   rose = rose_by (is_lost outcome) _ _ is (counted old request outcome);
 })
 
 -- what the history tells of a call
-called_same : (first : Account) (request : SwiftRequest) (outcome : Outcome) (result : Result SwiftReply SwiftFault) (old new : List Entry) (present : Account) → Logs outcome request result old new → present ≡ replayed first old → IfOk result (λ reply. reply ≡ (swift_step request (tree_of present)).reply) → TellsOf first request old new result
-called_same first request outcome (Ok reply) old new present logs is replies =
-    subst (λ l. TellsOf first request old l (Ok reply)) (sym logs.1) (answered first request outcome reply old logs.0 (replies ∙ ap (λ a. (swift_step request (tree_of a)).reply) (is ∙ ap (replayed first) (sym (take-length old)))))
-called_same first request outcome (Err Failed) old new present logs is replies = subst (λ l. TellsOf first request old l (Err Failed)) (sym logs.1) (lost first request outcome old logs.0)
-called_same first request outcome (Err Memory) old new present logs is replies = inr (ap length logs)
+called_same : (sure : Bool) (first : Account) (request : SwiftRequest) (outcome : Outcome) (result : Result SwiftReply SwiftFault) (old new : List Entry) (present : Account) → Logs outcome request result old new → present ≡ replayed first old → IfOk result (λ reply. reply ≡ (swift_step request (tree_of present)).reply) → TellsOf sure first request old new result
+called_same sure first request outcome (Ok reply) old new present logs is replies =
+    subst (λ l. TellsOf sure first request old l (Ok reply)) (sym logs.1) (answered sure first request outcome reply old logs.0 (replies ∙ ap (λ a. (swift_step request (tree_of a)).reply) (is ∙ ap (replayed first) (sym (take-length old)))))
+called_same sure first request outcome (Err Failed) old new present logs is replies = subst (λ l. TellsOf sure first request old l (Err Failed)) (sym logs.1) (lost sure first request outcome old logs.0)
+called_same sure first request outcome (Err Memory) old new present logs is replies = inr (ap length logs)
 
 -- the same where the first account is kept
-pub called_by : (first first' : Account) → first' ≡ first → (request : SwiftRequest) (outcome : Outcome) (result : Result SwiftReply SwiftFault) (old new : List Entry) (present : Account) → Logs outcome request result old new → present ≡ replayed first old → IfOk result (λ reply. reply ≡ (swift_step request (tree_of present)).reply) → TellsOf first' request old new result
-called_by first first' same request outcome result old new present logs is replies = subst (λ f. TellsOf f request old new result) (sym same) (called_same first request outcome result old new present logs is replies)
+pub called_by : (sure : Bool) (first first' : Account) → first' ≡ first → (request : SwiftRequest) (outcome : Outcome) (result : Result SwiftReply SwiftFault) (old new : List Entry) (present : Account) → Logs outcome request result old new → present ≡ replayed first old → IfOk result (λ reply. reply ≡ (swift_step request (tree_of present)).reply) → TellsOf sure first' request old new result
+called_by sure first first' same request outcome result old new present logs is replies = subst (λ f. TellsOf sure f request old new result) (sym same) (called_same sure first request outcome result old new present logs is replies)
+
+-- ---- a store whose lists lose nothing
+
+-- what it was told is kept
+pub sure_kept : (old new : MemSwift) → SamePlan old new → IsTrue (history_of old).sure → IsTrue (history_of new).sure
+sure_kept old new plan sure = (λ i. loses_none (plan.before i) (plan.after i) (plan.stop i)) ∙ sure
+
+-- a call that failed was lost
+failed_lost : (outcome : Outcome) (request : SwiftRequest) (result : Result SwiftReply SwiftFault) (old new : List Entry) → Logs outcome request result old new → IsErrOf result Failed → is_lost outcome ≡ true
+failed_lost outcome request result old new logs failed = (subst (λ r. Logs outcome request r old new) failed logs).0
+
+pub never_failed : (m : MemSwift) (number : ℕ) (request : SwiftRequest) (result : Result SwiftReply SwiftFault) (old new : List Entry) → Logs (planned m number) request result old new → IsTrue (history_of m).sure → IsErrOf result Failed → ⊥
+never_failed m number request result old new logs sure failed =
+    true≢false (sym (failed_lost (planned m number) request result old new logs failed) ∙ ap is_lost (all_answered m.before m.after m.stop number sure))

@@ -1,7 +1,7 @@
 -- The history of a store: how many calls it counted, and the account and the count of faults after each of them, as
 -- functions of the number of calls. What is said of some of the calls takes the history first, and then the numbers p
 -- and q of calls before and after. Source: this profile.
-use Rattle.std.specs.Prelude.{◌≡◌, ◌⊎◌, ℕ, ◌+◌, ◌<◌, ◌≤◌, ◌^◌, Bool, IsTrue, Result, Ok, Err}
+use Rattle.std.specs.Prelude.{◌≡◌, ◌⊎◌, ℕ, ◌+◌, ◌<◌, ◌≤◌, ◌^◌, Bool, IsTrue, IsErrOf, Result, Ok, Err}
 use Rattle.gate_base.specs.Causes.{Rose}
 use Rattle.swift_calls.specs.Account.{SwiftAccount}
 use Rattle.swift_calls.specs.Step.{swift_step}
@@ -15,9 +15,10 @@ abbrev pub budget : ℕ
 budget = 2 ^ 63
 
 -- what a store counts, and where it tells its contents, the account and the count of faults after each number of calls,
--- up to the number called
+-- up to the number called. `sure` is what says that no call of an observable store fails while calls are left
 pub record History : Type 0 where
   pub observable : Bool
+  pub sure : Bool
   pub called : ℕ
   pub faults : ℕ
   pub tree_at : ℕ → SwiftAccount
@@ -78,6 +79,8 @@ pub record Calls (old new : History) (request : SwiftRequest) (result : Result S
   pub counts : Counts old.called new.called result
   pub faults : CountsFaults old.faults new.faults result
   pub observable : IsTrue old.observable → IsTrue new.observable
+  pub sure : IsTrue old.sure → IsTrue new.sure
+  pub never : IsTrue old.observable → IsTrue old.sure → old.called < budget → IsErrOf result Failed → ⊥
   pub kept : IsTrue old.observable → Extends old.called old new
   pub effect : IsTrue old.observable → Called new old.called new.called request result
 

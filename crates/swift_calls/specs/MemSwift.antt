@@ -2,7 +2,7 @@
 use Rattle.std.specs.Prelude.{◌≡◌, ℕ, true, length, take}
 use Rattle.swift_calls.specs.History.{History}
 use Rattle.swift_calls.specs.Account.{SwiftAccount, tree_of}
-use Rattle.swift_calls.specs.Replay.{outcome_at, replayed, failures}
+use Rattle.swift_calls.specs.Replay.{outcome_at, loses_none, replayed, failures}
 use Rattle.swift_calls.specs.declared.account.Account.{Account}
 use Rattle.swift_calls.specs.declared.memory.Outcome.{Outcome}
 use Rattle.swift_calls.specs.declared.memory.MemSwift.{MemSwift}
@@ -25,7 +25,14 @@ faults_after m k = failures (take k m.log.items)
 
 -- what it counts and tells
 abbrev pub history_of : MemSwift → History
-history_of m = record { observable = true; called = calls_of m; faults = failures m.log.items; tree_at = tree_after m; faults_at = faults_after m }
+history_of m = record {
+  observable = true;
+  sure = loses_none m.before m.after m.stop;
+  called = calls_of m;
+  faults = failures m.log.items;
+  tree_at = tree_after m;
+  faults_at = faults_after m;
+}
 
 -- how the call of a number goes
 abbrev pub planned : MemSwift → ℕ → Outcome

@@ -2,6 +2,8 @@
 use Rattle.std.specs.Prelude.{
   ◌≡◌,
   ℕ,
+  zero,
+  suc,
   Bool,
   true,
   false,
@@ -39,6 +41,13 @@ abbrev pub outcome_at : List ℕ → List ℕ → ℕ → ℕ → Outcome
 outcome_at before after stop number =
     if list_any (λ k. k == number) before || (nat_lt 0 stop && nat_le stop number) then LostBefore
     else if list_any (λ k. k == number) after then LostAfter else Answered
+
+-- nothing is lost by the number of its call
+abbrev pub loses_none : List ℕ → List ℕ → ℕ → Bool
+loses_none [] [] zero = true
+loses_none [] [] (suc stop) = false
+loses_none [] (number ∷ after) stop = false
+loses_none (number ∷ before) after stop = false
 
 -- what a call leaves of an account
 abbrev pub left_by : Outcome → SwiftRequest → Account → Account

@@ -290,7 +290,7 @@ pub trait Swift: Counted {
 
     /// Makes one call. Ok is the store's answer, and the account is as the call leaves it. Failed comes only with a
     /// higher count of faults: the call had no effect or its whole effect, or no call was left and nothing
-    /// changed. Memory comes where the answer could not be read, after no effect or the whole effect, or before
+    /// changed. Where the history is sure, it comes only where no call was left. Memory comes where the answer could not be read, after no effect or the whole effect, or before
     /// the call was made, which is then not counted.
     fn call(&mut self, request: &SwiftRequest) -> Result<SwiftReply, SwiftFault>
         requires { Fit request.now }

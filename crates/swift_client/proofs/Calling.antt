@@ -98,6 +98,8 @@ module _ (link : History) (there place : Place) (own : ℕ) (request : SwiftRequ
     counts = inr (left, refl);
     faults = omega (arith, rose);
     observable = λ o. let t = told link there place own o in tells link there place own' (record { link_told = t.link_told; same = t.same; clean = λ more. omega (arith, left, more) });
+    sure = λ s. s;
+    never = λ o s more failed. omega (arith, left, more);
     kept = λ o. record { accounts = λ k within. refl; counts = λ k within. refl };
     effect = λ o. inr (left, refl);
   }
@@ -108,6 +110,8 @@ module _ (link : History) (there place : Place) (own : ℕ) (request : SwiftRequ
     counts = inr refl;
     faults = refl;
     observable = λ o. o;
+    sure = λ s. s;
+    never = λ o s more failed. cc;
     kept = λ o. record { accounts = λ k within. refl; counts = λ k within. refl };
     effect = λ o. inr refl;
   }
@@ -134,6 +138,8 @@ module _ (link : History) (there place : Place) (own : ℕ) (request : SwiftRequ
       counts = inl (left, e.counts);
       faults = let rose = e.faults in omega (arith, rose);
       observable = still (Err NoLink) e own refl;
+      sure = e.sure;
+      never = λ o s more failed. e.never s refl;
       kept = kept_by (Err NoLink) e own;
       effect = λ o. let x = effect_of (Err NoLink) e o in inl (record { next = e.counts; either = x.0; rose = x.1 });
     }
@@ -160,6 +166,8 @@ module _ (link : History) (there place : Place) (own : ℕ) (request : SwiftRequ
       counts = unread_counts e.counts;
       faults = let same = e.faults in omega (arith, same);
       observable = still (Err NoMemory) e own refl;
+      sure = e.sure;
+      never = λ o s more failed. cc;
       kept = kept_by (Err NoMemory) e own;
       effect = λ o. recalled (Err Memory) own (unread_effect e.counts (effect_of (Err NoMemory) e o));
     }
@@ -171,6 +179,8 @@ module _ (link : History) (there place : Place) (own : ℕ) (request : SwiftRequ
       counts = (left, e.counts);
       faults = let steady = e.faults in omega (arith, steady, same);
       observable = still (Ok tt) e own' same;
+      sure = e.sure;
+      never = λ o s more failed. cc;
       kept = kept_by (Ok tt) e own';
       effect = λ o. let x = effect_of (Ok tt) e o in record { next = x.next; reply = one_reply request _ _ reply reads x.spells; tree = x.tree; quiet = x.quiet };
     }
@@ -178,6 +188,8 @@ module _ (link : History) (there place : Place) (own : ℕ) (request : SwiftRequ
       counts = inl (left, e.counts);
       faults = let steady = e.faults in omega (arith, steady, rose);
       observable = λ o. absurd (none _ (effect_of (Ok tt) e o).spells);
+      sure = e.sure;
+      never = λ o s more failed. none _ (effect_of (Ok tt) e o).spells;
       kept = kept_by (Ok tt) e own';
       effect = λ o. absurd (none _ (effect_of (Ok tt) e o).spells);
     }
@@ -185,6 +197,8 @@ module _ (link : History) (there place : Place) (own : ℕ) (request : SwiftRequ
       counts = inl (left, e.counts);
       faults = let steady = e.faults in omega (arith, steady, same);
       observable = still (Ok tt) e own' same;
+      sure = e.sure;
+      never = λ o s more failed. cc;
       kept = kept_by (Ok tt) e own';
       effect = λ o. let x = effect_of (Ok tt) e o in inl (record { next = x.next; either = inr x.tree; quiet = x.quiet });
     }

@@ -6,7 +6,7 @@ use Rattle.swift_wire.specs.declared.place.Place.{Place}
 
 -- its counts alone
 abbrev pub silent_history : ℕ → ℕ → History
-silent_history called faults = record { observable = false; called = called; faults = faults; tree_at = λ k. empty; faults_at = λ k. 0 }
+silent_history called faults = record { observable = false; sure = false; called = called; faults = faults; tree_at = λ k. empty; faults_at = λ k. 0 }
 
 -- no place
 abbrev pub nowhere : Place

@@ -1,8 +1,9 @@
 //! A store at the end of a TCP connection, and one over a shelf that is at hand.
-ghost use Rattle.std.specs.Prelude.{true, IfOk};
+ghost use Rattle.std.specs.Prelude.{◌≡◌, true, IfOk};
 ghost use Rattle.std.specs.FinMap.{empty};
 ghost use Rattle.swift_wire.specs.Place.{IsPlace};
-ghost use Rattle.swift_store.specs.Log.{IsFresh};
+ghost use Rattle.swift_store.specs.Log.{IsFresh, is_sure_by};
+ghost use Rattle.swift_client.specs.Silent.{silent_history};
 
 use crate::{SwiftClient, TcpLink};
 use gate_base::{Bytes, Copying, List, Memory};
@@ -21,6 +22,7 @@ pub fn over_tcp<R: Net + Drop>(
     limit: u64,
 ) -> Result<SwiftClient<TcpLink<R>>, Memory>
     requires { IsPlace place }
+    ensures { IfOk result (λ store. ⟦<SwiftClient<TcpLink<R>> as Swift>⟧.history store ≡ silent_history 0 0) }
 {
     let address = place.host.copy()?;
     let link = TcpLink::new(rt, alloc, address, limit);
@@ -37,7 +39,7 @@ pub fn client_over<S: Shelf + Drop>(
     after: List<u64>,
 ) -> Result<SwiftClient<StoreLink<S>>, Memory>
     requires { IsPlace place }
-    ensures { IfOk result (λ store. IsFresh (S.observable shelf) (S.account shelf) (⟦<SwiftClient<StoreLink<S>> as Swift>⟧.history store)) }
+    ensures { IfOk result (λ store. IsFresh (S.observable shelf) (is_sure_by (S.sure shelf) before after) (S.account shelf) (⟦<SwiftClient<StoreLink<S>> as Swift>⟧.history store)) }
 {
     let there = place.copy()?;
     let store = Store::new(alloc, shelf, there);
@@ -48,7 +50,7 @@ pub fn client_over<S: Shelf + Drop>(
 /// A store in memory without a container. Each call is answered, as far as memory goes.
 #[tactic(auto, using(crate::proofs::Fresh::fresh_empty))]
 pub fn memory_store(alloc: Global) -> Result<SwiftClient<StoreLink<MapShelf>>, Memory>
-    ensures { IfOk result (λ store. IsFresh true empty (⟦<SwiftClient<StoreLink<MapShelf>> as Swift>⟧.history store)) }
+    ensures { IfOk result (λ store. IsFresh true true empty (⟦<SwiftClient<StoreLink<MapShelf>> as Swift>⟧.history store)) }
 {
     let place = memory_place(alloc)?;
     let shelf = MapShelf::new(alloc);

@@ -1,5 +1,5 @@
 //! Exchanges over a TCP connection. It tells nothing of their bytes.
-ghost use Rattle.std.specs.Prelude.{◌≡◌, false};
+ghost use Rattle.std.specs.Prelude.{◌≡◌, false, IfOk};
 ghost use Rattle.std.proofs.Common.{refl, sym, true≢false};
 ghost use Rattle.gate_base.specs.Causes.{Rose};
 ghost use Rattle.swift_client.specs.Silent.{nowhere, silent_history};
@@ -63,7 +63,9 @@ impl<R: Net + Drop> TcpLink<R> {
         address: Bytes,
         limit: u64,
         stream: R::Stream,
-    ) -> io::Result<TcpLink<R>> {
+    ) -> io::Result<TcpLink<R>>
+        ensures { IfOk result (λ link. ⟦<TcpLink<R> as Link>⟧.history link ≡ silent_history 0 0) }
+    {
         set_limits::<R>(&stream, limit)?;
         let mut link = TcpLink::new(rt, alloc, address, limit);
         link.stream = Some(stream);

@@ -1,8 +1,9 @@
 -- What a link tells that writes down what each exchange found: its history, and what one more exchange does to it.
 use Rattle.std.specs.Prelude.{◌≡◌, ◌⊎◌, ℕ, zero, suc, ◌≤◌, ◌<◌, ◌^◌, ◌+◌, Bool, true, false, cond, List, [], ◌∷◌, ◌++◌, length, take, count_by, IsTrue, Result, Ok, Err}
-use Rattle.std.proofs.Common.{refl, sym, ap, subst, ◌∙◌, inl, inr, arith, length-append}
+use Rattle.std.proofs.Common.{refl, sym, ap, subst, ◌∙◌, inl, inr, arith, length-append, true≢false}
 use Rattle.std.proofs.Math.Nat.{le_refl}
 use Rattle.std.proofs.Math.Seq.{take-length}
+use Rattle.std.proofs.lemmas.Bool.{and_parts, and_from}
 use Rattle.std.proofs.lemmas.List.{take-append-le}
 use Rattle.std.proofs.lemmas.List.Sums.{sum_by_push}
 use Rattle.std.proofs.lemmas.Result.{err_from_is_err_and}
@@ -12,7 +13,11 @@ use Rattle.gate_base.specs.Causes.{Rose}
 use Rattle.swift_calls.specs.Account.{SwiftAccount}
 use Rattle.swift_calls.specs.Step.{Fit, swift_step}
 use Rattle.swift_calls.specs.History.{Extends}
+use Rattle.swift_calls.specs.Replay.{loses_none, outcome_at}
 use Rattle.swift_calls.specs.declared.calls.SwiftRequest.{SwiftRequest}
+use Rattle.swift_calls.specs.declared.memory.Outcome.{Outcome}
+use Rattle.swift_calls.specs.declared.memory.Outcome.TheVariants.{Answered}
+use Rattle.swift_calls.proofs.lemmas.Outcomes.{all_answered}
 use Rattle.swift_wire.specs.Answers.{SpellsAnswer}
 use Rattle.swift_wire.specs.Calls.{SpellsRequest}
 use Rattle.swift_wire.specs.Link.{Exchanges}
@@ -20,11 +25,30 @@ use Rattle.swift_wire.specs.declared.place.Place.{Place}
 use Rattle.swift_wire.specs.declared.link.LinkFault.{LinkFault}
 use Rattle.swift_wire.specs.declared.link.LinkFault.TheVariants.{Failed as NoLink, Memory as NoMemory}
 use Rattle.swift_store.specs.Handing.{Hands}
-use Rattle.swift_store.specs.Log.{state_at, lost_after, history_by}
+use Rattle.swift_store.specs.Log.{state_at, lost_after, history_by, is_sure_by}
 
 -- a vector has fewer than 2^63 items
 pub vec_small : (v : Vec ℕ) → length v.items < 2 ^ 63
 vec_small v = let ok = v.ok in let small = v.small in omega (arith, ok, small)
+
+-- ---- where no exchange fails
+
+-- it stays so where the store's own word does, and the lists are the same
+pub sure_kept : (held held' : Bool) (before after before' after' : List ℕ) → (IsTrue held → IsTrue held') → before' ≡ before → after' ≡ after
+    → IsTrue (is_sure_by held before after) → IsTrue (is_sure_by held' before' after')
+sure_kept held held' before after before' after' keep same same' sure =
+    let p = and_parts _ _ sure in and_from _ _ (keep p.0) ((λ i. loses_none (same i) (same' i) 0) ∙ p.1)
+
+-- the same for what was noted of the store
+pub sure_noted : {T : Type 0} (held : T → Bool) (old new later : T) (before after before' after' : List ℕ) → (IsTrue (held old) → IsTrue (held new)) → later ≡ new
+    → before' ≡ before → after' ≡ after → IsTrue (is_sure_by (held old) before after) → IsTrue (is_sure_by (held later) before' after')
+sure_noted held old new later before after before' after' keep stays = sure_kept _ _ _ _ _ _ (λ s. ap held stays ∙ keep s)
+
+-- no exchange is lost
+pub never_lost : (held : Bool) (before after : List ℕ) (number : ℕ) (outcome : Outcome) (lost : Bool) → outcome ≡ outcome_at before after 0 number → lost ≡ true
+    → (outcome ≡ Answered → IsTrue held → lost ≡ false) → IsTrue (is_sure_by held before after) → ⊥
+never_lost held before after number outcome lost is is_lost none sure =
+    let p = and_parts _ _ sure in true≢false (sym is_lost ∙ none (is ∙ all_answered before after 0 number p.1) p.0)
 
 -- ---- the states
 
@@ -73,21 +97,23 @@ risen : (before now : ℕ) → now ≡ before + 1 → Rose before now
 risen before now e = omega (arith, e)
 
 module _ {E T : Type 0} (told : T → Bool) (account : T → SwiftAccount) (was : E → T) (lost : E → Bool) where
-  module _ (place : Place) (request reply : List ℕ) (log : List E) (old new : T) (on : IsTrue (told old) → IsTrue (told new)) where
+  module _ (place : Place) (request reply : List ℕ) (log : List E) (old new : T) (on : IsTrue (told old) → IsTrue (told new)) (sure sure' : Bool) (stays_sure : IsTrue sure → IsTrue sure') where
     -- memory ran out, and nothing was written down
     wanted : (log' : List E) → log' ≡ log → (IsTrue (told old) → account new ≡ account old)
-        → Exchanges place (history_by told account was lost log old) request reply (Err NoMemory) (history_by told account was lost log' new)
-    wanted log' e same = subst (λ (l : List E). Exchanges place (history_by told account was lost log old) request reply (Err NoMemory) (history_by told account was lost l new)) (sym e)
+        → Exchanges place (history_by told account was lost sure log old) request reply (Err NoMemory) (history_by told account was lost sure' log' new)
+    wanted log' e same = subst (λ (l : List E). Exchanges place (history_by told account was lost sure log old) request reply (Err NoMemory) (history_by told account was lost sure' l new)) (sym e)
         (record {
           counts = inr refl;
           faults = refl;
           observable = on;
+          sure = stays_sure;
+          never = λ is_sure failed. cc;
           kept = λ o. record { accounts = λ k within. state_same was account log old new (same o) k; counts = λ k within. refl };
           effect = λ o call fit spells. inr refl;
         })
 
     module _ (e : E) (is : was e ≡ old) where
-      kept_by : Extends (length log) (history_by told account was lost log old) (history_by told account was lost (log ++ e ∷ []) new)
+      kept_by : Extends (length log) (history_by told account was lost sure log old) (history_by told account was lost sure' (log ++ e ∷ []) new)
       kept_by = record { accounts = λ k within. ap account (state_kept was log old new e is k within); counts = λ k within. lost_kept lost log e k within }
 
       -- the account before the exchange and after it
@@ -114,14 +140,16 @@ module _ {E T : Type 0} (told : T → Bool) (account : T → SwiftAccount) (was 
       lost_before = lost_kept lost log e (length log) (le_refl (length log)) ∙ lost_of_all lost log
 
       -- the exchange was lost
-      noted_lost : (answer : List ℕ) (none : Bool) → none ≡ true → lost e ≡ none → (log' : List E) → log' ≡ log ++ e ∷ []
+      noted_lost : (never_lost : IsTrue sure → ⊥) (answer : List ℕ) (none : Bool) → none ≡ true → lost e ≡ none → (log' : List E) → log' ≡ log ++ e ∷ []
           → (IsTrue (told old) → (call : SwiftRequest) → Fit call → SpellsRequest place call request → Hands call (account old) (account new) answer (Ok none))
-          → Exchanges place (history_by told account was lost log old) request reply (Err NoLink) (history_by told account was lost log' new)
-      noted_lost answer none is_none is_lost log' more hands = subst (λ (l : List E). Exchanges place (history_by told account was lost log old) request reply (Err NoLink) (history_by told account was lost l new)) (sym more)
+          → Exchanges place (history_by told account was lost sure log old) request reply (Err NoLink) (history_by told account was lost sure' log' new)
+      noted_lost never_lost answer none is_none is_lost log' more hands = subst (λ (l : List E). Exchanges place (history_by told account was lost sure log old) request reply (Err NoLink) (history_by told account was lost sure' l new)) (sym more)
           (record {
             counts = one_more log e;
             faults = risen _ _ (one_lost lost log e (is_lost ∙ is_none));
             observable = on;
+            sure = stays_sure;
+            never = λ is_sure failed. never_lost is_sure;
             kept = λ o. kept_by;
             effect = λ o call fit spells. (
               either_by call (subst (λ b. Hands call (account old) (account new) answer (Ok b)) is_none (hands o call fit spells)),
@@ -132,12 +160,14 @@ module _ {E T : Type 0} (told : T → Bool) (account : T → SwiftAccount) (was 
       -- or answered
       noted_answered : (none : Bool) → none ≡ false → lost e ≡ none → (log' : List E) → log' ≡ log ++ e ∷ []
           → (IsTrue (told old) → (call : SwiftRequest) → Fit call → SpellsRequest place call request → Hands call (account old) (account new) reply (Ok none))
-          → Exchanges place (history_by told account was lost log old) request reply (Ok tt) (history_by told account was lost log' new)
-      noted_answered none is_none is_lost log' more hands = subst (λ (l : List E). Exchanges place (history_by told account was lost log old) request reply (Ok tt) (history_by told account was lost l new)) (sym more)
+          → Exchanges place (history_by told account was lost sure log old) request reply (Ok tt) (history_by told account was lost sure' log' new)
+      noted_answered none is_none is_lost log' more hands = subst (λ (l : List E). Exchanges place (history_by told account was lost sure log old) request reply (Ok tt) (history_by told account was lost sure' l new)) (sym more)
           (record {
             counts = one_more log e;
             faults = none_lost lost log e (is_lost ∙ is_none);
             observable = on;
+            sure = stays_sure;
+            never = λ is_sure failed. cc;
             kept = λ o. kept_by;
             effect = λ o call fit spells.
                 let h = subst (λ b. Hands call (account old) (account new) reply (Ok b)) is_none (hands o call fit spells) in
@@ -151,23 +181,23 @@ module _ {E T : Type 0} (told : T → Bool) (account : T → SwiftAccount) (was 
 
     -- the same, by what each step of the exchange gave
     pub wanted_by : (log' : List E) → log' ≡ log → (IsTrue (told old) → account new ≡ account old) → (result : Result (Unit {0}) LinkFault) → IsErrAnd result (λ fault. fault ≡ NoMemory)
-        → Exchanges place (history_by told account was lost log old) request reply result (history_by told account was lost log' new)
+        → Exchanges place (history_by told account was lost sure log old) request reply result (history_by told account was lost sure' log' new)
     wanted_by log' e same result is =
         let p = err_from_is_err_and result is in
-        subst (λ (r : Result (Unit {0}) LinkFault). Exchanges place (history_by told account was lost log old) request reply r (history_by told account was lost log' new)) (sym (p.1 ∙ ap Err p.2)) (wanted log' e same)
+        subst (λ (r : Result (Unit {0}) LinkFault). Exchanges place (history_by told account was lost sure log old) request reply r (history_by told account was lost sure' log' new)) (sym (p.1 ∙ ap Err p.2)) (wanted log' e same)
 
     module _ (middle log' : List E) (later : T) (e : E) (same : middle ≡ log) (more : log' ≡ middle ++ e ∷ []) (stays : later ≡ new) (is : was e ≡ old) where
       grown : log' ≡ log ++ e ∷ []
       grown = more ∙ ap (λ (l : List E). l ++ e ∷ []) same
 
-      pub lost_by : (answer : List ℕ) (none : Bool) → none ≡ true → lost e ≡ none
+      pub lost_by : (IsTrue sure → ⊥) → (answer : List ℕ) (none : Bool) → none ≡ true → lost e ≡ none
           → (IsTrue (told old) → (call : SwiftRequest) → Fit call → SpellsRequest place call request → Hands call (account old) (account new) answer (Ok none))
-          → Exchanges place (history_by told account was lost log old) request reply (Err NoLink) (history_by told account was lost log' later)
-      lost_by answer none is_none is_lost hands = subst (λ (s : T). Exchanges place (history_by told account was lost log old) request reply (Err NoLink) (history_by told account was lost log' s)) (sym stays)
-          (noted_lost e is answer none is_none is_lost log' grown hands)
+          → Exchanges place (history_by told account was lost sure log old) request reply (Err NoLink) (history_by told account was lost sure' log' later)
+      lost_by never_lost answer none is_none is_lost hands = subst (λ (s : T). Exchanges place (history_by told account was lost sure log old) request reply (Err NoLink) (history_by told account was lost sure' log' s)) (sym stays)
+          (noted_lost e is never_lost answer none is_none is_lost log' grown hands)
 
       pub answered_by : (none : Bool) → none ≡ false → lost e ≡ none
           → (IsTrue (told old) → (call : SwiftRequest) → Fit call → SpellsRequest place call request → Hands call (account old) (account new) reply (Ok none))
-          → Exchanges place (history_by told account was lost log old) request reply (Ok tt) (history_by told account was lost log' later)
-      answered_by none is_none is_lost hands = subst (λ (s : T). Exchanges place (history_by told account was lost log old) request reply (Ok tt) (history_by told account was lost log' s)) (sym stays)
+          → Exchanges place (history_by told account was lost sure log old) request reply (Ok tt) (history_by told account was lost sure' log' later)
+      answered_by none is_none is_lost hands = subst (λ (s : T). Exchanges place (history_by told account was lost sure log old) request reply (Ok tt) (history_by told account was lost sure' log' s)) (sym stays)
           (noted_answered e is none is_none is_lost log' grown hands)

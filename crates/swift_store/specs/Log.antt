@@ -1,14 +1,16 @@
 -- What a link tells that wrote down what each exchange found, and whether it was lost. E is an entry of its log, and T what
 -- an exchange finds. Source: this profile.
-use Rattle.std.specs.Prelude.{◌≡◌, ℕ, zero, suc, Bool, List, [], ◌∷◌, length, take, count_by}
+use Rattle.std.specs.Prelude.{◌≡◌, ℕ, zero, suc, Bool, ◌&&◌, List, [], ◌∷◌, length, take, count_by}
 use Rattle.swift_calls.specs.Account.{SwiftAccount}
 use Rattle.swift_calls.specs.History.{History, present}
+use Rattle.swift_calls.specs.Replay.{loses_none}
 
 -- a history at its beginning: no call was counted, none failed, and the account is this one
-pub record IsFresh (told : Bool) (held : SwiftAccount) (h : History) : Type 0 where
+pub record IsFresh (told unfailing : Bool) (held : SwiftAccount) (h : History) : Type 0 where
   pub called : h.called ≡ 0
   pub faults : h.faults ≡ 0
   pub observable : h.observable ≡ told
+  pub sure : h.sure ≡ unfailing
   pub account : present h ≡ held
 
 -- what stood after so many of the exchanges: what the next one found, or what is there now
@@ -21,10 +23,15 @@ state_at was (e ∷ log) now (suc k) = state_at was log now k
 abbrev pub lost_after : {E : Type 0} → (E → Bool) → List E → ℕ → ℕ
 lost_after lost log k = count_by lost (take k log)
 
+-- whether no exchange fails: the store doesn't, and no message is lost by its number
+abbrev pub is_sure_by : Bool → List ℕ → List ℕ → Bool
+is_sure_by sure before after = sure && loses_none before after 0
+
 -- the history of a link whose exchanges these are
-abbrev pub history_by : {E T : Type 0} → (T → Bool) → (T → SwiftAccount) → (E → T) → (E → Bool) → List E → T → History
-history_by told account was lost log now = record {
+abbrev pub history_by : {E T : Type 0} → (T → Bool) → (T → SwiftAccount) → (E → T) → (E → Bool) → Bool → List E → T → History
+history_by told account was lost sure log now = record {
   observable = told now;
+  sure = sure;
   called = length log;
   faults = count_by lost log;
   tree_at = λ k. account (state_at was log now k);

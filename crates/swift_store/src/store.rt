@@ -1,5 +1,5 @@
 //! A store of one account: requests in, answers out.
-ghost use Rattle.std.specs.Prelude.{◌≡◌, ◌<◌, ◌^◌, [], ◌++◌, length, IsTrue, IfOk, OnErr, IsErrOf};
+ghost use Rattle.std.specs.Prelude.{◌≡◌, ◌<◌, ◌^◌, [], ◌++◌, length, false, IsTrue, IfOk, OnErr, IsErrOf};
 ghost use Rattle.gate_base.specs.Causes.{RisesIf};
 ghost use Rattle.swift_calls.specs.Step.{Fit};
 ghost use Rattle.swift_calls.specs.declared.calls.SwiftRequest.{SwiftRequest};
@@ -151,6 +151,8 @@ impl<S: Shelf> Store<S> {
     pub(crate) fn hand(&mut self, bytes: &[u8], out: &mut Bytes) -> Result<bool, Memory>
         ensures place { self.new.place ≡ self.old.place }
         ensures faults { IfOk result (λ lost. RisesIf lost (S.faults self.old.shelf) (S.faults self.new.shelf)) }
+        ensures sure { IsTrue (S.sure self.old.shelf) → IsTrue (S.sure self.new.shelf) }
+        ensures never { IsTrue (S.sure self.old.shelf) → IfOk result (λ lost. lost ≡ false) }
         ensures observable { IsTrue (S.observable self.old.shelf) → IsTrue (S.observable self.new.shelf) }
         ensures same { IsTrue (S.observable self.old.shelf) → OnErr result (S.account self.new.shelf ≡ S.account self.old.shelf) }
         ensures hands { out.old ≡ [] → length out.new < 2 ^ 63 → IsTrue (S.observable self.old.shelf) → (call : SwiftRequest) → Fit call

@@ -1,5 +1,5 @@
 //! A link to a store that is at hand.
-ghost use Rattle.std.specs.Prelude.{◌≡◌, ◌<◌, ◌≤◌, ◌^◌, [], ◌∷◌, ◌++◌, length, take, count_by, vec_len, vec_capacity, IsTrue, OnErr};
+ghost use Rattle.std.specs.Prelude.{◌≡◌, ◌<◌, ◌≤◌, ◌^◌, [], ◌∷◌, ◌++◌, length, take, count_by, vec_len, vec_capacity, false, IsTrue, IfOk, OnErr};
 ghost use Rattle.std.proofs.Common.{refl, ap, subst};
 ghost use Rattle.std.proofs.Math.Seq.{take-length};
 ghost use Rattle.std.proofs.lemmas.List.{take-take};
@@ -9,7 +9,7 @@ ghost use Rattle.swift_calls.specs.Step.{Fit};
 ghost use Rattle.swift_calls.specs.declared.calls.SwiftRequest.{SwiftRequest};
 ghost use Rattle.swift_wire.specs.Calls.{SpellsRequest};
 ghost use Rattle.swift_store.specs.Handing.{Goes, Hands};
-ghost use Rattle.swift_store.specs.Log.{IsFresh, history_by, lost_after};
+ghost use Rattle.swift_store.specs.Log.{IsFresh, history_by, is_sure_by, lost_after};
 
 use crate::{Shelf, Store};
 use gate_base::{Bytes, Counted, List, Memory};
@@ -39,7 +39,7 @@ impl<S: Shelf> StoreLink<S> {
     /// A link to the store. The exchanges numbered in `before` lose their request, and those in `after` their answer; a
     /// number in both lists counts as one of `before`. No exchange was made.
     pub fn new(store: Store<S>, before: List<u64>, after: List<u64>) -> StoreLink<S>
-        ensures fresh { IsFresh (S.observable store.shelf) (S.account store.shelf) (⟦<StoreLink<S> as Link>⟧.history result) }
+        ensures fresh { IsFresh (S.observable store.shelf) (is_sure_by (S.sure store.shelf) before after) (S.account store.shelf) (⟦<StoreLink<S> as Link>⟧.history result) }
         ensures place { ⟦<StoreLink<S> as Link>⟧.place result ≡ store.place }
         ensures before { result.before ≡ before }
         ensures after { result.after ≡ after }
@@ -87,6 +87,8 @@ fn hand_by<S: Shelf>(
     ensures place { store.new.place ≡ store.old.place }
     ensures observable { IsTrue (S.observable store.old.shelf) → IsTrue (S.observable store.new.shelf) }
     ensures same { IsTrue (S.observable store.old.shelf) → OnErr result (S.account store.new.shelf ≡ S.account store.old.shelf) }
+    ensures sure { IsTrue (S.sure store.old.shelf) → IsTrue (S.sure store.new.shelf) }
+    ensures never { outcome ≡ Outcome.Answered → IsTrue (S.sure store.old.shelf) → IfOk result (λ lost. lost ≡ false) }
     ensures goes { Goes (λ s. S.faults s.shelf) outcome store.old store.new result }
     ensures hands { answer.old ≡ [] → length answer.new < 2 ^ 63 → IsTrue (S.observable store.old.shelf) → (call : SwiftRequest) → Fit call
         → SpellsRequest store.old.place call request.now → Hands call (S.account store.old.shelf) (S.account store.new.shelf) answer.new result }
@@ -110,7 +112,7 @@ impl<S: Shelf> Counted for StoreLink<S> {
 }
 
 impl<S: Shelf> Link for StoreLink<S> {
-    ghost history = { λ l. history_by (λ s. S.observable s.shelf) (λ s. S.account s.shelf) (λ e. e.was.value) (λ e. e.lost) l.log.items l.store };
+    ghost history = { λ l. history_by (λ s. S.observable s.shelf) (λ s. S.account s.shelf) (λ e. e.was.value) (λ e. e.lost) (is_sure_by (S.sure l.store.shelf) l.before l.after) l.log.items l.store };
 
     ghost place = { λ l. l.store.place };
 

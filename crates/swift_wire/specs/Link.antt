@@ -1,5 +1,5 @@
 -- What one exchange of messages with a store does to its history. The history's calls are the exchanges. Source: this profile.
-use Rattle.std.specs.Prelude.{◌≡◌, ◌⊎◌, ℕ, ◌+◌, IsTrue, List, Result, Ok, Err}
+use Rattle.std.specs.Prelude.{◌≡◌, ◌⊎◌, ℕ, ◌+◌, IsTrue, IsErrOf, List, Result, Ok, Err}
 use Rattle.gate_base.specs.Causes.{Rose}
 use Rattle.swift_calls.specs.Step.{Fit, swift_step}
 use Rattle.swift_calls.specs.History.{History, Extends, Either}
@@ -41,6 +41,8 @@ pub record Exchanges (place : Place) (old : History) (request reply : List ℕ) 
   pub counts : CountsExchange old.called new.called result
   pub faults : CountsLinkFaults old.faults new.faults result
   pub observable : IsTrue old.observable → IsTrue new.observable
+  pub sure : IsTrue old.sure → IsTrue new.sure
+  pub never : IsTrue old.sure → IsErrOf result Failed → ⊥
   pub kept : IsTrue old.observable → Extends old.called old new
   pub effect : IsTrue old.observable → (call : SwiftRequest) → Fit call → SpellsRequest place call request
       → Exchanged new old.called new.called call reply result

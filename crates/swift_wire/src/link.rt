@@ -44,9 +44,9 @@ pub trait Link: Counted {
     ghost place: { Self → Place };
 
     /// Sends the bytes of one request, and puts the bytes of one whole answer into `reply`, in place of what it holds.
-    /// Failed comes only with a higher count of faults: the request took no effect or its whole effect. Memory comes
-    /// where the answer could not be received, after no effect or the whole effect, or before the request was sent, and
-    /// then the exchange may not be counted. What `reply` holds after a fault isn't said.
+    /// Failed comes only with a higher count of faults, and never where the history is sure: the request took no effect
+    /// or its whole effect. Memory comes where the answer could not be received, after no effect or the whole effect, or
+    /// before the request was sent, and then the exchange may not be counted. What `reply` holds after a fault isn't said.
     fn exchange(&mut self, request: &[u8], reply: &mut Bytes) -> Result<(), LinkFault>
         requires { Self.called self.old < budget }
         ensures place { place self.new ≡ place self.old }

@@ -1,6 +1,6 @@
 -- No call was made, or one that left the account; and how histories go on.
 use Rattle.std.specs.Prelude.{◌≡◌, ◌⊎◌, ◌≤◌, ℕ, ◌+◌}
-use Rattle.std.proofs.Common.{sym, ap, subst, ◌∙◌, inl, inr, arith}
+use Rattle.std.proofs.Common.{refl, sym, ap, subst, ◌∙◌, inl, inr, arith}
 use Rattle.std.proofs.lemmas.Bool.{cases_lt}
 use Rattle.swift_calls.specs.Account.{SwiftAccount}
 use Rattle.swift_calls.specs.History.{History}
@@ -31,7 +31,7 @@ none_made {h = h} same sound = stays (omega arith) (omega arith) (ap h.tree_at s
 
 -- no call was made
 pub goes_none : (h : History) → GoesOn h h
-goes_none h = record { ordered = omega arith; faults = omega arith; observable = λ observable. observable; kept = λ observable. extends_refl h.called h }
+goes_none h = record { ordered = omega arith; faults = omega arith; observable = λ observable. observable; sure = λ sure. sure; never = λ observable sure left. refl; kept = λ observable. extends_refl h.called h }
 
 -- calls were made, and then more
 pub goes_trans : {a b c : History} → GoesOn a b → GoesOn b c → GoesOn a c
@@ -44,6 +44,8 @@ goes_trans first then =
       ordered = omega arith;
       faults = omega arith;
       observable = λ observable. then.observable (first.observable observable);
+      sure = λ sure. then.sure (first.sure sure);
+      never = λ observable sure left. then.never (first.observable observable) (first.sure sure) left ∙ first.never observable sure (omega arith);
       kept = λ observable. extends_trans first_ordered (first.kept observable) (then.kept (first.observable observable));
     }
 

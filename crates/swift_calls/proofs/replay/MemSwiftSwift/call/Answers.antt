@@ -1,7 +1,7 @@
 use Rattle.std.proofs.Common.{◌+◌, arith}
 use Rattle.std.proofs.lemmas.Grind.{common_steps}
-use Rattle.swift_calls.specs.MemSwift.{calls_of, planned}
-use Rattle.swift_calls.proofs.Telling.{goes_by, called_by}
+use Rattle.swift_calls.specs.MemSwift.{calls_of, history_of, planned}
+use Rattle.swift_calls.proofs.Telling.{goes_by, called_by, sure_kept, never_failed}
 use Rattle.swift_calls.proofs.replay.MemSwiftSwift.call.Goals as goal
 
 pub returns-clause-calls : goal.returns-clause-calls
@@ -12,8 +12,10 @@ returns-clause-calls c =
       counts = grind (arith, common_steps);
       faults = grind (arith, common_steps);
       observable = λ observable. observable;
+      sure = sure_kept old new c.make.ensures.plan;
+      never = λ observable sure left. never_failed old (calls_of old + 1) c.args.request.now c.make.result old.log.items new.log.items c.make.ensures.logs sure;
       kept = λ observable. grind (arith, common_steps);
-      effect = λ observable. called_by old.first new.first c.make.ensures.plan.first c.args.request.now (planned old (calls_of old + 1)) c.make.result old.log.items new.log.items old.present c.make.ensures.logs old.replays c.make.ensures.reply;
+      effect = λ observable. called_by (history_of new).sure old.first new.first c.make.ensures.plan.first c.args.request.now (planned old (calls_of old + 1)) c.make.result old.log.items new.log.items old.present c.make.ensures.logs old.replays c.make.ensures.reply;
     }
 
 pub returns-clause-exact : goal.returns-clause-exact
