@@ -1,11 +1,13 @@
 -- What one call of the store amounts to, from what the store told when it ended.
-use Rattle.std.specs.Prelude.{◌≡◌, ◌≢◌, ◌≤◌, ℕ, ◌+◌, IsTrue, IsErrOf, Result, Ok, Err}
+use Rattle.std.specs.Prelude.{◌≡◌, ◌≢◌, ◌⊎◌, ◌≤◌, ◌<◌, ℕ, ◌+◌, IsTrue, IsErrOf, Result, Ok, Err}
 use Rattle.std.specs.Result.{IsErrAnd}
 use Rattle.std.proofs.Common.{refl, sym, ap, subst, ◌∙◌, inl, inr, arith}
+use Rattle.std.proofs.Math.Nat.{le_refl}
+use Rattle.std.proofs.lemmas.Bool.{cases_lt}
 use Rattle.s3_machine.specs.State.{State}
 use Rattle.swift_calls.specs.Account.{SwiftAccount}
 use Rattle.swift_calls.specs.Step.{swift_step}
-use Rattle.swift_calls.specs.History.{History, budget, present, CountsFaults, Either, Called, Replied, Lost, Calls}
+use Rattle.swift_calls.specs.History.{History, Extends, budget, present, Counts, CountsFaults, Either, Called, Replied, Lost, Calls}
 use Rattle.swift_calls.proofs.lemmas.Histories.{counts_near}
 use Rattle.swift_calls.specs.declared.calls.SwiftRequest.{SwiftRequest}
 use Rattle.swift_calls.specs.declared.calls.SwiftReply.{SwiftReply}
@@ -32,24 +34,45 @@ faults_near before now (Ok reply) counts = omega arith
 faults_near before now (Err Failed) counts = omega arith
 faults_near before now (Err Memory) counts = omega arith
 
--- a call that didn't fail leaves it
-faults_same : (before now : ℕ) (result : Result SwiftReply SwiftFault) → CountsFaults before now result → (IsErrOf result Failed → ⊥) → now ≡ before
-faults_same before now (Ok reply) counts never = counts
-faults_same before now (Err Failed) counts never = absurd (never refl)
-faults_same before now (Err Memory) counts never = counts
+-- the counts that were told at the number of a call and after it are those that it found
+counts_told : {old new : History} → Extends old.called old new → (q : ℕ) → q ≡ old.called + 1 → new.faults_at q ≡ new.faults_at old.called → (k : ℕ) → old.called ≤ k → k ≤ q
+    → new.faults_at k ≡ old.faults_at old.called
+counts_told {old = old} {new = new} kept q next quiet k from to = at (cases_lt old.called k)
+  where
+    found_it : new.faults_at old.called ≡ old.faults_at old.called
+    found_it = kept.counts old.called (le_refl old.called)
+
+    at : (old.called < k) ⊎ (k ≤ old.called) → new.faults_at k ≡ old.faults_at old.called
+    at (inl later) = ap new.faults_at (omega arith) ∙ quiet ∙ found_it
+    at (inr sooner) = ap new.faults_at (omega arith) ∙ found_it
+
+-- none was counted
+counts_left : {old new : History} → Extends old.called old new → new.called ≡ old.called → (k : ℕ) → old.called ≤ k → k ≤ new.called → new.faults_at k ≡ old.faults_at old.called
+counts_left {old = old} {new = new} kept same k from to = ap new.faults_at (omega arith) ∙ kept.counts old.called (le_refl old.called)
+
+-- a call of a store that never fails
+never_failed : {old new : History} {request : SwiftRequest} (result : Result SwiftReply SwiftFault) → Calls old new request result → IsTrue old.observable → IsTrue old.sure
+    → (k : ℕ) → old.called ≤ k → k ≤ new.called → new.faults_at k ≡ old.faults_at old.called
+never_failed {old = old} {new = new} {request = request} result calls observable sure = by result calls.counts (calls.effect observable) (calls.never observable sure)
+  where
+    by : (result : Result SwiftReply SwiftFault) → Counts old.called new.called result → Called new old.called new.called request result
+        → (old.called < budget → IsErrOf result Failed → ⊥) → (k : ℕ) → old.called ≤ k → k ≤ new.called → new.faults_at k ≡ old.faults_at old.called
+    by (Ok reply) counts called never = counts_told (calls.kept observable) new.called called.next called.quiet
+    by (Err Failed) (inl counts) called never = absurd (never counts.0 refl)
+    by (Err Failed) (inr counts) called never = counts_left (calls.kept observable) counts.1
+    by (Err Memory) counts (inl called) never = counts_told (calls.kept observable) new.called called.next called.quiet
+    by (Err Memory) counts (inr same) never = counts_left (calls.kept observable) same
 
 -- one call was
 pub goes_one : {old new : History} {request : SwiftRequest} {result : Result SwiftReply SwiftFault} → Calls old new request result → GoesOn old new
-goes_one {old = old} {new = new} {result = result} calls =
-    let ordered : old.called ≤ new.called = (counts_near old.called new.called result calls.counts).0 in
-    record {
-      ordered = ordered;
-      faults = faults_near old.faults new.faults result calls.faults;
-      observable = calls.observable;
-      sure = calls.sure;
-      never = λ observable sure left. faults_same old.faults new.faults result calls.faults (calls.never observable sure (omega (arith, ordered, left)));
-      kept = calls.kept;
-    }
+goes_one {old = old} {new = new} {result = result} calls = record {
+  ordered = (counts_near old.called new.called result calls.counts).0;
+  faults = faults_near old.faults new.faults result calls.faults;
+  observable = calls.observable;
+  sure = calls.sure;
+  never = never_failed result calls;
+  kept = calls.kept;
+}
 
 pub grows_one : {old new : History} {request : SwiftRequest} {result : Result SwiftReply SwiftFault} (given : SwiftAccount → Type 0) → Calls old new request result → Grows (always 1) given old new
 grows_one {old = old} {new = new} {result = result} given calls = record { on = goes_one calls; calls = (counts_near old.called new.called result calls.counts).1 }

@@ -1,5 +1,5 @@
 -- What the calls of an operation mean for the S3 state: some leave it and tell of it, and one changes it. Source: this profile.
-use Rattle.std.specs.Prelude.{◌≡◌, ◌⊎◌, ◌≤◌, ◌<◌, ℕ, ◌+◌, Bool, true, false, IsTrue, is_some, List, Option, None, Some, Result, Ok, Err}
+use Rattle.std.specs.Prelude.{◌≡◌, ◌⊎◌, ◌≤◌, ℕ, ◌+◌, Bool, true, false, IsTrue, is_some, List, Option, None, Some, Result, Ok, Err}
 use Rattle.std.specs.Option.{option_and_then, option_map}
 use Rattle.std.specs.FinMap.{get, insert, remove}
 use Rattle.gate_base.specs.Causes.{Rose}
@@ -11,7 +11,7 @@ use Rattle.s3_machine.specs.State.{Object, Bucket, State}
 use Rattle.s3_machine.specs.Step.{new_bucket, is_bare, with_acl, new_object, head_of, put_object, drop_object}
 use Rattle.swift_calls.specs.Account.{SwiftAccount}
 use Rattle.swift_calls.specs.Bodies.{ranged}
-use Rattle.swift_calls.specs.History.{History, budget, present, Extends}
+use Rattle.swift_calls.specs.History.{History, present, Extends}
 use Rattle.upload_records.specs.Native.{object_at, IsSettled, s3_state}
 use Rattle.upload_records.specs.Consistent.{IsConsistent}
 use Rattle.recovery.specs.declared.bucket.Dropped.{Dropped}
@@ -21,13 +21,14 @@ use Rattle.recovery.specs.declared.fault.PlanFault.TheVariants.{Failed, Memory, 
 use Rattle.recovery.specs.Fault.{CausesFault}
 use Rattle.recovery.specs.Stutters.{Stutters, LastFailed}
 
--- calls were made, and the history went on. None failed where the store is sure, as long as calls are left
+-- calls were made, and the history went on. Where the store is observable and sure, none that was counted failed
 pub record GoesOn (old new : History) : Type 0 where
   pub ordered : old.called ≤ new.called
   pub faults : old.faults ≤ new.faults
   pub observable : IsTrue old.observable → IsTrue new.observable
   pub sure : IsTrue old.sure → IsTrue new.sure
-  pub never : IsTrue old.observable → IsTrue old.sure → new.called < budget → new.faults ≡ old.faults
+  pub never : IsTrue old.observable → IsTrue old.sure → (k : ℕ) → old.called ≤ k → k ≤ new.called
+      → new.faults_at k ≡ old.faults_at old.called
   pub kept : IsTrue old.observable → Extends old.called old new
 
 -- how many calls are made at most: over every store, or by the account, where the store tells it and it is consistent

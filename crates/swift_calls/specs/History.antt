@@ -15,7 +15,7 @@ abbrev pub budget : ℕ
 budget = 2 ^ 63
 
 -- what a store counts, and where it tells its contents, the account and the count of faults after each number of calls,
--- up to the number called. `sure` is what says that no call of an observable store fails while calls are left
+-- up to the number called. Where it is observable and `sure`, no call fails while calls are left
 pub record History : Type 0 where
   pub observable : Bool
   pub sure : Bool

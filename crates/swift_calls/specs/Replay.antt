@@ -42,7 +42,7 @@ outcome_at before after stop number =
     if list_any (λ k. k == number) before || (nat_lt 0 stop && nat_le stop number) then LostBefore
     else if list_any (λ k. k == number) after then LostAfter else Answered
 
--- nothing is lost by the number of its call
+-- neither list has a number, and no call stops the store, so that nothing is lost
 abbrev pub loses_none : List ℕ → List ℕ → ℕ → Bool
 loses_none [] [] zero = true
 loses_none [] [] (suc stop) = false

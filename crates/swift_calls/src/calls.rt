@@ -290,8 +290,9 @@ pub trait Swift: Counted {
 
     /// Makes one call. Ok is the store's answer, and the account is as the call leaves it. Failed comes only with a
     /// higher count of faults: the call had no effect or its whole effect, or no call was left and nothing
-    /// changed. Where the history is sure, it comes only where no call was left. Memory comes where the answer could not be read, after no effect or the whole effect, or before
-    /// the call was made, which is then not counted.
+    /// changed. Where the history is observable and sure, it comes only where no call was left. Memory comes where the
+    /// answer could not be read, after no effect or the whole effect, or before the call was made, which is then not
+    /// counted.
     fn call(&mut self, request: &SwiftRequest) -> Result<SwiftReply, SwiftFault>
         requires { Fit request.now }
         ensures { Calls (history self.old) (history self.new) request.now result };

@@ -8,7 +8,7 @@ ghost use Rattle.std.proofs.lemmas.List.Sums.{sum_by-take-le};
 ghost use Rattle.swift_calls.specs.Account.{tree_of, IsOrdered, IsSized};
 ghost use Rattle.swift_calls.specs.Step.{Fit, swift_step};
 ghost use Rattle.swift_calls.specs.History.{Calls};
-ghost use Rattle.swift_calls.specs.Replay.{outcome_at, left_by, reply_by, failures, Goes, Logs};
+ghost use Rattle.swift_calls.specs.Replay.{outcome_at, loses_none, left_by, reply_by, failures, Goes, Logs};
 ghost use Rattle.swift_calls.specs.MemSwift.{calls_of, account_after, faults_after, history_of, planned, SamePlan};
 
 use crate::memory::Entry;
@@ -34,6 +34,7 @@ impl MemSwift {
         ensures calls { IfOk result (λ m. calls_of m ≡ 0) }
         ensures account { IfOk result (λ m. account_after m 0 ≡ account) }
         ensures faults { IfOk result (λ m. faults_after m 0 ≡ 0) }
+        ensures sure { IfOk result (λ m. (history_of m).sure ≡ loses_none before after stop) }
         ensures planned { IfOk result (λ m. (number : ℕ) → planned m number ≡ outcome_at before after stop number) }
     {
         Ok(MemSwift {

@@ -47,7 +47,7 @@ pub fn client_over<S: Shelf + Drop>(
     Ok(SwiftClient::new(alloc, link, place))
 }
 
-/// A store in memory without a container. Each call is answered, as far as memory goes.
+/// A store in memory without a container. While calls are left, each is answered, as far as memory goes.
 #[tactic(auto, using(crate::proofs::Fresh::fresh_empty))]
 pub fn memory_store(alloc: Global) -> Result<SwiftClient<StoreLink<MapShelf>>, Memory>
     ensures { IfOk result (λ store. IsFresh true true empty (⟦<SwiftClient<StoreLink<MapShelf>> as Swift>⟧.history store)) }

@@ -34,20 +34,20 @@ vec_small v = let ok = v.ok in let small = v.small in omega (arith, ok, small)
 -- ---- where no exchange fails
 
 -- it stays so where the store's own word does, and the lists are the same
-pub sure_kept : (held held' : Bool) (before after before' after' : List ℕ) → (IsTrue held → IsTrue held') → before' ≡ before → after' ≡ after
-    → IsTrue (is_sure_by held before after) → IsTrue (is_sure_by held' before' after')
-sure_kept held held' before after before' after' keep same same' sure =
+pub sure_kept : (own own' : Bool) (before after before' after' : List ℕ) → (IsTrue own → IsTrue own') → before' ≡ before → after' ≡ after
+    → IsTrue (is_sure_by own before after) → IsTrue (is_sure_by own' before' after')
+sure_kept own own' before after before' after' keep same same' sure =
     let p = and_parts _ _ sure in and_from _ _ (keep p.0) ((λ i. loses_none (same i) (same' i) 0) ∙ p.1)
 
 -- the same for what was noted of the store
-pub sure_noted : {T : Type 0} (held : T → Bool) (old new later : T) (before after before' after' : List ℕ) → (IsTrue (held old) → IsTrue (held new)) → later ≡ new
-    → before' ≡ before → after' ≡ after → IsTrue (is_sure_by (held old) before after) → IsTrue (is_sure_by (held later) before' after')
-sure_noted held old new later before after before' after' keep stays = sure_kept _ _ _ _ _ _ (λ s. ap held stays ∙ keep s)
+pub sure_noted : {T : Type 0} (own : T → Bool) (old new later : T) (before after before' after' : List ℕ) → (IsTrue (own old) → IsTrue (own new)) → later ≡ new
+    → before' ≡ before → after' ≡ after → IsTrue (is_sure_by (own old) before after) → IsTrue (is_sure_by (own later) before' after')
+sure_noted own old new later before after before' after' keep stays = sure_kept _ _ _ _ _ _ (λ s. ap own stays ∙ keep s)
 
 -- no exchange is lost
-pub never_lost : (held : Bool) (before after : List ℕ) (number : ℕ) (outcome : Outcome) (lost : Bool) → outcome ≡ outcome_at before after 0 number → lost ≡ true
-    → (outcome ≡ Answered → IsTrue held → lost ≡ false) → IsTrue (is_sure_by held before after) → ⊥
-never_lost held before after number outcome lost is is_lost none sure =
+pub never_lost : (own : Bool) (before after : List ℕ) (number : ℕ) (outcome : Outcome) (lost : Bool) → outcome ≡ outcome_at before after 0 number → lost ≡ true
+    → (outcome ≡ Answered → IsTrue own → lost ≡ false) → IsTrue (is_sure_by own before after) → ⊥
+never_lost own before after number outcome lost is is_lost none sure =
     let p = and_parts _ _ sure in true≢false (sym is_lost ∙ none (is ∙ all_answered before after 0 number p.1) p.0)
 
 -- ---- the states

@@ -5,7 +5,8 @@ use Rattle.swift_calls.specs.Account.{SwiftAccount}
 use Rattle.swift_calls.specs.History.{History, present}
 use Rattle.swift_calls.specs.Replay.{loses_none}
 
--- a history at its beginning: no call was counted, none failed, and the account is this one
+-- a history at its beginning: no call was counted, none failed, it is observable and sure as is said, and the account is this
+-- one
 pub record IsFresh (told unfailing : Bool) (held : SwiftAccount) (h : History) : Type 0 where
   pub called : h.called ≡ 0
   pub faults : h.faults ≡ 0
@@ -23,7 +24,7 @@ state_at was (e ∷ log) now (suc k) = state_at was log now k
 abbrev pub lost_after : {E : Type 0} → (E → Bool) → List E → ℕ → ℕ
 lost_after lost log k = count_by lost (take k log)
 
--- whether no exchange fails: the store doesn't, and no message is lost by its number
+-- that no exchange fails: the store never does, and both lists of the messages that are lost are empty
 abbrev pub is_sure_by : Bool → List ℕ → List ℕ → Bool
 is_sure_by sure before after = sure && loses_none before after 0
 

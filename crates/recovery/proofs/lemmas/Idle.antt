@@ -1,6 +1,6 @@
 -- No call was made, or one that left the account; and how histories go on.
-use Rattle.std.specs.Prelude.{◌≡◌, ◌⊎◌, ◌≤◌, ℕ, ◌+◌}
-use Rattle.std.proofs.Common.{refl, sym, ap, subst, ◌∙◌, inl, inr, arith}
+use Rattle.std.specs.Prelude.{◌≡◌, ◌⊎◌, ◌≤◌, ◌<◌, ℕ, ◌+◌, IsTrue}
+use Rattle.std.proofs.Common.{sym, ap, subst, ◌∙◌, inl, inr, arith}
 use Rattle.std.proofs.lemmas.Bool.{cases_lt}
 use Rattle.swift_calls.specs.Account.{SwiftAccount}
 use Rattle.swift_calls.specs.History.{History}
@@ -31,11 +31,18 @@ none_made {h = h} same sound = stays (omega arith) (omega arith) (ap h.tree_at s
 
 -- no call was made
 pub goes_none : (h : History) → GoesOn h h
-goes_none h = record { ordered = omega arith; faults = omega arith; observable = λ observable. observable; sure = λ sure. sure; never = λ observable sure left. refl; kept = λ observable. extends_refl h.called h }
+goes_none h = record {
+  ordered = omega arith;
+  faults = omega arith;
+  observable = λ observable. observable;
+  sure = λ sure. sure;
+  never = λ observable sure k from to. ap h.faults_at (omega arith);
+  kept = λ observable. extends_refl h.called h;
+}
 
 -- calls were made, and then more
 pub goes_trans : {a b c : History} → GoesOn a b → GoesOn b c → GoesOn a c
-goes_trans first then =
+goes_trans {a = a} {b = b} {c = c} first then =
     let first_ordered = first.ordered in
     let ordered = then.ordered in
     let first_faults = first.faults in
@@ -45,9 +52,15 @@ goes_trans first then =
       faults = omega arith;
       observable = λ observable. then.observable (first.observable observable);
       sure = λ sure. then.sure (first.sure sure);
-      never = λ observable sure left. then.never (first.observable observable) (first.sure sure) left ∙ first.never observable sure (omega arith);
+      never = λ observable sure k from to. at observable sure k from to (cases_lt b.called k);
       kept = λ observable. extends_trans first_ordered (first.kept observable) (then.kept (first.observable observable));
     }
+  where
+    at : IsTrue a.observable → IsTrue a.sure → (k : ℕ) → a.called ≤ k → k ≤ c.called → (b.called < k) ⊎ (k ≤ b.called) → c.faults_at k ≡ a.faults_at a.called
+    at observable sure k from to (inl later) =
+        let first_ordered = first.ordered in
+        then.never (first.observable observable) (first.sure sure) k (omega arith) to ∙ first.never observable sure b.called first_ordered (omega arith)
+    at observable sure k from to (inr sooner) = (then.kept (first.observable observable)).counts k sooner ∙ first.never observable sure k from sooner
 
 pub grows_none : (most : Bound) (given : SwiftAccount → Type 0) (h : History) → Grows most given h h
 grows_none (always n) given h = record { on = goes_none h; calls = omega arith }
