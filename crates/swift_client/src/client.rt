@@ -38,7 +38,9 @@ impl<L: Link> SwiftClient<L> {
     pub fn new(alloc: Global, link: L, place: Place) -> SwiftClient<L>
         requires is_place { IsPlace place }
         requires same { IsTrue (L.history link).observable → L.place link ≡ place }
-        ensures { ⟦<SwiftClient<L> as Swift>⟧.history result ≡ L.history link }
+        ensures history { ⟦<SwiftClient<L> as Swift>⟧.history result ≡ L.history link }
+        ensures link { result.link ≡ link }
+        ensures place { result.place ≡ place }
     {
         SwiftClient {
             link,

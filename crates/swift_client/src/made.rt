@@ -22,7 +22,10 @@ pub fn over_tcp<R: Net + Drop>(
     limit: u64,
 ) -> Result<SwiftClient<TcpLink<R>>, Memory>
     requires { IsPlace place }
-    ensures { IfOk result (λ store. ⟦<SwiftClient<TcpLink<R>> as Swift>⟧.history store ≡ silent_history 0 0) }
+    ensures history { IfOk result (λ store. ⟦<SwiftClient<TcpLink<R>> as Swift>⟧.history store ≡ silent_history 0 0) }
+    ensures address { IfOk result (λ store. store.link.address ≡ place.host) }
+    ensures limit { IfOk result (λ store. store.link.limit ≡ limit) }
+    ensures place { IfOk result (λ store. store.place ≡ place) }
 {
     let address = place.host.copy()?;
     let link = TcpLink::new(rt, alloc, address, limit);
@@ -39,7 +42,10 @@ pub fn client_over<S: Shelf + Drop>(
     after: List<u64>,
 ) -> Result<SwiftClient<StoreLink<S>>, Memory>
     requires { IsPlace place }
-    ensures { IfOk result (λ store. IsFresh (S.observable shelf) (is_sure_by (S.sure shelf) before after) (S.account shelf) (⟦<SwiftClient<StoreLink<S>> as Swift>⟧.history store)) }
+    ensures fresh { IfOk result (λ store. IsFresh (S.observable shelf) (is_sure_by (S.sure shelf) before after) (S.account shelf) (⟦<SwiftClient<StoreLink<S>> as Swift>⟧.history store)) }
+    ensures before { IfOk result (λ store. store.link.before ≡ before) }
+    ensures after { IfOk result (λ store. store.link.after ≡ after) }
+    ensures place { IfOk result (λ store. store.place ≡ place) }
 {
     let there = place.copy()?;
     let store = Store::new(alloc, shelf, there);

@@ -41,7 +41,9 @@ impl<R: Net + Drop> TcpLink<R> {
     /// A link to the store at an address: a host's name or number, a colon and a port. The first exchange makes the
     /// connection. `limit` is the limit of time, in seconds; with a limit of 0 each exchange fails.
     pub fn new(rt: R, alloc: Global, address: Bytes, limit: u64) -> TcpLink<R>
-        ensures { ⟦<TcpLink<R> as Link>⟧.history result ≡ silent_history 0 0 }
+        ensures history { ⟦<TcpLink<R> as Link>⟧.history result ≡ silent_history 0 0 }
+        ensures address { result.address ≡ address }
+        ensures limit { result.limit ≡ limit }
     {
         TcpLink {
             rt,
@@ -64,7 +66,9 @@ impl<R: Net + Drop> TcpLink<R> {
         limit: u64,
         stream: R::Stream,
     ) -> io::Result<TcpLink<R>>
-        ensures { IfOk result (λ link. ⟦<TcpLink<R> as Link>⟧.history link ≡ silent_history 0 0) }
+        ensures history { IfOk result (λ link. ⟦<TcpLink<R> as Link>⟧.history link ≡ silent_history 0 0) }
+        ensures address { IfOk result (λ link. link.address ≡ address) }
+        ensures limit { IfOk result (λ link. link.limit ≡ limit) }
     {
         set_limits::<R>(&stream, limit)?;
         let mut link = TcpLink::new(rt, alloc, address, limit);

@@ -1,6 +1,6 @@
 use Rattle.swift_client.proofs.Fresh.{fresh_over}
 use Rattle.swift_client.proofs.made.client_over.Goals as goal
 
-pub returns : goal.returns
-returns g c =
-    fresh_over g.S.Shelf.observable g.S.Shelf.sure g.S.Shelf.account c.args.before c.args.after c.args.shelf c.new-store.result.shelf _ _ c.new-store.ensures.shelf c.new.ensures c.new-link.ensures.fresh
+pub returns-clause-fresh : goal.returns-clause-fresh
+returns-clause-fresh g c =
+    fresh_over g.S.Shelf.observable g.S.Shelf.sure g.S.Shelf.account c.args.before c.args.after c.args.shelf c.new-store.result.shelf _ _ c.new-store.ensures.shelf c.new.ensures.history c.new-link.ensures.fresh
