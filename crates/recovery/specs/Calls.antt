@@ -21,7 +21,8 @@ use Rattle.recovery.specs.declared.fault.PlanFault.TheVariants.{Failed, Memory, 
 use Rattle.recovery.specs.Fault.{CausesFault}
 use Rattle.recovery.specs.Stutters.{Stutters, LastFailed}
 
--- calls were made, and the history went on. Where the store is observable and sure, none that was counted failed
+-- calls were made, and the history went on. Where the store is observable and sure, its count of faults stayed as it was at
+-- each of them
 pub record GoesOn (old new : History) : Type 0 where
   pub ordered : old.called ≤ new.called
   pub faults : old.faults ≤ new.faults

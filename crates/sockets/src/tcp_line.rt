@@ -1,5 +1,6 @@
 //! Connections that a listener accepts, as a line. It tells nothing of their bytes.
-ghost use Rattle.std.specs.Prelude.{◌≡◌, ◌≤◌, ◌+◌, false, length, is_some, IfOk, None};
+ghost use Rattle.std.specs.Prelude.{◌≡◌, ◌≤◌, ◌<◌, ◌+◌, ◌-◌, ◌^◌, false, length, is_some, IfOk, None};
+ghost use Rattle.std.specs.Option.{unwrap_or};
 ghost use Rattle.std.proofs.Common.{sym, true≢false};
 ghost use Rattle.std.proofs.Math.Nat.{le-add_left};
 ghost use Rattle.gate_base.specs.Causes.{Rose};
@@ -85,7 +86,9 @@ impl<R: Net> TcpLine<R> {
         limit: u64,
         connections: Option<u64>,
     ) -> io::Result<TcpLine<R>>
-        ensures { IfOk result (λ line. ⟦<TcpLine<R> as Line<NoCount>>⟧.model line ≡ silent_line false 0 0) }
+        ensures line { IfOk result (λ line. ⟦<TcpLine<R> as Line<NoCount>>⟧.model line ≡ silent_line false 0 0) }
+        ensures limit { IfOk result (λ line. (line.limit ≡ limit) × (0 < limit)) }
+        ensures connections { IfOk result (λ line. line.left ≡ unwrap_or connections (2 ^ 64 - 1)) }
     {
         if limit == 0 {
             return Err(io::Error::from(ErrorKind::InvalidInput));
