@@ -1,5 +1,5 @@
 -- What an object is put with keeps the limits of a store, and its tag and pack have texts.
-use Rattle.std.proofs.Common.{◌≡◌, ℕ, ◌<◌, ◌≤◌, ◌+◌, ◌-◌, ◌^◌, true, ◌&&◌, ◌||◌, List, [], ◌∷◌, length, drop, nat_le, refl, sym, ap, subst, inl, inr, arith}
+use Rattle.std.proofs.Common.{◌≡◌, ℕ, ◌<◌, ◌≤◌, ◌+◌, ◌^◌, true, ◌&&◌, ◌||◌, List, [], ◌∷◌, length, drop, nat_le, refl, sym, ap, subst, inl, inr, arith}
 use Rattle.std.specs.Prelude.{◌==◌, cond, sum_by, bytes_eq, codes, IsTrue}
 use Rattle.std.specs.List.{list_all, list_any}
 use Rattle.std.proofs.lemmas.Bool.{cases_Bool, or_cases, and_from, and_parts, eqb-true, lt-ltb, leb-true, le-leb}

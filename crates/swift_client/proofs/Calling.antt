@@ -1,13 +1,13 @@
 -- A call of a store over a link, by how its exchange went.
 use Rattle.std.specs.Prelude.{◌≡◌, ◌⊎◌, ℕ, ◌+◌, ◌<◌, ◌≤◌, nat_lt, nat_eq, Bool, true, false, cond, ◌&&◌, IsTrue, List, length, drop, Result, Ok, Err, Option, Some, None}
-use Rattle.std.proofs.Common.{refl, sym, ap, subst, ◌∙◌, inl, inr, true≢false, arith}
+use Rattle.std.proofs.Common.{refl, sym, ap, subst, ◌∙◌, inl, inr, arith}
 use Rattle.std.proofs.lemmas.Bool.{and_parts, and_from, eqb-true, eq-eqb, lt-ltb, ltb-true}
 use Rattle.std.proofs.lemmas.Slice.Eq.{bytes_eq-Decides}
 use Rattle.gate_base.specs.Causes.{Rose}
-use Rattle.httparse.specs.Grammar.{ResponseHead, print_response}
+use Rattle.httparse.specs.Grammar.{print_response}
 use Rattle.httparse.proofs.GrammarLemmas.{response_unique}
-use Rattle.swift_calls.specs.Step.{Fit, swift_step}
-use Rattle.swift_calls.specs.History.{History, Extends, Calls, Called, Counts, CountsFaults, Either, budget}
+use Rattle.swift_calls.specs.Step.{Fit}
+use Rattle.swift_calls.specs.History.{History, Extends, Calls, Called, Counts, CountsFaults, budget}
 use Rattle.swift_calls.specs.declared.calls.SwiftRequest.{SwiftRequest}
 use Rattle.swift_calls.specs.declared.calls.SwiftReply.{SwiftReply}
 use Rattle.swift_calls.specs.declared.calls.SwiftReply.TheVariants.{NotFound}

@@ -1,9 +1,9 @@
 -- What a store begins with that is made over a shelf, and the place of the one in memory.
 use Rattle.std.specs.Prelude.{◌≡◌, ℕ, Bool, true, List, [], codes}
-use Rattle.std.proofs.Common.{refl, sym, ap, subst, ◌∙◌}
+use Rattle.std.proofs.Common.{refl, sym, subst}
 use Rattle.swift_calls.specs.Account.{SwiftAccount}
 use Rattle.swift_calls.specs.History.{History}
-use Rattle.swift_wire.specs.Place.{IsPlace, is_place}
+use Rattle.swift_wire.specs.Place.{IsPlace}
 use Rattle.swift_wire.specs.declared.place.Place.{Place}
 use Rattle.swift_store.specs.Log.{IsFresh, is_sure_by}
 

@@ -1,6 +1,6 @@
 -- What handing the bytes of a request to a store comes to, by what serving its message did.
-use Rattle.std.specs.Prelude.{◌≡◌, ◌⊎◌, ℕ, ◌<◌, ◌^◌, Bool, true, false, IsTrue, List, [], ◌++◌, length, take, Option, Some, None, Result, Ok, Err}
-use Rattle.std.proofs.Common.{refl, sym, ap, subst, ◌∙◌, inl, inr}
+use Rattle.std.specs.Prelude.{◌≡◌, ◌⊎◌, ℕ, ◌<◌, ◌^◌, Bool, true, false, IsTrue, List, [], ◌++◌, length, Ok, Err}
+use Rattle.std.proofs.Common.{sym, ap, subst, ◌∙◌, inl, inr}
 use Rattle.std.proofs.Math.Nat.{le_refl}
 use Rattle.std.proofs.Math.Seq.{take-length}
 use Rattle.std.proofs.lemmas.Option.{same_Some}
@@ -10,13 +10,12 @@ use Rattle.http_wire.proofs.lemmas.UniqueLemmas.{one_spelling}
 use Rattle.swift_calls.specs.Account.{SwiftAccount}
 use Rattle.swift_calls.specs.Step.{swift_step}
 use Rattle.swift_calls.specs.declared.calls.SwiftRequest.{SwiftRequest}
-use Rattle.swift_calls.specs.declared.calls.SwiftReply.{SwiftReply}
 use Rattle.swift_wire.specs.Answers.{SpellsAnswer}
 use Rattle.swift_wire.specs.AnswerText.{answer_text}
 use Rattle.swift_wire.specs.Calls.{SpellsCall, SpellsRequest}
 use Rattle.swift_wire.specs.Place.{HasToken}
 use Rattle.swift_wire.specs.declared.place.Place.{Place}
-use Rattle.swift_store.specs.Handing.{Hands, IsMessageIn}
+use Rattle.swift_store.specs.Handing.{Hands}
 use Rattle.swift_store.specs.Serving.{Answers, Served}
 use Rattle.swift_store.specs.declared.faults.StoreFault.{StoreFault}
 use Rattle.swift_store.specs.declared.faults.StoreFault.TheVariants.{Failed}

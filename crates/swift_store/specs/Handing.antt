@@ -1,6 +1,6 @@
 -- What handing the bytes of a request to a store comes to, and how the exchanges of a link go by their numbers. Source: this
 -- profile.
-use Rattle.std.specs.Prelude.{◌≡◌, ◌⊎◌, ⊤, ℕ, Bool, true, false, List, [], Option, Some, None, Result, Ok, Err}
+use Rattle.std.specs.Prelude.{◌≡◌, ◌⊎◌, ⊤, ℕ, Bool, true, false, List, Option, Some, None, Result, Ok, Err}
 use Rattle.gate_base.specs.Causes.{Rose}
 use Rattle.gate_base.specs.declared.faults.Memory.{Memory}
 use Rattle.http_wire.specs.FirstMessage.{Spells}

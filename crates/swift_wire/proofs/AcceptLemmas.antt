@@ -1,21 +1,18 @@
 -- The head of a call that is written is accepted.
-use Rattle.std.proofs.Common.{◌≡◌, ℕ, zero, suc, ◌+◌, ◌-◌, ◌^◌, ◌<◌, ◌≤◌, Bool, true, false, not, ◌&&◌, ◌||◌, cond, List, [], ◌∷◌, ◌++◌, length, get_or, reverse, All, Some, None, Option, refl, ap, sym, subst, ◌∙◌, arith}
-use Rattle.std.specs.Prelude.{codes, decimal, nat_lt, nat_le, nat_eq, IfSome, IsTrue}
+use Rattle.std.proofs.Common.{◌≡◌, ℕ, zero, suc, ◌+◌, ◌-◌, ◌^◌, ◌<◌, ◌≤◌, true, not, ◌&&◌, List, [], ◌∷◌, ◌++◌, length, get_or, reverse, Some, None, Option, refl, ap, ◌∙◌, arith}
+use Rattle.std.specs.Prelude.{codes, decimal, nat_lt, nat_eq, IfSome}
 use Rattle.std.specs.List.{list_all}
-use Rattle.std.specs.Char.{is_ascii_graphic, is_ascii_alphanumeric}
+use Rattle.std.specs.Char.{is_ascii_alphanumeric}
 use Rattle.std.proofs.lemmas.Bool.{and_parts, and_from, or_left}
 use Rattle.std.proofs.lemmas.Bool.Decides.{nat_tests}
 use Rattle.std.proofs.lemmas.List.{get_or-reverse, length-reverse}
 use Rattle.std.proofs.lemmas.List.Folds.{list_all-append}
 use Rattle.gate_base.specs.Ascii.{is_visible, is_digit}
-use Rattle.gate_base.specs.Told.{moment_limit}
 use Rattle.http1.specs.Fields.{Header}
-use Rattle.http1.specs.Head.{starts_visible, is_trimmed_value, is_header, are_headers, is_target, is_request_line, head_refusal}
+use Rattle.http1.specs.Head.{starts_visible, is_trimmed_value, is_header, are_headers}
 use Rattle.httparse.specs.Grammar.{is_token, is_token_byte, is_value_byte, is_ows}
-use Rattle.s3_names.specs.Escapes.{is_unreserved, stays_in_path, is_escaped_byte, escaped_all, escaped_path}
-use Rattle.s3_names.proofs.lemmas.EscapeLemmas.{escaped_bytes_all, escaped_bytes_path}
 use Rattle.gate_base.specs.Fields.{is_field, is_printable}
-use Rattle.swift_calls.specs.Limits.{is_meta, IsRange}
+use Rattle.swift_calls.specs.Limits.{IsRange}
 use Rattle.swift_calls.specs.Step.{IsMoment, Fit}
 use Rattle.swift_calls.specs.declared.account.ReadList.{ReadList}
 use Rattle.swift_calls.specs.declared.account.ReadList.TheVariants.{Nobody, Everybody}
@@ -33,11 +30,11 @@ use Rattle.swift_calls.specs.declared.calls.SwiftRequest.TheVariants.{
   DeleteObject,
 }
 use Rattle.swift_wire.specs.AnswerText.{readers_text, created_fields, meta_fields}
-use Rattle.swift_wire.specs.CallText.{method_text, target_text, account_text, container_text, object_text, listing_text, own_fields, call_fields, body_of, range_fields}
+use Rattle.swift_wire.specs.CallText.{own_fields, call_fields, body_of, range_fields}
 use Rattle.swift_wire.specs.Place.{IsPlace, is_place_text}
 use Rattle.swift_wire.specs.declared.place.Place.{Place}
 use Rattle.swift_wire.proofs.CallLemmas.{few}
-use Rattle.swift_wire.proofs.CutLemmas.{IsByte, weaker}
+use Rattle.swift_wire.proofs.CutLemmas.{weaker}
 use Rattle.swift_wire.proofs.QueryLemmas.{decimal_digits}
 
 -- ---- values without white space at an end

@@ -1,8 +1,8 @@
 -- What is found first in bytes is what they announce.
-use Rattle.std.specs.Prelude.{◌≡◌, ℕ, Bool, List, Option, None, Some}
+use Rattle.std.specs.Prelude.{◌≡◌, ℕ, Bool, List, None, Some}
 use Rattle.std.proofs.Common.{sym, ap, ◌∙◌, inl, inr}
 use Rattle.httparse.specs.Grammar.{status_code}
-use Rattle.swift_wire.specs.Framing.{HasNoHead, expected}
+use Rattle.swift_wire.specs.Framing.{expected}
 use Rattle.swift_wire.specs.Head.{IsDead, IsOpen, Shows}
 use Rattle.swift_wire.specs.Announced.{Announces, stays_open}
 use Rattle.swift_wire.specs.declared.announced.Announced.TheVariants.{More, Answer, Bad}

@@ -1,17 +1,16 @@
 -- The message of a call that is written spells the call.
-use Rattle.std.proofs.Common.{◌≡◌, ℕ, suc, ◌+◌, ◌^◌, ◌<◌, ◌≤◌, Bool, true, false, not, ◌&&◌, cond, List, [], ◌∷◌, ◌++◌, length, map, drop, All, Some, None, Option, refl, ap, ap₂, sym, ◌∙◌, arith, append_assoc}
-use Rattle.std.specs.Prelude.{codes, decimal, bytes_eq, option_map, option_and_then, nat_lt, nat_le, nat_eq, IfSome, IsTrue, IsUtf8}
-use Rattle.std.specs.List.{list_all, starts_with, before_first, after_first}
-use Rattle.std.proofs.lemmas.Bool.{and_parts, cond-true, cond-false}
+use Rattle.std.proofs.Common.{◌≡◌, ℕ, ◌<◌, ◌≤◌, true, not, ◌&&◌, cond, List, [], ◌∷◌, ◌++◌, length, map, All, Some, None, Option, refl, ap, ap₂, ◌∙◌, arith, append_assoc}
+use Rattle.std.specs.Prelude.{codes, decimal, bytes_eq, option_map, option_and_then, nat_lt, nat_le, IfSome, IsTrue}
+use Rattle.std.specs.List.{list_all}
+use Rattle.std.proofs.lemmas.Bool.{and_parts, cond-true}
 use Rattle.std.proofs.lemmas.Bool.Decides.{nat_tests}
 use Rattle.std.proofs.lemmas.List.Elements.{All-nil, All-cons}
-use Rattle.gate_base.specs.Ascii.{is_visible, is_slash, is_digit}
+use Rattle.gate_base.specs.Ascii.{is_visible, is_digit}
 use Rattle.gate_base.specs.Told.{moment_limit}
-use Rattle.gate_base.specs.declared.page.Pair.{Pair}
 use Rattle.http_wire.specs.declared.message.Message.{Message}
 use Rattle.s3_names.specs.Escapes.{escaped_all, escaped_path}
-use Rattle.s3_names.specs.Target.{is_question, path_text, query_text}
-use Rattle.swift_calls.specs.Limits.{IsText, IsMarker, IsLimit, IsRange, is_meta, is_content_type, most_body}
+use Rattle.s3_names.specs.Target.{is_question, query_text}
+use Rattle.swift_calls.specs.Limits.{IsText, IsMarker, IsRange, is_meta}
 use Rattle.swift_calls.specs.Step.{IsContainerName, IsMoment, Fit}
 use Rattle.swift_calls.specs.declared.account.ReadList.{ReadList}
 use Rattle.swift_calls.specs.declared.account.ReadList.TheVariants.{Nobody, Everybody}
@@ -28,12 +27,12 @@ use Rattle.swift_calls.specs.declared.calls.SwiftRequest.TheVariants.{
   GetObject,
   DeleteObject,
 }
-use Rattle.swift_wire.specs.AnswerText.{readers_text, created_fields, meta_fields}
+use Rattle.swift_wire.specs.AnswerText.{readers_text, meta_fields}
 use Rattle.swift_wire.specs.Answers.{both}
-use Rattle.swift_wire.specs.CallText.{account_text, container_text, object_text, listing_text, target_text, call_fields, call_message, header_pair, range_fields}
-use Rattle.swift_wire.specs.Calls.{is_dash, place_of, places_of, range_of, range_in, range_from, limit_of, up_to, readers_given, containers_listing, names_listing, unasked, bodiless, call_at, call_within, account_in, call_of, changed_container, put_container, post_container, put_object, bare_object_call, object_call, container_call, account_call, account_names, container_names}
-use Rattle.swift_wire.specs.Fields.{plain_number, before_limit, moment_in, created_in, created_from, readers_by, only, needed, field, at_most_one, meta_in}
-use Rattle.swift_wire.specs.Paths.{path_of, path_in, values_named}
+use Rattle.swift_wire.specs.CallText.{account_text, container_text, object_text, listing_text, target_text, call_fields, call_message, header_pair}
+use Rattle.swift_wire.specs.Calls.{is_dash, place_of, places_of, range_of, limit_of, up_to, containers_listing, names_listing, unasked, call_at, call_within, account_in, call_of, account_names, container_names}
+use Rattle.swift_wire.specs.Fields.{before_limit, moment_in, readers_by, needed, at_most_one, meta_in}
+use Rattle.swift_wire.specs.Paths.{path_of, values_named}
 use Rattle.swift_wire.specs.Place.{IsPlace, is_place_text}
 use Rattle.swift_wire.specs.declared.paths.Path.{Path}
 use Rattle.swift_wire.specs.declared.paths.Path.TheVariants.{Account, Container, Object}
@@ -41,7 +40,7 @@ use Rattle.swift_wire.specs.declared.place.Place.{Place}
 use Rattle.swift_wire.proofs.CutLemmas.{IsByte, Lacks, weaker, Lacks-append, before_at, after_at, utf8_bytes}
 use Rattle.swift_wire.proofs.HeaderLemmas.{given, given-append, given_meta}
 use Rattle.swift_wire.proofs.MetaFieldLemmas.{meta_read}
-use Rattle.swift_wire.proofs.PathLemmas.{no_slash, no_question, no_question_path, account_path, container_path, whole_path, path_bare, query_bare, path_asked, query_asked}
+use Rattle.swift_wire.proofs.PathLemmas.{no_question, no_question_path, account_path, container_path, whole_path, path_bare, query_bare, path_asked, query_asked}
 use Rattle.swift_wire.proofs.QueryLemmas.{same_bytes, decimal_digits, plain_decimal, account_query, container_query, account_values, container_values}
 
 -- ---- the bytes of a place and of names

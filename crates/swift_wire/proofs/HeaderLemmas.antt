@@ -1,11 +1,9 @@
 -- The values of the header fields that are written.
-use Rattle.std.proofs.Common.{◌≡◌, ℕ, suc, ◌+◌, ◌<◌, ◌≤◌, Bool, true, false, not, cond, List, [], ◌∷◌, ◌++◌, length, map, Some, None, Option, refl, ap, ap₂, sym, ◌∙◌, arith}
+use Rattle.std.proofs.Common.{◌≡◌, ℕ, ◌+◌, Bool, true, false, cond, List, [], ◌∷◌, ◌++◌, length, map, Some, None, refl, ap, sym, ◌∙◌}
 use Rattle.std.specs.Prelude.{codes, decimal, bytes_eq, filter}
 use Rattle.std.specs.Char.{to_ascii_lowercase}
 use Rattle.http1.specs.Fields.{Header}
 use Rattle.http_wire.specs.Headers.{has_name, values_of}
-use Rattle.swift_calls.specs.declared.account.ReadList.{ReadList}
-use Rattle.swift_calls.specs.declared.account.ReadList.TheVariants.{Nobody, Everybody}
 use Rattle.swift_calls.specs.declared.calls.SwiftRequest.{SwiftRequest}
 use Rattle.swift_calls.specs.declared.calls.SwiftRequest.TheVariants.{
   ListContainers,
@@ -19,8 +17,8 @@ use Rattle.swift_calls.specs.declared.calls.SwiftRequest.TheVariants.{
   GetObject,
   DeleteObject,
 }
-use Rattle.swift_wire.specs.AnswerText.{created_fields, meta_fields}
-use Rattle.swift_wire.specs.CallText.{header_pair, own_fields, call_fields, range_fields, body_of, call_message}
+use Rattle.swift_wire.specs.AnswerText.{meta_fields}
+use Rattle.swift_wire.specs.CallText.{header_pair, own_fields, call_fields, body_of, call_message}
 use Rattle.swift_wire.specs.Place.{HasToken}
 use Rattle.swift_wire.specs.declared.place.Place.{Place}
 

@@ -1,20 +1,19 @@
 -- The pieces of metadata that are written are read back.
-use Rattle.std.proofs.Common.{◌||◌, append_assoc, subst, ◌≡◌, ◌≢◌, ℕ, zero, suc, ◌+◌, ◌*◌, ◌^◌, ◌<◌, ◌≤◌, Bool, true, false, not, cond, List, [], ◌∷◌, ◌++◌, length, map, Some, None, Option, refl, ap, ap₂, sym, ◌∙◌, inl, inr, arith}
-use Rattle.std.specs.Prelude.{codes, decimal, bytes_eq, option_map, filter}
+use Rattle.std.proofs.Common.{◌||◌, append_assoc, subst, ◌≡◌, ◌≢◌, ℕ, zero, suc, ◌+◌, ◌^◌, ◌<◌, ◌≤◌, Bool, true, false, cond, List, [], ◌∷◌, ◌++◌, length, map, Some, None, refl, ap, ap₂, ◌∙◌, arith}
+use Rattle.std.specs.Prelude.{decimal, bytes_eq, option_map, filter}
 use Rattle.std.specs.Char.{to_ascii_lowercase}
 use Rattle.std.specs.List.{list_all}
-use Rattle.std.proofs.lemmas.Bool.{cond-false, and_parts, cases_Bool, false_from_ne_true}
+use Rattle.std.proofs.lemmas.Bool.{cond-false, and_parts, false_from_ne_true}
 use Rattle.std.proofs.lemmas.Bool.Decides.{nat_tests}
 use Rattle.std.proofs.lemmas.Fmt.{decimal_injective}
 use Rattle.std.proofs.lemmas.Slice.Eq.{bytes_eq-Decides}
-use Rattle.std.specs.Bool.{MatchBool}
 use Rattle.gate_base.specs.Ascii.{is_digit}
 use Rattle.gate_base.specs.declared.page.Pair.{Pair}
 use Rattle.http1.specs.Fields.{Header}
 use Rattle.http_wire.specs.Headers.{value_of, has_name, has_header, values_of}
 use Rattle.swift_wire.specs.AnswerText.{meta_fields}
 use Rattle.swift_wire.specs.CallText.{header_pair}
-use Rattle.swift_wire.specs.Fields.{field, at_most_one, meta_name, meta_by, meta_from, meta_in}
+use Rattle.swift_wire.specs.Fields.{at_most_one, meta_name, meta_by, meta_from, meta_in}
 use Rattle.swift_wire.proofs.HeaderLemmas.{given, given-append, given_step, given_other}
 use Rattle.swift_wire.proofs.QueryLemmas.{same_bytes, decimal_digits}
 use Rattle.swift_wire.proofs.TextLemmas.{piece_field}

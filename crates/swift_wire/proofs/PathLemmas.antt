@@ -1,17 +1,15 @@
 -- A target that is written names what it was written of.
-use Rattle.std.proofs.Common.{◌≡◌, ℕ, suc, ◌+◌, ◌<◌, ◌≤◌, Bool, true, false, not, ◌&&◌, ◌||◌, cond, eqb, List, [], ◌∷◌, ◌++◌, length, take, drop, All, Ok, Some, None, Option, refl, ap, ap₂, sym, subst, ◌∙◌, arith, append_assoc}
+use Rattle.std.proofs.Common.{◌≡◌, ℕ, true, not, cond, List, [], ◌∷◌, ◌++◌, drop, All, Some, None, refl, ap, ap₂, ◌∙◌, arith}
 use Rattle.std.specs.Prelude.{codes, option_map}
-use Rattle.std.specs.List.{list_all, before_first, after_first}
 use Rattle.std.proofs.lemmas.Bool.{cond-true, cond-false}
 use Rattle.std.proofs.lemmas.Bool.Decides.{nat_tests}
-use Rattle.gate_base.specs.Ascii.{is_slash, is_digit}
-use Rattle.s3_names.specs.Escapes.{is_unreserved, stays_in_path, is_escaped_byte, escaped_all, escaped_path, decoded}
-use Rattle.s3_names.specs.Query.{is_ampersand, is_equals}
+use Rattle.gate_base.specs.Ascii.{is_slash}
+use Rattle.s3_names.specs.Escapes.{is_unreserved, stays_in_path, is_escaped_byte, escaped_all, escaped_path}
+use Rattle.s3_names.specs.Query.{is_ampersand}
 use Rattle.s3_names.specs.Target.{is_question, path_text, query_text}
 use Rattle.s3_names.proofs.lemmas.EscapeLemmas.{escaped_bytes_all, escaped_bytes_path, decoded_all, decoded_path}
-use Rattle.swift_wire.specs.Paths.{value_of, unescaped, is_nested, first_part, other_parts, object_path, path_below, path_in, has_version, path_of}
+use Rattle.swift_wire.specs.Paths.{value_of, unescaped, is_nested, object_path, path_below, path_in, has_version, path_of}
 use Rattle.swift_wire.specs.Answers.{both}
-use Rattle.swift_wire.specs.declared.paths.Path.{Path}
 use Rattle.swift_wire.specs.declared.paths.Path.TheVariants.{Account, Container, Object}
 use Rattle.swift_wire.proofs.CutLemmas.{IsByte, Lacks, weaker, Lacks-append, before_at, after_at, before_none, after_none, any_none, any_at}
 

@@ -1,7 +1,7 @@
 -- The query of a listing that is written has the values that it was written of.
-use Rattle.std.proofs.Common.{◌≡◌, ℕ, suc, ◌+◌, ◌^◌, ◌<◌, ◌≤◌, Bool, true, false, not, ◌&&◌, ◌||◌, cond, eqb, leb, List, [], ◌∷◌, ◌++◌, length, All, Ok, Some, None, Option, refl, ap, ap₂, sym, subst, ◌∙◌, arith, rules}
-use Rattle.std.specs.Prelude.{codes, decimal, bytes_eq, option_map, option_and_then, nat_lt, nat_le}
-use Rattle.std.specs.List.{list_all, before_first, after_first, flat_map}
+use Rattle.std.proofs.Common.{◌≡◌, ℕ, ◌^◌, ◌<◌, true, not, ◌&&◌, cond, eqb, leb, List, [], ◌∷◌, ◌++◌, length, All, Some, None, Option, refl, ap, ap₂, sym, ◌∙◌, arith, rules}
+use Rattle.std.specs.Prelude.{codes, decimal, bytes_eq, option_map, option_and_then, nat_lt}
+use Rattle.std.specs.List.{list_all}
 use Rattle.std.specs.Str.Parse.{digits_value}
 use Rattle.std.proofs.lemmas.Bool.{and_parts, and_from, cond-true, cond-false}
 use Rattle.std.proofs.lemmas.Bool.Decides.{nat_tests}
@@ -10,7 +10,7 @@ use Rattle.std.proofs.lemmas.Str.Parse.{IsNumeralModel, IsDigitsTest, numerals_b
 use Rattle.std.proofs.lemmas.Fmt.{length-decimal-le, digits_decimal, digits_value-decimal, decimal_is_IsNumeral}
 use Rattle.gate_base.specs.Ascii.{is_digit}
 use Rattle.http_wire.specs.FirstMessage.{is_length}
-use Rattle.s3_names.specs.Escapes.{is_unreserved, escaped_unless, escaped_all}
+use Rattle.s3_names.specs.Escapes.{is_unreserved, escaped_all}
 use Rattle.s3_names.specs.Query.{is_ampersand, is_equals}
 use Rattle.swift_wire.specs.Fields.{plain_number}
 use Rattle.swift_wire.specs.Paths.{unescaped, has_more, value_named, first_value, last_value, values_named}

@@ -1,7 +1,6 @@
 -- The text of a call is one whole request that spells the call.
-use Rattle.std.proofs.Common.{◌≡◌, ℕ, suc, ◌+◌, ◌^◌, ◌<◌, ◌≤◌, Bool, true, false, not, ◌||◌, cond, List, [], ◌∷◌, ◌++◌, length, map, take, drop, Ok, Err, None, Some, refl, ap, ap₂, sym, subst, ◌∙◌, arith, length-append}
-use Rattle.std.specs.Prelude.{codes, decimal, nat_lt, Result}
-use Rattle.std.specs.List.{list_any}
+use Rattle.std.proofs.Common.{◌≡◌, ℕ, suc, ◌^◌, ◌<◌, ◌≤◌, Bool, true, false, ◌||◌, cond, List, [], ◌∷◌, ◌++◌, length, map, take, drop, Ok, Some, refl, ap, ap₂, sym, subst, ◌∙◌, arith, length-append}
+use Rattle.std.specs.Prelude.{codes, decimal, nat_lt}
 use Rattle.std.specs.Str.Parse.{digits_value}
 use Rattle.std.proofs.lemmas.Bool.{cond-true, cond-false}
 use Rattle.std.proofs.lemmas.Bool.Decides.{nat_tests}
@@ -9,14 +8,11 @@ use Rattle.std.proofs.lemmas.Fmt.{digits_value-decimal}
 use Rattle.std.proofs.Math.Seq.{drop-append_seam}
 use Rattle.std.proofs.lemmas.List.{take_all}
 use Rattle.http_wire.proofs.lemmas.UniqueLemmas.{one_spelling}
-use Rattle.gate_base.specs.declared.page.Pair.{Pair}
 use Rattle.http1.specs.Fields.{Header}
-use Rattle.http1.specs.Head.{are_headers, field_of, head_refusal, is_request_line, request_head, request_text}
+use Rattle.http1.specs.Head.{are_headers, field_of, request_head, request_text}
 use Rattle.http1.proofs.HeadRoundTrip.{request_reads_back, fields_read_back}
 use Rattle.httparse.specs.Grammar.{Field, RequestHead}
 use Rattle.httparse.specs.Spans.{name_and_value}
-use Rattle.http_wire.specs.declared.message.Kind.{Kind}
-use Rattle.http_wire.specs.declared.message.Kind.TheVariants.{ManyHeaders, Transfer, LongBody, BadLength}
 use Rattle.http_wire.specs.declared.message.Message.{Message}
 use Rattle.http_wire.specs.FirstMessage.{Spells, header_of, message_of, judge, length_judged, value_judged, is_length, is_put}
 use Rattle.http_wire.specs.Headers.{has_name, has_header, values_of}

@@ -1,5 +1,5 @@
 -- How calls go whose numbers lose nothing.
-use Rattle.std.specs.Prelude.{◌≡◌, ℕ, zero, suc, false, List, [], ◌∷◌, IsTrue}
+use Rattle.std.specs.Prelude.{◌≡◌, ℕ, zero, suc, List, [], ◌∷◌, IsTrue}
 use Rattle.std.proofs.Common.{refl, sym, true≢false}
 use Rattle.swift_calls.specs.Replay.{loses_none, outcome_at}
 use Rattle.swift_calls.specs.declared.memory.Outcome.TheVariants.{Answered}

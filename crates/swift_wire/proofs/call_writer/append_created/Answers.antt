@@ -1,4 +1,4 @@
-use Rattle.std.proofs.Common.{◌≡◌, ◌++◌, ap, sym, ◌∙◌, append-nil}
+use Rattle.std.proofs.Common.{◌++◌, ap, sym, ◌∙◌, append-nil}
 use Rattle.http1.specs.Head.{print_headers}
 use Rattle.swift_wire.specs.AnswerText.{created_fields}
 use Rattle.swift_wire.proofs.TextLemmas.{on_ok}

@@ -1,4 +1,4 @@
-use Rattle.std.proofs.Common.{◌≡◌, ◌++◌, ap, sym, ◌∙◌, append-nil}
+use Rattle.std.proofs.Common.{◌++◌, ap, sym, ◌∙◌, append-nil}
 use Rattle.http1.specs.Head.{print_header}
 use Rattle.swift_wire.proofs.TextLemmas.{piece_field, meta_more, meta_all}
 use Rattle.swift_wire.proofs.call_writer.append_meta.Goals as goal
