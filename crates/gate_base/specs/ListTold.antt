@@ -5,9 +5,11 @@ use Rattle.std.specs.Vec.Iter.{into_iter_items}
 use Rattle.gate_base.specs.declared.told_memory.ListClock.{ListClock}
 use Rattle.gate_base.specs.declared.told_memory.ListDraws.{ListDraws}
 
+-- the moments that are still to come
 abbrev pub moments_of : ListClock → List ℕ
 moments_of clock = clock.next ∷ into_iter_items clock.later
 
+-- the draws that are still to come
 abbrev pub draws_of : ListDraws → List ℕ
 draws_of draws = draws.next ∷ into_iter_items draws.later
 

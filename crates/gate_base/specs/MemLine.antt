@@ -6,9 +6,11 @@ use Rattle.gate_base.specs.MemWire.{told_by}
 use Rattle.gate_base.specs.Listed.{is_next_listed, listed}
 use Rattle.gate_base.specs.declared.line_memory.MemLine.{MemLine}
 
+-- whether a connection is open
 abbrev pub is_open_of : MemLine → Bool
 is_open_of line = line.connected
 
+-- what was and will be read and written, connection by connection
 abbrev pub transcript_of : MemLine → Transcript
 transcript_of line = told_by line.transcript
 

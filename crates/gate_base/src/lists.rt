@@ -4,10 +4,11 @@ ghost use Rattle.gate_base.specs.contracts.lists.List.{the_row};
 
 use crate::{Copying, Memory};
 use std::alloc::Global;
+use std::fmt::{self, Debug, Formatter, Write};
 use std::marker::Model;
 
 /// A text of bytes. Contracts see it as the list of its bytes.
-#[derive(Debug, Drop)]
+#[derive(Drop)]
 pub struct Bytes {
     items: Vec<u8>,
 }
@@ -100,8 +101,28 @@ impl Copying for Bytes {
     }
 }
 
+// The text in double quotes. A byte that is no visible ASCII and no space, a quote and a backslash are written as `\HH`, with
+// two lower-case hexadecimal digits.
+impl Debug for Bytes {
+    fn fmt<W: Write>(&self, f: &mut Formatter<W>) -> fmt::Result {
+        f.write_str("\"")?;
+        for byte in &self.items {
+            write_byte(f, *byte)?;
+        }
+        f.write_str("\"")
+    }
+}
+
+fn write_byte<W: Write>(f: &mut Formatter<W>, byte: u8) -> fmt::Result {
+    if b' ' <= byte && byte <= b'~' && byte != b'"' && byte != b'\\' {
+        f.write_char(char::from(byte))
+    } else {
+        write!(f, "\\{byte:02x}")
+    }
+}
+
 /// A list of items. Contracts see it as the list.
-#[derive(Debug, Drop)]
+#[derive(Drop)]
 pub struct List<T> {
     items: Vec<T>,
 }
@@ -112,6 +133,12 @@ impl<T> Model for List<T> {
     ghost Value = { List T };
 
     ghost view = { λ l. l.items.items };
+}
+
+impl<T: Debug> Debug for List<T> {
+    fn fmt<W: Write>(&self, f: &mut Formatter<W>) -> fmt::Result {
+        f.debug_list().entries(self.items.iter()).finish()
+    }
 }
 
 impl<T> List<T> {

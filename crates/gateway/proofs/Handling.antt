@@ -13,7 +13,7 @@ use Rattle.gate_base.specs.declared.caller.Caller.{Caller}
 use Rattle.gateway.specs.declared.ended.Ended.{Ended}
 use Rattle.gateway.specs.declared.ended.Ended.TheVariants as ended
 use Rattle.gateway.specs.declared.resolved.ResolvedRequest.{ResolvedRequest}
-use Rattle.gateway.specs.declared.meant.Meant.TheVariants as meant
+use Rattle.s3_requests.specs.declared.meant.Meant.TheVariants as meant
 use Rattle.gateway.specs.ResolvedRequest.{Is, Understands}
 use Rattle.gateway.specs.declared.handle.Handled.TheVariants.{Served, Broken}
 use Rattle.gateway.specs.Request.{Request, reply_text, print}

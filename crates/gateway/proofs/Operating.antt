@@ -29,7 +29,7 @@ use Rattle.gateway.proofs.lemmas.Map.{settled_by_agree}
 -- ---- histories that go on
 
 -- the account that the history went on from
-pub from_present : {old new : History} → (on : GoesOn old new) → (observable : IsTrue old.observable) → new.tree_at old.called ≡ present old
+pub from_present : {old new : History} → (on : GoesOn old new) → (observable : IsTrue old.observable) → new.account_at old.called ≡ present old
 from_present {old = old} on observable = (on.kept observable).accounts old.called (omega arith)
 
 within_amount : {premises : Type 0} (most : Bound) (p q : ℕ) → IsWithin most premises p q → premises → q ≤ p + amount most
@@ -69,7 +69,7 @@ met_any : {given : SwiftAccount → Type 0} {h : History} → Met given h → Me
 met_any met = record { observable = met.observable; sound = met.sound; has = tt }
 
 -- no more calls than by which it may be settled
-settles_within : {old middle : History} {result : Result (Unit {0}) SettleFault} → Settles old middle result → Met (IsKnown known.Unsure) old → middle.called ≤ old.called + amount (most_settling (middle.tree_at old.called))
+settles_within : {old middle : History} {result : Result (Unit {0}) SettleFault} → Settles old middle result → Met (IsKnown known.Unsure) old → middle.called ≤ old.called + amount (most_settling (middle.account_at old.called))
 settles_within {old = old} {middle = middle} settles met =
     subst (λ tree. middle.called ≤ old.called + amount (most_settling tree)) (sym (from_present settles.asks.grows.on met.observable))
     (within_amount (most_settling (present old)) old.called middle.called settles.asks.grows.calls (met_any met))
@@ -94,14 +94,14 @@ readied_by {old = old} is same settles = subst {A = History × Known} (λ x. Rea
 
 -- ---- over a store that was settled
 
-pub operated_by : {settings : Settings} {op : Op} {label : Label} {old middle new : History} {was : Known} {reply : Reply} → Readied old middle was
-    → Answered (most_calls op (present middle)) middle new settings op label known.Settled reply → Operated settings op label old new was known.Settled reply
-operated_by {settings = settings} {op = op} {label = label} {old = old} {middle = middle} {new = new} {reply = reply} readied given = record {
+pub operated_by : {settings : Settings} {op : Op} {label : Label} {old middle new : History} {was now : Known} {reply : Reply} → Readied old middle was
+    → Answered (most_calls op (present middle)) middle new settings op label now reply → Operated settings op label old new was now reply
+operated_by {settings = settings} {op = op} {label = label} {old = old} {middle = middle} {new = new} {now = now} {reply = reply} readied given = record {
   on = goes_trans readied.on given.grows.on;
   showable = given.showable;
   caused = record {
     unavailable = λ is. rose_later old.faults middle.faults new.faults readied.on.faults (given.unavailable is);
-    unsure = λ is. absurd (let no : known.Settled ≡ known.Unsure = is in cc);
+    unsure = λ is. inr (given.unsure is);
   };
   effect = λ met.
       let by = readied.by met in
@@ -114,7 +114,7 @@ operated_by {settings = settings} {op = op} {label = label} {old = old} {middle 
       let faults = (goes_trans readied.on given.grows.on).faults in (
         record { from = old.called; begins = middle.called; committed = told.0; to = new.called; asked = Some (record { op = op; label = label }); takes = told.1 },
         record { from = refl; settles = first; first = told.2.passes.after_p; last = told.2.passes.up_to_q; to = refl; asked = refl; faults = faults },
-        answered (settled_by_agree kept first (omega arith) by) told.2
+        answered (settled_by_agree kept first (omega arith) by) told.2 (given.beside found)
             (subst (λ tree. new.called ≤ middle.called + amount (most_calls op tree)) (sym (kept.accounts middle.called (omega arith))) (within_amount (most_calls op (present middle)) middle.called new.called given.grows.calls found)),
       );
   known = λ observable is. given.knows (readied.on.observable observable) (readied.settled observable is);
@@ -129,23 +129,23 @@ fault_reply fault = reply_of (Err (settle_fault fault))
 fault_shown : (fault : SettleFault) → IsShowable (fault_reply fault)
 fault_shown Failed = tt
 fault_shown Memory = tt
-fault_shown Inconsistent = tt
+fault_shown (Inconsistent container name) = tt
 
 fault_known : (fault : SettleFault) → IsFault (fault_reply fault)
 fault_known Failed = inl refl
 fault_known Memory = inr (inr refl)
-fault_known Inconsistent = inr (inl refl)
+fault_known (Inconsistent container name) = inr (inl refl)
 
 fault_cause : (fault : SettleFault) (before now : ℕ) → CausesFault before now (as_plan (Err fault)) → fault_reply fault ≡ answer.Refused ServiceUnavailable → Rose before now
 fault_cause Failed before now cause is = cause
 fault_cause Memory before now cause is = cc
-fault_cause Inconsistent before now cause is = cc
+fault_cause (Inconsistent container name) before now cause is = cc
 
 fault_keeps : (fault : SettleFault) (h : History) (p q : ℕ) → Keeps h p q SettlesIt (as_plan (Err fault))
     → Stutters h p q × (((fault_reply fault ≡ answer.Refused ServiceUnavailable) × LastFailed h p q) ⊎ (fault_reply fault ≡ answer.Memory))
 fault_keeps Failed h p q keeps = (keeps.0, inl (refl, keeps.1))
 fault_keeps Memory h p q keeps = (keeps.0, inr refl)
-fault_keeps Inconsistent h p q keeps = absurd keeps
+fault_keeps (Inconsistent container name) h p q keeps = absurd keeps
 
 not_settled : {settings : Settings} {op : Op} {label : Label} {old new : History} (fault : SettleFault) → Settles old new (Err fault)
     → Operated settings op label old new known.Unsure known.Unsure (fault_reply fault)

@@ -12,15 +12,15 @@ use Rattle.s3_machine.specs.declared.operation.Reply.TheVariants as answer
 use Rattle.swift_calls.specs.History.{History}
 use Rattle.recovery.specs.declared.state.Known.{Known}
 use Rattle.recovery.specs.declared.state.Known.TheVariants as known
-use Rattle.recovery.specs.Answers.{memory}
+use Rattle.recovery.specs.Answers.{is_old_if_out_of_memory, OldIf, memory, beside_of}
 use Rattle.recovery.specs.Calls.{Met}
 use Rattle.recovery.specs.Settling.{IsKnown}
-use Rattle.recovery.proofs.lemmas.Agree.{passes_still}
+use Rattle.recovery.proofs.lemmas.Agree.{passes_still, beside_memory}
 use Rattle.recovery.proofs.lemmas.Idle.{none_made}
-use Rattle.gateway.specs.declared.meant.Meant.{Meant}
-use Rattle.gateway.specs.declared.meant.Meant.TheVariants as meant
-use Rattle.gateway.specs.ResolvedRequest.{IsProperMeant, Understands}
-use Rattle.gateway.specs.Proper.{IsProperCode}
+use Rattle.s3_requests.specs.declared.meant.Meant.{Meant}
+use Rattle.s3_requests.specs.declared.meant.Meant.TheVariants as meant
+use Rattle.gateway.specs.ResolvedRequest.{Understands}
+use Rattle.s3_requests.specs.Proper.{IsProperCode, IsProperMeant}
 use Rattle.gateway.specs.Request.{Request}
 use Rattle.gateway.specs.Connection.{sent_by}
 use Rattle.gateway.specs.Exchange.{Asked, asked_by, store_cursor, Span, IsSpan, Performs, unsettled, answered, refused, performed, refused_any, performed_any, RepliesBy, RepliesExpected, Where, IsCaused, Operated}
@@ -112,11 +112,17 @@ module _ (settings : Settings) (h : History) (was : Known) (request : Request) (
 out_of_memory_caused : (h : History) (was : Known) (op : Op) → IsCaused (store_cursor h was) (store_cursor h was) op answer.Memory
 out_of_memory_caused h was op = record { unavailable = λ is. absurd (let no : answer.Memory ≡ answer.Refused ServiceUnavailable = is in cc); unsure = λ is. inl (is, inr (inr refl)) }
 
+-- before the first call the state is the old one, if that is asked for
+old_if_none : (t : Bool) (h : History) (p : ℕ) → OldIf t h p p
+old_if_none true h p = λ k from to. absurd (omega arith)
+old_if_none false h p = tt
+
 out_of_memory_performs : (settings : Settings) (h : History) (was : Known) (op : Op) (label : Label) (asked : Option Asked) → Met (IsKnown was) h
     → Performs settings h (store_cursor h was) (span_between h.called h.called asked) (store_cursor h was) op label answer.Memory
 out_of_memory_performs settings h known.Settled op label asked met = answered
     (record { needs_none = λ is. refl; quiet = none_made refl met.sound; no_fault = refl; within = omega arith; settled = met.has refl })
-    (record { passes = passes_still (none_made refl met.sound); by = memory refl (λ k from to. absurd (omega arith)); beside = tt })
+    (record { passes = passes_still (none_made refl met.sound); by = memory refl (old_if_none (is_old_if_out_of_memory op) h h.called) })
+    (beside_memory (beside_of op) label h h.called)
     (omega arith)
 out_of_memory_performs settings h known.Unsure op label asked met = unsettled
     (record { needs_some = refl; quiet = none_made refl met.sound; within = omega arith; says = inr refl })

@@ -1,5 +1,5 @@
 -- A message as it is resolved.
-use Rattle.std.proofs.Common.{◌≡◌, ◌≢◌, ℕ, Bool, true, false, cond, List, [], Option, None, Some, Result, Ok, Err, codes, refl, sym, ap}
+use Rattle.std.proofs.Common.{◌≡◌, ◌≢◌, ℕ, Bool, true, false, cond, List, [], Option, None, Some, Result, Ok, Err, IfErr, codes, refl, sym, ap}
 use Rattle.gate_base.specs.declared.caller.Caller.{Caller}
 use Rattle.gate_base.specs.declared.caller.Caller.TheVariants.{Owner, Anonymous}
 use Rattle.s3_machine.specs.declared.code.Code.TheVariants.{AccessDenied, AuthorizationHeaderMalformed, InvalidAccessKeyId, InvalidRequest, InvalidURI, NotImplemented, RequestTimeTooSkewed, SignatureDoesNotMatch, XAmzContentSHA256Mismatch}
@@ -19,12 +19,13 @@ use Rattle.sigv4.specs.Keys.{secret_of}
 use Rattle.sigv4.specs.Moment.{is_skewed}
 use Rattle.gateway.specs.declared.ended.Ended.TheVariants as ended
 use Rattle.gateway.specs.declared.resolved.ResolvedRequest.{ResolvedRequest}
-use Rattle.gateway.specs.declared.meant.Meant.TheVariants.{Refused, Memory}
+use Rattle.s3_requests.specs.declared.meant.Meant.{Meant}
+use Rattle.s3_requests.specs.declared.meant.Meant.TheVariants.{Refused, Memory}
 use Rattle.gateway.specs.declared.service.Service.{Service}
-use Rattle.gateway.specs.Request.{raw_path, end_after, refused_by, admitted, caller_or_anonymous, caller_of, caller_or_refusal_at, resolve_target, request_of, refused_request, code_of}
-use Rattle.gateway.specs.ResolvedRequest.{Is, IsProperMeant}
-use Rattle.gateway.specs.Proper.{IsProperCode}
-use Rattle.gateway.proofs.Proper.{is_store_fault, proper_code, meaning_known, meaning_proper}
+use Rattle.gateway.specs.Request.{raw_path, end_after, refused_by, admitted, caller_or_anonymous, caller_of, Verdict, by_header, verdict_at, Verifies, resolve_target, request_of, refused_request, code_of}
+use Rattle.gateway.specs.ResolvedRequest.{Is}
+use Rattle.s3_requests.specs.Proper.{IsProperCode, IsProperMeant}
+use Rattle.s3_requests.proofs.lemmas.Proper.{is_store_fault, proper_code, meaning_known, meaning_proper}
 
 -- ---- signatures
 
@@ -87,12 +88,14 @@ gives_refusal (signature.SignatureDiffers hash) due gives known = gives
 gives_refusal signature.PayloadDiffers due gives known = gives
 gives_refusal signature.Memory due gives known = absurd (known refl)
 
-pub refused_means : (settings : Settings) (message : Message) (target : Target) (refusal : Refusal) (due : Result Caller Refusal) → Gives (Err refusal) due
-    → refused_by refusal ≢ Memory → refused_by refusal ≡ admitted settings message target due
-refused_means settings message target refusal due gives known = sym (ap (admitted settings message target) (gives_refusal refusal due gives known))
+pub refused_means : (settings : Settings) (message : Message) (target : Target) (means : Meant) (due : Verdict) → Verifies due (Err means) → means ≢ Memory → means ≡ admitted settings message target due
+refused_means settings message target means due verifies known = sym (ap (admitted settings message target) (verifies known))
 
-pub refused_caller : (refusal : Refusal) (due : Result Caller Refusal) → Gives (Err refusal) due → refused_by refusal ≢ Memory → Anonymous ≡ caller_or_anonymous due
-refused_caller refusal due gives known = sym (ap caller_or_anonymous (gives_refusal refusal due gives known))
+pub refused_caller : (means : Meant) (due : Verdict) → Verifies due (Err means) → means ≢ Memory → Anonymous ≡ caller_or_anonymous due
+refused_caller means due verifies known = sym (ap caller_or_anonymous (verifies known))
+
+pub refused_verifies : (refusal : Refusal) (due : Result Caller Refusal) → Gives (Err refusal) due → Verifies (by_header due) (Err (refused_by refusal))
+refused_verifies refusal due gives = λ known. ap by_header (gives_refusal refusal due gives known)
 
 pub refused_proper : (refusal : Refusal) → IsProperMeant (refused_by refusal)
 refused_proper signature.HeaderMalformed = proper_code AuthorizationHeaderMalformed refl
@@ -109,21 +112,36 @@ refused_proper signature.Memory = tt
 
 -- ---- messages
 
-admitted_known : (settings : Settings) (message : Message) (target : Target) (verdict : Result Caller Refusal) → verdict ≢ Err signature.Memory → admitted settings message target verdict ≢ Memory
+-- a refusal is no lack of memory
+header_known : (due : Result Caller Refusal) → due ≢ Err signature.Memory → by_header due ≢ Err Memory
+header_known (Ok caller) known = λ e. cc
+header_known (Err refusal) known = λ e. refusal_known refusal (λ is. known (ap Err is)) (let same : refused_by refusal ≡ Memory = cc in same)
+
+verdict_known : (service : Service) (moment : ℕ) (message : Message) (target : Target) → verdict_at service moment message target ≢ Err Memory
+verdict_known service moment message target =
+    header_known (caller_or_refusal service.keys service.settings.region message target moment) (caller_or_refusal_known service.keys service.settings.region message target moment)
+
+header_proper : (due : Result Caller Refusal) → IfErr (by_header due) IsProperMeant
+header_proper (Ok caller) = tt
+header_proper (Err refusal) = refused_proper refusal
+
+verdict_proper : (service : Service) (moment : ℕ) (message : Message) (target : Target) → IfErr (verdict_at service moment message target) IsProperMeant
+verdict_proper service moment message target = header_proper (caller_or_refusal service.keys service.settings.region message target moment)
+
+admitted_known : (settings : Settings) (message : Message) (target : Target) (verdict : Verdict) → verdict ≢ Err Memory → admitted settings message target verdict ≢ Memory
 admitted_known settings message target (Ok caller) known = meaning_known settings message target caller
-admitted_known settings message target (Err refusal) known = refusal_known refusal (λ e. known (ap Err e))
+admitted_known settings message target (Err means) known = λ e. known (ap Err e)
 
 resolve_target_known : (service : Service) (moment : ℕ) (message : Message) (read : Result Target NameFault) → resolve_target service moment message read ≢ Memory
-resolve_target_known service moment message (Ok target) =
-    admitted_known service.settings message target (caller_or_refusal_at service moment message target) (caller_or_refusal_known service.keys service.settings.region message target moment)
+resolve_target_known service moment message (Ok target) = admitted_known service.settings message target (verdict_at service moment message target) (verdict_known service moment message target)
 resolve_target_known service moment message (Err fault) = λ e. cc
 
-admitted_proper : (settings : Settings) (message : Message) (target : Target) (verdict : Result Caller Refusal) → IsProperMeant (admitted settings message target verdict)
-admitted_proper settings message target (Ok caller) = meaning_proper settings message target caller
-admitted_proper settings message target (Err refusal) = refused_proper refusal
+admitted_proper : (settings : Settings) (message : Message) (target : Target) (verdict : Verdict) → IfErr verdict IsProperMeant → IsProperMeant (admitted settings message target verdict)
+admitted_proper settings message target (Ok caller) proper = meaning_proper settings message target caller
+admitted_proper settings message target (Err means) proper = proper
 
 resolve_target_proper : (service : Service) (moment : ℕ) (message : Message) (read : Result Target NameFault) → IsProperMeant (resolve_target service moment message read)
-resolve_target_proper service moment message (Ok target) = admitted_proper service.settings message target (caller_or_refusal_at service moment message target)
+resolve_target_proper service moment message (Ok target) = admitted_proper service.settings message target (verdict_at service moment message target) (verdict_proper service moment message target)
 resolve_target_proper service moment message (Err fault) = proper_code InvalidURI refl
 
 pub message_is : (resolved : ResolvedRequest) (service : Service) (moment : ℕ) (message : Message)

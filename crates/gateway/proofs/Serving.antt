@@ -12,12 +12,12 @@ use Rattle.http_wire.specs.Interim.{OwesInterim, IsOwedFirst, SendsInterim, MayS
 use Rattle.http_wire.proofs.lemmas.OwedLemmas.{owed_first}
 use Rattle.http_wire.specs.Print.{memory_reply}
 use Rattle.gateway.specs.declared.ended.Ended.{Ended}
-use Rattle.gateway.specs.declared.ended.Ended.TheVariants.{End, Closed, CutShort, Refused, LineFailed, Memory}
-use Rattle.gateway.specs.declared.handle.Handled.TheVariants.{Served, Broken}
+use Rattle.gateway.specs.declared.ended.Ended.TheVariants.{End, Closed, CutShort, Refused, LineFailed, StoreFailed, Inconsistent, Memory}
+use Rattle.gateway.specs.declared.handle.Handled.TheVariants.{Served, Broken, Parted}
 use Rattle.gateway.specs.Exchange.{ReplyRelation, StoreCursor, Sends, SendsPart}
 use Rattle.gateway.specs.Request.{Request, refused_request, asks_of}
 use Rattle.gateway.specs.declared.received.Received.TheVariants as received
-use Rattle.gateway.specs.Connection.{Progress, ConnectionCursor, progress, cursor, OwedIsSent, Resolves, read, rejected, over, cut, served, unread, unheard, untold, broken}
+use Rattle.gateway.specs.Connection.{Progress, ConnectionCursor, progress, cursor, OwedIsSent, Resolves, read, rejected, over, cut, served, unread, unheard, untold, broken, parted}
 use Rattle.gateway.specs.Handled.{HandledOnce, HandledEnds}
 use Rattle.gateway.specs.Serving.{NextOne, EndsUnread}
 
@@ -26,7 +26,10 @@ handled_ends connection old new asks None span = span
 handled_ends connection old new asks (Some ended) span = inl span
 
 pub handled_breaks : {R : ReplyRelation} (connection : ℕ) (old new : Progress) (asks : ℕ → Request) → HandledOnce R connection old new asks Broken → HandledEnds R connection old new asks (Some LineFailed)
-handled_breaks connection old new asks span = inr (refl, span)
+handled_breaks connection old new asks span = inr (inl (refl, span))
+
+pub handled_parts : {R : ReplyRelation} (connection : ℕ) (old new : Progress) (asks : ℕ → Request) (ended : Ended) → HandledOnce R connection old new asks (Parted ended) → HandledEnds R connection old new asks (Some ended)
+handled_parts connection old new asks ended span = inr (inr span)
 
 -- the progress with these pieces sent
 abbrev heard_by : Progress → List Piece → Progress
@@ -39,7 +42,9 @@ module _ (service : Service) (R : ReplyRelation) (connection : ℕ) where
   next_of old new heard asks None resolves owed span = (span.span, record { request = asks span.label.moment; label = span.label; heard = heard; resolves = resolves span.label.moment; owed = owed; labels = span.labels; exchange = span.exchange })
   next_of old new heard asks (Some ended) resolves owed (inl span) =
       (span.span ∷ [], served new span.span (record { request = asks span.label.moment; label = span.label; heard = heard; resolves = resolves span.label.moment; owed = owed; labels = span.labels; exchange = span.exchange }) refl)
-  next_of old new heard asks (Some ended) resolves owed (inr span) =
+  next_of old new heard asks (Some ended) resolves owed (inr (inr span)) =
+      (span.span ∷ [], parted span.span (record { request = asks span.label.moment; label = span.label; rest = new.rest; place = new.place; heard = heard; resolves = resolves span.label.moment; owed = owed; labels = span.labels; exchange = span.exchange }))
+  next_of old new heard asks (Some ended) resolves owed (inr (inl span)) =
       let failed = span.1 in
       (failed.span ∷ [], broken failed.span span.0 (record { request = asks failed.label.moment; label = failed.label; rest = new.rest; place = new.place; heard = heard; resolves = resolves failed.label.moment; owed = owed; labels = failed.labels; exchange = failed.exchange }))
 
@@ -97,6 +102,8 @@ module _ (service : Service) (R : ReplyRelation) (here : StoreCursor) (moments d
   next_unread transcript transcript' Closed b owed ends = absurd ends
   next_unread transcript transcript' (CutShort place) b owed ends = absurd ends
   next_unread transcript transcript' (Refused kind place) b owed ends = absurd ends
+  next_unread transcript transcript' StoreFailed b owed ends = absurd ends
+  next_unread transcript transcript' (Inconsistent container name) b owed ends = absurd ends
   next_unread transcript transcript' LineFailed b owed ends =
       let P : ℕ → Type 0 = λ n. SendsPart n here.number here.number (memory_reply false) transcript.sent transcript'.sent in
       ([], untold transcript.sent refl (record { store = refl; moments = refl; draws = refl }) owed (subst P b ends))

@@ -7,8 +7,8 @@ use Rattle.s3_machine.specs.declared.operation.Reply.{Reply}
 use Rattle.s3_machine.specs.declared.operation.Reply.TheVariants.{Refused, Memory, Done, Gone, NotModified, Buckets, Made, Location, AclOf, Objects}
 use Rattle.s3_machine.specs.declared.operation.Reply.TheVariants.{Uploads, Stored, Object, Started, Parts, Completed}
 use Rattle.http_wire.specs.Print.{IsReplyStatus}
-use Rattle.s3_bodies.specs.Pages.{page_of, read_status}
-use Rattle.s3_bodies.specs.Codes.{status_of}
+use Rattle.s3_pages.specs.Pages.{page_of, read_status}
+use Rattle.s3_pages.specs.Codes.{status_of}
 
 code_status : (code : Code) → IsReplyStatus (status_of code)
 code_status AccessDenied = refl

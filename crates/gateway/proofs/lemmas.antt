@@ -1,3 +1,4 @@
+pub mod Counted
 pub mod Map
 pub mod Order
 pub mod Passing

@@ -13,9 +13,9 @@ use Rattle.http_wire.specs.Reading.{place_after}
 use Rattle.http_wire.specs.Interim.{OwesInterim, SendsInterim, MaySendInterim, CutsInterim}
 use Rattle.http_wire.specs.Print.{memory_reply}
 use Rattle.gateway.specs.declared.ended.Ended.{Ended}
-use Rattle.gateway.specs.declared.ended.Ended.TheVariants.{End, Closed, CutShort, Refused, LineFailed, Memory}
+use Rattle.gateway.specs.declared.ended.Ended.TheVariants.{End, Closed, CutShort, Refused, LineFailed, StoreFailed, Inconsistent, Memory}
 use Rattle.gateway.specs.Request.{Request, request_of, refused_request}
-use Rattle.gateway.specs.Exchange.{ReplyRelation, StoreCursor, Span, Exchange, CutExchange, Sends, SendsPart}
+use Rattle.gateway.specs.Exchange.{ReplyRelation, StoreCursor, Span, Exchange, CutExchange, PartExchange, Sends, SendsPart}
 
 -- what goes on from one connection to the next
 pub record Progress : Type 0 where
@@ -113,6 +113,18 @@ pub record Breaks (service : Service) (R : ReplyRelation) (connection : ℕ) (ol
   pub labels : Labels old.progress new request.caller label
   pub exchange : CutExchange R connection old.progress.store span new.store request label heard new.sent
 
+-- the next request was resolved and answered, and the read that it was broke off
+pub record Parts (service : Service) (R : ReplyRelation) (connection : ℕ) (ended : Ended) (old : ConnectionCursor) (span : Span) (new : Progress) : Type 0 where
+  pub request : Request
+  pub label : Label
+  pub rest : List ℕ
+  pub place : ℕ
+  pub heard : List Piece
+  pub resolves : Resolves service label.moment old request rest place
+  pub owed : OwedIsSent connection old heard
+  pub labels : Labels old.progress new request.caller label
+  pub exchange : PartExchange R connection old.progress.store span new.store request label ended heard new.sent
+
 -- of the progress only the pieces sent may differ
 pub record OnlySent (old new : Progress) : Type 0 where
   pub store : new.store ≡ old.store
@@ -140,6 +152,8 @@ pub data Ends (service : Service) (R : ReplyRelation) (connection : ℕ) (ended 
       → Ends service R connection ended last new []
   -- the line failed under the reply to a request
   broken : (span : Span) → ended ≡ LineFailed → Breaks service R connection last span new → Ends service R connection ended last new (span ∷ [])
+  -- a read broke off
+  parted : (span : Span) → Parts service R connection ended last span new → Ends service R connection ended last new (span ∷ [])
 
 -- one connection: its requests in order, none skipped, with their spans, and its end
 pub record ConnectionTrace (service : Service) (R : ReplyRelation) (connection : ℕ) (ended : Ended)
@@ -158,4 +172,6 @@ is_failed_end Closed = false
 is_failed_end (CutShort place) = false
 is_failed_end (Refused kind place) = false
 is_failed_end LineFailed = true
+is_failed_end StoreFailed = false
+is_failed_end (Inconsistent container name) = false
 is_failed_end Memory = false

@@ -1,5 +1,5 @@
 -- One request with its reply. What is said of the reply is a relation of the store cursors before and after it. Source: this profile.
-use Rattle.std.specs.Prelude.{◌≡◌, ◌≢◌, ◌⊎◌, ◌≤◌, ℕ, ◌+◌, Bool, true, false, IsTrue, List, [], ◌∷◌, ◌++◌, All, flat_map, Option, Some, None}
+use Rattle.std.specs.Prelude.{◌≡◌, ◌≢◌, ◌⊎◌, ◌<◌, ◌≤◌, ℕ, ◌+◌, Bool, true, false, IsTrue, List, [], ◌∷◌, ◌++◌, length, All, flat_map, Option, Some, None}
 use Rattle.gate_base.specs.Causes.{Rose}
 use Rattle.gate_base.specs.declared.outside.Piece.{Piece}
 use Rattle.s3_machine.specs.declared.code.Code.{Code}
@@ -7,26 +7,29 @@ use Rattle.s3_machine.specs.declared.code.Code.TheVariants.{ServiceUnavailable, 
 use Rattle.s3_machine.specs.declared.operation.Label.{Label}
 use Rattle.s3_machine.specs.declared.operation.Settings.{Settings}
 use Rattle.s3_machine.specs.declared.operation.Op.{Op}
+use Rattle.s3_machine.specs.declared.operation.Op.TheVariants as op
 use Rattle.s3_machine.specs.declared.operation.Reply.{Reply}
-use Rattle.s3_machine.specs.declared.operation.Reply.TheVariants.{Refused, Memory}
+use Rattle.s3_machine.specs.declared.operation.ObjectHead.{ObjectHead}
+use Rattle.s3_machine.specs.declared.operation.Reply.TheVariants.{Refused, Memory, Object}
 use Rattle.s3_machine.specs.Shown.{IsShowable}
-use Rattle.swift_calls.specs.History.{History, present}
+use Rattle.swift_calls.specs.History.{History, budget, present}
 use Rattle.upload_records.specs.Native.{IsSettled}
 use Rattle.upload_records.specs.Consistent.{IsConsistent}
 use Rattle.recovery.specs.declared.state.Known.{Known}
 use Rattle.recovery.specs.declared.state.Known.TheVariants as known
-use Rattle.recovery.specs.Answers.{Answers, most_calls, most_settling}
+use Rattle.recovery.specs.Answers.{Answers, SaysBeside, beside_of, most_calls, most_settling, steps_of}
 use Rattle.recovery.specs.Calls.{GoesOn, Met, amount}
 use Rattle.recovery.specs.Settling.{IsKnown}
 use Rattle.recovery.specs.Stutters.{Stutters, LastFailed}
+use Rattle.planner.specs.Plan.{may_leave_unsure}
 use Rattle.http_wire.specs.FirstMessage.{is_head}
 use Rattle.http_wire.specs.Print.{memory_reply}
 use Rattle.gateway.specs.declared.ended.Ended.{Ended}
 use Rattle.gateway.specs.declared.ended.Ended.TheVariants as ended
-use Rattle.gateway.specs.declared.meant.Meant.{Meant}
-use Rattle.gateway.specs.declared.meant.Meant.TheVariants as meant
+use Rattle.s3_requests.specs.declared.meant.Meant.{Meant}
+use Rattle.s3_requests.specs.declared.meant.Meant.TheVariants as meant
 use Rattle.gateway.specs.Request.{Request, print}
-use Rattle.gateway.specs.Proper.{IsProperCode}
+use Rattle.s3_requests.specs.Proper.{IsProperCode}
 
 -- ---- between two requests
 
@@ -42,7 +45,7 @@ store_cursor h known = record { number = h.called; faults = h.faults; known = kn
 
 -- what a store cursor says is known holds of the account at its number
 abbrev pub IsKnownOf : History → StoreCursor → Type 0
-IsKnownOf h m = IsKnown m.known (h.tree_at m.number)
+IsKnownOf h m = IsKnown m.known (h.account_at m.number)
 
 -- ---- one request
 
@@ -88,30 +91,26 @@ pub record SettledBy (h : History) (was : Known) (from begins : ℕ) : Type 0 wh
   pub needs_none : was ≡ known.Settled → begins ≡ from
   pub quiet : Stutters h from begins
   pub no_fault : h.faults_at begins ≡ h.faults_at from
-  pub within : begins ≤ from + amount (most_settling (h.tree_at from))
-  pub settled : IsSettled (h.tree_at begins)
+  pub within : begins ≤ from + amount (most_settling (h.account_at from))
+  pub settled : IsSettled (h.account_at begins)
 
 -- the calls by which the store should have been settled: they left the state, and the last one failed, or memory ran out
 pub record NotSettledBy (h : History) (was : Known) (from to : ℕ) (reply : Reply) : Type 0 where
   pub needs_some : was ≡ known.Unsure
   pub quiet : Stutters h from to
-  pub within : to ≤ from + amount (most_settling (h.tree_at from))
+  pub within : to ≤ from + amount (most_settling (h.account_at from))
   pub says : ((reply ≡ Refused ServiceUnavailable) × LastFailed h from to) ⊎ (reply ≡ Memory)
 
 -- the replies of a store that failed or is inconsistent, or of a service that ran out of memory
 abbrev pub IsFault : Reply → Type 0
 IsFault reply = (reply ≡ Refused ServiceUnavailable) ⊎ ((reply ≡ Refused InconsistentStore) ⊎ (reply ≡ Memory))
 
--- an operation after which a completion may be sealed: none
-abbrev pub LeavesUnsure : Op → StoreCursor → StoreCursor → Reply → Type 0
-LeavesUnsure op old new reply = ⊥
-
 -- the causes of a reply to an operation, over every store: ServiceUnavailable comes only where the store's own count of faults
 -- rose; and the store isn't known to be settled afterwards only where it wasn't before and the reply is one of a fault, or
 -- where the operation leaves it so
 pub record IsCaused (old new : StoreCursor) (op : Op) (reply : Reply) : Type 0 where
   pub unavailable : reply ≡ Refused ServiceUnavailable → Rose old.faults new.faults
-  pub unsure : new.known ≡ known.Unsure → ((old.known ≡ known.Unsure) × IsFault reply) ⊎ LeavesUnsure op old new reply
+  pub unsure : new.known ≡ known.Unsure → ((old.known ≡ known.Unsure) × IsFault reply) ⊎ (may_leave_unsure op ≡ true)
 
 -- what is said of the reply to an operation, over an observable store: the store could not be settled; or it was, and the
 -- operation is answered, with no more calls than it may make
@@ -119,13 +118,13 @@ pub data Performs (settings : Settings) (h : History) (old : StoreCursor) (span 
     (op : Op) (label : Label) (reply : Reply) : Type 0 where
   unsettled : NotSettledBy h old.known old.number new.number reply → span.begins ≡ new.number → span.takes ≡ 0 → Performs settings h old span new op label reply
   answered : SettledBy h old.known old.number span.begins → Answers settings h span.begins span.committed new.number op label span.takes reply
-      → new.number ≤ span.begins + amount (most_calls op (h.tree_at span.begins)) → Performs settings h old span new op label reply
+      → SaysBeside (beside_of op) label h span.begins new.number reply → new.number ≤ span.begins + amount (most_calls op (h.account_at span.begins)) → Performs settings h old span new op label reply
 
 -- what is said of the reply to a request, over an observable store: the code of one that is no operation, without any call;
 -- or what its operation is answered
 pub data Replies (settings : Settings) (h : History) (old : StoreCursor) (span : Span) (new : StoreCursor)
     (request : Request) (label : Label) (reply : Reply) : Type 0 where
-  refused : (code : Code) → request.means ≡ meant.Refused code → reply ≡ Refused code → IsProperCode code → IsConsistent (h.tree_at old.number)
+  refused : (code : Code) → request.means ≡ meant.Refused code → reply ≡ Refused code → IsProperCode code → IsConsistent (h.account_at old.number)
       → new ≡ old → span.takes ≡ 0 → Replies settings h old span new request label reply
   performed : (op : Op) → request.means ≡ meant.Op op → Performs settings h old span new op label reply
       → IsCaused old new op reply → IsKnownOf h new → Replies settings h old span new request label reply
@@ -146,6 +145,12 @@ pub record FaultFreeReplies (R : ReplyRelation) (old : StoreCursor) (span : Span
     (request : Request) (label : Label) (reply : Reply) : Type 0 where
   pub replies : R old span new request label reply
   pub available : reply ≢ Refused ServiceUnavailable
+
+-- a reply; and an operation that the service itself answered took all its steps
+pub record CountedReplies (R : ReplyRelation) (old : StoreCursor) (span : Span) (new : StoreCursor)
+    (request : Request) (label : Label) (reply : Reply) : Type 0 where
+  pub replies : R old span new request label reply
+  pub counted : (op : Op) → request.means ≡ meant.Op op → reply ≢ Memory → reply ≢ Refused ServiceUnavailable → span.takes ≡ steps_of op
 
 -- P is a premise of what is said over an observable store (true), and not of what is said over every store (false)
 abbrev pub Where : Bool → Type 0 → Type 0
@@ -204,6 +209,65 @@ pub record CutExchange (R : ReplyRelation) (connection : ℕ) (old : StoreCursor
   pub replies : R old span new request label reply
   pub due : ExpectedBytes request label reply end bytes
   pub sends : SendsPart connection span.committed new.number bytes sent sent'
+
+-- ---- a read that broke off
+
+-- what a read would have been answered that broke off, by how the connection ends
+abbrev pub BreaksOff : Ended → Reply → Type 0
+BreaksOff ended.End fault = ⊥
+BreaksOff ended.Closed fault = ⊥
+BreaksOff (ended.CutShort place) fault = ⊥
+BreaksOff (ended.Refused kind place) fault = ⊥
+BreaksOff ended.LineFailed fault = ⊥
+BreaksOff ended.StoreFailed fault = fault ≡ Refused ServiceUnavailable
+BreaksOff (ended.Inconsistent container name) fault = fault ≡ Refused InconsistentStore
+BreaksOff ended.Memory fault = fault ≡ Memory
+
+-- the reply has these bytes as its body
+abbrev pub IsRead : Reply → List ℕ → Type 0
+IsRead reply body = (head : ObjectHead) × (from : ℕ) × (length : ℕ) × (partial : Bool) × (reply ≡ Object head from length partial body)
+
+-- pieces of a body, one for each number of calls from n on, each of at most 1 MiB
+unfoldable pub Paced : ℕ → List Piece → Type 0
+Paced n [] = Unit {0}
+Paced n (piece ∷ pieces) = (piece.at ≡ n) × (length piece.bytes ≤ 1048576) × Paced (n + 1) pieces
+
+-- the head was sent as one piece, and then bytes of the body as pieces, one for each call
+pub record SendsPieces (connection t q : ℕ) (head body : List ℕ) (old new : List Piece) : Type 0 where
+  pub first : Piece
+  pub others : List Piece
+  pub sent : new ≡ old ++ (first ∷ others)
+  pub each : All (IsPiece connection t q) (first ∷ others)
+  pub of_head : first.bytes ≡ head
+  pub of_body : joined others ≡ body
+  pub paced : Paced (first.at + 1) others
+
+-- the request reads an object, and where the store was found inconsistent, that is what the end names
+abbrev pub ReadsObject : Meant → Ended → Type 0
+ReadsObject (meant.Op (op.GetObject bucket key range conditions)) (ended.Inconsistent container name) = (container ≡ bucket) × (name ≡ key)
+ReadsObject (meant.Op (op.GetObject bucket key range conditions)) end = Unit {0}
+ReadsObject means end = ⊥
+
+-- a read was answered whose head was sent, and of its body not all: then the store failed, or was found inconsistent, or memory
+-- ran out, as `fault` says, which it would have been answered if it had not begun
+pub record PartExchange (R : ReplyRelation) (connection : ℕ) (old : StoreCursor) (span : Span) (new : StoreCursor) (request : Request) (label : Label)
+    (end : Ended) (sent sent' : List Piece) : Type 0 where
+  pub reply : Reply
+  pub fault : Reply
+  pub breaks : BreaksOff end fault
+  pub is_span : IsSpan old span new (asked_by request.means label)
+  pub replies : R old span new request label reply
+  pub fails : R old span new request label fault
+  pub head : List ℕ
+  pub part : List ℕ
+  pub unsent : List ℕ
+  pub read : IsRead reply (part ++ unsent)
+  pub due : print reply label request ≡ head ++ (part ++ unsent)
+  pub some_left : unsent ≢ []
+  pub sends : SendsPieces connection span.committed new.number head part sent sent'
+  -- the head was sent before the call that failed, unless none was left to make; and the request reads the object that is named
+  pub behind : end ≢ ended.Memory → (sends.first.at < new.number) ⊎ (budget ≤ new.number)
+  pub of_read : ReadsObject request.means end
 
 -- ---- the functions that find a reply
 

@@ -1,46 +1,9 @@
 -- What the laws of this crate say of definitions.
-use Rattle.std.specs.Prelude.{◌≡◌, ◌↔◌, ℕ, true, List, Contains, Some}
-use Rattle.hex.specs.Hex.{encode_lower, IsBytes}
+use Rattle.std.specs.Prelude.{◌≡◌, ℕ, true}
 use Rattle.httpdate.specs.Calendar as httpdate
-use Rattle.gate_base.specs.declared.page.Pair.{Pair}
-use Rattle.s3_names.specs.Meta.{names_ascend}
-use Rattle.s3_machine.specs.declared.reading.Range.{Range}
-use Rattle.s3_machine.specs.Limits.{is_listing_text}
 use Rattle.sigv4.specs.Moment.{day_number, is_day}
-use Rattle.gateway.specs.Content.{is_entry, entry_name, given_meta}
-use Rattle.gateway.specs.Listings.{token_of}
-use Rattle.gateway.specs.Ranges.{AsksFor, range_of}
-use Rattle.http_wire.specs.Headers.{text_of}
-
--- the entry that a header makes: its value is the text of all headers of the header's name
-abbrev pub entry_of : List Pair → Pair → Pair
-entry_of headers header = record { name = entry_name header.name; value = text_of header.name headers }
-
--- a header of the list makes this entry
-pub record Makes (headers : List Pair) (entry : Pair) : Type 0 where
-  pub header : Pair
-  pub given : Contains headers header
-  pub makes : is_entry header.name ≡ true
-  pub is : entry ≡ entry_of headers header
-
--- the metadata of headers: its names ascend, so that none stands twice, and an entry is in it exactly where a header makes it
-pub record HasMade (headers meta : List Pair) : Type 0 where
-  pub ascends : names_ascend meta ≡ true
-  pub made : (entry : Pair) → Contains meta entry → Makes headers entry
-  pub whole : (entry : Pair) → Makes headers entry → Contains meta entry
-
-abbrev pub GivenMeta : Type 0
-GivenMeta = (headers : List Pair) → HasMade headers (given_meta headers)
 
 -- the calendar by which the time of a signature is a moment, and that by which a moment is a date of a reply, count one number
 -- of days to each day of the years 1970 to 9999
 abbrev pub CalendarsAgree : Type 0
 CalendarsAgree = (year month day : ℕ) → is_day year month day ≡ true → day_number year month day ≡ httpdate.days_from_civil year month day
-
--- a value of Range is read as a range exactly where it asks for it
-abbrev pub RangeAsked : Type 0
-RangeAsked = (text : List ℕ) (range : Range) → (range_of text ≡ Some range) ↔ AsksFor text range
-
--- the token that a reply prints for a text is read as the text
-abbrev pub TokenReturns : Type 0
-TokenReturns = (text : List ℕ) → IsBytes text → is_listing_text text ≡ true → token_of (encode_lower text) ≡ Some text

@@ -14,19 +14,30 @@ use Rattle.swift_calls.specs.Account.{SwiftAccount}
 use Rattle.swift_calls.specs.History.{History}
 use Rattle.upload_records.specs.Native.{s3_state}
 use Rattle.upload_records.specs.Consistent.{IsConsistent}
-use Rattle.recovery.specs.Answers.{steps_of}
+use Rattle.recovery.specs.Answers.{parts_of, steps_of, IsStage}
+use Rattle.recovery.specs.Stutters.{Stutters}
 use Rattle.gateway.specs.declared.ended.Ended.{Ended}
-use Rattle.gateway.specs.declared.meant.Meant.TheVariants as meant
+use Rattle.s3_requests.specs.declared.meant.Meant.TheVariants as meant
 use Rattle.gateway.specs.Request.{Request}
 use Rattle.gateway.specs.Exchange.{Asked, StoreCursor, Span, Exchange, Replies, Sends}
 use Rattle.gateway.specs.Stands.{Follows, AllPass, StandsThroughout}
 
--- a request with an operation is counted at the number k where all its steps were taken and its commit point was by then: the
--- state goes by the machine's step, and else it stays
-pub data CountedAt (settings : Settings) (k : ℕ) (span : Span) (asked : Asked) (old new : State) : Type 0 where
-  counted : span.takes ≡ steps_of asked.op → span.committed ≤ k → (reply : Reply) → S3Step settings old asked.op asked.label reply new
-      → CountedAt settings k span asked old new
-  uncounted : (span.takes ≡ 0) ⊎ (k < span.committed) → new ≡ old → CountedAt settings k span asked old new
+-- what is counted of an operation at the number k: of its steps none before it began, all that were taken from its commit point
+-- on, and fewer between; these steps lead from the old state to the new one
+pub record CountedAt (settings : Settings) (k : ℕ) (span : Span) (asked : Asked) (old new : State) : Type 0 where
+  pub stage : ℕ
+  pub most : stage ≤ span.takes
+  pub unbegun : k < span.begins → stage ≡ 0
+  pub before : 0 < span.takes → k < span.committed → stage < span.takes
+  pub since : span.committed ≤ k → stage ≡ span.takes
+  pub is : IsStage settings old asked.op asked.label stage new
+
+-- an operation was taken as a whole, and its commit point is at most k, or not at all; `law_counted_whole` says that one without
+-- parts is counted so
+abbrev pub IsWholeOrNone : Settings → ℕ → Span → Asked → State → State → Type 0
+IsWholeOrNone settings k span asked old new =
+    ((span.takes ≡ steps_of asked.op) × (span.committed ≤ k) × (reply : Reply) × S3Step settings old asked.op asked.label reply new)
+    ⊎ (((span.takes ≡ 0) ⊎ (k < span.committed)) × (new ≡ old))
 
 abbrev pub Counted : Settings → ℕ → Span → Option Asked → State → State → Type 0
 Counted settings k span None old new = new ≡ old
@@ -37,39 +48,48 @@ unfoldable pub After : Settings → ℕ → State → List Span → State → Ty
 After settings k old [] new = new ≡ old
 After settings k old (span ∷ spans) new = (middle : State) × Counted settings k span span.asked old middle × After settings k middle spans new
 
+-- what a run does to the account: it answers requests, or it leaves the state
+pub data Work : Type 0 where
+  answering : Settings → List Span → Work
+  upkeep : Work
+
 -- a run that was stopped, or had ended, after `stop` calls of its store; one that was stopped would have gone on to `exit`
 pub record Life : Type 0 where
-  pub settings : Settings
+  pub work : Work
   pub history : History
   pub entry : ℕ
   pub stop : ℕ
   pub exit : ℕ
-  pub spans : List Span
 
--- what a run promises, where its account is consistent at entry
-pub record Promises (life : Life) : Type 0 where
-  pub follows : Follows life.entry life.spans life.exit
-  pub passes : AllPass life.settings life.history life.spans
+-- what a run promises between two numbers of calls, where its account is consistent at the first
+pub data Promises (h : History) (entry exit : ℕ) : Work → Type 0 where
+  answers_all : (settings : Settings) (spans : List Span) → Follows entry spans exit → AllPass settings h spans → Promises h entry exit (answering settings spans)
+  keeps_state : Stutters h entry exit → Promises h entry exit upkeep
 
 pub record IsLife (life : Life) : Type 0 where
   pub since : life.entry ≤ life.stop
   pub until : life.stop ≤ life.exit
-  pub keeps : IsConsistent (life.history.tree_at life.entry) → Promises life
+  pub keeps : IsConsistent (life.history.account_at life.entry) → Promises life.history life.entry life.exit life.work
 
 -- each run begins on what the one before it left where it was stopped
 unfoldable pub Lives : SwiftAccount → List Life → SwiftAccount → Type 0
 Lives old [] new = new ≡ old
-Lives old (life ∷ lives) new = (life.history.tree_at life.entry ≡ old) × IsLife life × Lives (life.history.tree_at life.stop) lives new
+Lives old (life ∷ lives) new = (life.history.account_at life.entry ≡ old) × IsLife life × Lives (life.history.account_at life.stop) lives new
 
--- the requests of each run that are counted where it was stopped, run after run, lead from the old state to the new one
+-- what a run's work up to the number k of calls makes of the state
+abbrev pub Worked : Work → ℕ → State → State → Type 0
+Worked (answering settings spans) k old new = After settings k old spans new
+Worked upkeep k old new = new ≡ old
+
+-- the work of each run up to where it was stopped, run after run, leads from the old state to the new one
 unfoldable pub AfterLives : State → List Life → State → Type 0
 AfterLives old [] new = new ≡ old
-AfterLives old (life ∷ lives) new = (middle : State) × After life.settings life.stop old life.spans middle × AfterLives middle lives new
+AfterLives old (life ∷ lives) new = (middle : State) × Worked life.work life.stop old middle × AfterLives middle lives new
 
 -- over one run: at each number of calls the counted requests give the state
 abbrev pub OneRun : Type 0
 OneRun = (settings : Settings) (h : History) (spans : List Span) (entry exit k : ℕ) → Follows entry spans exit → AllPass settings h spans → entry ≤ k → k ≤ exit
-    → After settings k (s3_state (h.tree_at entry)) spans (s3_state (h.tree_at k))
+    → After settings k (s3_state (h.account_at entry)) spans (s3_state (h.account_at k))
 
 -- over one run after another: so they do from the first account to the last, which is consistent
 abbrev pub ManyRuns : Type 0
@@ -78,7 +98,7 @@ ManyRuns = (old new : SwiftAccount) (lives : List Life) → IsConsistent old →
 
 -- at each number of calls of a run the account is consistent, and one that the request which has the number goes through
 abbrev pub StandsAll : Type 0
-StandsAll = (settings : Settings) (h : History) (spans : List Span) (entry exit : ℕ) → IsConsistent (h.tree_at entry)
+StandsAll = (settings : Settings) (h : History) (spans : List Span) (entry exit : ℕ) → IsConsistent (h.account_at entry)
     → Follows entry spans exit → AllPass settings h spans → StandsThroughout settings h spans entry exit
 
 -- ---- what was sent
@@ -95,3 +115,8 @@ SentIsCounted = (settings : Settings) (h : History) (connection : ℕ) (old : St
     (exchange : Exchange (Replies settings h) connection old span new request label end sent sent') (op : Op)
     → request.means ≡ meant.Op op → exchange.reply ≢ Memory → exchange.reply ≢ Refused ServiceUnavailable
     → (span.takes ≡ steps_of op) × All (λ piece. span.committed ≤ piece.at) (pieces_of exchange.sends)
+
+-- an operation without parts is counted as a whole or not at all
+abbrev pub CountedWhole : Type 0
+CountedWhole = (settings : Settings) (k : ℕ) (span : Span) (asked : Asked) (old new : State) → parts_of asked.op ≡ [] → span.takes ≤ steps_of asked.op
+    → CountedAt settings k span asked old new → IsWholeOrNone settings k span asked old new

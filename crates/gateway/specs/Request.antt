@@ -1,5 +1,5 @@
 -- A request as it is answered, whether it was read as a message or refused before. Source: this profile.
-use Rattle.std.specs.Prelude.{ℕ, Bool, cond, is_some, ◌==◌, List, [], Option, None, Some, Result, Ok, Err, codes}
+use Rattle.std.specs.Prelude.{◌≡◌, ◌≢◌, ℕ, Bool, cond, is_some, ◌==◌, List, [], Option, None, Some, Result, Ok, Err, codes}
 use Rattle.std.specs.List.{before_first}
 use Rattle.gate_base.specs.declared.caller.Caller.{Caller}
 use Rattle.gate_base.specs.declared.caller.Caller.TheVariants.{Anonymous}
@@ -18,20 +18,21 @@ use Rattle.http_wire.specs.declared.message.Kind.{Kind}
 use Rattle.http_wire.specs.declared.message.Kind.TheVariants.{BadHead, LongHead, ManyHeaders, NoLength, BadLength, LongBody, Transfer, ShortBody}
 use Rattle.http_wire.specs.Closing.{is_closing}
 use Rattle.http_wire.specs.Print.{page_text}
-use Rattle.s3_bodies.specs.Pages.{page_of}
+use Rattle.s3_pages.specs.Pages.{page_of}
 use Rattle.sigv4.specs.declared.refusal.Refusal.{Refusal}
 use Rattle.sigv4.specs.declared.refusal.Refusal.TheVariants.{HeaderMalformed, UnknownKey, WrongScope, UnsignedHeader, NoDate, Skewed, Streaming}
 use Rattle.sigv4.specs.declared.refusal.Refusal.TheVariants.{NoPayloadHash, SignatureDiffers, PayloadDiffers, Memory}
 use Rattle.sigv4.specs.Verdict.{caller_or_refusal}
 use Rattle.gateway.specs.declared.ended.Ended.{Ended}
 use Rattle.gateway.specs.declared.ended.Ended.TheVariants.{Closed, Refused}
-use Rattle.gateway.specs.declared.meant.Meant.{Meant}
-use Rattle.gateway.specs.declared.meant.Meant.TheVariants as meant
+use Rattle.s3_requests.specs.declared.meant.Meant.{Meant}
+use Rattle.s3_requests.specs.declared.meant.Meant.TheVariants as meant
 use Rattle.gateway.specs.declared.received.Received.{Received}
 use Rattle.gateway.specs.declared.received.Received.TheVariants as received
 use Rattle.gateway.specs.declared.service.Service.{Service}
-use Rattle.gateway.specs.Meaning.{meaning_of}
+use Rattle.s3_requests.specs.Meaning.{meaning_of}
 
+-- a request as it is answered: who sent it, its method, the resource that a page names, what it means, and how the connection ends after it
 pub record Request : Type 0 where
   pub caller : Caller
   pub method : List ℕ
@@ -62,29 +63,42 @@ refused_by (SignatureDiffers hash) = meant.Refused SignatureDoesNotMatch
 refused_by PayloadDiffers = meant.Refused XAmzContentSHA256Mismatch
 refused_by Memory = meant.Memory
 
+-- what the verification of a request comes to: who sent it, or what it is answered
+abbrev pub Verdict : Type 0
+Verdict = Result Caller Meant
+
+abbrev pub by_header : Result Caller Refusal → Verdict
+by_header (Ok caller) = Ok caller
+by_header (Err refusal) = Err (refused_by refusal)
+
+-- who sent a request at a moment: the owner, who signed it by one of the keys, an anonymous caller, or what it is answered where
+-- its signature is refused
+abbrev pub verdict_at : Service → ℕ → Message → Target → Verdict
+verdict_at service moment message target = by_header (caller_or_refusal service.keys service.settings.region message target moment)
+
+-- what verifying gave is what it comes to; where memory ran out it may say nothing
+abbrev pub Verifies : Verdict → Verdict → Type 0
+Verifies due (Ok caller) = due ≡ Ok caller
+Verifies due (Err means) = means ≢ meant.Memory → due ≡ Err means
+
 -- what a request means by who sent it
-abbrev pub admitted : Settings → Message → Target → Result Caller Refusal → Meant
+abbrev pub admitted : Settings → Message → Target → Verdict → Meant
 admitted settings message target (Ok caller) = meaning_of settings message target caller
-admitted settings message target (Err refusal) = refused_by refusal
+admitted settings message target (Err means) = means
 
 -- who sent a request, an anonymous caller where its signature is refused
-abbrev pub caller_or_anonymous : Result Caller Refusal → Caller
+abbrev pub caller_or_anonymous : Verdict → Caller
 caller_or_anonymous (Ok caller) = caller
-caller_or_anonymous (Err refusal) = Anonymous
-
--- who sent a request at a moment: the owner, who signed it by one of the keys, an anonymous caller, or why its signature is
--- refused
-abbrev pub caller_or_refusal_at : Service → ℕ → Message → Target → Result Caller Refusal
-caller_or_refusal_at service moment message target = caller_or_refusal service.keys service.settings.region message target moment
+caller_or_anonymous (Err means) = Anonymous
 
 -- what a request means by how its target is read: one that can't be read is no URI of this service
 abbrev pub resolve_target : Service → ℕ → Message → Result Target NameFault → Meant
-resolve_target service moment message (Ok target) = admitted service.settings message target (caller_or_refusal_at service moment message target)
+resolve_target service moment message (Ok target) = admitted service.settings message target (verdict_at service moment message target)
 resolve_target service moment message (Err fault) = meant.Refused InvalidURI
 
 -- who sent it, likewise
 abbrev pub caller_of : Service → ℕ → Message → Result Target NameFault → Caller
-caller_of service moment message (Ok target) = caller_or_anonymous (caller_or_refusal_at service moment message target)
+caller_of service moment message (Ok target) = caller_or_anonymous (verdict_at service moment message target)
 caller_of service moment message (Err fault) = Anonymous
 
 -- how the connection ends after the reply to a message, if it does

@@ -1,17 +1,10 @@
 -- A request as the code holds it, and the request that it is. Source: this profile.
 use Rattle.std.specs.Prelude.{◌≡◌, ◌≢◌}
-use Rattle.s3_machine.specs.Step.{IsProperOp}
 use Rattle.gateway.specs.declared.resolved.ResolvedRequest.{ResolvedRequest}
-use Rattle.gateway.specs.declared.meant.Meant.{Meant}
-use Rattle.gateway.specs.declared.meant.Meant.TheVariants.{Op, Refused, Memory}
-use Rattle.gateway.specs.Proper.{IsProperCode}
+use Rattle.s3_requests.specs.declared.meant.Meant.{Meant}
+use Rattle.s3_requests.specs.declared.meant.Meant.TheVariants.{Memory}
+use Rattle.s3_requests.specs.Proper.{IsProperMeant}
 use Rattle.gateway.specs.Request.{Request}
-
--- an operation that is meant keeps the limits, and a code is none for a store that failed
-abbrev pub IsProperMeant : Meant → Type 0
-IsProperMeant (Op op) = IsProperOp op
-IsProperMeant (Refused code) = IsProperCode code
-IsProperMeant Memory = Unit {0}
 
 -- what was understood is what the request means, unless memory ran out; and the request means an operation within the
 -- limits, or a proper code

@@ -4,7 +4,7 @@ use Rattle.gate_base.specs.Transcript.{Transcript}
 use Rattle.gateway.specs.declared.service.Service.{Service}
 use Rattle.http_wire.specs.Print.{memory_reply}
 use Rattle.gateway.specs.declared.ended.Ended.{Ended}
-use Rattle.gateway.specs.declared.ended.Ended.TheVariants.{End, Closed, CutShort, Refused, LineFailed, Memory}
+use Rattle.gateway.specs.declared.ended.Ended.TheVariants.{End, Closed, CutShort, Refused, LineFailed, StoreFailed, Inconsistent, Memory}
 use Rattle.gateway.specs.Exchange.{ReplyRelation, Span, Sends, SendsPart}
 use Rattle.gateway.specs.Connection.{ConnectionCursor, Serves, Ends, is_failed_end}
 
@@ -24,5 +24,7 @@ EndsUnread number old End new = ⊥
 EndsUnread number old Closed new = ⊥
 EndsUnread number old (CutShort place) new = ⊥
 EndsUnread number old (Refused kind place) new = ⊥
+EndsUnread number old StoreFailed new = ⊥
+EndsUnread number old (Inconsistent container name) new = ⊥
 EndsUnread number old LineFailed new = SendsPart old.begun number number (memory_reply false) old.sent new.sent
 EndsUnread number old Memory new = Sends old.begun number number (memory_reply false) old.sent new.sent

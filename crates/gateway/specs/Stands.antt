@@ -22,14 +22,14 @@ Follows p (span ∷ spans) q = (span.from ≡ p) × (span.from ≤ span.begins) 
 pub record OpPasses (settings : Settings) (h : History) (span : Span) (asked : Asked) : Type 0 where
   pub settles : Stutters h span.from span.begins
   pub passes : Passes settings h span.begins span.committed span.to asked.op asked.label span.takes
-  pub settling : span.begins ≤ span.from + amount (most_settling (h.tree_at span.from))
-  pub calls : span.to ≤ span.begins + amount (most_calls asked.op (h.tree_at span.begins))
+  pub settling : span.begins ≤ span.from + amount (most_settling (h.account_at span.from))
+  pub calls : span.to ≤ span.begins + amount (most_calls asked.op (h.account_at span.begins))
 
 -- one without an operation: no call, no step, and the account is consistent
 pub record NonePasses (h : History) (span : Span) : Type 0 where
   pub none : span.to ≡ span.from
   pub takes : span.takes ≡ 0
-  pub sound : IsConsistent (h.tree_at span.from)
+  pub sound : IsConsistent (h.account_at span.from)
 
 abbrev pub SpanPasses : Settings → History → Span → Option Asked → Type 0
 SpanPasses settings h span None = NonePasses h span
@@ -48,7 +48,7 @@ pub record Within (span : Span) (k : ℕ) : Type 0 where
 -- the account at the number k of calls: it is consistent, and it is that at the run's entry, or one that a request which has
 -- the number goes through
 pub record StandsAt (settings : Settings) (h : History) (spans : List Span) (entry k : ℕ) : Type 0 where
-  pub sound : IsConsistent (h.tree_at k)
+  pub sound : IsConsistent (h.account_at k)
   pub stands : (k ≡ entry) ⊎ ((span : Span) × Contains spans span × Within span k × SpanPasses settings h span span.asked)
 
 -- at each number of calls from the run's entry to its exit

@@ -22,6 +22,8 @@ pub enum Handled {
     Served(Option<Ended>),
     /// The line failed under the reply.
     Broken,
+    /// A read broke off, and the connection ends so.
+    Parted(Ended),
 }
 
 /// Answers what was received: the clock is read once and two words are drawn, the request is resolved and its reply

@@ -1,6 +1,6 @@
 //! Laws of the definitions, each the contract of a function that does nothing.
-ghost use Rattle.gateway.specs.Laws.{CalendarsAgree, GivenMeta, RangeAsked, TokenReturns};
-ghost use Rattle.gateway.specs.Life.{ManyRuns, OneRun, SentIsCounted, StandsAll};
+ghost use Rattle.gateway.specs.Laws.{CalendarsAgree};
+ghost use Rattle.gateway.specs.Life.{CountedWhole, ManyRuns, OneRun, SentIsCounted, StandsAll};
 
 /// Through a run the account is consistent after each call, and goes through the steps of the request that has the call.
 pub fn law_stands_all()
@@ -18,28 +18,19 @@ pub fn law_many_runs()
     ensures { ManyRuns }
 {}
 
+/// An operation that counts as one step is counted at a number of calls where it was taken and its commit point is by then, and
+/// else not.
+pub fn law_counted_whole()
+    ensures { CountedWhole }
+{}
+
 /// A request that was answered by the service itself is counted from the first piece of its reply on.
 pub fn law_sent_is_counted()
     ensures { SentIsCounted }
-{}
-
-/// The metadata of headers has their entries and no other, each name once and in order.
-pub fn law_given_meta()
-    ensures { GivenMeta }
 {}
 
 /// The calendar of signatures is that of dates: a time that a request was signed for and the moment that a reply is dated by are
 /// numbers of one scale.
 pub fn law_calendars_agree()
     ensures { CalendarsAgree }
-{}
-
-/// The value of a Range header is read as a range exactly where it asks for that range, in its whole text.
-pub fn law_range_asked()
-    ensures { RangeAsked }
-{}
-
-/// The token that a listing prints for the text of its last item is read as that text.
-pub fn law_token_returns()
-    ensures { TokenReturns }
 {}

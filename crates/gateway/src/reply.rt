@@ -12,15 +12,16 @@ ghost use Rattle.recovery.specs.Calls.{GoesOn, Met};
 ghost use Rattle.recovery.specs.Settling.{IsKnown, Settles, settle_fault};
 ghost use Rattle.planner.specs.Plan.{reply_of, Answered};
 ghost use Rattle.gateway.specs.Connection.{sent_by};
-ghost use Rattle.gateway.specs.declared.meant.Meant.TheVariants as variant;
-ghost use Rattle.gateway.specs.ResolvedRequest.{IsProperMeant, Understands};
+ghost use Rattle.s3_requests.specs.declared.meant.Meant.TheVariants as variant;
+ghost use Rattle.gateway.specs.ResolvedRequest.{Understands};
+ghost use Rattle.s3_requests.specs.Proper.{IsProperMeant};
 ghost use Rattle.gateway.specs.Request.{Request};
 ghost use Rattle.gateway.specs.Exchange.{store_cursor, Operated, RepliesBy, RepliesExpected, Where};
 ghost use Rattle.gateway.specs.Stands.{Stands};
 
-use crate::Meant;
 use recovery::{Known, SettleFault, Settled, Unsure};
 use s3_machine::{Code, Label, Op, Reply, Settings};
+use s3_requests::Meant;
 use std::alloc::Global;
 use swift_calls::Swift;
 
@@ -69,7 +70,7 @@ fn operate<W: Swift>(
 {
     match known {
         Known::Settled => {}
-        Known::Unsure => match settle(store, settings) {
+        Known::Unsure => match settle(alloc, store, settings) {
             Ok(()) => *known = Known::Settled,
             Err(fault) => return unsettled(fault),
         },
@@ -77,10 +78,10 @@ fn operate<W: Swift>(
     perform(alloc, store, settings, op, label)
 }
 
-fn settle<W: Swift>(store: &mut W, settings: &Settings) -> Result<(), SettleFault>
+fn settle<W: Swift>(alloc: Global, store: &mut W, settings: &Settings) -> Result<(), SettleFault>
     ensures { Settles (W.history store.old) (W.history store.new) result }
 {
-    Unsure::open(store, settings).settle()
+    Unsure::open(alloc, store, settings).settle()
 }
 
 fn perform<W: Swift>(
@@ -103,6 +104,6 @@ fn unsettled(fault: SettleFault) -> Reply
     match fault {
         SettleFault::Failed => Reply::Refused(Code::ServiceUnavailable),
         SettleFault::Memory => Reply::Memory,
-        SettleFault::Inconsistent => Reply::Refused(Code::InconsistentStore),
+        SettleFault::Inconsistent { .. } => Reply::Refused(Code::InconsistentStore),
     }
 }

@@ -1,20 +1,22 @@
 //! How a request is resolved: a message that was read, or one that was refused before it was understood.
-ghost use Rattle.std.specs.Prelude.{◌≡◌, ◌≢◌, false, cond, codes, [], Some, position, IfSome, ◌<◌, length};
+ghost use Rattle.std.specs.Prelude.{◌≡◌, ◌≢◌, false, cond, codes, [], Some, position, IfSome, IfErr, ◌<◌, length};
 ghost use Rattle.gate_base.specs.declared.caller.Caller.TheVariants.{Anonymous as anonymous};
 ghost use Rattle.s3_names.specs.Target.{target_of};
-ghost use Rattle.gateway.specs.Meaning.{KeepsFront};
-ghost use Rattle.gateway.specs.ResolvedRequest.{Is, IsProperMeant};
-ghost use Rattle.gateway.specs.Request.{raw_path, end_after, resolve_target, admitted, caller_of, caller_or_anonymous, caller_or_refusal_at, refused_by, request_of, refused_request, asks_of, end_of, code_of, is_question_mark};
+ghost use Rattle.s3_requests.specs.Meaning.{KeepsFront};
+ghost use Rattle.gateway.specs.ResolvedRequest.{Is};
+ghost use Rattle.s3_requests.specs.Proper.{IsProperMeant};
+ghost use Rattle.gateway.specs.Request.{raw_path, end_after, resolve_target, admitted, caller_of, caller_or_anonymous, verdict_at, Verifies, refused_by, request_of, refused_request, asks_of, end_of, code_of, is_question_mark};
 ghost use Rattle.gateway.specs.Serving.{is_failed_step};
 ghost use Rattle.gateway.specs.declared.ended.Ended.TheVariants as ended;
-ghost use Rattle.gateway.specs.declared.meant.Meant.TheVariants as variant;
+ghost use Rattle.s3_requests.specs.declared.meant.Meant.TheVariants as variant;
 
 use crate::received::Received;
-use crate::{Ended, Meant, ResolvedRequest, Service, meaning};
+use crate::{Ended, ResolvedRequest, Service};
 use gate_base::Caller;
 use http_wire::{Kind, Message, closes};
 use s3_machine::Code;
 use s3_names::{NameFault, Target};
+use s3_requests::{Meant, meaning};
 use sigv4::{Refusal, verify};
 use std::alloc::Global;
 
@@ -106,7 +108,7 @@ fn understand(alloc: Global, service: &Service, message: &mut Message, moment: u
 }
 
 /// The signature is verified, and then the meaning is found.
-#[tactic(auto, using(crate::proofs::Resolving::refused_means, crate::proofs::Resolving::refused_caller, crate::proofs::Resolving::refused_proper))]
+#[tactic(auto, using(crate::proofs::Resolving::refused_means, crate::proofs::Resolving::refused_caller))]
 fn authenticate(
     alloc: Global,
     service: &Service,
@@ -115,20 +117,38 @@ fn authenticate(
     moment: u64,
 ) -> Understood
     ensures proper { IsProperMeant result.means }
-    ensures means { result.means ≢ variant.Memory → result.means ≡ admitted service.now.settings message.entry.now target.now (caller_or_refusal_at service.now moment message.entry.now target.now) }
-    ensures caller { result.means ≢ variant.Memory → result.caller ≡ caller_or_anonymous (caller_or_refusal_at service.now moment message.entry.now target.now) }
+    ensures means { result.means ≢ variant.Memory → result.means ≡ admitted service.now.settings message.entry.now target.now (verdict_at service.now moment message.entry.now target.now) }
+    ensures caller { result.means ≢ variant.Memory → result.caller ≡ caller_or_anonymous (verdict_at service.now moment message.entry.now target.now) }
     ensures keeps { KeepsFront message.entry.now message.exit.now }
 {
-    let region = service.settings.region.as_slice();
-    match verify(alloc, &service.keys, region, message, target, moment) {
+    match verified(alloc, service, message, target, moment) {
         Ok(caller) => Understood {
             caller,
             means: meaning(alloc, message, target, &caller, &service.settings),
         },
-        Err(refusal) => Understood {
+        Err(means) => Understood {
             caller: Caller::Anonymous,
-            means: refused_by(refusal),
+            means,
         },
+    }
+}
+
+/// Who sent a request, or what it is answered whose signature is refused.
+#[tactic(auto, using(crate::proofs::Resolving::refused_verifies, crate::proofs::Resolving::refused_proper))]
+fn verified(
+    alloc: Global,
+    service: &Service,
+    message: &Message,
+    target: &Target,
+    moment: u64,
+) -> Result<Caller, Meant>
+    ensures verdict { Verifies (verdict_at service.now moment message.now target.now) result }
+    ensures proper { IfErr result IsProperMeant }
+{
+    let region = service.settings.region.as_slice();
+    match verify(alloc, &service.keys, region, message, target, moment) {
+        Ok(caller) => Ok(caller),
+        Err(refusal) => Err(refused_by(refusal)),
     }
 }
 

@@ -1,5 +1,6 @@
-use crate::{Ended, Meant};
+use crate::Ended;
 use gate_base::Caller;
+use s3_requests::Meant;
 
 /// A request as it is answered: who sent it, its method, what an error names, what it means, and how the connection ends
 /// after the reply, if it does.

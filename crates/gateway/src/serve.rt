@@ -129,6 +129,7 @@ fn answer<N: Line<W>, W: Swift, C: Clock, D: Draws>(
     match handle_request(alloc, store, known, service, line, clock, draws, received) {
         Handled::Served(ended) => ended,
         Handled::Broken => Some(Ended::LineFailed),
+        Handled::Parted(ended) => Some(ended),
     }
 }
 

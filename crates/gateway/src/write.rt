@@ -11,8 +11,8 @@ ghost use Rattle.gateway.specs.Write.{WritesReply, WritesOutOfMemory, is_failed_
 
 use gate_base::{Bytes, Line, Memory};
 use http_wire::{print_memory, print_page};
-use s3_bodies::page;
 use s3_machine::{Label, Reply};
+use s3_pages::page;
 use std::alloc::Global;
 use swift_calls::Swift;
 

@@ -1,5 +1,5 @@
 ghost use Rattle.std.specs.Prelude.{◌≡◌, false, IfOk};
-ghost use Rattle.clap.specs.Words.{app_of};
+ghost use Rattle.clap.specs.Words.{app_of, with_subcommand};
 ghost use Rattle.clap.specs.declared.builder.command.Command.TheViews.{out-Command as fields_of};
 ghost use Rattle.gateway_cli.specs.Description.{gate_app, serve_app, session_app, sign_app};
 
@@ -10,15 +10,33 @@ use std::alloc::{AllocError, Global};
 pub(crate) fn gate<'a>(alloc: Global) -> Result<Command<'a>, AllocError>
     ensures { IfOk result (λ command. app_of command ≡ gate_app) }
 {
-    let session = session(alloc)?;
-    let serve = serve(alloc)?;
-    let sign = sign(alloc)?;
-    Command::new(alloc, "s3gate")
+    let bare = Command::new(alloc, "s3gate")
         .no_binary_name(true)
-        .subcommand_required(true)
-        .subcommand(session)?
-        .subcommand(serve)?
-        .subcommand(sign)
+        .subcommand_required(true);
+    let one = with_session(alloc, bare)?;
+    let two = with_serve(alloc, one)?;
+    with_sign(alloc, two)
+}
+
+fn with_session<'a>(alloc: Global, gate: Command<'a>) -> Result<Command<'a>, AllocError>
+    ensures { IfOk result (λ command. app_of command ≡ with_subcommand (app_of gate.entry) session_app.top) }
+{
+    let session = session(alloc)?;
+    gate.subcommand(session)
+}
+
+fn with_serve<'a>(alloc: Global, gate: Command<'a>) -> Result<Command<'a>, AllocError>
+    ensures { IfOk result (λ command. app_of command ≡ with_subcommand (app_of gate.entry) serve_app.top) }
+{
+    let serve = serve(alloc)?;
+    gate.subcommand(serve)
+}
+
+fn with_sign<'a>(alloc: Global, gate: Command<'a>) -> Result<Command<'a>, AllocError>
+    ensures { IfOk result (λ command. app_of command ≡ with_subcommand (app_of gate.entry) sign_app.top) }
+{
+    let sign = sign(alloc)?;
+    gate.subcommand(sign)
 }
 
 fn session<'a>(alloc: Global) -> Result<Command<'a>, AllocError>

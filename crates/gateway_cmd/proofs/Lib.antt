@@ -5,3 +5,4 @@ pub mod Refusing
 pub mod Reporting
 pub mod RunTraces
 pub mod Sessions
+pub mod Works

@@ -1,19 +1,21 @@
 -- What follows from the connections of a run, one after another: their numbers, counts of faults and spans, for whatever is
 -- said of their replies; what is said of them said otherwise; and over an observable store, what the account goes through.
-use Rattle.std.specs.Prelude.{◌≡◌, ◌≤◌, ℕ, ◌+◌, ◌-◌, Bool, true, false, List, [], ◌∷◌, ◌++◌, length, slice_set, if◌then◌else◌}
-use Rattle.std.proofs.Common.{refl, ap, ◌∙◌, arith}
-use Rattle.std.proofs.lemmas.List.{length-set, length-append}
+use Rattle.std.specs.Prelude.{◌≡◌, ◌≤◌, ℕ, ◌+◌, ◌-◌, Bool, true, false, List, [], ◌∷◌, ◌++◌, length, replicate, slice_set, if◌then◌else◌}
+use Rattle.std.proofs.Common.{refl, sym, ap, ◌∙◌, arith}
+use Rattle.std.proofs.lemmas.List.{length-set, length-append, same_from_push, set_at, replicate_more, append_assoc}
 use Rattle.gate_base.specs.Causes.{Rose}
 use Rattle.swift_calls.specs.History.{History, Extends}
 use Rattle.upload_records.specs.Consistent.{IsConsistent}
 use Rattle.gateway.specs.declared.service.Service.{Service}
-use Rattle.gateway.specs.Exchange.{ReplyRelation, StoreCursor, Span, IsKnownOf, Replies, RepliesBy, FaultFreeReplies}
+use Rattle.gateway.specs.Exchange.{ReplyRelation, StoreCursor, Span, IsKnownOf, Replies, RepliesBy, CountedReplies, FaultFreeReplies}
 use Rattle.gateway.specs.Connection.{is_failed_end}
 use Rattle.gateway.specs.Stands.{Follows, AllPass, StandsThroughout}
+use Rattle.gateway.proofs.lemmas.Counted.{replies_take}
 use Rattle.gateway.proofs.lemmas.Order.{follows_none, follows_append, connection_trace_order, connection_trace_order_faults, connection_trace_follow}
 use Rattle.gateway.proofs.lemmas.Map.{Between, between_ends, FollowsBetween, connection_trace_map, by_agree, fault_free_map}
 use Rattle.gateway.proofs.lemmas.Passing.{all_pass_none, all_pass_append, connection_trace_pass, connection_trace_sound, connection_trace_known}
 use Rattle.gateway.proofs.lemmas.Standing.{stands_throughout}
+use Rattle.gateway_cmd.specs.Laws.{Unbroken, none_served, one_more}
 use Rattle.gateway_cmd.specs.Run.{RunCursor, ServesNext, RunTrace, none, more}
 
 -- ---- whatever is said of replies
@@ -22,6 +24,17 @@ use Rattle.gateway_cmd.specs.Run.{RunCursor, ServesNext, RunTrace, none, more}
 faulty_more : (failed : Bool) (faulty : List Bool) (i : ℕ) → length (if failed then slice_set (faulty ++ false ∷ []) i true else faulty ++ false ∷ []) ≡ length faulty + 1
 faulty_more true faulty i = length-set (faulty ++ false ∷ []) i true ∙ length-append faulty (false ∷ [])
 faulty_more false faulty i = length-append faulty (false ∷ [])
+
+-- one more connection was not faulty, where of all that began none was
+last_good : (failed : Bool) (faulty before : List Bool) (n i : ℕ) → length faulty ≡ i → (if failed then slice_set (faulty ++ false ∷ []) i true else faulty ++ false ∷ []) ≡ before ++ replicate (n + 1) false
+    → (failed ≡ false) × (faulty ≡ before ++ replicate n false)
+last_good true faulty before n i placed same =
+    let last : faulty ++ true ∷ [] ≡ (before ++ replicate n false) ++ false ∷ [] = sym (set_at faulty false [] true i placed) ∙ same ∙ ap (λ more. before ++ more) (sym (replicate_more n false)) ∙ sym (append_assoc before (replicate n false) (false ∷ [])) in
+    let clash : true ≡ false = (same_from_push faulty (before ++ replicate n false) true false last).1 in
+    cc
+last_good false faulty before n i placed same =
+    let last : faulty ++ false ∷ [] ≡ (before ++ replicate n false) ++ false ∷ [] = same ∙ ap (λ more. before ++ more) (sym (replicate_more n false)) ∙ sym (append_assoc before (replicate n false) (false ∷ [])) in
+    (refl, (same_from_push faulty (before ++ replicate n false) false false last).0)
 
 module _ {service : Service} {R : ReplyRelation} where
   -- the numbers rise
@@ -55,6 +68,18 @@ module _ {service : Service} {R : ReplyRelation} where
       let begun = serves.begun in
       let one = ap length serves.faulty ∙ faulty_more (is_failed_end serves.ended) middle.faulty (new.begun - 1) in
       omega arith
+
+  -- where none was faulty, the line failed under none
+  pub run_trace_unbroken : {old new : RunCursor} {spans : List Span} → RunTrace service R old spans new → length old.faulty ≡ old.begun → new.faulty ≡ old.faulty ++ replicate (new.begun - old.begun) false
+      → Unbroken service R old spans new
+  run_trace_unbroken (none cursor) placed same = none_served cursor
+  run_trace_unbroken (more old middle new spans next trace serves) placed same =
+      let rises = run_trace_begun trace in
+      let before = run_trace_faulty trace in
+      let begun = serves.begun in
+      let one : new.begun - old.begun ≡ (middle.begun - old.begun) + 1 = omega arith in
+      let good = last_good (is_failed_end serves.ended) middle.faulty old.faulty (middle.begun - old.begun) (new.begun - 1) (omega arith) (sym serves.faulty ∙ same ∙ ap (λ n. old.faulty ++ replicate n false) one) in
+      one_more old middle new spans next (run_trace_unbroken trace placed good.1) serves good.0
 
 -- ---- what is said of replies, said otherwise
 
@@ -92,6 +117,13 @@ pub run_trace_fault_free : (all : Bool) (service : Service) (h : History) {old n
 run_trace_fault_free all service h {old = old} {new = new} still trace =
     run_trace_map (fault_free_map all service.settings h old.progress.store new.progress.store still) (between_ends old.progress.store new.progress.store) trace
 
+-- an operation of theirs that the service itself answered took all its steps
+pub run_trace_counted : (service : Service) (h : History) {old new : RunCursor} {spans : List Span} → RunTrace service (Replies service.settings h) old spans new
+    → RunTrace service (CountedReplies (Replies service.settings h)) old spans new
+run_trace_counted service h {old = old} {new = new} trace =
+    run_trace_map (λ old new span request label reply is_span between replies. record { replies = replies; counted = λ op asks known steady. replies_take op asks known steady replies })
+    (between_ends old.progress.store new.progress.store) trace
+
 -- ---- over an observable store
 
 module _ {service : Service} {h : History} where
@@ -101,7 +133,7 @@ module _ {service : Service} {h : History} where
   run_trace_pass (more old middle new spans next trace serves) = all_pass_append service.settings h spans next (run_trace_pass trace) (connection_trace_pass serves.trace)
 
   -- it is left consistent
-  pub run_trace_sound : {old new : RunCursor} {spans : List Span} → IsConsistent (h.tree_at old.progress.store.number) → RunTrace service (Replies service.settings h) old spans new → IsConsistent (h.tree_at new.progress.store.number)
+  pub run_trace_sound : {old new : RunCursor} {spans : List Span} → IsConsistent (h.account_at old.progress.store.number) → RunTrace service (Replies service.settings h) old spans new → IsConsistent (h.account_at new.progress.store.number)
   run_trace_sound sound (none cursor) = sound
   run_trace_sound sound (more old middle new spans next trace serves) = connection_trace_sound (run_trace_sound sound trace) serves.trace
 
@@ -111,7 +143,7 @@ module _ {service : Service} {h : History} where
   run_trace_known known (more old middle new spans next trace serves) = connection_trace_known (run_trace_known known trace) serves.trace
 
   -- at each number it is consistent, and one that the request which has the number goes through
-  pub run_trace_stands : {old new : RunCursor} {spans : List Span} → IsConsistent (h.tree_at old.progress.store.number) → RunTrace service (Replies service.settings h) old spans new
+  pub run_trace_stands : {old new : RunCursor} {spans : List Span} → IsConsistent (h.account_at old.progress.store.number) → RunTrace service (Replies service.settings h) old spans new
       → StandsThroughout service.settings h spans old.progress.store.number new.progress.store.number
   run_trace_stands {old = old} {new = new} {spans = spans} sound trace =
       stands_throughout service.settings h spans old.progress.store.number new.progress.store.number sound (run_trace_follow trace) (run_trace_pass trace)

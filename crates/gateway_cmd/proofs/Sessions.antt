@@ -22,14 +22,14 @@ use Rattle.gateway.specs.Stands.{Stands}
 use Rattle.gateway.specs.World.{World, world, progress_of, start_of, IsObservable, ServesOver}
 use Rattle.gateway.proofs.lemmas.Standing.{stands_throughout}
 use Rattle.gateway.proofs.lemmas.Worlds.{serves_none}
-use Rattle.gateway_cli.specs.declared.command.Command.{Command}
 use Rattle.gateway_cmd.specs.declared.status.RunOutcome.{RunOutcome}
 use Rattle.gateway_cmd.specs.declared.status.RunOutcome.TheVariants.{Plain}
 use Rattle.gateway_cmd.specs.declared.status.Status.{Status}
 use Rattle.gateway_cmd.specs.declared.status.Status.TheVariants.{Done, Usage, Line, Request, Memory}
-use Rattle.gateway_cmd.specs.Report.{is_failed_run, is_done, is_plain}
-use Rattle.gateway_cmd.specs.Run.{run_cursor_of, RunTrace, none, more, RunTraces, RunHeard, RunStands, RunTold}
-use Rattle.gateway_cmd.specs.Session.{settings_of, Serving, serving_of, service_of, NextCursor, LineServed, LineServesAll, RunServes, RunSigns}
+use Rattle.gateway_cmd.specs.Report.{is_failed_run, is_done, Fits}
+use Rattle.gateway_cmd.specs.Tasks.{settings_of, Serving, service_of, Task, nothing, to_serve, to_sign}
+use Rattle.gateway_cmd.specs.Run.{run_cursor_of, RunTrace, none, more, RunTraces, RunTraced, RunStands, RunRefines}
+use Rattle.gateway_cmd.specs.Session.{is_end, NextCursor, LineServed, LineServesAll, RunServes, RunSigns, Does}
 use Rattle.gateway_cmd.proofs.Faulty.{none_faulty_of_none}
 use Rattle.gateway_cmd.proofs.RunTraces.{run_trace_agree, run_trace_follow, run_trace_pass, run_trace_stands}
 
@@ -99,10 +99,9 @@ line_served_none serving false complete line fails ends = record {
 }
 
 -- a run that made no call
-pub run_serves_none : (serving : Serving) (keys : List ℕ) (ended : RunOutcome) (line : LineModel) (store : History) (clock draws : SourceModel) → is_plain ended ≡ true → is_failed_run ended ≡ false → is_done ended ≡ false
+pub run_serves_none : (serving : Serving) (keys : List ℕ) (ended : RunOutcome) (line : LineModel) (store : History) (clock draws : SourceModel) → is_failed_run ended ≡ false → is_done ended ≡ false
     → RunServes serving keys ended (world line store Unsure clock draws) (λ known. world line store known clock draws)
-run_serves_none serving keys ended line store clock draws plain fails ends = record {
-  plain = plain;
+run_serves_none serving keys ended line store clock draws fails ends = record {
   known = Unsure;
   line = line_served_none serving (is_failed_run ended) (is_done ended) line fails ends;
   serves = serves_none (λ t. t) (λ told R. ([], none (run_cursor_of (world line store Unsure clock draws))));
@@ -112,28 +111,22 @@ signs_on_none : (failed : Bool) (at : ℕ) (line : LineModel) → failed ≡ fal
 signs_on_none true at line fails = cc
 signs_on_none false at line fails = record { faults = refl; next_faults = λ same. refl; observable = λ t. t; begun = λ t. omega arith; sent = λ t. inl refl }
 
-pub run_signs_none : (id region keys : List ℕ) (at : ℕ) (ended : RunOutcome) (line : LineModel) → is_failed_run ended ≡ false → ended ≢ Plain Done → (are_keys (keys_of keys) ≡ true → ended ≢ Plain Memory → ⊥) → RunSigns id region keys at ended line line
-run_signs_none id region keys at ended line fails other never = record {
-  other = other;
+run_signs_none : (id region keys : List ℕ) (at : ℕ) (ended : RunOutcome) (line : LineModel) → is_failed_run ended ≡ false → (are_keys (keys_of keys) ≡ true → ended ≢ Plain Memory → ⊥) → RunSigns id region keys at ended line line
+run_signs_none id region keys at ended line fails never = record {
   line = signs_on_none (is_failed_run ended) at line fails;
   effect = λ secret good has observable memory. absurd (never good memory);
 }
 
+-- a run that did nothing: it ran out of memory, or the keys are refused
+pub does_none : (task : Task) (keys : List ℕ) (ended : RunOutcome) (line : LineModel) (store : History) (clock draws : SourceModel) → is_failed_run ended ≡ false → is_done ended ≡ false → (are_keys (keys_of keys) ≡ true → ended ≢ Plain Memory → ⊥)
+    → Does task keys ended (world line store Unsure clock draws) (λ known. world line store known clock draws)
+does_none nothing keys ended line store clock draws fails ends never = tt
+does_none (to_serve serving) keys ended line store clock draws fails ends never = run_serves_none serving keys ended line store clock draws fails ends
+does_none (to_sign id region) keys ended line store clock draws fails ends never = run_signs_none id region keys store.called ended line fails never
+
 -- what connections are served by as a region, at most so many
 abbrev pub as_region : List ℕ → Option ℕ → Serving
 as_region region most = record { settings = settings_of region; most = most }
-
--- a command that asks for this asks for nothing else
-one_serving : (command : Command) {one other : Serving} → serving_of (Some command) ≡ Some one → serving_of (Some command) ≡ Some other → one ≡ other
-one_serving command {one = one} {other = other} is asked =
-    let same : Some one ≡ Some other = sym is ∙ asked in
-    cc
-
--- so the connections are served
-serves_asked : {region : List ℕ} (keys : List ℕ) {read : List AccessKey} {service : Service} (serving : Serving) → settings_of region ≡ serving.settings
-    → service ≡ record { settings = settings_of region; keys = read } → read ≡ keys_of keys → service ≡ service_of serving keys
-serves_asked {region = region} keys serving same by read =
-    by ∙ ap (λ k. record { settings = settings_of region; keys = k }) read ∙ ap (λ s. record { settings = s; keys = keys_of keys }) same
 
 -- how a session ended, as a run
 done_is : (status : Status) → is_done (Plain status) ≡ true → status ≡ Done
@@ -152,18 +145,22 @@ status_line serving status old new line = record {
 }
 
 -- a run that is a session, with such a number of connections
-pub run_session : (command : Command) (region : List ℕ) (most : Option ℕ) (keys : List ℕ) {read : List AccessKey} {service : Service} {status : Status} {old : World} {new : Known → World} (known : Known) (serving : Serving)
-    → serving_of (Some command) ≡ Some (as_region region most) → serving_of (Some command) ≡ Some serving
+pub run_session : (region : List ℕ) (most : Option ℕ) (keys : List ℕ) {read : List AccessKey} {service : Service} {status : Status} {old : World} {new : Known → World} (known : Known)
     → service ≡ record { settings = settings_of region; keys = read } → read ≡ keys_of keys
-    → LineServesAll most status old.line (new known).line → ServesOver service.settings (RunTraces service) old (new known) → RunServes serving keys (Plain status) old new
-run_session command region most keys {status = status} {old = old} {new = new} known serving is asked by read line serves =
-    let same : as_region region most ≡ serving = one_serving command is asked in
-    record {
-      plain = refl;
-      known = known;
-      line = status_line serving status old.line (new known).line (subst (λ n. LineServesAll n status old.line (new known).line) (ap (λ s. s.most) same) line);
-      serves = subst (λ (s : Service). ServesOver s.settings (RunTraces s) old (new known)) (serves_asked {region = region} keys serving (ap (λ s. s.settings) same) by read) serves;
-    }
+    → LineServesAll most status old.line (new known).line → ServesOver service.settings (RunTraces service) old (new known) → RunServes (as_region region most) keys (Plain status) old new
+run_session region most keys {status = status} {old = old} {new = new} known by read line serves = record {
+  known = known;
+  line = status_line (as_region region most) status old.line (new known).line line;
+  serves = subst (λ (s : Service). ServesOver s.settings (RunTraces s) old (new known)) (by ∙ ap (λ k. record { settings = settings_of region; keys = k }) read) serves;
+}
+
+-- how it may end
+pub session_fits : (serving : Serving) (status : Status) → is_end status ≡ true → Fits (to_serve serving) (Plain status)
+session_fits serving Done is = refl
+session_fits serving Usage is = tt
+session_fits serving Line is = refl
+session_fits serving Memory is = tt
+session_fits serving Request is = absurd (let no : false ≡ true = is in cc)
 
 -- ---- what a run promises
 
@@ -175,14 +172,14 @@ run_stands {settings = settings} {old = old} {new = new} on stands met =
     record { spans = stood.spans; follows = stood.follows; passes = stood.passes; stands = stands_throughout settings new stood.spans old.called new.called sound stood.follows stood.passes }
 
 -- a trace by what is said over every store
-pub run_heard : {serving : Serving} {keys : List ℕ} {ended : RunOutcome} {old : World} {new : Known → World} → IsObservable old → RunServes serving keys ended old new → RunHeard (service_of serving keys) old new
-run_heard told run =
+pub run_traced : {serving : Serving} {keys : List ℕ} {ended : RunOutcome} {old : World} {new : Known → World} → IsObservable old → RunServes serving keys ended old new → RunTraced (service_of serving keys) old new
+run_traced told run =
     let trace = run.serves.effect told false tt in
     record { known = run.known; spans = trace.0; trace = trace.1; follows = run_trace_follow trace.1 }
 
 -- and over an observable store
-pub run_told : {serving : Serving} {keys : List ℕ} {ended : RunOutcome} (old : World) (new : Known → World) (h : History) → ((known : Known) → (new known).store ≡ h) → IsObservable old → Met Any old.store → old.known ≡ Unsure → RunServes serving keys ended old new → RunTold (service_of serving keys) h old new
-run_told {serving = serving} {keys = keys} old new h same told met unsure run =
+pub run_refines : {serving : Serving} {keys : List ℕ} {ended : RunOutcome} (old : World) (new : Known → World) (h : History) → ((known : Known) → (new known).store ≡ h) → IsObservable old → Met Any old.store → old.known ≡ Unsure → RunServes serving keys ended old new → RunRefines (service_of serving keys) h old new
+run_refines {serving = serving} {keys = keys} old new h same told met unsure run =
     let given : Met (IsKnown old.known) old.store = subst (λ known. Met (IsKnown known) old.store) (sym unsure) (unsure_met met) in
     let trace = subst (λ h. (spans : List Span) × RunTrace (service_of serving keys) (RepliesBy true serving.settings h) (run_cursor_of old) spans (run_cursor_of (new run.known))) (same run.known) (run.serves.effect told true given) in
     let on : GoesOn old.store h = subst (GoesOn old.store) (same run.known) run.serves.on.store in

@@ -2,3 +2,4 @@ pub mod Laws
 pub mod Report
 pub mod Run
 pub mod Session
+pub mod Tasks

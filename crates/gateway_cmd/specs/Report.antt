@@ -1,47 +1,20 @@
--- The words of the program `s3gate`, its statuses and the lines that it reports. Source: this profile.
-use Rattle.std.specs.Prelude.{◌≡◌, ◌≢◌, ◌⊎◌, ℕ, Bool, true, false, List, [], ◌∷◌, ◌++◌, ◌&&◌, is_some, codes, IsTrue, Option, Some, None, String}
-use Rattle.std.specs.declared.alloc.Global.{Global}
+-- The statuses of the program `s3gate` and the lines that it reports. Source: this profile.
+use Rattle.std.specs.Prelude.{◌≡◌, ◌≢◌, ◌⊎◌, ℕ, Bool, true, false, List, [], ◌∷◌, ◌++◌, codes, IsTrue, Some}
 use Rattle.gate_base.specs.Causes.{Rose}
 use Rattle.gate_base.specs.Told.{SinkModel, PutsPrefix}
 use Rattle.hex.specs.Hex.{encode_lower}
-use Rattle.sigv4.specs.Keys.{keys_of, are_keys, secret_of}
-use Rattle.sigv4.specs.declared.signature.Signed.{Signed as Signature}
+use Rattle.sigv4.specs.declared.signature.Signed.{Signed}
 use Rattle.sign_cmd.specs.declared.first.Signing.{Signing}
 use Rattle.sign_cmd.specs.declared.first.Signing.TheVariants as signing
-use Rattle.gateway_cli.specs.Words.{command_of}
-use Rattle.gateway_cli.specs.declared.command.Command.{Command}
-use Rattle.gateway_cli.specs.declared.command.Command.TheVariants.{Session, Serve, Sign}
 use Rattle.gateway_cmd.specs.declared.status.Status.{Status}
 use Rattle.gateway_cmd.specs.declared.status.Status.TheVariants.{Done, Usage, Line, Request, Memory}
 use Rattle.gateway_cmd.specs.declared.status.RunOutcome.{RunOutcome}
-use Rattle.gateway_cmd.specs.declared.status.RunOutcome.TheVariants.{Signed, Plain}
+use Rattle.gateway_cmd.specs.declared.status.RunOutcome.TheVariants.{Told, Plain}
+use Rattle.gateway_cmd.specs.declared.status.Told.{Told as Reported}
+use Rattle.gateway_cmd.specs.declared.status.Told.TheVariants.{Signature}
+use Rattle.gateway_cmd.specs.Tasks.{Task, Kind, a_signature, tells, is_serving, is_signing, uses_line}
 
--- the command can be done by the key text: each of its lines is a key, no id twice; and to sign, one of them has the id
-abbrev pub is_possible : Option Command → List ℕ → Bool
-is_possible None keys = false
-is_possible (Some (Session region)) keys = are_keys (keys_of keys)
-is_possible (Some (Serve region connections)) keys = are_keys (keys_of keys)
-is_possible (Some (Sign id region)) keys = are_keys (keys_of keys) && is_some (secret_of id (keys_of keys))
-
--- the words are taken, and the command can be done by the key text
-abbrev pub is_admitted : List (String Global) → List ℕ → Bool
-is_admitted words keys = is_possible (command_of words) keys
-
--- what is asked for: nothing where the words are refused
-pub data Task : Type 0 where
-  nothing : Task
-  to_serve : Task
-  to_sign : Task
-
-abbrev pub task_of : Option Command → Task
-task_of None = nothing
-task_of (Some (Session region)) = to_serve
-task_of (Some (Serve region connections)) = to_serve
-task_of (Some (Sign id region)) = to_sign
-
-abbrev pub asked_for : List (String Global) → Task
-asked_for words = task_of (command_of words)
-
+-- the exit status
 abbrev pub code_of : Status → ℕ
 code_of Done = 0
 code_of Usage = 2
@@ -61,7 +34,7 @@ line_of Memory = codes "s3gate: memory" ++ line_feed
 line_of Request = codes "s3gate: request" ++ line_feed
 
 -- the two lines of a signature
-unfoldable pub signed_lines : Signature → List ℕ
+unfoldable pub signed_lines : Signed → List ℕ
 signed_lines signed =
     (((codes "canonical " ++ encode_lower signed.canonical_hash) ++ (line_feed ++ codes "signature ")) ++ encode_lower signed.signature) ++ line_feed
 
@@ -71,26 +44,38 @@ IsStatus status = (status ≡ 0) ⊎ ((status ≡ 2) ⊎ ((status ≡ 3) ⊎ ((s
 
 -- how a run ended that signed, or couldn't
 abbrev pub end_of : Signing → RunOutcome
-end_of (signing.Signed signed) = Signed signed
+end_of (signing.Signed signed) = Told (Signature signed)
 end_of signing.NoRequest = Plain Request
 end_of signing.LineFailed = Plain Line
 end_of signing.Memory = Plain Memory
 
--- the run ended without a signature
+-- the lines that are reported of what a run has to tell
+abbrev pub lines_of : Reported → List ℕ
+lines_of (Signature signed) = signed_lines signed
+
+-- the run ended with nothing to tell
 abbrev pub is_plain : RunOutcome → Bool
-is_plain (Signed signed) = false
-is_plain (Plain ended) = true
+is_plain (Told told) = false
+is_plain (Plain status) = true
 
--- how a run may end by what is asked for: a session without a signature, and another run not as a session does
+abbrev pub kind_of : Reported → Kind
+kind_of (Signature signed) = a_signature
+
+-- how a run may end, by what is asked for: with what is to be told; done with nothing to tell, where connections are served; for
+-- the line where it is used; without a request where one is to be signed; and, whatever is asked for, with words or keys that are
+-- refused (`Admits` says when), or because memory ran out
 abbrev pub Fits : Task → RunOutcome → Type 0
-Fits nothing ended = ended ≢ Plain Done
-Fits to_serve ended = is_plain ended ≡ true
-Fits to_sign ended = ended ≢ Plain Done
+Fits task (Told told) = tells task ≡ Some (kind_of told)
+Fits task (Plain Done) = is_serving task ≡ true
+Fits task (Plain Usage) = Unit {0}
+Fits task (Plain Line) = uses_line task ≡ true
+Fits task (Plain Memory) = Unit {0}
+Fits task (Plain Request) = is_signing task ≡ true
 
--- the exit status of a run that ended so, and what it reports: 6 where the report of a signature failed; the lines of a
--- signature may find no memory
+-- the exit status of a run that ended so, and what it reports: 6 where the report of what it has to tell failed; its lines may
+-- find no memory
 abbrev pub Says : RunOutcome → ℕ → List ℕ → Type 0
-Says (Signed signed) status text = (((status ≡ 0) ⊎ (status ≡ 6)) × (text ≡ signed_lines signed)) ⊎ ((status ≡ 5) × (text ≡ line_of Memory))
+Says (Told told) status text = (((status ≡ 0) ⊎ (status ≡ 6)) × (text ≡ lines_of told)) ⊎ ((status ≡ 5) × (text ≡ line_of Memory))
 Says (Plain ended) status text = (status ≡ code_of ended) × (text ≡ line_of ended)
 
 -- the text was put, or the sink's count of faults rose, and the first bytes of the text were put and nothing else
@@ -99,25 +84,29 @@ pub record Reports (text : List ℕ) (old new : SinkModel) : Type 0 where
   pub effect : IsTrue old.observable → (new.bytes ≡ old.bytes ++ text) ⊎ (Rose old.faults new.faults × PutsPrefix old.bytes text new.bytes)
 
 -- the run ended for the line, and the run ended with all served
+abbrev pub is_failed_status : Status → Bool
+is_failed_status Done = false
+is_failed_status Usage = false
+is_failed_status Line = true
+is_failed_status Request = false
+is_failed_status Memory = false
+
 abbrev pub is_failed_run : RunOutcome → Bool
-is_failed_run (Signed signed) = false
-is_failed_run (Plain Done) = false
-is_failed_run (Plain Usage) = false
-is_failed_run (Plain Line) = true
-is_failed_run (Plain Request) = false
-is_failed_run (Plain Memory) = false
+is_failed_run (Told told) = false
+is_failed_run (Plain status) = is_failed_status status
+
+abbrev pub is_done_status : Status → Bool
+is_done_status Done = true
+is_done_status Usage = false
+is_done_status Line = false
+is_done_status Request = false
+is_done_status Memory = false
 
 abbrev pub is_done : RunOutcome → Bool
-is_done (Signed signed) = false
-is_done (Plain Done) = true
-is_done (Plain Usage) = false
-is_done (Plain Line) = false
-is_done (Plain Request) = false
-is_done (Plain Memory) = false
+is_done (Told told) = false
+is_done (Plain status) = is_done_status status
 
--- how a run ended, by whether what is asked for can be done: just where it can't it is refused, unless memory runs out; and a
--- request is wanting only where one is to be signed
-pub record Admits (possible : Bool) (task : Task) (ended : RunOutcome) : Type 0 where
+-- how a run ended, by whether what is asked for can be done: just where it can't it is refused, unless memory ran out
+pub record Admits (possible : Bool) (ended : RunOutcome) : Type 0 where
   pub usage : ended ≡ Plain Usage → possible ≡ false
   pub refused : possible ≡ false → ended ≢ Plain Memory → ended ≡ Plain Usage
-  pub request : ended ≡ Plain Request → (possible ≡ true) × (task ≡ to_sign)

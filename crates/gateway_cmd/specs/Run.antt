@@ -50,7 +50,7 @@ RunTraces service R old new = (spans : List Span) × RunTrace service R (run_cur
 -- what is known of the store at a run's end is the run's own; the world is then that
 
 -- over every store: it is a trace, in which a request without an operation gets its code without a call
-pub record RunHeard (service : Service) (old : World) (new : Known → World) : Type 0 where
+pub record RunTraced (service : Service) (old : World) (new : Known → World) : Type 0 where
   pub known : Known
   pub spans : List Span
   pub trace : RunTrace service RepliesAny (run_cursor_of old) spans (run_cursor_of (new known))
@@ -58,7 +58,7 @@ pub record RunHeard (service : Service) (old : World) (new : Known → World) : 
 
 -- over an observable store, whose account was consistent at entry: it is a trace by the machine's replies, and at each number
 -- of calls the account is one that the request which has the number goes through
-pub record RunTold (service : Service) (h : History) (old : World) (new : Known → World) : Type 0 where
+pub record RunRefines (service : Service) (h : History) (old : World) (new : Known → World) : Type 0 where
   pub known : Known
   pub spans : List Span
   pub trace : RunTrace service (Replies service.settings h) (run_cursor_of old) spans (run_cursor_of (new known))

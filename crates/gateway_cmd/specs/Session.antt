@@ -4,8 +4,9 @@ use Rattle.std.specs.Prelude.{Result, Ok, Err}
 use Rattle.gate_base.specs.Causes.{Rose, RisesIf}
 use Rattle.gate_base.specs.Line.{LineModel}
 use Rattle.gate_base.specs.Transcript.{Transcript}
-use Rattle.s3_machine.specs.declared.operation.Settings.{Settings}
+use Rattle.swift_calls.specs.History.{History}
 use Rattle.recovery.specs.declared.state.Known.{Known}
+use Rattle.recovery.specs.declared.state.Known.TheVariants.{Unsure}
 use Rattle.sigv4.specs.Keys.{keys_of, are_keys, secret_of}
 use Rattle.sigv4.specs.declared.keys.AccessKey.{AccessKey}
 use Rattle.sigv4.specs.declared.keys.KeysFault.{KeysFault}
@@ -14,36 +15,15 @@ use Rattle.sign_cmd.specs.Signing.{AnswersFirst, SendsFirst, SignsOn}
 use Rattle.sign_cmd.specs.declared.first.Signing.{Signing}
 use Rattle.gateway.specs.declared.service.Service.{Service}
 use Rattle.gateway.specs.Exchange.{ReplyRelation, Span}
+use Rattle.gateway.specs.Life.{Work, upkeep, answering, Promises}
 use Rattle.gateway.specs.World.{World, ServesOver}
-use Rattle.gateway_cli.specs.declared.command.Command.{Command}
-use Rattle.gateway_cli.specs.declared.command.Command.TheVariants.{Session, Serve, Sign}
-use Rattle.gateway_cmd.specs.declared.service.TheConstants.{LEAST_PART}
 use Rattle.gateway_cmd.specs.declared.status.Status.{Status}
 use Rattle.gateway_cmd.specs.declared.status.Status.TheVariants.{Done, Usage, Line, Request as NoRequest, Memory}
 use Rattle.gateway_cmd.specs.declared.status.RunOutcome.{RunOutcome}
 use Rattle.gateway_cmd.specs.declared.status.RunOutcome.TheVariants.{Plain}
-use Rattle.gateway_cmd.specs.Report.{end_of, is_plain, is_failed_run, is_done}
+use Rattle.gateway_cmd.specs.Report.{end_of, is_failed_run, is_done}
+use Rattle.gateway_cmd.specs.Tasks.{Task, nothing, to_serve, to_sign, Serving, service_of}
 use Rattle.gateway_cmd.specs.Run.{run_cursor_of, ServesNext, RunTraces}
-
--- the settings of a service of that region
-abbrev pub settings_of : List ℕ → Settings
-settings_of region = record { region = region; least_part = LEAST_PART }
-
--- what connections are served by: the settings that the words ask for, and how many connections at most; and the keys of a
--- key text
-pub record Serving : Type 0 where
-  pub settings : Settings
-  pub most : Option ℕ
-
-abbrev pub service_of : Serving → List ℕ → Service
-service_of serving keys = record { settings = serving.settings; keys = keys_of keys }
-
--- how connections are served by a command that asks for it
-abbrev pub serving_of : Option Command → Option Serving
-serving_of None = None
-serving_of (Some (Session region)) = Some (record { settings = settings_of region; most = None })
-serving_of (Some (Serve region connections)) = Some (record { settings = settings_of region; most = Some connections })
-serving_of (Some (Sign id region)) = None
 
 -- no connection is left, or as many as were asked for began
 abbrev pub IsServedOut : Option ℕ → Transcript → Transcript → Type 0
@@ -122,15 +102,33 @@ pub record LineServed (serving : Serving) (failed done : Bool) (old new : LineMo
 
 -- connections were served; what is known of the store at the end is the run's own
 pub record RunServes (serving : Serving) (keys : List ℕ) (ended : RunOutcome) (old : World) (new : Known → World) : Type 0 where
-  pub plain : is_plain ended ≡ true
   pub known : Known
   pub line : LineServed serving (is_failed_run ended) (is_done ended) old.line (new known).line
   pub serves : ServesOver serving.settings (RunTraces (service_of serving keys)) old (new known)
 
 -- the first request was signed when the store had counted so many calls, or could not be; where the key is there, by its secret
 pub record RunSigns (id region keys : List ℕ) (at : ℕ) (ended : RunOutcome) (old new : LineModel) : Type 0 where
-  pub other : ended ≢ Plain Done
   pub line : SignsOn (is_failed_run ended) at old new
   pub effect : (secret : List ℕ) → are_keys (keys_of keys) ≡ true → secret_of id (keys_of keys) ≡ Some secret → IsTrue old.observable → ended ≢ Plain Memory
       → (signing : Signing) × AnswersFirst secret region old.transcript.waiting signing × SendsFirst at old.transcript signing new.transcript
       × (ended ≡ end_of signing)
+
+-- what a run does by its task, whose words are taken; `new` is the world at its end, by what is known of the store then
+abbrev pub Does : Task → List ℕ → RunOutcome → World → (Known → World) → Type 0
+Does nothing keys ended old new = Unit {0}
+Does (to_serve serving) keys ended old new = RunServes serving keys ended old new
+Does (to_sign id region) keys ended old new = RunSigns id region keys old.store.called ended old.line (new Unsure).line
+
+-- ---- what a run is among others, one after another
+
+-- requests are answered where connections are served, and else the state stays
+abbrev pub IsWorkOf : Task → Work → Type 0
+IsWorkOf nothing work = work ≡ upkeep
+IsWorkOf (to_serve serving) work = (spans : List Span) × (work ≡ answering serving.settings spans)
+IsWorkOf (to_sign id region) work = work ≡ upkeep
+
+-- the work of a task was done between two numbers of calls, where the account was consistent at the first
+pub record HasWorked (task : Task) (old new : History) : Type 0 where
+  pub work : Work
+  pub is : IsWorkOf task work
+  pub promises : Promises new old.called new.called work

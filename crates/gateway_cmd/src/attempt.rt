@@ -1,20 +1,19 @@
 //! A run but for its report: the words, and then the command that they name.
-ghost use Rattle.std.specs.Prelude.{◌≡◌, ◌≢◌, ℕ, false, IsTrue, List, Some, None};
+ghost use Rattle.std.specs.Prelude.{◌≡◌, ℕ, false, IsTrue, List, Some, None};
 ghost use Rattle.recovery.specs.declared.state.Known.TheVariants.{Unsure};
 ghost use Rattle.sigv4.specs.Keys.{secret_of};
 ghost use Rattle.sign_cmd.specs.Signing.{AnswersFirst, SendsFirst, SignsOn};
 ghost use Rattle.sign_cmd.specs.declared.first.Signing.{Signing};
 ghost use Rattle.gateway.specs.World.{world, Continues};
-ghost use Rattle.gateway_cli.specs.Words.{command_of};
-ghost use Rattle.gateway_cli.specs.declared.command.Command.TheVariants as commands;
-ghost use Rattle.gateway_cmd.specs.Report.{Admits, asked_for, is_admitted, is_failed_run, is_possible, task_of, to_sign, end_of};
+ghost use Rattle.gateway_cmd.specs.Report.{Admits, Fits, is_failed_run, end_of};
+ghost use Rattle.gateway_cmd.specs.Tasks.{Apart, asked_for, is_possible, task_of, to_sign};
 ghost use Rattle.gateway_cmd.specs.declared.status.RunOutcome.TheVariants as ended;
 ghost use Rattle.gateway_cmd.specs.declared.status.Status.TheVariants as status;
-ghost use Rattle.gateway_cmd.specs.Session.{RunServes, RunSigns, Serving, serving_of};
+ghost use Rattle.gateway_cmd.specs.Session.{Does};
 
 use crate::service::{read_keys, service};
 use crate::session::session;
-use crate::status::{RunOutcome, Status};
+use crate::status::{RunOutcome, Status, Told};
 use gate_base::{Bytes, Clock, Draws, Line};
 use gateway_cli::{Command, WordsFault, read_words};
 use recovery::Known;
@@ -33,16 +32,16 @@ pub fn attempt<N: Line<W>, W: Swift, C: Clock, D: Draws>(
     clock: &mut C,
     draws: &mut D,
 ) -> RunOutcome
-    ensures admits { Admits (is_admitted words.now keys.now) (asked_for words.now) result }
-    ensures idle { is_admitted words.now keys.now ≡ false → (line.new ≡ line.old) × (store.new ≡ store.old) × (clock.new ≡ clock.old) × (draws.new ≡ draws.old) }
-    ensures apart { asked_for words.now ≡ to_sign → (store.new ≡ store.old) × (clock.new ≡ clock.old) × (draws.new ≡ draws.old) }
+    ensures admits { Admits (is_possible (asked_for words.now) keys.now) result }
+    ensures fits { Fits (asked_for words.now) result }
+    ensures idle { is_possible (asked_for words.now) keys.now ≡ false → (line.new ≡ line.old) × (store.new ≡ store.old) × (clock.new ≡ clock.old) × (draws.new ≡ draws.old) }
+    ensures apart { Apart (asked_for words.now) (line.new ≡ line.old) (store.new ≡ store.old) (clock.new ≡ clock.old) (draws.new ≡ draws.old) }
     ensures on { Continues
         (world (N.model line.old) (W.history store.old) Unsure (C.model clock.old) (D.model draws.old))
         (world (N.model line.new) (W.history store.new) Unsure (C.model clock.new) (D.model draws.new)) }
-    ensures serves { (serving : Serving) → serving_of (command_of words.now) ≡ Some serving → RunServes serving keys.now result
+    ensures does { Does (asked_for words.now) keys.now result
         (world (N.model line.old) (W.history store.old) Unsure (C.model clock.old) (D.model draws.old))
         (λ known. world (N.model line.new) (W.history store.new) known (C.model clock.new) (D.model draws.new)) }
-    ensures signs { (id region : List ℕ) → command_of words.now ≡ Some (commands.Sign id region) → RunSigns id region keys.now (W.history store.old).called result (N.model line.old) (N.model line.new) }
 {
     match read_words(alloc, words) {
         Ok(command) => perform(alloc, command, keys, line, store, clock, draws),
@@ -61,16 +60,16 @@ fn perform<N: Line<W>, W: Swift, C: Clock, D: Draws>(
     clock: &mut C,
     draws: &mut D,
 ) -> RunOutcome
-    ensures admits { Admits (is_possible (Some command) keys.now) (task_of (Some command)) result }
-    ensures idle { is_possible (Some command) keys.now ≡ false → (line.new ≡ line.old) × (store.new ≡ store.old) × (clock.new ≡ clock.old) × (draws.new ≡ draws.old) }
-    ensures apart { task_of (Some command) ≡ to_sign → (store.new ≡ store.old) × (clock.new ≡ clock.old) × (draws.new ≡ draws.old) }
+    ensures admits { Admits (is_possible (task_of (Some command)) keys.now) result }
+    ensures fits { Fits (task_of (Some command)) result }
+    ensures idle { is_possible (task_of (Some command)) keys.now ≡ false → (line.new ≡ line.old) × (store.new ≡ store.old) × (clock.new ≡ clock.old) × (draws.new ≡ draws.old) }
+    ensures apart { Apart (task_of (Some command)) (line.new ≡ line.old) (store.new ≡ store.old) (clock.new ≡ clock.old) (draws.new ≡ draws.old) }
     ensures on { Continues
         (world (N.model line.old) (W.history store.old) Unsure (C.model clock.old) (D.model draws.old))
         (world (N.model line.new) (W.history store.new) Unsure (C.model clock.new) (D.model draws.new)) }
-    ensures serves { (serving : Serving) → serving_of (Some command) ≡ Some serving → RunServes serving keys.now result
+    ensures does { Does (task_of (Some command)) keys.now result
         (world (N.model line.old) (W.history store.old) Unsure (C.model clock.old) (D.model draws.old))
         (λ known. world (N.model line.new) (W.history store.new) known (C.model clock.new) (D.model draws.new)) }
-    ensures signs { (id region : List ℕ) → command ≡ commands.Sign id region → RunSigns id region keys.now (W.history store.old).called result (N.model line.old) (N.model line.new) }
 {
     match read_keys(alloc, keys) {
         Ok(keys) => match command {
@@ -117,7 +116,7 @@ fn sign<N: Line<W>, W: Swift>(
 ) -> RunOutcome
     ensures usage { result ≡ ended.Plain status.Usage → secret_of id.now keys.now ≡ None }
     ensures refused { secret_of id.now keys.now ≡ None → (result ≡ ended.Plain status.Usage) × (line.new ≡ line.old) }
-    ensures other { result ≢ ended.Plain status.Done }
+    ensures fits { (id region : List ℕ) → Fits (to_sign id region) result }
     ensures line { SignsOn (is_failed_run result) (W.history store.now).called (N.model line.old) (N.model line.new) }
     ensures effect { (secret : List ℕ) → secret_of id.now keys.now ≡ Some secret → IsTrue (N.model line.old).observable
         → (signing : Signing) × AnswersFirst secret region.now (N.model line.old).transcript.waiting signing
@@ -134,7 +133,7 @@ fn end_of(signing: Signing) -> RunOutcome
     ensures { result ≡ end_of signing }
 {
     match signing {
-        Signing::Signed(signed) => RunOutcome::Signed(signed),
+        Signing::Signed(signed) => RunOutcome::Told(Told::Signature(signed)),
         Signing::NoRequest => RunOutcome::Plain(Status::Request),
         Signing::LineFailed => RunOutcome::Plain(Status::Line),
         Signing::Memory => RunOutcome::Plain(Status::Memory),

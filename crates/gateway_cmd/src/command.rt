@@ -1,4 +1,4 @@
-ghost use Rattle.std.specs.Prelude.{◌≡◌, ◌==◌, ◌<◌, ℕ, true, false, IsTrue, List, Some};
+ghost use Rattle.std.specs.Prelude.{◌≡◌, ◌==◌, ◌<◌, ℕ, true, false, IsTrue, List, is_some};
 ghost use Rattle.gate_base.specs.Causes.{Rose};
 ghost use Rattle.swift_calls.specs.History.{budget, FaultFree};
 ghost use Rattle.recovery.specs.declared.state.Known.TheVariants.{Unsure};
@@ -7,19 +7,17 @@ ghost use Rattle.sigv4.specs.Keys.{keys_of, are_keys, secret_of};
 ghost use Rattle.sign_cmd.specs.Signing.{AnswersFirst, SendsFirst, SignsOn};
 ghost use Rattle.sign_cmd.specs.declared.first.Signing.{Signing};
 ghost use Rattle.gateway.specs.World.{world, IsObservable, Continues};
-ghost use Rattle.gateway_cli.specs.Words.{command_of};
-ghost use Rattle.gateway_cli.specs.declared.command.Command.TheVariants as commands;
-ghost use Rattle.gateway_cmd.specs.Report.{asked_for, is_admitted, is_plain, to_serve, to_sign, IsStatus, Fits, Says, Reports, end_of, code_of, line_of};
+ghost use Rattle.gateway_cmd.specs.Report.{is_plain, IsStatus, Fits, Says, Reports, end_of, code_of, line_of};
+ghost use Rattle.gateway_cmd.specs.Tasks.{Apart, asked_for, is_possible, is_serving, is_signing, tells, to_serve, to_sign, Serving, service_of};
 ghost use Rattle.gateway_cmd.specs.declared.status.RunOutcome.{RunOutcome as how};
 ghost use Rattle.gateway_cmd.specs.declared.status.RunOutcome.TheVariants as ends;
 ghost use Rattle.gateway_cmd.specs.declared.status.Status.TheVariants.{Done};
-ghost use Rattle.gateway_cmd.specs.Run.{RunHeard, RunStands, RunTold};
-ghost use Rattle.gateway_cmd.specs.Session.{LineServed, Serving, service_of, serving_of};
+ghost use Rattle.gateway_cmd.specs.Run.{RunTraced, RunStands, RunRefines};
+ghost use Rattle.gateway_cmd.specs.Session.{Does, HasWorked, LineServed};
 
 use crate::attempt::attempt;
-use crate::status::{RunOutcome, Status, signed_lines};
+use crate::status::{RunOutcome, Status, Told, told_lines};
 use gate_base::{Clock, Draws, Line, Sink};
-use sigv4::Signed;
 use std::alloc::Global;
 use swift_calls::Swift;
 
@@ -32,8 +30,8 @@ use swift_calls::Swift;
 /// signature failed; 8 where no request stood first on the line, or one that can't be signed.
 ///
 /// Of a run that serves, three clauses say what became of its requests, each with its span: the numbers of calls before
-/// it, as its operation began, at its commit point, and after it. `heard` is over every store, `stands` over every line,
-/// and `effect` joins both. So an account that is consistent at entry is left consistent also where a run is stopped (see
+/// it, as its operation began, at its commit point, and after it. `traced` is over every store, `account` over every line,
+/// and `refines` joins both. So an account that is consistent at entry is left consistent also where a run is stopped (see
 /// [`gateway::law_many_runs`]).
 pub fn run<N: Line<W>, R: Sink, W: Swift, C: Clock, D: Draws>(
     alloc: Global,
@@ -47,29 +45,33 @@ pub fn run<N: Line<W>, R: Sink, W: Swift, C: Clock, D: Draws>(
 ) -> u8
     // The causes of the status. 5, out of memory, may come at any time: no clause gives its cause.
     ensures status { IsStatus result }
-    ensures usage { result ≡ 2 → is_admitted words.now keys.now ≡ false }
-    ensures refused { is_admitted words.now keys.now ≡ false → (result ≡ 5 → ⊥) → result ≡ 2 }
-    ensures request { result ≡ 8 → (is_admitted words.now keys.now ≡ true) × (asked_for words.now ≡ to_sign) }
+    ensures usage { result ≡ 2 → is_possible (asked_for words.now) keys.now ≡ false }
+    ensures refused { is_possible (asked_for words.now) keys.now ≡ false → (result ≡ 5 → ⊥) → result ≡ 2 }
+    ensures request { result ≡ 8 → (is_possible (asked_for words.now) keys.now ≡ true) × (is_signing (asked_for words.now) ≡ true) }
 
-    // Words and keys that are refused touch nothing but the report.
-    ensures idle { is_admitted words.now keys.now ≡ false → (line.new ≡ line.old) × (store.new ≡ store.old) × (clock.new ≡ clock.old) × (draws.new ≡ draws.old) }
+    // Words and keys that are refused touch nothing but the report; and each task leaves alone what it has no use for.
+    ensures idle { is_possible (asked_for words.now) keys.now ≡ false → (line.new ≡ line.old) × (store.new ≡ store.old) × (clock.new ≡ clock.old) × (draws.new ≡ draws.old) }
+    ensures apart { Apart (asked_for words.now) (line.new ≡ line.old) (store.new ≡ store.old) (clock.new ≡ clock.old) (draws.new ≡ draws.old) }
 
     // A run that serves, and what it does to the line: 3 comes only where the line failed to give a connection, and 0 only where all
     // connections were served, or as many as were asked for. Where the line's count of faults did not rise, none failed.
-    ensures serving { (serving : Serving) → serving_of (command_of words.now) ≡ Some serving
+    ensures serving { (serving : Serving) → asked_for words.now ≡ to_serve serving
         → LineServed serving (result == 3) (result == 0) (N.model line.old) (N.model line.new) }
 
-    // A run that signs touches nothing but the line and the report. At most one connection of the line begins, and at most the
-    // interim line is sent on it: 3 comes only where the line failed.
-    ensures apart { asked_for words.now ≡ to_sign → (store.new ≡ store.old) × (clock.new ≡ clock.old) × (draws.new ≡ draws.old) }
-    ensures signing { asked_for words.now ≡ to_sign → SignsOn (result == 3) (W.history store.old).called (N.model line.old) (N.model line.new) }
+    // A run that signs: at most one connection of the line begins, and at most the interim line is sent on it: 3 comes only where
+    // the line failed.
+    ensures signing { (id region : List ℕ) → asked_for words.now ≡ to_sign id region → SignsOn (result == 3) (W.history store.old).called (N.model line.old) (N.model line.new) }
 
-    // The report has the lines of how the run ended, and nothing else; where its count of faults rose, the first bytes of them.
-    // It is left alone where all connections were served.
-    ensures report { (ended : how) × (text : List ℕ) × Fits (asked_for words.now) ended × Says ended result text × Reports text (R.model report.old) (R.model report.new) }
-    ensures silent { asked_for words.now ≡ to_serve → result ≡ 0 → report.new ≡ report.old }
-    ensures unreported { result ≡ 6 → (asked_for words.now ≡ to_sign) × Rose (R.model report.old).faults (R.model report.new).faults }
-    ensures reported { asked_for words.now ≡ to_sign → result ≡ 0 → (R.model report.new).faults ≡ (R.model report.old).faults }
+    // The task was done as its end says, over line, store, clock and draws. The report has the lines of that end, and nothing else;
+    // where its count of faults rose, the first bytes of them. It is left alone where all connections were served.
+    ensures report { (ended : how) × (text : List ℕ) × Fits (asked_for words.now) ended
+        × Does (asked_for words.now) keys.now ended
+        (world (N.model line.old) (W.history store.old) Unsure (C.model clock.old) (D.model draws.old))
+        (λ known. world (N.model line.new) (W.history store.new) known (C.model clock.new) (D.model draws.new))
+        × Says ended result text × Reports text (R.model report.old) (R.model report.new) }
+    ensures silent { is_serving (asked_for words.now) ≡ true → result ≡ 0 → report.new ≡ report.old }
+    ensures unreported { result ≡ 6 → (is_some (tells (asked_for words.now)) ≡ true) × Rose (R.model report.old).faults (R.model report.new).faults }
+    ensures reported { is_some (tells (asked_for words.now)) ≡ true → result ≡ 0 → (R.model report.new).faults ≡ (R.model report.old).faults }
 
     // What was observable still is, and what the store told of its calls before the run stays. Where its count of faults
     // did not rise and calls are left, no call failed. `Continues` reads nothing of `Unsure`, which fills a place.
@@ -85,26 +87,30 @@ pub fn run<N: Line<W>, R: Sink, W: Swift, C: Clock, D: Draws>(
     // or later, and before the next request's first call. Over every store a
     // request that is no operation gets its code without a call, ServiceUnavailable comes only where the store's count of
     // faults rose, and no call lies outside the spans.
-    ensures heard { (serving : Serving) → serving_of (command_of words.now) ≡ Some serving
+    ensures traced { (serving : Serving) → asked_for words.now ≡ to_serve serving
         → IsObservable (world (N.model line.old) (W.history store.old) Unsure (C.model clock.old) (D.model draws.old))
-        → RunHeard (service_of serving keys.now)
+        → RunTraced (service_of serving keys.now)
         (world (N.model line.old) (W.history store.old) Unsure (C.model clock.old) (D.model draws.old))
         (λ known. world (N.model line.new) (W.history store.new) known (C.model clock.new) (D.model draws.new)) }
 
     // Where the store is observable, and its account is consistent at entry, the account stays consistent, and goes
     // through the steps of requests that follow one another, whatever the line tells of them.
-    ensures stands { (serving : Serving) → serving_of (command_of words.now) ≡ Some serving → Met Any (W.history store.old)
+    ensures account { (serving : Serving) → asked_for words.now ≡ to_serve serving → Met Any (W.history store.old)
         → RunStands serving.settings (W.history store.new) (W.history store.old).called (W.history store.new).called }
 
     // Under the premises of both, the replies are the machine's too, each after its step.
-    ensures effect { (serving : Serving) → serving_of (command_of words.now) ≡ Some serving
+    ensures refines { (serving : Serving) → asked_for words.now ≡ to_serve serving
         → IsObservable (world (N.model line.old) (W.history store.old) Unsure (C.model clock.old) (D.model draws.old)) → Met Any (W.history store.old)
-        → RunTold (service_of serving keys.now) (W.history store.new)
+        → RunRefines (service_of serving keys.now) (W.history store.new)
         (world (N.model line.old) (W.history store.old) Unsure (C.model clock.old) (D.model draws.old))
         (λ known. world (N.model line.new) (W.history store.new) known (C.model clock.new) (D.model draws.new)) }
 
+    // Over an observable store, whose account is consistent at entry, a run is one that may stand among others (see
+    // [`gateway::law_many_runs`]): it answers requests, or it leaves the state.
+    ensures works { Met Any (W.history store.old) → HasWorked (asked_for words.now) (W.history store.old) (W.history store.new) }
+
     // What is signed is the line's first request, by the secret of the key. Nothing was sent but the interim line, where it is owed.
-    ensures effect_signed { (id region secret : List ℕ) → command_of words.now ≡ Some (commands.Sign id region)
+    ensures effect_signed { (id region secret : List ℕ) → asked_for words.now ≡ to_sign id region
         → are_keys (keys_of keys.now) ≡ true → secret_of id (keys_of keys.now) ≡ Some secret → IsTrue (N.model line.old).observable → (result ≡ 5 → ⊥)
         → (signing : Signing) × AnswersFirst secret region (N.model line.old).transcript.waiting signing
         × SendsFirst (W.history store.old).called (N.model line.old).transcript signing (N.model line.new).transcript
@@ -122,7 +128,7 @@ fn tell<R: Sink>(alloc: Global, ended: RunOutcome, report: &mut R) -> u8
     ensures reported { is_plain ended ≡ false → result ≡ 0 → (R.model report.new).faults ≡ (R.model report.old).faults }
 {
     match ended {
-        RunOutcome::Signed(signed) => tell_signed(alloc, &signed, report),
+        RunOutcome::Told(told) => tell_told(alloc, &told, report),
         RunOutcome::Plain(status) => tell_plain(status, report),
     }
 }
@@ -140,13 +146,13 @@ fn tell_plain<R: Sink>(status: Status, report: &mut R) -> u8
     status.code()
 }
 
-/// Reports a signature. The status says whether it could.
-fn tell_signed<R: Sink>(alloc: Global, signed: &Signed, report: &mut R) -> u8
-    ensures says { (text : List ℕ) × Says (ends.Signed signed.now) result text × Reports text (R.model report.old) (R.model report.new) }
+/// Reports what a run has to tell. The status says whether it could.
+fn tell_told<R: Sink>(alloc: Global, told: &Told, report: &mut R) -> u8
+    ensures says { (text : List ℕ) × Says (ends.Told told.now) result text × Reports text (R.model report.old) (R.model report.new) }
     ensures unreported { result ≡ 6 → Rose (R.model report.old).faults (R.model report.new).faults }
     ensures reported { result ≡ 0 → (R.model report.new).faults ≡ (R.model report.old).faults }
 {
-    match signed_lines(alloc, signed) {
+    match told_lines(alloc, told) {
         Ok(lines) => match report.put(lines.as_slice()) {
             Ok(()) => 0,
             Err(_) => 6,

@@ -9,4 +9,7 @@ mod session;
 mod status;
 
 pub use command::run;
-pub use laws::{law_spans_follow, law_trace_fault_free, law_trace_stands};
+pub use laws::{
+    law_run_fault_free, law_sent_are_counted, law_spans_follow, law_trace_fault_free,
+    law_trace_stands,
+};

@@ -1,5 +1,6 @@
 ghost use Rattle.std.specs.Prelude.{◌≡◌};
-ghost use Rattle.gateway_cmd.specs.Session.{settings_of, Offers};
+ghost use Rattle.gateway_cmd.specs.Session.{Offers};
+ghost use Rattle.gateway_cmd.specs.Tasks.{settings_of};
 
 use gate_base::Bytes;
 use gateway::Service;

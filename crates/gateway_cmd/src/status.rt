@@ -1,8 +1,8 @@
 ghost use Rattle.std.specs.Prelude.{◌≡◌, IfOk};
-ghost use Rattle.gateway_cmd.specs.Report.{code_of, line_of, signed_lines};
+ghost use Rattle.gateway_cmd.specs.Report.{code_of, line_of, lines_of, signed_lines};
 
 use gate_base::{Bytes, Memory};
-use sigv4::Signed as Signature;
+use sigv4::Signed;
 use std::alloc::Global;
 
 /// How a run ended that has no signature to report.
@@ -49,17 +49,32 @@ impl Status {
     }
 }
 
+/// What a run has to tell, where it is done.
+#[derive(Clone, Copy, Debug, PartialEq, Eq)]
+pub enum Told {
+    /// The first request of the line signs to this.
+    Signature(Signed),
+}
+
 /// How a run ended.
 #[derive(Clone, Copy, Debug, PartialEq, Eq)]
 pub enum RunOutcome {
-    /// The first request of the line signs to this.
-    Signed(Signature),
+    Told(Told),
     Plain(Status),
+}
+
+/// The lines that report what a run has to tell.
+pub fn told_lines(alloc: Global, told: &Told) -> Result<Bytes, Memory>
+    ensures { IfOk result (λ lines. lines ≡ lines_of told.now) }
+{
+    match told {
+        Told::Signature(signed) => signed_lines(alloc, signed),
+    }
 }
 
 /// The two lines that report a signature.
 #[tactic(auto, unfolding(crate::specs::Report::signed_lines))]
-pub fn signed_lines(alloc: Global, signed: &Signature) -> Result<Bytes, Memory>
+fn signed_lines(alloc: Global, signed: &Signed) -> Result<Bytes, Memory>
     ensures { IfOk result (λ lines. lines ≡ signed_lines signed.now) }
 {
     let mut lines = Bytes::from_slice(alloc, b"canonical ")?;

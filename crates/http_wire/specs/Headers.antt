@@ -11,6 +11,7 @@ use Rattle.httparse.specs.Spans.{span_bytes}
 abbrev pub value_of : Pair → List ℕ
 value_of header = header.value
 
+-- the header has this name, byte by byte; a message has its names in lower case
 abbrev pub has_name : List ℕ → Pair → Bool
 has_name name header = bytes_eq header.name name
 

@@ -1,5 +1,6 @@
 //! One page of the names of a container, by one call of the store.
 ghost use Rattle.std.specs.Prelude.{◌≡◌, map, option_copied, IfOk};
+ghost use Rattle.swift_calls.specs.History.{Calls};
 ghost use Rattle.swift_calls.specs.Step.{Fit};
 ghost use Rattle.list_pages.specs.Listing.{follows, is_name_with, name_in, page_request, AsksPage, ComesTo, FindsOdd, IsFaultOf, IsPageOf};
 
@@ -8,7 +9,7 @@ use crate::text::begins;
 use gate_base::{Bytes, List, Memory};
 use s3_names::is_key;
 use std::alloc::Global;
-use swift_calls::{NameItem, Swift, SwiftReply, SwiftRequest};
+use swift_calls::{NameItem, Swift, SwiftFault, SwiftReply, SwiftRequest};
 
 /// How many names a page has at most (Object Storage API v1 lets a store give 10,000).
 pub const MOST_NAMES: u32 = 1000;
@@ -31,8 +32,16 @@ pub fn names<W: Swift>(
     ensures page { IfOk result (λ items. IsPageOf prefix.now marker.now (map name_in items)) }
 {
     let request = request(alloc, container, prefix, marker)?;
-    let reply = store.call(&request)?;
+    let reply = ask(store, request)?;
     read_page(alloc, container, prefix, marker, reply)
+}
+
+/// Makes the call. It takes the request, so that the caller owns none where the call fails.
+fn ask<W: Swift>(store: &mut W, request: SwiftRequest) -> Result<SwiftReply, SwiftFault>
+    requires { Fit request }
+    ensures { Calls (W.history store.old) (W.history store.new) request result }
+{
+    store.call(&request)
 }
 
 /// The call that asks for a page.

@@ -1,5 +1,5 @@
 -- The step of ListObjects, from what its calls told, and how many they are.
-use Rattle.std.specs.Prelude.{◌≡◌, ◌≤◌, ◌+◌, ℕ, Bool, true, false, List, [], ◌∷◌, map, Option, Some, None, Result, Ok}
+use Rattle.std.specs.Prelude.{◌≡◌, ◌+◌, ℕ, Bool, true, false, List, [], ◌∷◌, map, Option, Some, None, Result, Ok}
 use Rattle.std.specs.FinMap.{entries, get, len}
 use Rattle.std.specs.List.{All}
 use Rattle.std.proofs.Common.{refl, sym, ap, subst, ◌∙◌, arith}
@@ -21,16 +21,17 @@ use Rattle.s3_machine.specs.declared.operation.Settings.{Settings}
 use Rattle.s3_machine.proofs.lemmas.StepLemmas.{list_without_bucket, list_denied, step_items}
 use Rattle.swift_calls.specs.Account.{SwiftAccount, files}
 use Rattle.swift_calls.specs.History.{History, present}
-use Rattle.upload_records.specs.Native.{IsSettled}
+use Rattle.upload_records.specs.Native.{IsSettled, s3_state}
 use Rattle.list_pages.specs.Rolling.{first_rows}
 use Rattle.list_pages.specs.Rolls.{rows_of, wanted}
-use Rattle.recovery.specs.Calls.{always, by_account, Asks, Given, Met, Tells, TellsBucket}
+use Rattle.recovery.specs.Calls.{always, by_account, Asks, GivenOf, Tells, TellsBucket}
 use Rattle.recovery.specs.Keys.{objects_in, TellsListing}
 use Rattle.recovery.specs.declared.fault.PlanFault.{PlanFault}
 use Rattle.recovery.specs.declared.state.Known.{Known}
 use Rattle.planner.specs.Listing.{objects_reply}
 use Rattle.planner.specs.Plan.{IsOwnReply, Plans}
 use Rattle.planner.proofs.CreateBucket.{missing_of}
+use Rattle.planner.proofs.Ends.{met_settled, after_told, goes_on_from}
 use Rattle.planner.proofs.Steps.{bucket_by}
 
 -- ---- the steps
@@ -65,25 +66,10 @@ items_are_own bucket asked told dated = record { showable = dated; no_memory = �
 
 -- ---- how many calls
 
--- fewer calls are allowed, where the premises hold
-rebound : {n m : ℕ} {a b : History} {settings : Settings} {given : SwiftAccount → Type 0} {op : Op} {label : Label} {after : Known} {end : Result Reply PlanFault} → (Met given a → n ≤ m)
-    → Plans (by_account n) a b settings given op label after end → Plans (by_account m) a b settings given op label after end
-rebound {a = a} {b = b} less plans = record {
-  grows = record { on = plans.grows.on; calls = λ met. let near = plans.grows.calls met in let fewer = less met in omega (arith, near, fewer) };
-  cause = plans.cause;
-  own = plans.own;
-  effect = plans.effect;
-  knows = plans.knows;
-}
-
--- the account is the same after a call that told of it
-same_after : {T : Type 0} {P : State → T → Type 0} {given : State → Type 0} {a b : History} {value : T} → Asks (always 1) a b IsSettled (Tells P) (Ok value) → Met (Given given) a → present b ≡ present a
-same_after {a = a} asks met =
-    let keeps = asks.effect (record { observable = met.observable; sound = met.sound; has = met.has.settled }) in
-    keeps.2.same ∙ (asks.grows.on.kept met.observable).accounts a.called (omega arith)
-
--- a call told of the state, and the rest is counted by the account
-pub counted_after : {T : Type 0} {P : State → T → Type 0} {given : State → Type 0} {a b c : History} {settings : Settings} {op : Op} {label : Label} {after : Known} {end : Result Reply PlanFault} {value : T}
-    → (pages : ℕ → ℕ) (bucket : List ℕ) → Asks (always 1) a b IsSettled (Tells P) (Ok value) → Plans (by_account (1 + pages (len (files (present b) bucket)))) a c settings (Given given) op label after end
-    → Plans (by_account (1 + pages (len (files (present a) bucket)))) a c settings (Given given) op label after end
-counted_after {a = a} {b = b} pages bucket asks plans = rebound (λ met. let same = ap (λ tree. 1 + pages (len (files tree bucket))) (same_after asks met) in omega (arith, same)) plans
+-- a call told of the state, and the rest is counted by what the account has after it, which is what it had before
+pub counted_on : {T : Type 0} {P : State → T → Type 0} {given rest : SwiftAccount → Type 0} {a b c : History} {settings now : Settings} {op : Op} {label : Label} {after : Known} {end : Result Reply PlanFault} {value : T}
+    → (pages : ℕ → ℕ) (bucket : List ℕ) (told : T) → value ≡ told → now ≡ settings → Asks (always 1) a b IsSettled (Tells P) (Ok value)
+    → Plans (by_account (pages (len (files (present b) bucket)))) b c now (GivenOf rest) op label after end → ((tree : SwiftAccount) → given tree → P (s3_state tree) told → rest tree)
+    → Plans (by_account (1 + pages (len (files (present a) bucket)))) a c settings (GivenOf given) op label after end
+counted_on {given = given} {rest = rest} pages bucket told is same asks plans gives =
+    goes_on_from met_settled same asks plans (after_told given rest told is gives) (λ x. let same = ap (λ tree. pages (len (files tree bucket))) x.1.same in omega (arith, same))

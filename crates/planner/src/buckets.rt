@@ -4,6 +4,7 @@ ghost use Rattle.gate_base.specs.Told.{moment_limit};
 ghost use Rattle.s3_names.specs.Bucket.{is_bucket};
 ghost use Rattle.s3_machine.specs.declared.operation.Label.{Label};
 ghost use Rattle.s3_machine.specs.declared.operation.Op.TheVariants.{CreateBucket, DeleteBucket, GetLocation, HeadBucket, ListBuckets};
+ghost use Rattle.s3_machine.specs.declared.operation.Reply.TheVariants.{Made};
 ghost use Rattle.swift_calls.specs.History.{present};
 ghost use Rattle.recovery.specs.Answers.{most_calls};
 ghost use Rattle.recovery.specs.Calls.{always, Any, Given, TellsBucket};
@@ -12,7 +13,6 @@ ghost use Rattle.recovery.specs.declared.state.Known.TheVariants as known;
 ghost use Rattle.planner.specs.Buckets.{dropped_reply};
 ghost use Rattle.planner.specs.Plan.{Plans, ended};
 
-use crate::end::reply_after;
 use gate_base::{Bytes, Copying};
 use recovery::{Dropped, PlanFault, Settled, drop_bucket, head_bucket, make_bucket};
 use s3_machine::{Code, Label, Reply, may_read};
@@ -53,10 +53,18 @@ fn make_missing<W: Swift>(
     ensures plans { Plans (always 1) (W.history state.old.store.now) (W.history state.new.store.now) state.old.settings.now
         (Given (λ s. TellsBucket bucket s None)) (CreateBucket bucket acl) label.now known.Settled result }
 {
-    let reply = Reply::Made {
-        bucket: bucket.copy()?,
-    };
-    reply_after(make_bucket(state, bucket, acl, label.moment), reply)
+    let name = bucket.copy()?;
+    made_end(make_bucket(state, bucket, acl, label.moment), name)
+}
+
+/// The end of CreateBucket after its last call.
+fn made_end(end: Result<(), PlanFault>, bucket: Bytes) -> Result<Reply, PlanFault>
+    ensures { result ≡ ended end (λ done. Made bucket) }
+{
+    match end {
+        Ok(()) => Ok(Reply::Made { bucket }),
+        Err(fault) => Err(fault),
+    }
 }
 
 /// ListBuckets: GET of the account page by page, then HEAD of each bucket's container. At most as many calls as there are

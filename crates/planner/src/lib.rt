@@ -4,7 +4,6 @@
 
 mod acls;
 mod buckets;
-mod end;
 mod listing;
 mod objects;
 mod operation;

@@ -9,15 +9,15 @@ ghost use Rattle.s3_machine.specs.declared.reading.Judged.TheVariants as judged_
 ghost use Rattle.swift_calls.specs.Limits.{IsRange};
 ghost use Rattle.s3_machine.specs.declared.operation.Label.{Label};
 ghost use Rattle.s3_machine.specs.declared.operation.Op.TheVariants.{PutObject, GetObject, HeadObject, DeleteObject};
+ghost use Rattle.s3_machine.specs.declared.operation.Reply.TheVariants.{Gone, Stored};
 ghost use Rattle.recovery.specs.Calls.{always, Any, Given, TellsBucket};
 ghost use Rattle.recovery.specs.Interpret.{IsShownHead};
 ghost use Rattle.recovery.specs.Lent.{Stays};
 ghost use Rattle.recovery.specs.declared.fault.PlanFault.TheVariants.{Failed};
 ghost use Rattle.recovery.specs.declared.state.Known.TheVariants as known;
-ghost use Rattle.planner.specs.Plan.{Plans, IsOwnReply};
+ghost use Rattle.planner.specs.Plan.{ended, Plans, IsOwnReply};
 ghost use Rattle.planner.specs.Objects.{TellsReadable, headed_reply, part_end, range_of};
 
-use crate::end::reply_after;
 use gate_base::Bytes;
 use recovery::{PlanFault, Settled, head_bucket};
 use s3_machine::{
@@ -89,10 +89,8 @@ fn put_into<W: Swift>(
         return Ok(Reply::Refused(Code::NotImplemented));
     }
     let etag = body_etag(body.as_slice());
-    let reply = Reply::Stored {
-        etag: Bytes::from_slice(alloc, &etag)?,
-    };
-    reply_after(
+    let text = Bytes::from_slice(alloc, &etag)?;
+    stored_end(
         recovery::put_object(
             alloc,
             state,
@@ -104,8 +102,18 @@ fn put_into<W: Swift>(
             &etag,
             label.moment,
         ),
-        reply,
+        text,
     )
+}
+
+/// The end of PutObject after its last call.
+fn stored_end(end: Result<(), PlanFault>, etag: Bytes) -> Result<Reply, PlanFault>
+    ensures { result ≡ ended end (λ done. Stored etag) }
+{
+    match end {
+        Ok(()) => Ok(Reply::Stored { etag }),
+        Err(fault) => Err(fault),
+    }
 }
 
 /// GetObject: HEAD of the bucket's container, HEAD of the object's file, then its GET. At most three calls, none of
@@ -335,5 +343,15 @@ fn delete_from<W: Swift>(
     ensures plans { (list : Acl) (label : Label) → Plans (always 1) (W.history state.old.store.now) (W.history state.new.store.now) state.old.settings.now
         (Given (λ s. TellsBucket bucket s (Some list))) (DeleteObject bucket key) label known.Settled result }
 {
-    reply_after(recovery::delete_object(state, bucket, key), Reply::Gone)
+    gone_end(recovery::delete_object(state, bucket, key))
+}
+
+/// The end of DeleteObject after its last call.
+fn gone_end(end: Result<(), PlanFault>) -> Result<Reply, PlanFault>
+    ensures { result ≡ ended end (λ done. Gone) }
+{
+    match end {
+        Ok(()) => Ok(Reply::Gone),
+        Err(fault) => Err(fault),
+    }
 }

@@ -20,7 +20,8 @@ use swift_calls::Swift;
 /// Answers one operation of Amazon S3. The reply is the service's own, and then the state is as its step leaves it. Or
 /// it is ServiceUnavailable, only where the store's count of faults rose in this call: the last call failed, no earlier
 /// one did, and the state is the old one or the step's. Or it is `Memory`, where memory ran out, with the
-/// same two states. Or it is InconsistentStore, never over an observable consistent account. No call is repeated.
+/// same two states. Or it is InconsistentStore, never over an observable consistent account. A call that failed is the
+/// last one. How many there are is bounded by the operation, also where the reply is a refusal.
 pub fn answer<W: Swift>(alloc: Global, state: &mut Settled<'_, W>, op: Op, label: &Label) -> Reply
     requires { IsProper op label.now }
     ensures stays { Stays state.old state.new }
@@ -32,7 +33,8 @@ pub fn answer<W: Swift>(alloc: Global, state: &mut Settled<'_, W>, op: Op, label
     reply_to(plan(alloc, state, op, label))
 }
 
-/// Makes the calls of an operation's plan.
+/// Makes the calls of an operation's plan. Which function has the plan is asked first, so that each owns few kinds of
+/// operation, or none.
 fn plan<W: Swift>(
     alloc: Global,
     state: &mut Settled<'_, W>,
@@ -44,15 +46,54 @@ fn plan<W: Swift>(
     ensures plans { Plans (most_calls op (present (W.history state.old.store.now))) (W.history state.old.store.now) (W.history state.new.store.now) state.old.settings.now
         (Given Any) op label.now known.Settled result }
 {
+    if is_put(&op) {
+        plan_put(alloc, state, op, label)
+    } else if is_lent(&op) {
+        plan_lent(alloc, state, &op, label)
+    } else if is_of_bucket(&op) {
+        plan_of_bucket(state, op, label)
+    } else {
+        plan_of_key(alloc, state, op, label)
+    }
+}
+
+fn is_put(op: &Op) -> bool {
+    matches!(op, Op::PutObject { .. })
+}
+
+/// Whether the plan of the operation is lent its names.
+fn is_lent(op: &Op) -> bool {
+    matches!(
+        op,
+        Op::ListBuckets
+            | Op::HeadBucket { .. }
+            | Op::GetLocation { .. }
+            | Op::GetBucketAcl { .. }
+            | Op::HeadObject { .. }
+            | Op::GetObjectAcl { .. }
+    )
+}
+
+fn is_of_bucket(op: &Op) -> bool {
+    matches!(
+        op,
+        Op::CreateBucket { .. } | Op::DeleteBucket { .. } | Op::PutBucketAcl { .. }
+    )
+}
+
+/// The plan of PutObject. It is asked for no other operation; one ends as where memory ran out, without a call.
+fn plan_put<W: Swift>(
+    alloc: Global,
+    state: &mut Settled<'_, W>,
+    op: Op,
+    label: &Label,
+) -> Result<Reply, PlanFault>
+    requires { IsProper op label.now }
+    ensures stays { Stays state.old state.new }
+    ensures plans { Plans (most_calls op (present (W.history state.old.store.now))) (W.history state.old.store.now) (W.history state.new.store.now) state.old.settings.now
+        (Given Any) op label.now known.Settled result }
+{
     match op {
-        Op::ListBuckets => list_buckets(alloc, state),
-        Op::CreateBucket { bucket, acl } => create_bucket(state, bucket, acl, label),
-        Op::DeleteBucket { bucket } => delete_bucket(state, bucket),
-        Op::HeadBucket { bucket } => show_bucket(state, &bucket, label),
-        Op::GetLocation { bucket } => get_location(state, &bucket),
-        Op::GetBucketAcl { bucket } => get_bucket_acl(state, &bucket),
-        Op::PutBucketAcl { bucket, acl } => put_bucket_acl(state, bucket, acl),
-        Op::ListObjects { bucket, asked } => list_objects(alloc, state, bucket, asked, label),
         Op::PutObject {
             bucket,
             key,
@@ -71,20 +112,80 @@ fn plan<W: Swift>(
             body,
             label,
         ),
+        _ => Err(PlanFault::Memory),
+    }
+}
+
+/// The plan of an operation that is lent its names; any other ends as where memory ran out, without a call.
+fn plan_lent<W: Swift>(
+    alloc: Global,
+    state: &mut Settled<'_, W>,
+    op: &Op,
+    label: &Label,
+) -> Result<Reply, PlanFault>
+    requires { IsProper op.now label.now }
+    ensures stays { Stays state.old state.new }
+    ensures plans { Plans (most_calls op.now (present (W.history state.old.store.now))) (W.history state.old.store.now) (W.history state.new.store.now) state.old.settings.now
+        (Given Any) op.now label.now known.Settled result }
+{
+    match op {
+        Op::ListBuckets => list_buckets(alloc, state),
+        Op::HeadBucket { bucket } => show_bucket(state, bucket, label),
+        Op::GetLocation { bucket } => get_location(state, bucket),
+        Op::GetBucketAcl { bucket } => get_bucket_acl(state, bucket),
+        Op::HeadObject {
+            bucket,
+            key,
+            range,
+            conditions,
+        } => head_object(alloc, state, bucket, key, *range, conditions, label),
+        Op::GetObjectAcl { bucket, key } => get_object_acl(alloc, state, bucket, key),
+        _ => Err(PlanFault::Memory),
+    }
+}
+
+/// The plan of an operation that changes a bucket; any other ends as where memory ran out, without a call.
+fn plan_of_bucket<W: Swift>(
+    state: &mut Settled<'_, W>,
+    op: Op,
+    label: &Label,
+) -> Result<Reply, PlanFault>
+    requires { IsProper op label.now }
+    ensures stays { Stays state.old state.new }
+    ensures plans { Plans (most_calls op (present (W.history state.old.store.now))) (W.history state.old.store.now) (W.history state.new.store.now) state.old.settings.now
+        (Given Any) op label.now known.Settled result }
+{
+    match op {
+        Op::CreateBucket { bucket, acl } => create_bucket(state, bucket, acl, label),
+        Op::DeleteBucket { bucket } => delete_bucket(state, bucket),
+        Op::PutBucketAcl { bucket, acl } => put_bucket_acl(state, bucket, acl),
+        _ => Err(PlanFault::Memory),
+    }
+}
+
+/// The plan of an operation that lists keys, or gets or deletes an object; any other ends as where memory ran out, without
+/// a call.
+fn plan_of_key<W: Swift>(
+    alloc: Global,
+    state: &mut Settled<'_, W>,
+    op: Op,
+    label: &Label,
+) -> Result<Reply, PlanFault>
+    requires { IsProper op label.now }
+    ensures stays { Stays state.old state.new }
+    ensures plans { Plans (most_calls op (present (W.history state.old.store.now))) (W.history state.old.store.now) (W.history state.new.store.now) state.old.settings.now
+        (Given Any) op label.now known.Settled result }
+{
+    match op {
+        Op::ListObjects { bucket, asked } => list_objects(alloc, state, bucket, asked, label),
         Op::GetObject {
             bucket,
             key,
             range,
             conditions,
         } => get_object(alloc, state, bucket, key, range, &conditions, label),
-        Op::HeadObject {
-            bucket,
-            key,
-            range,
-            conditions,
-        } => head_object(alloc, state, &bucket, &key, range, &conditions, label),
         Op::DeleteObject { bucket, key } => delete_object(state, bucket, key),
-        Op::GetObjectAcl { bucket, key } => get_object_acl(alloc, state, &bucket, &key),
+        _ => Err(PlanFault::Memory),
     }
 }
 

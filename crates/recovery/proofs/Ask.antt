@@ -38,9 +38,9 @@ module _ {T U : Type 0} {most : Bound} {given given' : SwiftAccount → Type 0} 
     cause = asks.cause;
     effect = λ met.
         let keeps = asks.effect (met_given gives met) in
-        let from : b.tree_at a.called ≡ present a = (asks.grows.on.kept met.observable).accounts a.called (omega arith) in
-        let sound : IsConsistent (b.tree_at a.called) = subst IsConsistent (sym from) met.sound in
-        let has : given' (b.tree_at a.called) = subst given' (sym from) met.has in
+        let from : b.account_at a.called ≡ present a = (asks.grows.on.kept met.observable).accounts a.called (omega arith) in
+        let sound : IsConsistent (b.account_at a.called) = subst IsConsistent (sym from) met.sound in
+        let has : given' (b.account_at a.called) = subst given' (sym from) met.has in
         (keeps.0, keeps.1, record { of_account = tells _ sound has keeps.2.of_account; same = keeps.2.same });
     settled = asks.settled;
   }

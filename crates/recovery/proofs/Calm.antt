@@ -1,5 +1,5 @@
 -- What the calls of an operation amounted to where none of them failed is so over the history in which no call failed.
-use Rattle.std.specs.Prelude.{◌≤◌, ℕ}
+use Rattle.std.specs.Prelude.{◌≤◌, ℕ, Bool, true, false}
 use Rattle.std.proofs.Common.{inl, inr, arith}
 use Rattle.s3_machine.specs.declared.operation.Label.{Label}
 use Rattle.s3_machine.specs.declared.operation.Settings.{Settings}
@@ -7,7 +7,7 @@ use Rattle.s3_machine.specs.declared.operation.Op.{Op}
 use Rattle.s3_machine.specs.declared.operation.Reply.{Reply}
 use Rattle.swift_calls.specs.History.{History, FaultFree}
 use Rattle.recovery.specs.Stutters.{Stutters, calm, LastFailed, was_lost, had_none}
-use Rattle.recovery.specs.Answers.{Passes, AnswersBy, machine, unavailable, memory, Answers}
+use Rattle.recovery.specs.Answers.{Passes, is_old_if_out_of_memory, OldIf, AnswersBy, machine, unavailable, memory, Answers}
 
 -- the accounts are the same, and quiet calls and steps speak of them alone
 pub quiet_calm : {h : History} {p q : ℕ} → Stutters h p q → Stutters (calm h) p q
@@ -21,15 +21,20 @@ pub none_failed : {h : History} {b c p q : ℕ} → FaultFree h b c → b ≤ p 
 none_failed {q = q} none from order to (was_lost last after_p next quiet rose) = none last q (omega arith) (omega arith) to (inl rose)
 none_failed {q = q} none from order to (had_none spent quiet same) = none q q (omega arith) (omega arith) to (inr spent)
 
+-- a state that is the old one is so
+old_if_calm : (t : Bool) (h : History) (p q : ℕ) → OldIf t h p q → OldIf t (calm h) p q
+old_if_calm true h p q old = old
+old_if_calm false h p q old = tt
+
 answers_by_calm : {h : History} {settings : Settings} {b c p q : ℕ} {op : Op} {label : Label} {takes : ℕ} {reply : Reply} → FaultFree h b c → b ≤ p → p ≤ q → q ≤ c
     → AnswersBy settings h p q op label takes reply → AnswersBy settings (calm h) p q op label takes reply
 answers_by_calm none from order to (machine one stepped) = machine one stepped
 answers_by_calm none from order to (unavailable is failed old) = absurd (none_failed none from order to failed)
-answers_by_calm none from order to (memory is old) = memory is old
+answers_by_calm {h = h} {p = p} {q = q} {op = op} none from order to (memory is old) = memory is (old_if_calm (is_old_if_out_of_memory op) h p q old)
 
 pub answers_calm : {h : History} {settings : Settings} {b c p t q : ℕ} {op : Op} {label : Label} {takes : ℕ} {reply : Reply} → FaultFree h b c → b ≤ p → q ≤ c
     → Answers settings h p t q op label takes reply → Answers settings (calm h) p t q op label takes reply
 answers_calm none from to answers =
     let first = answers.passes.after_p in
     let last = answers.passes.up_to_q in
-    record { passes = passes_calm answers.passes; by = answers_by_calm none from (omega arith) to answers.by; beside = answers.beside }
+    record { passes = passes_calm answers.passes; by = answers_by_calm none from (omega arith) to answers.by }

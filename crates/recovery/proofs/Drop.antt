@@ -15,7 +15,8 @@ use Rattle.upload_records.specs.Layout.{readers_of}
 use Rattle.upload_records.specs.Native.{IsSettled, s3_state}
 use Rattle.upload_records.specs.Consistent.{IsConsistent}
 use Rattle.upload_records.proofs.lemmas.Buckets.{s3_state_there, s3_state_bare, bucket_gone, acl_replaced}
-use Rattle.upload_records.proofs.lemmas.Off.{settled_drop, settled_post}
+use Rattle.upload_records.proofs.lemmas.Off.{same_drop, same_post}
+use Rattle.upload_records.proofs.lemmas.Settled.{unsealed_of, settled_same}
 use Rattle.recovery.specs.declared.bucket.Dropped.TheVariants.{Gone, Full, Missing}
 use Rattle.recovery.specs.Calls.{Any, DropsBucket, SetsAcl}
 use Rattle.recovery.specs.Interpret.{dropped_due, set_due}
@@ -40,7 +41,7 @@ module _ (tree : SwiftAccount) (bucket : List ℕ) (is : is_bucket bucket ≡ tr
   says_gone (Some folder) e = let bare : store.is_bare folder ≡ true = cc in ap (λ t. dropped_due (delete_by t bucket tree).reply) bare
 
   bare : option_map machine.is_bare (get (s3_state tree) bucket) ≡ option_map store.is_bare (get tree bucket)
-  bare = s3_state_bare tree bucket is sound settled
+  bare = s3_state_bare tree bucket is sound (unsealed_of settled)
 
   drop_by : (o : Option Bool) → option_map store.is_bare (get tree bucket) ≡ o → Effect tree (DeleteContainer bucket) dropped_due (DropsBucket bucket)
   drop_by None e =
@@ -53,7 +54,7 @@ module _ (tree : SwiftAccount) (bucket : List ℕ) (is : is_bucket bucket ≡ tr
         state = (none_of machine.is_bare (get (s3_state tree) bucket) (bare ∙ e), ap s3_state same);
       }
   drop_by (Some true) e =
-      let done = bucket_gone tree bucket is sound settled e in
+      let done = bucket_gone tree bucket is sound (unsealed_of settled) e in
       record { answer = Gone; says = says_gone (get tree bucket) e; after = done.sound; state = (bare ∙ e, done.state) }
   drop_by (Some false) e =
       let stays = stays_full (get tree bucket) e in
@@ -63,7 +64,7 @@ module _ (tree : SwiftAccount) (bucket : List ℕ) (is : is_bucket bucket ≡ tr
 pub drops : {name bucket : List ℕ} → name ≡ bucket → is_bucket bucket ≡ true → IsWriting (DeleteContainer name) dropped_due Any (DropsBucket bucket)
 drops {bucket = bucket} named is = subst (λ n. IsWriting (DeleteContainer n) dropped_due Any (DropsBucket bucket)) (sym named) (record {
   effect = λ tree sound settled any. drop_by tree bucket is sound settled (option_map store.is_bare (get tree bucket)) refl;
-  settled = λ tree settled. settled_drop tree bucket is settled;
+  settled = λ tree. settled_same (same_drop tree bucket is);
 })
 
 -- ---- POST
@@ -76,19 +77,19 @@ module _ (tree : SwiftAccount) (bucket : List ℕ) (acl : Acl) (is : is_bucket b
         answer = false;
         says = ap (λ v. set_due (post_container v bucket (readers_of acl) tree).reply) e;
         after = subst IsConsistent (sym same) sound;
-        state = (missing (get (s3_state tree) bucket) (s3_state_there tree bucket is settled ∙ ap is_some e), ap s3_state same);
+        state = (missing (get (s3_state tree) bucket) (s3_state_there tree bucket is (unsealed_of settled) ∙ ap is_some e), ap s3_state same);
       }
     where
       missing : {X : Type 0} (o : Option X) → is_some o ≡ false → o ≡ None
       missing None e = refl
       missing (Some x) e = cc
   post_by (Some folder) e =
-      let done = acl_replaced tree bucket acl is sound settled in
+      let done = acl_replaced tree bucket acl is sound (unsealed_of settled) in
       record {
         answer = true;
         says = ap (λ v. set_due (post_container v bucket (readers_of acl) tree).reply) e;
         after = done.sound;
-        state = (s3_state_there tree bucket is settled ∙ ap is_some e, done.state);
+        state = (s3_state_there tree bucket is (unsealed_of settled) ∙ ap is_some e, done.state);
       }
 
 -- POST of a bucket's container replaces who may read the bucket
@@ -96,7 +97,7 @@ pub sets : {name bucket : List ℕ} {readers : ReadList} (acl : Acl) → name �
 sets {name = name} {bucket = bucket} {readers = readers} acl named listed is =
     let own : IsWriting (PostContainer bucket (readers_of acl)) set_due Any (SetsAcl bucket acl) = record {
       effect = λ tree sound settled any. post_by tree bucket acl is sound settled (get tree bucket) refl;
-      settled = λ tree settled. settled_post tree bucket is settled (readers_of acl);
+      settled = λ tree. settled_same (same_post tree bucket is (readers_of acl));
     } in
     let first : IsWriting (PostContainer name (readers_of acl)) set_due Any (SetsAcl bucket acl) = subst (λ n. IsWriting (PostContainer n (readers_of acl)) set_due Any (SetsAcl bucket acl)) (sym named) own in
     subst (λ r. IsWriting (PostContainer name r) set_due Any (SetsAcl bucket acl)) (sym listed) first

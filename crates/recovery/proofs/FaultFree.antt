@@ -6,14 +6,15 @@ use Rattle.s3_machine.specs.declared.operation.Settings.{Settings}
 use Rattle.s3_machine.specs.declared.operation.Op.{Op}
 use Rattle.s3_machine.specs.declared.operation.Reply.{Reply}
 use Rattle.s3_machine.specs.declared.operation.Reply.TheVariants.{Memory}
+use Rattle.s3_machine.specs.Step.{S3Step}
 use Rattle.swift_calls.specs.History.{History, budget, FaultFree}
 use Rattle.upload_records.specs.Native.{s3_state}
 use Rattle.recovery.specs.Stutters.{calm}
-use Rattle.recovery.specs.Answers.{Stepped, AnswersBy, machine, unavailable, memory}
+use Rattle.recovery.specs.Answers.{AnswersBy, machine, unavailable, memory}
 use Rattle.recovery.proofs.Calm.{none_failed}
 
 pub own_or_memory : {settings : Settings} {h : History} {p q : ℕ} {op : Op} {label : Label} {takes : ℕ} {reply : Reply} → p ≤ q → FaultFree h p q → AnswersBy settings h p q op label takes reply
-    → Stepped settings (h.tree_at p) op label reply (s3_state (h.tree_at q)) ⊎ (reply ≡ Memory)
+    → S3Step settings (s3_state (h.account_at p)) op label reply (s3_state (h.account_at q)) ⊎ (reply ≡ Memory)
 own_or_memory ordered none (machine one stepped) = inl stepped
 own_or_memory ordered none (unavailable is failed old) = absurd (none_failed none (omega arith) ordered (omega arith) failed)
 own_or_memory ordered none (memory is old) = inr is

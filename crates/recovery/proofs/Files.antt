@@ -29,12 +29,13 @@ use Rattle.swift_marks.specs.Pack.{pack_of}
 use Rattle.swift_marks.proofs.lemmas.TagLaws.{tag_text_reads}
 use Rattle.swift_marks.proofs.lemmas.PackLaws.{pack_unpacks}
 use Rattle.upload_records.specs.Layout.{segments_name}
-use Rattle.upload_records.specs.Native.{IsSettled, s3_state}
+use Rattle.upload_records.specs.Native.{SameGateway, IsSettled, s3_state}
 use Rattle.upload_records.specs.Consistent.{IsConsistent, IsPlainObject, in_one_piece, IsStored}
 use Rattle.upload_records.specs.Laws.{ChangesBy, FindsObject, file_put, object_in}
 use Rattle.upload_records.proofs.lemmas.Buckets.{s3_state_there}
 use Rattle.upload_records.proofs.lemmas.Objects.{plain_object, found, object_put, object_gone}
-use Rattle.upload_records.proofs.lemmas.Off.{settled_put_file, settled_delete_file}
+use Rattle.upload_records.proofs.lemmas.Off.{same_put_file, same_delete_file}
+use Rattle.upload_records.proofs.lemmas.Settled.{unsealed_of, settled_same}
 use Rattle.recovery.specs.Calls.{TellsBucket, TellsObject, TellsBytes, acl_of_bucket, bytes_in, Any, Becomes, HasBucket, puts_object, drops_object}
 use Rattle.recovery.specs.declared.fault.PlanFault.TheVariants.{Inconsistent}
 use Rattle.recovery.specs.Interpret.{known, head_by, head_due, bytes_due, stored_due, gone_due, plain_tag, put_of}
@@ -80,12 +81,12 @@ module _ (tree : SwiftAccount) (container name bucket key : List ℕ) (named : c
   same_file = λ i. find_object tree (named i) (under i)
 
   head_tells : (reply : SwiftReply) → reply ≡ (swift_step (HeadObject container name) tree).reply → (told : Option ObjectHead) × (head_due reply ≡ Ok told) × TellsObject bucket key (s3_state tree) told
-  head_tells reply replied = head_told_by tree bucket key (find_object tree bucket key) (found tree bucket key is sound settled) reply (replied ∙ ap head_reply same_file)
+  head_tells reply replied = head_told_by tree bucket key (find_object tree bucket key) (found tree bucket key is sound (unsealed_of settled)) reply (replied ∙ ap head_reply same_file)
 
   get_tells : (range : Option (ℕ × ℕ)) (reply : SwiftReply) → reply ≡ (swift_step (GetObject container name range) tree).reply
       → (told : Option (List ℕ)) × (bytes_due reply ≡ Ok told) × TellsBytes bucket key range (s3_state tree) told
   get_tells range reply replied =
-      bytes_told_by tree bucket key range (find_object tree bucket key) (found tree bucket key is sound settled) reply (replied ∙ ap (get_reply (find_object tree) range) same_file)
+      bytes_told_by tree bucket key range (find_object tree bucket key) (found tree bucket key is sound (unsealed_of settled)) reply (replied ∙ ap (get_reply (find_object tree) range) same_file)
 
 module _ {container name bucket key : List ℕ} (named : container ≡ bucket) (under : name ≡ key) (is : is_bucket bucket ≡ true) where
   -- HEAD of an object's file tells of its head
@@ -123,7 +124,7 @@ is_there f (Some x) y e = refl
 
 -- a bucket that is there has its container
 container_there : (tree : SwiftAccount) (bucket : List ℕ) (acl : Acl) → is_bucket bucket ≡ true → IsSettled tree → TellsBucket bucket (s3_state tree) (Some acl) → (folder : SwiftContainer) × (get tree bucket ≡ Some folder)
-container_there tree bucket acl is settled told = some_value (get tree bucket) (sym (s3_state_there tree bucket is settled) ∙ is_there acl_of_bucket (get (s3_state tree) bucket) acl told)
+container_there tree bucket acl is settled told = some_value (get tree bucket) (sym (s3_state_there tree bucket is (unsealed_of settled)) ∙ is_there acl_of_bucket (get (s3_state tree) bucket) acl told)
 
 module _ (tree : SwiftAccount) (request : SwiftRequest) (bucket key content_type : List ℕ) (meta : List Pair) (body : List ℕ) (moment : ℕ)
     (put : IsPutOf request bucket key content_type meta body moment) (sound : IsConsistent tree) (settled : IsSettled tree) (acl : Acl) (told : TellsBucket bucket (s3_state tree) (Some acl)) where
@@ -159,7 +160,7 @@ module _ (tree : SwiftAccount) (request : SwiftRequest) (bucket key content_type
   put_effect : Effect tree request (stored_due (body_etag body)) (Becomes (puts_object bucket key content_type meta body moment))
   put_effect =
       let done : ChangesBy tree (put_of bucket key content_type meta body moment) (puts_object bucket key content_type meta body moment)
-      = object_put tree bucket key (tag_text (plain_tag content_type (body_etag body) moment)) (pack_of meta) body plain_file put.is put.keyed stored sound settled in
+      = object_put tree bucket key (tag_text (plain_tag content_type (body_etag body) moment)) (pack_of meta) body plain_file put.is put.keyed stored sound (unsealed_of settled) in
       let same : (swift_step request tree).tree ≡ (swift_step (put_of bucket key content_type meta body moment) tree).tree = ap (λ r. (swift_step r tree).tree) put.same in
       record {
         answer = tt;
@@ -173,7 +174,7 @@ pub puts : {request : SwiftRequest} {bucket key content_type : List ℕ} {meta :
     → IsWriting request (stored_due (body_etag body)) (HasBucket bucket) (Becomes (puts_object bucket key content_type meta body moment))
 puts {request = request} {bucket = bucket} {key = key} {content_type = content_type} {meta = meta} {body = body} {moment = moment} put = record {
   effect = λ tree sound settled has. put_effect tree request bucket key content_type meta body moment put sound settled has.0 has.1;
-  settled = λ tree settled. subst (λ r. IsSettled (swift_step r tree).tree) (sym put.same) (settled_put_file tree bucket put.is settled key (tag_text (plain_tag content_type (body_etag body) moment)) (pack_of meta) body);
+  settled = λ tree. settled_same (subst (λ r. SameGateway tree (swift_step r tree).tree) (sym put.same) (same_put_file tree bucket put.is key (tag_text (plain_tag content_type (body_etag body) moment)) (pack_of meta) body));
 }
 
 -- ---- DELETE
@@ -188,7 +189,7 @@ module _ (tree : SwiftAccount) (container name bucket key : List ℕ) (named : c
 
   delete_effect : IsConsistent tree → IsSettled tree → Effect tree (DeleteObject container name) gone_due (Becomes (drops_object bucket key))
   delete_effect sound settled =
-      let done = object_gone tree bucket key is sound settled in
+      let done = object_gone tree bucket key is sound (unsealed_of settled) in
       record {
         answer = tt;
         says = ap (λ (a : Answer). gone_due a.reply) same_step ∙ gone_by tree bucket key (find_object tree bucket key);
@@ -196,12 +197,12 @@ module _ (tree : SwiftAccount) (container name bucket key : List ℕ) (named : c
         state = ap (λ (a : Answer). s3_state a.tree) same_step ∙ done.state;
       }
 
-  delete_settled : IsSettled tree → IsSettled (swift_step (DeleteObject container name) tree).tree
-  delete_settled settled = subst IsSettled (sym (ap (λ (a : Answer). a.tree) same_step)) (settled_delete_file tree bucket is settled key)
+  delete_gateway : SameGateway tree (swift_step (DeleteObject container name) tree).tree
+  delete_gateway = subst (SameGateway tree) (sym (ap (λ (a : Answer). a.tree) same_step)) (same_delete_file tree bucket is key)
 
 -- DELETE of an object's file deletes the object
 pub deletes : {container name bucket key : List ℕ} → container ≡ bucket → name ≡ key → is_bucket bucket ≡ true → IsWriting (DeleteObject container name) gone_due Any (Becomes (drops_object bucket key))
 deletes {container = container} {name = name} {bucket = bucket} {key = key} named under is = record {
   effect = λ tree sound settled any. delete_effect tree container name bucket key named under is sound settled;
-  settled = λ tree settled. delete_settled tree container name bucket key named under is settled;
+  settled = λ tree. settled_same (delete_gateway tree container name bucket key named under is);
 }

@@ -14,6 +14,7 @@ use Rattle.upload_records.specs.Native.{IsSettled, s3_state}
 use Rattle.upload_records.specs.Consistent.{IsConsistent, head_of}
 use Rattle.upload_records.proofs.lemmas.Buckets.{s3_state_acl}
 use Rattle.upload_records.proofs.lemmas.Readers.{acl_of_folder}
+use Rattle.upload_records.proofs.lemmas.Settled.{unsealed_of}
 use Rattle.recovery.specs.Calls.{TellsBucket}
 use Rattle.recovery.specs.Interpret.{bucket_due}
 use Rattle.recovery.proofs.One.{IsReading}
@@ -40,7 +41,7 @@ head_tells : (tree : SwiftAccount) (name bucket : List ℕ) → name ≡ bucket 
 head_tells tree name bucket named is sound settled reply replied = (
   option_map acl_of_folder (get tree name),
   due_by (get tree name) tree reply (timed_by tree bucket is sound (get tree name) (ap (get tree) (sym named))) replied,
-  s3_state_acl tree bucket is settled ∙ ap (λ n. option_map acl_of_folder (get tree n)) (sym named),
+  s3_state_acl tree bucket is (unsealed_of settled) ∙ ap (λ n. option_map acl_of_folder (get tree n)) (sym named),
 )
 
 -- HEAD of a bucket's container tells who may read the bucket

@@ -123,7 +123,7 @@ module _ (bucket prefix marker : List ℕ) (is : is_bucket bucket ≡ true) wher
         cause = calls.faults;
         effect = λ met.
             let c = calls.effect met.observable in
-            let here = b.tree_at a.called in
+            let here = b.account_at a.called in
             odd_by here (subst IsConsistent (sym (found calls met.observable)) met.sound) (get here bucket) refl name (subst (λ r. IsOdd prefix marker r name) c.reply odd.1);
         settled = stays_settled (λ tree settled. settled) calls;
       }

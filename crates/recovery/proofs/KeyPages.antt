@@ -30,6 +30,7 @@ use Rattle.upload_records.specs.Consistent.{IsConsistent, IsObject, in_one_piece
 use Rattle.upload_records.specs.Laws.{object_in}
 use Rattle.upload_records.proofs.lemmas.Listing.{objects_there, objects_missing}
 use Rattle.upload_records.proofs.lemmas.Objects.{plain_object, file_is_object}
+use Rattle.upload_records.proofs.lemmas.Settled.{unsealed_of}
 use Rattle.list_pages.specs.Listing.{Ascends, IsPageOf, is_name_with, name_in, page_request}
 use Rattle.list_pages.specs.Rolls.{head_by, seen_of}
 use Rattle.list_pages.proofs.lemmas.Pages.{parts}
@@ -127,8 +128,8 @@ module _ (tree : SwiftAccount) (bucket : List ℕ) (is : is_bucket bucket ≡ tr
   entries_of = entries_picked name_total name_antisymmetric (object_of segments) (files tree bucket)
 
   objects_by : IsSettled tree → (o : Option Bucket) → get (s3_state tree) bucket ≡ o → objects_in o ≡ picked (object_of segments) (files tree bucket)
-  objects_by settled None e = sym (objects_missing tree bucket is settled e)
-  objects_by settled (Some b) e = objects_there tree bucket is settled b e
+  objects_by settled None e = sym (objects_missing tree bucket is (unsealed_of settled) e)
+  objects_by settled (Some b) e = objects_there tree bucket is (unsealed_of settled) b e
 
   -- the keys of the bucket are the names of its files
   keys_are : IsSettled tree → (prefix : List ℕ) → keys_with bucket prefix (s3_state tree) ≡ with_prefix prefix (map seen (entries (files tree bucket)))

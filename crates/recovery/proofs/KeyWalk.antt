@@ -155,7 +155,7 @@ module _ {a b : History} {bucket prefix : List ℕ} {roll : Rolls} (walked : Rol
           let tells = subst (TellsTaken bucket prefix roll new (present a)) is (tells_then met) in
           let all : (rows_of result.0, result.1) ≡ first_rows (wanted asked) (keys_with bucket asked.prefix (s3_state (present a))) =
           listed (keys_with bucket prefix (s3_state (present a))) (tells so.rolled) ∙ (λ i. first_rows (wants i) (keys_with bucket (sym same i) (s3_state (present a)))) in
-          let from : c.tree_at a.called ≡ present a = ((goes_trans walked.on asks.grows.on).kept met.observable).accounts a.called (omega arith) in
+          let from : c.account_at a.called ≡ present a = ((goes_trans walked.on asks.grows.on).kept met.observable).accounts a.called (omega arith) in
           (idles.quiet, idles.still, record { of_state = all ∙ ap (λ tree. first_rows (wanted asked) (keys_with bucket asked.prefix (s3_state tree))) (sym from); same = idles.same });
       settled = λ observable settled. asks.settled (walked.on.observable observable) (walked.settled observable settled);
     }

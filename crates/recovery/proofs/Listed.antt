@@ -54,8 +54,8 @@ module _ {a b : History} {names : List (List ℕ)} (first : Asks (by_account (pa
         let keeps = then.effect (met_names met) in
         let kept = then.grows.on.kept (first.grows.on.observable met.observable) in
         let idles = idles_trans first.grows.on.ordered kept (idles_first met) (record { quiet = keeps.0; still = keeps.1; same = keeps.2.same }) in
-        let here : c.tree_at b.called ≡ present a = kept.accounts b.called (omega arith) ∙ same_first met in
-        let from : c.tree_at a.called ≡ present a = ((goes_trans first.grows.on then.grows.on).kept met.observable).accounts a.called (omega arith) in
+        let here : c.account_at b.called ≡ present a = kept.accounts b.called (omega arith) ∙ same_first met in
+        let from : c.account_at a.called ≡ present a = ((goes_trans first.grows.on then.grows.on).kept met.observable).accounts a.called (omega arith) in
         let told : items ≡ map (item_at (present a)) (filter is_bucket names) = keeps.2.of_account ∙ ap (λ tree. map (item_at tree) (filter is_bucket names)) here in (
           idles.quiet,
           idles.still,

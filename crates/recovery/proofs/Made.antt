@@ -6,7 +6,7 @@ use Rattle.std.specs.List.{filter, filter_map, cons_option, AllByRecursion}
 use Rattle.std.specs.Option.{option_map}
 use Rattle.std.specs.FinMap.{entries, entries_sorted, from_entries, get, get-entries, get-from_entries, keys, len, len-entries, is_sorted}
 use Rattle.std.specs.FinMap.Entries.{below_all, same_entries}
-use Rattle.std.proofs.lemmas.List.{length-map, length-append, take-append-drop, take_all, take_more}
+use Rattle.std.proofs.lemmas.List.{append-nil, length-map, length-append, take-append-drop, take_all, take_more}
 use Rattle.std.proofs.lemmas.List.Elements.{filter-append}
 use Rattle.gate_base.specs.Maps.{Names, name_cmp, pick_entry, picked}
 use Rattle.gate_base.proofs.lemmas.Maps.{name_total, name_antisymmetric}
@@ -17,12 +17,12 @@ use Rattle.swift_calls.specs.Account.{SwiftContainer, SwiftAccount, files}
 use Rattle.swift_calls.specs.History.{History, present}
 use Rattle.upload_records.specs.Layout.{uploads_name, segments_name}
 use Rattle.upload_records.specs.Native.{IsSettled, s3_state, plain, bucket_of, bucket_from}
-use Rattle.upload_records.proofs.lemmas.Settled.{s3_state_settled}
+use Rattle.upload_records.proofs.lemmas.Settled.{unsealed_of, s3_state_unsealed}
 use Rattle.recovery.specs.declared.fault.PlanFault.{PlanFault}
 use Rattle.recovery.specs.Listing.{TellsOf, TellsAdded, TellsItems, Has, HasNames, heads, item_at, made_by}
 use Rattle.recovery.specs.Calls.{always, GoesOn, Met, Asks}
 use Rattle.recovery.proofs.lemmas.Faults.{err_is}
-use Rattle.recovery.proofs.lemmas.Idle.{goes_none, goes_trans}
+use Rattle.recovery.proofs.lemmas.Idle.{none_made, goes_none, goes_trans, grows_none}
 use Rattle.recovery.proofs.Ascending.{front, back}
 use Rattle.recovery.proofs.Markers.{IsEntry, IsKey, entries_are, keys_are}
 use Rattle.recovery.proofs.Pages.{at_index}
@@ -73,7 +73,7 @@ items_by tree (e ∷ es) h =
 pub bucket_items_are : (tree : SwiftAccount) → IsSettled tree → bucket_items (s3_state tree) ≡ map (item_at tree) (filter is_bucket (keys tree))
 unfolding plain
 bucket_items_are tree settled =
-    ap bucket_items (s3_state_settled tree settled) ∙ ap (map bucket_item) (entries_picked (bucket_of tree) tree) ∙ items_by tree (entries tree) (entries_are tree)
+    ap bucket_items (s3_state_unsealed tree (unsealed_of settled)) ∙ ap (map bucket_item) (entries_picked (bucket_of tree) tree) ∙ items_by tree (entries tree) (entries_are tree)
 
 pub len_is : (tree : SwiftAccount) → IsSettled tree → len (s3_state tree) ≡ length (filter is_bucket (keys tree))
 len_is tree settled =
@@ -162,7 +162,7 @@ module _ {a b : History} {names : List (List ℕ)} {i : ℕ} {items : List Bucke
         are = λ met.
             let keeps = asks.effect (met_item met) in
             let kept = asks.grows.on.kept (made.on.observable met.observable) in
-            let same : c.tree_at b.called ≡ present a = kept.accounts b.called (omega arith) ∙ (made.idles met).same ∙ (made.on.kept met.observable).accounts a.called (omega arith) in
+            let same : c.account_at b.called ≡ present a = kept.accounts b.called (omega arith) ∙ (made.idles met).same ∙ (made.on.kept met.observable).accounts a.called (omega arith) in
             let added : new ≡ items ++ cond (is_bucket name) (item_at (present a) name ∷ []) [] = subst (λ tree. TellsAdded name items new tree tt) same keeps.2.of_account in
             added ∙ ap (λ xs. xs ++ cond (is_bucket name) (item_at (present a) name ∷ []) []) (made.are met)
             ∙ ap (λ xs. map (item_at (present a)) (done_of names i) ++ xs) (map_one (is_bucket name) (present a) name)
@@ -197,7 +197,7 @@ made_all {a = a} {b = b} {names = names} {i = i} {items = items} made all =
       cause = made.faults;
       effect = λ met.
           let idles = made.idles met in
-          let from : b.tree_at a.called ≡ present a = (made.on.kept met.observable).accounts a.called (omega arith) in (
+          let from : b.account_at a.called ≡ present a = (made.on.kept met.observable).accounts a.called (omega arith) in (
             idles.quiet,
             idles.still,
             record {
@@ -207,3 +207,19 @@ made_all {a = a} {b = b} {names = names} {i = i} {items = items} made all =
           );
       settled = made.settled;
     }
+
+-- a name that is no bucket's adds nothing
+pub none_added : (a : History) (name : List ℕ) (items : List BucketItem) → is_bucket name ≡ false → Asks (always (heads name)) a a (Has name) (TellsOf (TellsAdded name items items)) (Ok tt)
+none_added a name items other = record {
+  grows = grows_none (always (heads name)) (Has name) a;
+  cause = refl;
+  effect = λ met. (
+    none_made refl met.sound,
+    refl,
+    record {
+      of_account = sym (ap (λ t. items ++ cond t (item_at (present a) name ∷ []) []) other ∙ append-nil items);
+      same = refl;
+    },
+  );
+  settled = λ observable settled. settled;
+}

@@ -21,7 +21,7 @@ use Rattle.recovery.specs.Fault.{plan_fault, CausesFault}
 use Rattle.recovery.specs.Interpret.{Gives}
 use Rattle.recovery.specs.Listing.{TellsOf}
 use Rattle.recovery.specs.Stutters.{LastFailed, was_lost, had_none}
-use Rattle.recovery.specs.Calls.{Bound, always, GoesOn, Met, Grows, Given, Keeps, Tells, Asks, Commits, Writes, Changes}
+use Rattle.recovery.specs.Calls.{Bound, always, GoesOn, Met, Grows, GivenOf, Keeps, Tells, Asks, Commits, Writes, Changes}
 use Rattle.recovery.proofs.lemmas.Causes.{due_cause}
 use Rattle.recovery.proofs.lemmas.Faults.{err_is}
 use Rattle.recovery.proofs.lemmas.Idle.{stays, none_made, grows_none}
@@ -78,7 +78,7 @@ pub grows_one : {old new : History} {request : SwiftRequest} {result : Result Sw
 grows_one {old = old} {new = new} {result = result} given calls = record { on = goes_one calls; calls = (counts_near old.called new.called result calls.counts).1 }
 
 -- the account at the number before the call is the one that it found
-pub found : {old new : History} {request : SwiftRequest} {result : Result SwiftReply SwiftFault} → Calls old new request result → IsTrue old.observable → new.tree_at old.called ≡ present old
+pub found : {old new : History} {request : SwiftRequest} {result : Result SwiftReply SwiftFault} → Calls old new request result → IsTrue old.observable → new.account_at old.called ≡ present old
 found {old = old} calls observable = (calls.kept observable).accounts old.called (omega arith)
 
 pub fault_cause : (T : Type 0) (before now : ℕ) (fault : SwiftFault) → CountsFaults before now (Err fault) → CausesFault {T = T} before now (Err (plan_fault fault))
@@ -91,23 +91,23 @@ fault_cause T before now Memory counts = counts
 abbrev pub LeavesSettled : SwiftRequest → Type 0
 LeavesSettled request = (tree : SwiftAccount) → IsSettled tree → IsSettled (swift_step request tree).tree
 
-module _ (h : History) (p q : ℕ) (request : SwiftRequest) (leaves : LeavesSettled request) (settled : IsSettled (h.tree_at p)) where
-  settled_done : h.tree_at q ≡ (swift_step request (h.tree_at p)).tree → IsSettled (h.tree_at q)
-  settled_done done = subst IsSettled (sym done) (leaves (h.tree_at p) settled)
+module _ (h : History) (p q : ℕ) (request : SwiftRequest) (leaves : LeavesSettled request) (settled : IsSettled (h.account_at p)) where
+  settled_done : h.account_at q ≡ (swift_step request (h.account_at p)).tree → IsSettled (h.account_at q)
+  settled_done done = subst IsSettled (sym done) (leaves (h.account_at p) settled)
 
-  settled_same : h.tree_at q ≡ h.tree_at p → IsSettled (h.tree_at q)
+  settled_same : h.account_at q ≡ h.account_at p → IsSettled (h.account_at q)
   settled_same same = subst IsSettled (sym same) settled
 
-  settled_either : Either h p q request → IsSettled (h.tree_at q)
+  settled_either : Either h p q request → IsSettled (h.account_at q)
   settled_either (inl same) = settled_same same
   settled_either (inr done) = settled_done done
 
-  settled_after : (result : Result SwiftReply SwiftFault) → Called h p q request result → IsSettled (h.tree_at q)
+  settled_after : (result : Result SwiftReply SwiftFault) → Called h p q request result → IsSettled (h.account_at q)
   settled_after (Ok reply) c = settled_done c.tree
   settled_after (Err Failed) (inl c) = settled_either c.either
-  settled_after (Err Failed) (inr (spent, same)) = settled_same (ap h.tree_at same)
+  settled_after (Err Failed) (inr (spent, same)) = settled_same (ap h.account_at same)
   settled_after (Err Memory) (inl c) = settled_either c.either
-  settled_after (Err Memory) (inr same) = settled_same (ap h.tree_at same)
+  settled_after (Err Memory) (inr same) = settled_same (ap h.account_at same)
 
 pub stays_settled : {old new : History} {request : SwiftRequest} {result : Result SwiftReply SwiftFault} → LeavesSettled request → Calls old new request result
     → IsTrue old.observable → IsSettled (present old) → IsSettled (present new)
@@ -120,7 +120,7 @@ pub lost_last : {h : History} {p q : ℕ} {request : SwiftRequest} → Lost h p 
 lost_last {p = p} c = was_lost p (omega arith) c.next refl c.rose
 
 pub spent_last : {h : History} {p q : ℕ} → budget ≤ p → q ≡ p → LastFailed h p q
-spent_last {h = h} spent same = had_none (omega arith) (ap h.faults_at same) (ap (λ k. s3_state (h.tree_at k)) same)
+spent_last {h = h} spent same = had_none (omega arith) (ap h.faults_at same) (ap (λ k. s3_state (h.account_at k)) same)
 
 -- ---- a call that tells of the account
 
@@ -130,10 +130,10 @@ pub record IsReadingOf {T : Type 0} (given : SwiftAccount → Type 0) (request :
   pub tells : (tree : SwiftAccount) → IsConsistent tree → given tree → (reply : SwiftReply) → reply ≡ (swift_step request tree).reply → (told : T) × (due reply ≡ Ok told) × P tree told
 
 module _ {T : Type 0} {given : SwiftAccount → Type 0} {request : SwiftRequest} {due : SwiftReply → Result T PlanFault} {P : SwiftAccount → T → Type 0} (reading : IsReadingOf given request due P)
-    (h : History) (p q : ℕ) (sound : IsConsistent (h.tree_at p)) (has : given (h.tree_at p)) where
-  left : Either h p q request → h.tree_at q ≡ h.tree_at p
+    (h : History) (p q : ℕ) (sound : IsConsistent (h.account_at p)) (has : given (h.account_at p)) where
+  left : Either h p q request → h.account_at q ≡ h.account_at p
   left (inl same) = same
-  left (inr done) = done ∙ reading.leaves (h.tree_at p)
+  left (inr done) = done ∙ reading.leaves (h.account_at p)
 
   unread : (fault : SwiftFault) → Called h p q request (Err fault) → Keeps h p q (TellsOf P) (Err (plan_fault fault))
   unread Failed (inl c) = let next = c.next in (stays (omega arith) (omega arith) (left c.either) sound, lost_last c)
@@ -143,10 +143,10 @@ module _ {T : Type 0} {given : SwiftAccount → Type 0} {request : SwiftRequest}
 
   read : (reply : SwiftReply) (result : Result T PlanFault) → Replied h p q request reply → Gives result (due reply) → Keeps h p q (TellsOf P) result
   read reply result c (inl out_of_memory) =
-      subst (Keeps h p q (TellsOf P)) (sym out_of_memory) (let next = c.next in (stays (omega arith) (omega arith) (c.tree ∙ reading.leaves (h.tree_at p)) sound, c.quiet))
+      subst (Keeps h p q (TellsOf P)) (sym out_of_memory) (let next = c.next in (stays (omega arith) (omega arith) (c.tree ∙ reading.leaves (h.account_at p)) sound, c.quiet))
   read reply result c (inr is) =
-      let told = reading.tells (h.tree_at p) sound has reply c.reply in
-      let same = c.tree ∙ reading.leaves (h.tree_at p) in
+      let told = reading.tells (h.account_at p) sound has reply c.reply in
+      let same = c.tree ∙ reading.leaves (h.account_at p) in
       subst (Keeps h p q (TellsOf P)) (sym (is ∙ told.1)) (let next = c.next in (stays (omega arith) (omega arith) same sound, c.quiet, record { of_account = told.2; same = same }))
 
 -- memory ran out before the call
@@ -221,20 +221,24 @@ pub record Effect {T : Type 0} (tree : SwiftAccount) (request : SwiftRequest) (d
 
 -- over each consistent and settled account of which the given holds, the request has such an effect, and it leaves accounts
 -- settled
-pub record IsWriting {T : Type 0} (request : SwiftRequest) (due : SwiftReply → Result T PlanFault) (given : State → Type 0) (S : T → State → State → Type 0) : Type 0 where
-  pub effect : (tree : SwiftAccount) → IsConsistent tree → IsSettled tree → given (s3_state tree) → Effect tree request due S
+pub record IsWritingOf {T : Type 0} (request : SwiftRequest) (due : SwiftReply → Result T PlanFault) (given : SwiftAccount → Type 0) (S : T → State → State → Type 0) : Type 0 where
+  pub effect : (tree : SwiftAccount) → IsConsistent tree → IsSettled tree → given tree → Effect tree request due S
   pub settled : LeavesSettled request
 
+-- the same, where it is given of the state
+abbrev pub IsWriting : {T : Type 0} → SwiftRequest → (SwiftReply → Result T PlanFault) → (State → Type 0) → (T → State → State → Type 0) → Type 0
+IsWriting request due given S = IsWritingOf request due (λ tree. given (s3_state tree)) S
+
 module _ {T : Type 0} (h : History) (p q : ℕ) (request : SwiftRequest) (due : SwiftReply → Result T PlanFault) (S : T → State → State → Type 0)
-    (sound : IsConsistent (h.tree_at p)) (effect : Effect (h.tree_at p) request due S) where
-  commits : q ≡ p + 1 → h.tree_at q ≡ (swift_step request (h.tree_at p)).tree → Commits h p q (S effect.answer)
+    (sound : IsConsistent (h.account_at p)) (effect : Effect (h.account_at p) request due S) where
+  commits : q ≡ p + 1 → h.account_at q ≡ (swift_step request (h.account_at p)).tree → Commits h p q (S effect.answer)
   commits one done = record {
     last = p;
     quiet = none_made refl sound;
     no_fault = refl;
     next = one;
     sound = subst IsConsistent (sym done) effect.after;
-    made = subst (λ tree. S effect.answer (s3_state (h.tree_at p)) (s3_state tree)) (sym done) effect.state;
+    made = subst (λ tree. S effect.answer (s3_state (h.account_at p)) (s3_state tree)) (sym done) effect.state;
   }
 
   -- it was answered
@@ -261,26 +265,26 @@ not_sent {given = given} {S = S} h result is =
     subst (Changes (always 1) h h given S) (sym (err_is result fault.Memory is)) (record { grows = grows_none (always 1) given h; cause = refl; effect = λ met. (inl (none_made refl met.sound), refl); settled = λ observable settled. settled })
 
 -- what is given of the account that the call found
-effect_found : {T : Type 0} {old new : History} {request : SwiftRequest} {result : Result SwiftReply SwiftFault} {due : SwiftReply → Result T PlanFault} {given : State → Type 0} {S : T → State → State → Type 0}
-    → IsWriting request due given S → Calls old new request result → Met (Given given) old → Effect (new.tree_at old.called) request due S
+effect_found : {T : Type 0} {old new : History} {request : SwiftRequest} {result : Result SwiftReply SwiftFault} {due : SwiftReply → Result T PlanFault} {given : SwiftAccount → Type 0} {S : T → State → State → Type 0}
+    → IsWritingOf request due given S → Calls old new request result → Met (GivenOf given) old → Effect (new.account_at old.called) request due S
 effect_found {request = request} {due = due} {S = S} writing calls met =
-    subst (λ tree. Effect tree request due S) (sym (found calls met.observable)) (writing.effect _ met.sound met.has.settled met.has.state)
+    subst (λ tree. Effect tree request due S) (sym (found calls met.observable)) (writing.effect _ met.sound met.has.settled met.has.is)
 
 -- it was not answered
-pub sent_in_vain : {T : Type 0} {old new : History} {request : SwiftRequest} {due : SwiftReply → Result T PlanFault} {given : State → Type 0} {S : T → State → State → Type 0} {fault : SwiftFault}
-    → IsWriting request due given S → Calls old new request (Err fault) → (result : Result T PlanFault) → IsErrAnd result (λ e. e ≡ plan_fault fault) → Changes (always 1) old new (Given given) S result
-sent_in_vain {T = T} {old = old} {new = new} {request = request} {due = due} {given = given} {S = S} {fault = fault} writing calls result is = subst (Changes (always 1) old new (Given given) S) (sym (err_is result (plan_fault fault) is)) (record {
-  grows = grows_one (Given given) calls;
+pub sent_in_vain : {T : Type 0} {old new : History} {request : SwiftRequest} {due : SwiftReply → Result T PlanFault} {given : SwiftAccount → Type 0} {S : T → State → State → Type 0} {fault : SwiftFault}
+    → IsWritingOf request due given S → Calls old new request (Err fault) → (result : Result T PlanFault) → IsErrAnd result (λ e. e ≡ plan_fault fault) → Changes (always 1) old new (GivenOf given) S result
+sent_in_vain {T = T} {old = old} {new = new} {request = request} {due = due} {given = given} {S = S} {fault = fault} writing calls result is = subst (Changes (always 1) old new (GivenOf given) S) (sym (err_is result (plan_fault fault) is)) (record {
+  grows = grows_one (GivenOf given) calls;
   cause = fault_cause T old.faults new.faults fault calls.faults;
   effect = λ met. unwritten new old.called new.called request due S (subst IsConsistent (sym (found calls met.observable)) met.sound) (effect_found writing calls met) fault (calls.effect met.observable);
   settled = stays_settled writing.settled calls;
 })
 
 -- it was answered
-pub sent : {T : Type 0} {old new : History} {request : SwiftRequest} {due : SwiftReply → Result T PlanFault} {given : State → Type 0} {S : T → State → State → Type 0} {reply : SwiftReply}
-    → IsWriting request due given S → Calls old new request (Ok reply) → (result : Result T PlanFault) → result ≡ due reply → result ≢ Err fault.Failed → Changes (always 1) old new (Given given) S result
+pub sent : {T : Type 0} {old new : History} {request : SwiftRequest} {due : SwiftReply → Result T PlanFault} {given : SwiftAccount → Type 0} {S : T → State → State → Type 0} {reply : SwiftReply}
+    → IsWritingOf request due given S → Calls old new request (Ok reply) → (result : Result T PlanFault) → result ≡ due reply → result ≢ Err fault.Failed → Changes (always 1) old new (GivenOf given) S result
 sent {old = old} {new = new} {request = request} {due = due} {given = given} {S = S} {reply = reply} writing calls result is own = record {
-  grows = grows_one (Given given) calls;
+  grows = grows_one (GivenOf given) calls;
   cause = due_cause old.faults new.faults result calls.faults own;
   effect = λ met.
       let replied = calls.effect met.observable in

@@ -10,10 +10,11 @@ use Rattle.swift_calls.specs.Step.{Answer, put_container, swift_step}
 use Rattle.swift_calls.specs.declared.account.ReadList.{ReadList}
 use Rattle.swift_calls.specs.declared.calls.SwiftRequest.TheVariants.{PutContainer}
 use Rattle.upload_records.specs.Layout.{readers_of}
-use Rattle.upload_records.specs.Native.{IsSettled, s3_state}
+use Rattle.upload_records.specs.Native.{SameGateway, IsSettled, s3_state}
 use Rattle.upload_records.specs.Consistent.{IsConsistent}
 use Rattle.upload_records.proofs.lemmas.Buckets.{s3_state_there, bucket_made}
-use Rattle.upload_records.proofs.lemmas.Off.{settled_put}
+use Rattle.upload_records.proofs.lemmas.Off.{same_put}
+use Rattle.upload_records.proofs.lemmas.Settled.{unsealed_of, settled_same}
 use Rattle.recovery.specs.Calls.{Becomes, LacksBucket, makes_bucket}
 use Rattle.recovery.specs.Interpret.{made_due}
 use Rattle.recovery.proofs.One.{Effect, IsWriting}
@@ -31,7 +32,7 @@ none_of (Some x) e = cc
 
 -- a bucket that is missing has no container
 no_container : (tree : SwiftAccount) (bucket : List ℕ) → is_bucket bucket ≡ true → IsSettled tree → get (s3_state tree) bucket ≡ None → get tree bucket ≡ None
-no_container tree bucket is settled missing = none_of (get tree bucket) (sym (s3_state_there tree bucket is settled) ∙ ap is_some missing)
+no_container tree bucket is settled missing = none_of (get tree bucket) (sym (s3_state_there tree bucket is (unsealed_of settled)) ∙ ap is_some missing)
 
 put_replies : (o : Option SwiftContainer) (name : List ℕ) (readers : ReadList) (created : Option ℕ) (tree : SwiftAccount) → o ≡ None → made_due (put_container o name readers created tree).reply ≡ Ok tt
 put_replies o name readers created tree none = ap (λ v. made_due (put_container v name readers created tree).reply) none
@@ -44,7 +45,7 @@ module _ (tree : SwiftAccount) (name bucket : List ℕ) (readers : ReadList) (ac
   put_effect : IsConsistent tree → IsSettled tree → get (s3_state tree) bucket ≡ None → Effect tree (PutContainer name readers (Some moment)) made_due (Becomes (makes_bucket bucket acl moment))
   put_effect sound settled missing =
       let none : get tree bucket ≡ None = no_container tree bucket put.is settled missing in
-      let done = bucket_made tree bucket acl moment put.is put.below sound settled none in
+      let done = bucket_made tree bucket acl moment put.is put.below sound (unsealed_of settled) none in
       record {
         answer = tt;
         says = ap (λ (a : Answer). made_due a.reply) same_step ∙ put_replies (get tree bucket) bucket (readers_of acl) (Some moment) tree none;
@@ -52,13 +53,13 @@ module _ (tree : SwiftAccount) (name bucket : List ℕ) (readers : ReadList) (ac
         state = ap (λ (a : Answer). s3_state a.tree) same_step ∙ done.state;
       }
 
-  put_settled : IsSettled tree → IsSettled (swift_step (PutContainer name readers (Some moment)) tree).tree
-  put_settled settled = subst IsSettled (sym (ap (λ (a : Answer). a.tree) same_step)) (settled_put tree bucket put.is settled (readers_of acl) (Some moment))
+  put_gateway : SameGateway tree (swift_step (PutContainer name readers (Some moment)) tree).tree
+  put_gateway = subst (SameGateway tree) (sym (ap (λ (a : Answer). a.tree) same_step)) (same_put tree bucket put.is (readers_of acl) (Some moment))
 
 -- PUT of a bucket's container makes a bucket that is missing
 pub puts : {name bucket : List ℕ} {readers : ReadList} {acl : Acl} {moment : ℕ} → IsPutOf name bucket readers acl moment
     → IsWriting (PutContainer name readers (Some moment)) made_due (LacksBucket bucket) (Becomes (makes_bucket bucket acl moment))
 puts {name = name} {bucket = bucket} {readers = readers} {acl = acl} {moment = moment} put = record {
   effect = λ tree sound settled missing. put_effect tree name bucket readers acl moment put sound settled missing;
-  settled = λ tree settled. put_settled tree name bucket readers acl moment put settled;
+  settled = λ tree. settled_same (put_gateway tree name bucket readers acl moment put);
 }

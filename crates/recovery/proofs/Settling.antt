@@ -2,7 +2,7 @@
 use Rattle.std.specs.Prelude.{Ok}
 use Rattle.std.proofs.Common.{refl}
 use Rattle.swift_calls.specs.History.{History, present}
-use Rattle.upload_records.proofs.lemmas.Settled.{settled_always}
+use Rattle.upload_records.proofs.lemmas.Settled.{unsealed_always}
 use Rattle.recovery.specs.Answers.{most_settling}
 use Rattle.recovery.specs.Calls.{Any}
 use Rattle.recovery.specs.Settling.{Settles}
@@ -13,8 +13,8 @@ settles_idle h = record {
   asks = record {
     grows = grows_none (most_settling (present h)) Any h;
     cause = refl;
-    effect = λ met. (none_made refl met.sound, refl, settled_always (present h));
+    effect = λ met. (none_made refl met.sound, refl, record { none = unsealed_always (present h) });
     settled = λ observable settled. settled;
   };
-  done = λ observable ok. settled_always (present h);
+  done = λ observable ok. record { none = unsealed_always (present h) };
 }

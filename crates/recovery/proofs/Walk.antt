@@ -62,7 +62,7 @@ length-keys tree = length-map (entries tree) (λ e. e.0) ∙ sym (len-entries tr
 pub record Idles (b : History) (p q : ℕ) : Type 0 where
   pub quiet : Stutters b p q
   pub still : b.faults_at q ≡ b.faults_at p
-  pub same : b.tree_at q ≡ b.tree_at p
+  pub same : b.account_at q ≡ b.account_at p
 
 pub idles_none : (h : History) → IsConsistent (present h) → Idles h h.called h.called
 idles_none h sound = record { quiet = none_made refl sound; still = refl; same = refl }
@@ -189,7 +189,7 @@ module _ {a b : History} {marker : List ℕ} {names : List (List ℕ)} (walked :
           let seen = walked.seen met in
           let idles = idles_then met in
           let tells : new ≡ names ++ after marker (keys (present a)) = subst (TellsNext marker names new (present a)) is (tells_then met) in
-          let from : c.tree_at a.called ≡ present a = ((goes_trans walked.on asks.grows.on).kept met.observable).accounts a.called (omega arith) in
+          let from : c.account_at a.called ≡ present a = ((goes_trans walked.on asks.grows.on).kept met.observable).accounts a.called (omega arith) in
           (idles.quiet, idles.still, record { of_account = tells ∙ seen.listed ∙ ap keys (sym from); same = idles.same });
       settled = λ observable settled. asks.settled (walked.on.observable observable) (walked.settled observable settled);
     }

@@ -1,7 +1,7 @@
 -- What the calls of one operation may amount to. It stands between two numbers of calls, over an account that is
 -- consistent at the first. Source: this profile.
-use Rattle.std.specs.Prelude.{◌≡◌, ◌<◌, ◌≤◌, ◌⊎◌, ℕ, ◌+◌, ◌/◌, Bool, true}
-use Rattle.std.specs.FinMap.{len}
+use Rattle.std.specs.Prelude.{◌≡◌, ◌<◌, ◌≤◌, ◌⊎◌, ℕ, suc, ◌+◌, ◌/◌, ◌%◌, ◌^◌, Bool, true, false, List, [], ◌∷◌, ◌++◌, length, take, is_some, Option, None, Some}
+use Rattle.std.specs.FinMap.{get, len}
 use Rattle.s3_machine.specs.declared.code.Code.TheVariants.{ServiceUnavailable}
 use Rattle.s3_machine.specs.declared.operation.Label.{Label}
 use Rattle.s3_machine.specs.declared.operation.Settings.{Settings}
@@ -22,11 +22,13 @@ use Rattle.s3_machine.specs.declared.operation.Op.TheVariants.{
   GetObjectAcl,
 }
 use Rattle.s3_machine.specs.declared.operation.Reply.{Reply}
-use Rattle.s3_machine.specs.declared.operation.Reply.TheVariants.{Refused, Memory}
-use Rattle.s3_machine.specs.State.{State}
+use Rattle.s3_machine.specs.declared.operation.Reply.TheVariants.{Refused, Memory, Gone}
+use Rattle.s3_machine.specs.State.{Bucket, Upload, State}
 use Rattle.s3_machine.specs.Step.{S3Step}
 use Rattle.swift_calls.specs.Account.{SwiftAccount, files}
 use Rattle.swift_calls.specs.History.{History, budget, FaultFree}
+use Rattle.swift_marks.specs.Number.{id_digits}
+use Rattle.upload_records.specs.Layout.{uploads_name, segments_name}
 use Rattle.upload_records.specs.Native.{s3_state}
 use Rattle.upload_records.specs.Consistent.{IsConsistent}
 use Rattle.recovery.specs.Calls.{Bound, always, by_account}
@@ -34,23 +36,37 @@ use Rattle.recovery.specs.Stutters.{OldBefore, calm, LastFailed}
 
 -- ---- the steps of an operation
 
--- the id that a step gives to a new upload, by the account as the operation began: no operation gives one
-abbrev pub GivesId : Op → Label → SwiftAccount → ℕ → Type 0
-GivesId op label old id = Unit {0}
+-- the operations on one object each that an operation counts as, in order: none, where it counts as one step
+abbrev pub parts_of : Op → List Op
+parts_of ListBuckets = []
+parts_of (CreateBucket bucket acl) = []
+parts_of (DeleteBucket bucket) = []
+parts_of (HeadBucket bucket) = []
+parts_of (GetLocation bucket) = []
+parts_of (GetBucketAcl bucket) = []
+parts_of (PutBucketAcl bucket acl) = []
+parts_of (ListObjects bucket asked) = []
+parts_of (PutObject bucket key acl content_type meta body) = []
+parts_of (GetObject bucket key range conditions) = []
+parts_of (HeadObject bucket key range conditions) = []
+parts_of (DeleteObject bucket key) = []
+parts_of (GetObjectAcl bucket key) = []
 
--- how many steps the account takes for an operation: one
+-- how many steps the account takes for an operation: one for each of its parts, and one for the whole
 abbrev pub steps_of : Op → ℕ
-steps_of op = 1
+steps_of op = suc (length (parts_of op))
 
--- the service's step from the account as the operation began
-pub record Stepped (settings : Settings) (old : SwiftAccount) (op : Op) (label : Label) (reply : Reply) (new : State) : Type 0 where
-  pub step : S3Step settings (s3_state old) op label reply new
-  pub id : GivesId op label old step.id
+-- the service goes by these operations, one after another, from the old state to the new one
+unfoldable pub StepsThrough : Settings → Label → State → List Op → State → Type 0
+StepsThrough settings label old [] new = new ≡ old
+StepsThrough settings label old (op ∷ ops) new =
+    (middle : State) × (reply : Reply) × S3Step settings old op label reply middle × StepsThrough settings label middle ops new
 
--- the state after the first n steps of an operation: none was taken, or all of them
-pub data IsStage (settings : Settings) (old : SwiftAccount) (op : Op) (label : Label) (n : ℕ) (new : State) : Type 0 where
-  before_step : n ≡ 0 → new ≡ s3_state old → IsStage settings old op label n new
-  after_step : n ≡ steps_of op → (reply : Reply) → Stepped settings old op label reply new → IsStage settings old op label n new
+-- the state after the first n steps of an operation: none was taken, or its first n parts, or the whole
+pub data IsStage (settings : Settings) (old : State) (op : Op) (label : Label) (n : ℕ) (new : State) : Type 0 where
+  before_step : n ≡ 0 → new ≡ old → IsStage settings old op label n new
+  part_way : n ≤ length (parts_of op) → StepsThrough settings label old (take n (parts_of op)) new → IsStage settings old op label n new
+  after_step : n ≡ steps_of op → (reply : Reply) → S3Step settings old op label reply new → IsStage settings old op label n new
 
 -- from p to q the account is consistent, and its state goes through the first `takes` steps of the operation, the last of
 -- them at t; where it takes none, t is any number between
@@ -62,35 +78,115 @@ pub record Passes (settings : Settings) (h : History) (p t q : ℕ) (op : Op) (l
   pub rises : (j k : ℕ) → p ≤ j → j ≤ k → k ≤ q → stage j ≤ stage k
   pub before : 0 < takes → (k : ℕ) → p ≤ k → k < t → stage k < takes
   pub since : (k : ℕ) → t ≤ k → k ≤ q → stage k ≡ takes
-  pub is : (k : ℕ) → p ≤ k → k ≤ q → IsStage settings (h.tree_at p) op label (stage k) (s3_state (h.tree_at k))
-  pub sound : (k : ℕ) → p ≤ k → k ≤ q → IsConsistent (h.tree_at k)
+  pub is : (k : ℕ) → p ≤ k → k ≤ q → IsStage settings (s3_state (h.account_at p)) op label (stage k) (s3_state (h.account_at k))
+  pub sound : (k : ℕ) → p ≤ k → k ≤ q → IsConsistent (h.account_at k)
 
 -- ---- what it is answered
 
--- what ServiceUnavailable says of the state before q: it was the old one
-abbrev pub OldIfFailed : Op → History → ℕ → ℕ → Type 0
-OldIfFailed op h p q = OldBefore h p q
+-- whether the state is the old one at each number before the last, where the last call failed: of all but a deletion of many keys,
+-- which may have deleted some by then
+abbrev pub is_old_if_failed : Op → Bool
+is_old_if_failed ListBuckets = true
+is_old_if_failed (CreateBucket bucket acl) = true
+is_old_if_failed (DeleteBucket bucket) = true
+is_old_if_failed (HeadBucket bucket) = true
+is_old_if_failed (GetLocation bucket) = true
+is_old_if_failed (GetBucketAcl bucket) = true
+is_old_if_failed (PutBucketAcl bucket acl) = true
+is_old_if_failed (ListObjects bucket asked) = true
+is_old_if_failed (PutObject bucket key acl content_type meta body) = true
+is_old_if_failed (GetObject bucket key range conditions) = true
+is_old_if_failed (HeadObject bucket key range conditions) = true
+is_old_if_failed (DeleteObject bucket key) = true
+is_old_if_failed (GetObjectAcl bucket key) = true
 
--- what the word that memory ran out says of it: the same
-abbrev pub OldIfOutOfMemory : Op → History → ℕ → ℕ → Type 0
-OldIfOutOfMemory op h p q = OldBefore h p q
+abbrev pub is_old_if_out_of_memory : Op → Bool
+is_old_if_out_of_memory ListBuckets = true
+is_old_if_out_of_memory (CreateBucket bucket acl) = true
+is_old_if_out_of_memory (DeleteBucket bucket) = true
+is_old_if_out_of_memory (HeadBucket bucket) = true
+is_old_if_out_of_memory (GetLocation bucket) = true
+is_old_if_out_of_memory (GetBucketAcl bucket) = true
+is_old_if_out_of_memory (PutBucketAcl bucket acl) = true
+is_old_if_out_of_memory (ListObjects bucket asked) = true
+is_old_if_out_of_memory (PutObject bucket key acl content_type meta body) = true
+is_old_if_out_of_memory (GetObject bucket key range conditions) = true
+is_old_if_out_of_memory (HeadObject bucket key range conditions) = true
+is_old_if_out_of_memory (DeleteObject bucket key) = true
+is_old_if_out_of_memory (GetObjectAcl bucket key) = true
 
--- what the reply says of the account beside the state: nothing
-abbrev pub SaysBeside : Op → History → ℕ → ℕ → Reply → Type 0
-SaysBeside op h p q reply = Unit {0}
+-- the state is the old one at each number before q, if that is asked for
+abbrev pub OldIf : Bool → History → ℕ → ℕ → Type 0
+OldIf true h p q = OldBefore h p q
+OldIf false h p q = Unit {0}
 
 -- the service's own answer, after its step; or ServiceUnavailable, where the last call failed and no earlier one did; or the
 -- word that memory ran out
 pub data AnswersBy (settings : Settings) (h : History) (p q : ℕ) (op : Op) (label : Label) (takes : ℕ) (reply : Reply) : Type 0 where
-  machine : takes ≡ steps_of op → Stepped settings (h.tree_at p) op label reply (s3_state (h.tree_at q)) → AnswersBy settings h p q op label takes reply
-  unavailable : reply ≡ Refused ServiceUnavailable → LastFailed h p q → OldIfFailed op h p q → AnswersBy settings h p q op label takes reply
-  memory : reply ≡ Memory → OldIfOutOfMemory op h p q → AnswersBy settings h p q op label takes reply
+  machine : takes ≡ steps_of op → S3Step settings (s3_state (h.account_at p)) op label reply (s3_state (h.account_at q)) → AnswersBy settings h p q op label takes reply
+  unavailable : reply ≡ Refused ServiceUnavailable → LastFailed h p q → OldIf (is_old_if_failed op) h p q → AnswersBy settings h p q op label takes reply
+  memory : reply ≡ Memory → OldIf (is_old_if_out_of_memory op) h p q → AnswersBy settings h p q op label takes reply
 
 -- and the state goes through the steps that are taken, consistent at each number; t is the operation's commit point
 pub record Answers (settings : Settings) (h : History) (p t q : ℕ) (op : Op) (label : Label) (takes : ℕ) (reply : Reply) : Type 0 where
   pub passes : Passes settings h p t q op label takes
   pub by : AnswersBy settings h p q op label takes reply
-  pub beside : SaysBeside op h p q reply
+
+-- ---- what it says of the account beside the state
+
+-- an object beside a bucket that is named by this id
+abbrev pub IsNamedBy : List ℕ → List ℕ → Type 0
+IsNamedBy id name = (rest : List ℕ) × (name ≡ id ++ (47 ∷ rest))
+
+-- the id has a record or a segment beside the bucket
+abbrev pub IsTaken : SwiftAccount → List ℕ → List ℕ → Type 0
+IsTaken tree bucket id = (is_some (get (files tree (uploads_name bucket)) id) ≡ true)
+    ⊎ ((name : List ℕ) × IsNamedBy id name × (is_some (get (files tree (segments_name bucket)) name) ≡ true))
+
+-- the id of that number, of which 2^128 are told apart
+abbrev pub id_at : ℕ → List ℕ
+id_at n = id_digits (n % 2 ^ 128)
+
+-- the first id that isn't taken, from the word of chance on
+pub record IsFirstFree (tree : SwiftAccount) (bucket : List ℕ) (draw : ℕ) (id : List ℕ) : Type 0 where
+  pub tries : ℕ
+  pub is : id ≡ id_at (draw + tries)
+  pub free : IsTaken tree bucket id → ⊥
+  pub before : (n : ℕ) → n < tries → IsTaken tree bucket (id_at (draw + n))
+
+abbrev pub upload_at : Option Bucket → List ℕ → Option Upload
+upload_at None id = None
+upload_at (Some b) id = get b.uploads id
+
+-- what is asked of the account beside the state, by the operation: nothing; that an upload which it opens in the bucket has the
+-- first free id; or that, once it is gone and no call failed, no segment of the upload is left beside the bucket
+pub data Beside : Type 0 where
+  nothing_beside : Beside
+  opens_in : List ℕ → Beside
+  clears : List ℕ → List ℕ → Beside
+
+abbrev pub beside_of : Op → Beside
+beside_of ListBuckets = nothing_beside
+beside_of (CreateBucket bucket acl) = nothing_beside
+beside_of (DeleteBucket bucket) = nothing_beside
+beside_of (HeadBucket bucket) = nothing_beside
+beside_of (GetLocation bucket) = nothing_beside
+beside_of (GetBucketAcl bucket) = nothing_beside
+beside_of (PutBucketAcl bucket acl) = nothing_beside
+beside_of (ListObjects bucket asked) = nothing_beside
+beside_of (PutObject bucket key acl content_type meta body) = nothing_beside
+beside_of (GetObject bucket key range conditions) = nothing_beside
+beside_of (HeadObject bucket key range conditions) = nothing_beside
+beside_of (DeleteObject bucket key) = nothing_beside
+beside_of (GetObjectAcl bucket key) = nothing_beside
+
+-- the calls from p to q, by which an operation was answered, leave the account so
+abbrev pub SaysBeside : Beside → Label → History → ℕ → ℕ → Reply → Type 0
+SaysBeside nothing_beside label h p q reply = Unit {0}
+SaysBeside (opens_in bucket) label h p q reply = (id : List ℕ) → upload_at (get (s3_state (h.account_at p)) bucket) id ≡ None
+    → is_some (upload_at (get (s3_state (h.account_at q)) bucket) id) ≡ true → IsFirstFree (h.account_at p) bucket label.draw id
+SaysBeside (clears bucket id) label h p q reply = reply ≡ Gone → FaultFree h p q
+    → (name : List ℕ) → IsNamedBy id name → get (files (h.account_at q) (segments_name bucket)) name ≡ None
 
 -- ---- what the laws say
 
@@ -98,13 +194,13 @@ pub record Answers (settings : Settings) (h : History) (p t q : ℕ) (op : Op) (
 abbrev pub AnsweredFaultFree : Type 0
 AnsweredFaultFree = (settings : Settings) (h : History) (p q : ℕ) (op : Op) (label : Label) (takes : ℕ) (reply : Reply)
     → p ≤ q → FaultFree h p q → AnswersBy settings h p q op label takes reply
-    → Stepped settings (h.tree_at p) op label reply (s3_state (h.tree_at q)) ⊎ (reply ≡ Memory)
+    → S3Step settings (s3_state (h.account_at p)) op label reply (s3_state (h.account_at q)) ⊎ (reply ≡ Memory)
 
 -- over a history in which no call failed, with calls left, no operation is answered ServiceUnavailable
 abbrev pub NeverUnavailable : Type 0
 NeverUnavailable = (settings : Settings) (h : History) (p q : ℕ) (op : Op) (label : Label) (takes : ℕ) (reply : Reply)
     → p ≤ q → q < budget → AnswersBy settings (calm h) p q op label takes reply
-    → Stepped settings (h.tree_at p) op label reply (s3_state (h.tree_at q)) ⊎ (reply ≡ Memory)
+    → S3Step settings (s3_state (h.account_at p)) op label reply (s3_state (h.account_at q)) ⊎ (reply ≡ Memory)
 
 -- ---- how many calls it makes
 
@@ -130,7 +226,19 @@ most_calls (GetObjectAcl bucket key) tree = always 2
 
 -- whether no call follows the one that commits, so that none fails under a reply of the service
 abbrev pub ends_by_commit : Op → Bool
-ends_by_commit op = true
+ends_by_commit ListBuckets = true
+ends_by_commit (CreateBucket bucket acl) = true
+ends_by_commit (DeleteBucket bucket) = true
+ends_by_commit (HeadBucket bucket) = true
+ends_by_commit (GetLocation bucket) = true
+ends_by_commit (GetBucketAcl bucket) = true
+ends_by_commit (PutBucketAcl bucket acl) = true
+ends_by_commit (ListObjects bucket asked) = true
+ends_by_commit (PutObject bucket key acl content_type meta body) = true
+ends_by_commit (GetObject bucket key range conditions) = true
+ends_by_commit (HeadObject bucket key range conditions) = true
+ends_by_commit (DeleteObject bucket key) = true
+ends_by_commit (GetObjectAcl bucket key) = true
 
 -- the greatest number of calls by which a store is settled, by the account as it began
 abbrev pub most_settling : SwiftAccount → Bound

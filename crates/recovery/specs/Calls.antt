@@ -59,15 +59,19 @@ pub record Grows (most : Bound) (given : SwiftAccount → Type 0) (old new : His
 
 -- ---- where the store is observable, and its account is consistent
 
--- what is given of the account that the calls begin on: no completion is sealed, and this of the state
-pub record Given (P : State → Type 0) (tree : SwiftAccount) : Type 0 where
+-- what is given of the account that the calls begin on: no completion is sealed, and this
+pub record GivenOf (P : SwiftAccount → Type 0) (tree : SwiftAccount) : Type 0 where
   pub settled : IsSettled tree
-  pub state : P (s3_state tree)
+  pub is : P tree
+
+-- the same, where this is said of the state
+abbrev pub Given : (State → Type 0) → SwiftAccount → Type 0
+Given P = GivenOf (λ tree. P (s3_state tree))
 
 -- calls that leave the state, whether they write or not: answered, P says it of the account before and after them; where
 -- memory ran out, or where the store failed, they told nothing
 abbrev pub Keeps : {T : Type 0} → History → ℕ → ℕ → (SwiftAccount → SwiftAccount → T → Type 0) → Result T PlanFault → Type 0
-Keeps h p q P (Ok told) = Stutters h p q × (h.faults_at q ≡ h.faults_at p) × P (h.tree_at p) (h.tree_at q) told
+Keeps h p q P (Ok told) = Stutters h p q × (h.faults_at q ≡ h.faults_at p) × P (h.account_at p) (h.account_at q) told
 Keeps h p q P (Err Failed) = Stutters h p q × LastFailed h p q
 Keeps h p q P (Err Memory) = Stutters h p q × (h.faults_at q ≡ h.faults_at p)
 Keeps h p q P (Err Inconsistent) = ⊥
@@ -84,8 +88,8 @@ pub record Commits (h : History) (p q : ℕ) (S : State → State → Type 0) : 
   pub quiet : Stutters h p last
   pub no_fault : h.faults_at last ≡ h.faults_at p
   pub next : q ≡ last + 1
-  pub sound : IsConsistent (h.tree_at q)
-  pub made : S (s3_state (h.tree_at p)) (s3_state (h.tree_at q))
+  pub sound : IsConsistent (h.account_at q)
+  pub made : S (s3_state (h.account_at p)) (s3_state (h.account_at q))
 
 -- the last call had its effect, whatever it would have told
 abbrev pub CommitsUntold : {T : Type 0} → History → ℕ → ℕ → (T → State → State → Type 0) → Type 0

@@ -16,11 +16,11 @@ use Rattle.recovery.specs.Calls.{Any, Asks}
 abbrev pub IsKnown : Known → SwiftAccount → Type 0
 IsKnown known tree = known ≡ Settled → IsSettled tree
 
--- the fault of a plan whose store could not be settled
+-- the fault of a plan whose store could not be settled; what it names is dropped
 abbrev pub settle_fault : SettleFault → PlanFault
 settle_fault Failed = plan.Failed
 settle_fault Memory = plan.Memory
-settle_fault Inconsistent = plan.Inconsistent
+settle_fault (Inconsistent container name) = plan.Inconsistent
 
 abbrev pub as_plan : Result (Unit {0}) SettleFault → Result (Unit {0}) PlanFault
 as_plan (Ok done) = Ok done

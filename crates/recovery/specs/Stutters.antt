@@ -9,12 +9,12 @@ use Rattle.upload_records.specs.Consistent.{IsConsistent}
 -- from p to q the account is consistent and represents one state
 pub record Stutters (h : History) (p q : ℕ) : Type 0 where
   pub ordered : p ≤ q
-  pub same : (k : ℕ) → p ≤ k → k ≤ q → s3_state (h.tree_at k) ≡ s3_state (h.tree_at p)
-  pub sound : (k : ℕ) → p ≤ k → k ≤ q → IsConsistent (h.tree_at k)
+  pub same : (k : ℕ) → p ≤ k → k ≤ q → s3_state (h.account_at k) ≡ s3_state (h.account_at p)
+  pub sound : (k : ℕ) → p ≤ k → k ≤ q → IsConsistent (h.account_at k)
 
 -- at each number from p on and before q the account represents the state at p
 abbrev pub OldBefore : History → ℕ → ℕ → Type 0
-OldBefore h p q = (k : ℕ) → p ≤ k → k < q → s3_state (h.tree_at k) ≡ s3_state (h.tree_at p)
+OldBefore h p q = (k : ℕ) → p ≤ k → k < q → s3_state (h.account_at k) ≡ s3_state (h.account_at p)
 
 -- the history with the same accounts in which no call failed
 abbrev pub calm : History → History
@@ -24,4 +24,4 @@ calm h = record h { faults_at = λ k. 0 }
 -- was left for it, and the state stayed
 pub data LastFailed (h : History) (p q : ℕ) : Type 0 where
   was_lost : (last : ℕ) → p ≤ last → q ≡ last + 1 → h.faults_at last ≡ h.faults_at p → Rose (h.faults_at last) (h.faults_at q) → LastFailed h p q
-  had_none : budget ≤ q → h.faults_at q ≡ h.faults_at p → s3_state (h.tree_at q) ≡ s3_state (h.tree_at p) → LastFailed h p q
+  had_none : budget ≤ q → h.faults_at q ≡ h.faults_at p → s3_state (h.account_at q) ≡ s3_state (h.account_at p) → LastFailed h p q

@@ -7,6 +7,7 @@ ghost use Rattle.recovery.specs.Calls.{always, Any, Asks, Becomes, Changes, Drop
 ghost use Rattle.recovery.specs.Lent.{Stays};
 
 use crate::interpret::{bucket_in, dropped_in, made_in, set_in};
+use crate::state::ask;
 use crate::{PlanFault, Settled};
 use gate_base::{Bytes, Copying};
 use s3_names::Acl;
@@ -26,10 +27,12 @@ pub fn head_bucket<W: Swift>(
     ensures stays { Stays state.old state.new }
     ensures asks { Asks (always 1) (W.history state.old.store.now) (W.history state.new.store.now) IsSettled (Tells (TellsBucket bucket.now)) result }
 {
-    let request = SwiftRequest::HeadContainer {
-        container: bucket.copy()?,
-    };
-    let reply = state.store.call(&request)?;
+    let reply = ask(
+        state.store,
+        SwiftRequest::HeadContainer {
+            container: bucket.copy()?,
+        },
+    )?;
     bucket_in(&reply)
 }
 
@@ -50,12 +53,14 @@ pub fn make_bucket<W: Swift>(
     ensures stays { Stays state.old state.new }
     ensures changes { Changes (always 1) (W.history state.old.store.now) (W.history state.new.store.now) (Given (LacksBucket bucket)) (Becomes (makes_bucket bucket acl moment)) result }
 {
-    let request = SwiftRequest::PutContainer {
-        container: bucket,
-        readers: readers(acl),
-        created: Some(moment),
-    };
-    let reply = state.store.call(&request)?;
+    let reply = ask(
+        state.store,
+        SwiftRequest::PutContainer {
+            container: bucket,
+            readers: readers(acl),
+            created: Some(moment),
+        },
+    )?;
     made_in(&reply)
 }
 
@@ -83,8 +88,10 @@ pub fn drop_bucket<W: Swift>(
     ensures stays { Stays state.old state.new }
     ensures changes { Changes (always 1) (W.history state.old.store.now) (W.history state.new.store.now) (Given Any) (DropsBucket bucket) result }
 {
-    let request = SwiftRequest::DeleteContainer { container: bucket };
-    let reply = state.store.call(&request)?;
+    let reply = ask(
+        state.store,
+        SwiftRequest::DeleteContainer { container: bucket },
+    )?;
     dropped_in(&reply)
 }
 
@@ -101,10 +108,12 @@ pub fn set_acl<W: Swift>(
     ensures stays { Stays state.old state.new }
     ensures changes { Changes (always 1) (W.history state.old.store.now) (W.history state.new.store.now) (Given Any) (SetsAcl bucket acl) result }
 {
-    let request = SwiftRequest::PostContainer {
-        container: bucket,
-        readers: readers(acl),
-    };
-    let reply = state.store.call(&request)?;
+    let reply = ask(
+        state.store,
+        SwiftRequest::PostContainer {
+            container: bucket,
+            readers: readers(acl),
+        },
+    )?;
     set_in(&reply)
 }

@@ -31,6 +31,7 @@ ghost use Rattle.recovery.specs.Listing.{
 };
 ghost use Rattle.recovery.specs.declared.fault.PlanFault.TheVariants as fault;
 
+use crate::state::ask;
 use crate::{PlanFault, Settled};
 use gate_base::{Bytes, Copying, List, MOMENT_LIMIT, Memory};
 use s3_machine::BucketItem;
@@ -56,7 +57,7 @@ fn page<W: Swift>(state: &mut Settled<'_, W>, marker: &Bytes) -> Result<List<Byt
     if !is_fit(&request) {
         return Err(PlanFault::Inconsistent);
     }
-    let reply = state.store.call(&request)?;
+    let reply = ask(state.store, request)?;
     names_in(marker.as_slice(), reply)
 }
 
@@ -149,10 +150,12 @@ fn created<W: Swift>(state: &mut Settled<'_, W>, bucket: &Bytes) -> Result<u64, 
     ensures dated { IfOk result (λ moment. moment < moment_limit) }
     ensures asks { Asks (always 1) (W.history state.old.store.now) (W.history state.new.store.now) (Has bucket.now) (TellsOf (TellsCreated bucket.now)) result }
 {
-    let request = SwiftRequest::HeadContainer {
-        container: bucket.copy()?,
-    };
-    let reply = state.store.call(&request)?;
+    let reply = ask(
+        state.store,
+        SwiftRequest::HeadContainer {
+            container: bucket.copy()?,
+        },
+    )?;
     created_in(&reply)
 }
 

@@ -15,6 +15,7 @@ ghost use Rattle.recovery.specs.Calls.{always, Any, Asks, Becomes, Changes, Give
 ghost use Rattle.recovery.specs.Lent.{Stays};
 
 use crate::interpret::{bytes_in, gone_in, head_in, stored_in};
+use crate::state::ask;
 use crate::{PlanFault, Settled};
 use gate_base::{Bytes, Copying, Memory};
 use s3_machine::ObjectHead;
@@ -42,8 +43,7 @@ pub fn head_object<W: Swift>(
 {
     let container = bucket.copy()?;
     let name = key.copy()?;
-    let request = SwiftRequest::HeadObject { container, name };
-    let reply = state.store.call(&request)?;
+    let reply = ask(state.store, SwiftRequest::HeadObject { container, name })?;
     head_in(alloc, &reply)
 }
 
@@ -64,12 +64,14 @@ pub fn get_object<W: Swift>(
     ensures stays { Stays state.old state.new }
     ensures asks { Asks (always 1) (W.history state.old.store.now) (W.history state.new.store.now) IsSettled (Tells (TellsBytes bucket key range)) result }
 {
-    let request = SwiftRequest::GetObject {
-        container: bucket,
-        name: key,
-        range,
-    };
-    let reply = state.store.call(&request)?;
+    let reply = ask(
+        state.store,
+        SwiftRequest::GetObject {
+            container: bucket,
+            name: key,
+            range,
+        },
+    )?;
     bytes_in(reply)
 }
 
@@ -98,7 +100,7 @@ pub fn put_object<W: Swift>(
     ensures changes { Changes (always 1) (W.history state.old.store.now) (W.history state.new.store.now) (Given (HasBucket bucket)) (Becomes (puts_object bucket key content_type meta.now body moment)) result }
 {
     let request = put_request(alloc, bucket, key, content_type, meta, body, etag, moment)?;
-    let reply = state.store.call(&request)?;
+    let reply = ask(state.store, request)?;
     stored_in(&reply, etag)
 }
 
@@ -163,10 +165,12 @@ pub fn delete_object<W: Swift>(
     ensures stays { Stays state.old state.new }
     ensures changes { Changes (always 1) (W.history state.old.store.now) (W.history state.new.store.now) (Given Any) (Becomes (drops_object bucket key)) result }
 {
-    let request = SwiftRequest::DeleteObject {
-        container: bucket,
-        name: key,
-    };
-    let reply = state.store.call(&request)?;
+    let reply = ask(
+        state.store,
+        SwiftRequest::DeleteObject {
+            container: bucket,
+            name: key,
+        },
+    )?;
     gone_in(&reply)
 }

@@ -1,9 +1,13 @@
 //! The store as an operation finds it: a completion may be sealed on it, or none is.
 ghost use Rattle.std.specs.Prelude.{◌≡◌};
+ghost use Rattle.swift_calls.specs.History.{Calls};
+ghost use Rattle.swift_calls.specs.Step.{Fit};
 ghost use Rattle.recovery.specs.Settling.{Settles};
 
+use gate_base::Bytes;
 use s3_machine::Settings;
-use swift_calls::Swift;
+use std::alloc::Global;
+use swift_calls::{Swift, SwiftFault, SwiftReply, SwiftRequest};
 
 /// What is known of a store between two operations.
 #[derive(Clone, Copy, Debug, PartialEq, Eq)]
@@ -17,6 +21,7 @@ pub enum Known {
 /// A store of which it isn't known whether a completion is sealed on it. It has no call that answers an operation.
 #[derive(Drop)]
 pub struct Unsure<'a, W: Swift> {
+    alloc: Global,
     store: &'a mut W,
     settings: &'a Settings,
 }
@@ -30,24 +35,29 @@ pub struct Settled<'a, W: Swift> {
 }
 
 /// Why a store could not be settled.
-#[derive(Clone, Copy, Debug, PartialEq, Eq)]
+#[derive(Debug, Drop)]
 pub enum SettleFault {
     /// The last call of the store failed: its count of faults rose.
     Failed,
     /// Memory ran out.
     Memory,
-    /// A mark or a record on the store can't be read.
-    Inconsistent,
+    /// The store answered what it doesn't answer over a consistent account, of this container and the object of this name in
+    /// it. The name is empty where it is the container's own. Where there is no memory to name them the fault is Memory.
+    Inconsistent { container: Bytes, name: Bytes },
 }
 
 impl<'a, W: Swift> Unsure<'a, W> {
-    /// A store as it is found when a run begins. It takes no memory.
-    pub fn open(store: &'a mut W, settings: &'a Settings) -> Unsure<'a, W>
+    /// A store as it is found when a run begins. It takes no memory; settling may take some, to name what can't be read.
+    pub fn open(alloc: Global, store: &'a mut W, settings: &'a Settings) -> Unsure<'a, W>
         ensures same { result.store.ghost_name ≡ store.entry.ghost_name }
         ensures store { result.store.now ≡ store.old }
         ensures settings { result.settings.now ≡ settings.now }
     {
-        Unsure { store, settings }
+        Unsure {
+            alloc,
+            store,
+            settings,
+        }
     }
 
     /// Settles the store, so that it can be held as [`Settled`]: a sealed completion is finished, by at most five calls,
@@ -119,4 +129,13 @@ impl<'a, W: Swift> Settled<'a, W> {
         let Settled { store, .. } = self;
         store
     }
+}
+
+/// One call of the store, whose request is given away: a request that is still owned where the answer is looked at costs
+/// the proof of its function most.
+pub(crate) fn ask<W: Swift>(store: &mut W, request: SwiftRequest) -> Result<SwiftReply, SwiftFault>
+    requires { Fit request }
+    ensures { Calls (W.history store.old) (W.history store.new) request result }
+{
+    store.call(&request)
 }

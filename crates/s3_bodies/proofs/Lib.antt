@@ -1,12 +1,7 @@
 pub mod Checksums
 pub mod CompletionLemmas
-pub mod Dates
 pub mod Digits
 pub mod ElementLemmas
-pub mod Escapes
-pub mod Headers
-pub mod Iso
-pub mod Locations
 pub mod LocationTests
+pub mod Locations
 pub mod PartLemmas
-pub mod Pieces

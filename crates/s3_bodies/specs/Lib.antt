@@ -1,10 +1,4 @@
-pub mod Bodies
-pub mod Codes
 pub mod Completion
-pub mod Date
 pub mod Location
 pub mod LocationTest
-pub mod Pages
 pub mod PartReaders
-pub mod Texts
-pub mod Xml

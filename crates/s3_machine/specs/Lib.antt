@@ -4,10 +4,8 @@ pub mod Finish
 pub mod Items
 pub mod Laws
 pub mod Limits
-pub mod Native
 pub mod Ranges
 pub mod Reading
 pub mod Shown
 pub mod State
 pub mod Step
-pub mod Table

@@ -123,7 +123,8 @@ impl Copying for UploadItem {
     }
 }
 
-pub(crate) fn copy_option<T: Copying>(value: &Option<T>) -> Result<Option<T>, Memory>
+/// A copy of what is there, if anything is. It fails only where memory runs out.
+pub fn copy_option<T: Copying>(value: &Option<T>) -> Result<Option<T>, Memory>
     ensures { IfOk result (λ copied. copied ≡ value.now) }
 {
     match value {

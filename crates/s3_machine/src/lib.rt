@@ -1,26 +1,24 @@
 //! The S3 service as one machine: its operations and replies, and the step that each operation is. It knows
-//! nothing of Swift. `Native` is its running form.
+//! nothing of Swift.
 #![tactic(auto)]
 
+mod access;
 mod code;
 mod etag;
 mod items;
 mod laws;
 mod limits;
-mod listing;
-mod native;
 mod operation;
 mod reading;
-mod table;
 
+pub use access::{is_other_acl, may_read};
 pub use code::Code;
 pub use etag::body_etag;
-pub use items::{Asked, BucketItem, Item, ItemHead, PartItem, UploadItem};
+pub use items::{Asked, BucketItem, Item, ItemHead, PartItem, UploadItem, copy_option};
 pub use laws::{law_get_after_delete, law_get_after_put};
 pub use limits::{
     MOST_BODY_BYTES, MOST_ITEMS, MOST_PARTS, RANGE_LIMIT, is_content_type, is_listing_text,
     is_meta_name, is_meta_value, is_proper_meta,
 };
-pub use native::{Native, is_other_acl, may_read};
 pub use operation::{Label, Listed, ObjectHead, Op, Reply, Settings};
 pub use reading::{Conditions, ETags, Judged, Range, Span, judge};

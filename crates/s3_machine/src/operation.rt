@@ -1,3 +1,5 @@
+ghost use Rattle.std.specs.Prelude.{◌≡◌, IfOk};
+
 use crate::Code;
 use crate::items::{Asked, BucketItem, Item, PartItem, UploadItem};
 use crate::reading::{Conditions, Range};
@@ -134,10 +136,7 @@ impl Copying for Op {
                 bucket: bucket.copy()?,
                 acl: *acl,
             }),
-            Op::ListObjects { bucket, asked } => Ok(Op::ListObjects {
-                bucket: bucket.copy()?,
-                asked: asked.copy()?,
-            }),
+            Op::ListObjects { bucket, asked } => copy_list_objects(bucket, asked),
             Op::PutObject {
                 bucket,
                 key,
@@ -145,46 +144,102 @@ impl Copying for Op {
                 content_type,
                 meta,
                 body,
-            } => Ok(Op::PutObject {
-                bucket: bucket.copy()?,
-                key: key.copy()?,
-                acl: *acl,
-                content_type: content_type.copy()?,
-                meta: meta.copy()?,
-                body: body.copy()?,
-            }),
+            } => copy_put_object(bucket, key, *acl, content_type, meta, body),
             Op::GetObject {
                 bucket,
                 key,
                 range,
                 conditions,
-            } => Ok(Op::GetObject {
-                bucket: bucket.copy()?,
-                key: key.copy()?,
-                range: *range,
-                conditions: conditions.copy()?,
-            }),
+            } => copy_get_object(bucket, key, *range, conditions),
             Op::HeadObject {
                 bucket,
                 key,
                 range,
                 conditions,
-            } => Ok(Op::HeadObject {
-                bucket: bucket.copy()?,
-                key: key.copy()?,
-                range: *range,
-                conditions: conditions.copy()?,
-            }),
-            Op::DeleteObject { bucket, key } => Ok(Op::DeleteObject {
-                bucket: bucket.copy()?,
-                key: key.copy()?,
-            }),
-            Op::GetObjectAcl { bucket, key } => Ok(Op::GetObjectAcl {
-                bucket: bucket.copy()?,
-                key: key.copy()?,
-            }),
+            } => copy_head_object(bucket, key, *range, conditions),
+            Op::DeleteObject { bucket, key } => copy_delete_object(bucket, key),
+            Op::GetObjectAcl { bucket, key } => copy_get_object_acl(bucket, key),
         }
     }
+}
+
+fn copy_list_objects(bucket: &Bytes, asked: &Asked) -> Result<Op, Memory>
+    ensures { IfOk result (λ op. op ≡ Op.ListObjects bucket.now asked.now) }
+{
+    Ok(Op::ListObjects {
+        bucket: bucket.copy()?,
+        asked: asked.copy()?,
+    })
+}
+
+fn copy_put_object(
+    bucket: &Bytes,
+    key: &Bytes,
+    acl: Option<Acl>,
+    content_type: &Bytes,
+    meta: &Meta,
+    body: &Bytes,
+) -> Result<Op, Memory>
+    ensures { IfOk result (λ op. op ≡ Op.PutObject bucket.now key.now acl content_type.now meta.now body.now) }
+{
+    Ok(Op::PutObject {
+        bucket: bucket.copy()?,
+        key: key.copy()?,
+        acl,
+        content_type: content_type.copy()?,
+        meta: meta.copy()?,
+        body: body.copy()?,
+    })
+}
+
+fn copy_get_object(
+    bucket: &Bytes,
+    key: &Bytes,
+    range: Option<Range>,
+    conditions: &Conditions,
+) -> Result<Op, Memory>
+    ensures { IfOk result (λ op. op ≡ Op.GetObject bucket.now key.now range conditions.now) }
+{
+    Ok(Op::GetObject {
+        bucket: bucket.copy()?,
+        key: key.copy()?,
+        range,
+        conditions: conditions.copy()?,
+    })
+}
+
+fn copy_head_object(
+    bucket: &Bytes,
+    key: &Bytes,
+    range: Option<Range>,
+    conditions: &Conditions,
+) -> Result<Op, Memory>
+    ensures { IfOk result (λ op. op ≡ Op.HeadObject bucket.now key.now range conditions.now) }
+{
+    Ok(Op::HeadObject {
+        bucket: bucket.copy()?,
+        key: key.copy()?,
+        range,
+        conditions: conditions.copy()?,
+    })
+}
+
+fn copy_delete_object(bucket: &Bytes, key: &Bytes) -> Result<Op, Memory>
+    ensures { IfOk result (λ op. op ≡ Op.DeleteObject bucket.now key.now) }
+{
+    Ok(Op::DeleteObject {
+        bucket: bucket.copy()?,
+        key: key.copy()?,
+    })
+}
+
+fn copy_get_object_acl(bucket: &Bytes, key: &Bytes) -> Result<Op, Memory>
+    ensures { IfOk result (λ op. op ≡ Op.GetObjectAcl bucket.now key.now) }
+{
+    Ok(Op::GetObjectAcl {
+        bucket: bucket.copy()?,
+        key: key.copy()?,
+    })
 }
 
 /// An object but for its bytes: its ETag without quotes, the moment of its last change in seconds since the
@@ -281,6 +336,7 @@ impl Copying for Reply {
             Reply::Memory => Ok(Reply::Memory),
             Reply::Done => Ok(Reply::Done),
             Reply::Gone => Ok(Reply::Gone),
+            Reply::AclOf(acl) => Ok(Reply::AclOf(*acl)),
             Reply::NotModified(head) => Ok(Reply::NotModified(head.copy()?)),
             Reply::Buckets(items) => Ok(Reply::Buckets(items.copy()?)),
             Reply::Made { bucket } => Ok(Reply::Made {
@@ -289,18 +345,13 @@ impl Copying for Reply {
             Reply::Location { region } => Ok(Reply::Location {
                 region: region.copy()?,
             }),
-            Reply::AclOf(acl) => Ok(Reply::AclOf(*acl)),
+            Reply::Stored { etag } => Ok(Reply::Stored { etag: etag.copy()? }),
             Reply::Objects {
                 bucket,
                 asked,
                 items,
                 truncated,
-            } => Ok(Reply::Objects {
-                bucket: bucket.copy()?,
-                asked: asked.copy()?,
-                items: items.copy()?,
-                truncated: *truncated,
-            }),
+            } => copy_objects(bucket, asked, items, *truncated),
             Reply::Uploads {
                 bucket,
                 prefix,
@@ -309,34 +360,17 @@ impl Copying for Reply {
                 max,
                 items,
                 truncated,
-            } => Ok(Reply::Uploads {
-                bucket: bucket.copy()?,
-                prefix: prefix.copy()?,
-                key_marker: key_marker.copy()?,
-                id_marker: id_marker.copy()?,
-                max: *max,
-                items: items.copy()?,
-                truncated: *truncated,
-            }),
-            Reply::Stored { etag } => Ok(Reply::Stored { etag: etag.copy()? }),
+            } => copy_uploads(
+                bucket, prefix, key_marker, id_marker, *max, items, *truncated,
+            ),
             Reply::Object {
                 head,
                 from,
                 length,
                 partial,
                 body,
-            } => Ok(Reply::Object {
-                head: head.copy()?,
-                from: *from,
-                length: *length,
-                partial: *partial,
-                body: body.copy()?,
-            }),
-            Reply::Started { bucket, key, id } => Ok(Reply::Started {
-                bucket: bucket.copy()?,
-                key: key.copy()?,
-                id: *id,
-            }),
+            } => copy_object(head, *from, *length, *partial, body),
+            Reply::Started { bucket, key, id } => copy_started(bucket, key, *id),
             Reply::Parts {
                 bucket,
                 key,
@@ -345,20 +379,106 @@ impl Copying for Reply {
                 max,
                 items,
                 truncated,
-            } => Ok(Reply::Parts {
-                bucket: bucket.copy()?,
-                key: key.copy()?,
-                id: *id,
-                marker: *marker,
-                max: *max,
-                items: items.copy()?,
-                truncated: *truncated,
-            }),
-            Reply::Completed { bucket, key, etag } => Ok(Reply::Completed {
-                bucket: bucket.copy()?,
-                key: key.copy()?,
-                etag: etag.copy()?,
-            }),
+            } => copy_parts(bucket, key, *id, *marker, *max, items, *truncated),
+            Reply::Completed { bucket, key, etag } => copy_completed(bucket, key, etag),
         }
     }
+}
+
+fn copy_objects(
+    bucket: &Bytes,
+    asked: &Asked,
+    items: &List<Item>,
+    truncated: bool,
+) -> Result<Reply, Memory>
+    ensures { IfOk result (λ reply. reply ≡ Reply.Objects bucket.now asked.now items.now truncated) }
+{
+    Ok(Reply::Objects {
+        bucket: bucket.copy()?,
+        asked: asked.copy()?,
+        items: items.copy()?,
+        truncated,
+    })
+}
+
+fn copy_uploads(
+    bucket: &Bytes,
+    prefix: &Bytes,
+    key_marker: &Bytes,
+    id_marker: &Bytes,
+    max: u32,
+    items: &List<UploadItem>,
+    truncated: bool,
+) -> Result<Reply, Memory>
+    ensures { IfOk result (λ reply. reply ≡ Reply.Uploads bucket.now prefix.now key_marker.now id_marker.now max items.now truncated) }
+{
+    Ok(Reply::Uploads {
+        bucket: bucket.copy()?,
+        prefix: prefix.copy()?,
+        key_marker: key_marker.copy()?,
+        id_marker: id_marker.copy()?,
+        max,
+        items: items.copy()?,
+        truncated,
+    })
+}
+
+fn copy_object(
+    head: &ObjectHead,
+    from: u64,
+    length: u64,
+    partial: bool,
+    body: &Bytes,
+) -> Result<Reply, Memory>
+    ensures { IfOk result (λ reply. reply ≡ Reply.Object head.now from length partial body.now) }
+{
+    Ok(Reply::Object {
+        head: head.copy()?,
+        from,
+        length,
+        partial,
+        body: body.copy()?,
+    })
+}
+
+fn copy_started(bucket: &Bytes, key: &Bytes, id: u128) -> Result<Reply, Memory>
+    ensures { IfOk result (λ reply. reply ≡ Reply.Started bucket.now key.now id) }
+{
+    Ok(Reply::Started {
+        bucket: bucket.copy()?,
+        key: key.copy()?,
+        id,
+    })
+}
+
+fn copy_parts(
+    bucket: &Bytes,
+    key: &Bytes,
+    id: u128,
+    marker: u32,
+    max: u32,
+    items: &List<PartItem>,
+    truncated: bool,
+) -> Result<Reply, Memory>
+    ensures { IfOk result (λ reply. reply ≡ Reply.Parts bucket.now key.now id marker max items.now truncated) }
+{
+    Ok(Reply::Parts {
+        bucket: bucket.copy()?,
+        key: key.copy()?,
+        id,
+        marker,
+        max,
+        items: items.copy()?,
+        truncated,
+    })
+}
+
+fn copy_completed(bucket: &Bytes, key: &Bytes, etag: &Bytes) -> Result<Reply, Memory>
+    ensures { IfOk result (λ reply. reply ≡ Reply.Completed bucket.now key.now etag.now) }
+{
+    Ok(Reply::Completed {
+        bucket: bucket.copy()?,
+        key: key.copy()?,
+        etag: etag.copy()?,
+    })
 }

@@ -1,6 +1,9 @@
 -- What the tests of a verdict give to those behind them.
-use Rattle.std.proofs.Common.{◌≡◌, ℕ, Bool, true, false, ◌&&◌, List, nat_lt, codes, bytes_eq}
-use Rattle.std.proofs.lemmas.Bool.{and_parts, not-false}
+use Rattle.std.proofs.Common.{◌≡◌, ℕ, Bool, true, false, ◌&&◌, List, length, take, nat_eq, nat_lt, slice_index, codes, bytes_eq}
+use Rattle.std.specs.Prelude.{slice_range}
+use Rattle.std.specs.List.{list_all}
+use Rattle.std.proofs.lemmas.Bool.{and_parts, eqb-true, not-false}
+use Rattle.gate_base.specs.Ascii.{is_digit}
 use Rattle.gate_base.specs.declared.page.Pair.{Pair}
 use Rattle.http_wire.specs.Headers.{has_one}
 use Rattle.sigv4.specs.Moment.{two_digits, year_of, is_day, is_time}
@@ -17,6 +20,12 @@ time_parts time h =
 
 pub time_has_form : (time : List ℕ) → is_time time ≡ true → is_date_time time ≡ true
 time_has_form time h = (time_parts time h).0
+
+-- the first of the five parts of the form
+pub time_has_length : (time : List ℕ) → is_time time ≡ true → length time ≡ 16
+time_has_length time h =
+    let form = (first_of_five (nat_eq (length time) 16) (list_all is_digit (take 8 time)) (nat_eq (slice_index time 8) 84) (list_all is_digit (slice_range time 9 15)) (nat_eq (slice_index time 15) 90) (time_has_form time h)).0 in
+    eqb-true (length time) 16 form
 
 pub time_has_day : (time : List ℕ) (year month day : ℕ) → is_time time ≡ true → year ≡ year_of time → month ≡ two_digits time 4 → day ≡ two_digits time 6 → is_day year month day ≡ true
 time_has_day time year month day h a b c = rw (a, b, c) (time_parts time h).1

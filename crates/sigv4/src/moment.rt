@@ -1,4 +1,4 @@
-ghost use Rattle.std.specs.Prelude.{◌≡◌, ◌+◌, ◌^◌, ◌<◌, ◌≤◌, length, pos, true, bytes_eq};
+ghost use Rattle.std.specs.Prelude.{◌≡◌, ◌+◌, ◌*◌, ◌^◌, ◌<◌, ◌≤◌, length, pos, true, bytes_eq};
 ghost use Rattle.jiff_core.specs.Calendar.{days_in_month};
 ghost use Rattle.sigv4.specs.Sign.{date_of};
 ghost use Rattle.sigv4.specs.Moment.{two_digits, year_of, is_year, is_month, is_day, is_time, day_number, unix_seconds, is_skewed};
@@ -39,16 +39,32 @@ pub fn is_of_day(time: &[u8], day: &[u8]) -> bool
 }
 
 /// The seconds between the beginning of 1970 and a time, no leap second counted.
-#[tactic(auto, using(crate::proofs::VerdictLemmas::time_has_day))]
 fn unix_seconds(time: &[u8]) -> u64
     requires { is_time time.now ≡ true }
     ensures { result ≡ unix_seconds time.now }
 {
-    let day = day_number(year_of(time), two_digits(time, 4), two_digits(time, 6)) as u64;
-    let hour = two_digits(time, 9) as u64;
-    let minute = two_digits(time, 11) as u64;
-    let second = two_digits(time, 13) as u64;
-    day * 86400 + hour * 3600 + minute * 60 + second
+    let day = day_of(time);
+    let hour = two_digits(time, 9);
+    let minute = two_digits(time, 11);
+    seconds_at(day, hour, minute, two_digits(time, 13))
+}
+
+/// The days between the first of January 1970 and the day of a time.
+#[tactic(auto, using(crate::proofs::VerdictLemmas::time_has_day))]
+fn day_of(time: &[u8]) -> u32
+    requires { is_time time.now ≡ true }
+    ensures { result ≡ day_number (year_of time.now) (two_digits time.now 4) (two_digits time.now 6) }
+{
+    let year = year_of(time);
+    let month = two_digits(time, 4);
+    day_number(year, month, two_digits(time, 6))
+}
+
+/// The seconds between the first of January 1970 and a time of the day of that number.
+fn seconds_at(day: u32, hour: u32, minute: u32, second: u32) -> u64
+    ensures { result ≡ day * 86400 + hour * 3600 + minute * 60 + second }
+{
+    day as u64 * 86400 + hour as u64 * 3600 + minute as u64 * 60 + second as u64
 }
 
 fn is_day(year: u32, month: u32, day: u32) -> bool

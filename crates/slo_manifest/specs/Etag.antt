@@ -9,5 +9,6 @@ use Rattle.slo_manifest.specs.declared.Segment.{Segment}
 abbrev pub joined_etags : List Segment → List ℕ
 joined_etags segments = concat (map (λ s. s.etag) segments)
 
+-- the ETag of a static large object: the MD5 of the ETags of its segments, joined
 abbrev pub joined_etag : List Segment → List ℕ
 joined_etag segments = encode_lower (md5 (joined_etags segments))

@@ -4,6 +4,7 @@ use Rattle.std.specs.Prelude.{ℕ, if◌then◌else◌, List, [], ◌∷◌, ◌
 use Rattle.std.specs.List.{before_first, after_first}
 use Rattle.gate_base.specs.Ascii.{is_slash}
 
+-- the path of an object in a manifest
 abbrev pub path_of : List ℕ → List ℕ → List ℕ
 path_of container name = 47 ∷ (container ++ 47 ∷ name)
 

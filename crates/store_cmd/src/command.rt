@@ -1,8 +1,8 @@
 //! A whole run.
 ghost use Rattle.std.specs.Prelude.{◌≡◌, IfOk, None};
-ghost use Rattle.swift_wire.specs.Place.{IsPlace};
+ghost use Rattle.swift_requests.specs.Place.{IsPlace};
 ghost use Rattle.store_cmd.specs.Report.{Reports, code_of, line_of};
-ghost use Rattle.store_cmd.specs.Run.{Performs, Runs, place_by, shelf_model};
+ghost use Rattle.store_cmd.specs.Run.{Performs, Runs, place_by};
 ghost use Rattle.store_cmd.specs.Words.{asked_of};
 ghost use Rattle.store_cmd.specs.declared.status.Status.{Status as how};
 
@@ -12,8 +12,8 @@ use crate::status::Status;
 use crate::words::{Asked, WordsFault, read_words};
 use gate_base::{Bytes, Line, Memory, NoCount, Sink};
 use std::alloc::Global;
+use swift_requests::Place;
 use swift_store::Shelf;
-use swift_wire::Place;
 
 /// The host of the store's place. No request is asked for it.
 const HOST: &[u8] = b"swiftd";
@@ -39,8 +39,11 @@ pub fn run_store<N: Line<NoCount>, R: Sink, S: Shelf>(
     // account holds where the shelf is observable.
     ensures run { (status : how) × (result ≡ code_of status)
         × Runs (asked_of words.now) status (N.model line.old) (N.model line.new)
-        (shelf_model (S.observable shelf.old) (S.account shelf.old) (S.faults shelf.old)) (shelf_model (S.observable shelf.new) (S.account shelf.new) (S.faults shelf.new))
+        (S.model shelf.old) (S.model shelf.new)
         × Reports (line_of status) (R.model report.old) (R.model report.new) }
+
+    // Where all was done nothing is reported.
+    ensures silent { result ≡ 0 → report.new ≡ report.old }
 {
     let status = attempt(alloc, words, line, shelf);
     tell(status, report)
@@ -55,7 +58,7 @@ fn attempt<N: Line<NoCount>, S: Shelf>(
 ) -> Status
     ensures idle { asked_of words.now ≡ None → (line.new ≡ line.old) × (shelf.new ≡ shelf.old) }
     ensures runs { Runs (asked_of words.now) result (N.model line.old) (N.model line.new)
-        (shelf_model (S.observable shelf.old) (S.account shelf.old) (S.faults shelf.old)) (shelf_model (S.observable shelf.new) (S.account shelf.new) (S.faults shelf.new)) }
+        (S.model shelf.old) (S.model shelf.new) }
 {
     match read_words(alloc, words) {
         Ok(asked) => perform(alloc, asked, line, shelf),
@@ -73,7 +76,7 @@ fn perform<N: Line<NoCount>, S: Shelf>(
 ) -> Status
     requires { IsPlace (place_by asked) }
     ensures { Performs asked result (N.model line.old) (N.model line.new)
-        (shelf_model (S.observable shelf.old) (S.account shelf.old) (S.faults shelf.old)) (shelf_model (S.observable shelf.new) (S.account shelf.new) (S.faults shelf.new)) }
+        (S.model shelf.old) (S.model shelf.new) }
 {
     let most = asked.connections;
     let Ok(place) = place_of(alloc, asked) else {
@@ -100,6 +103,7 @@ fn place_of(alloc: Global, asked: Asked) -> Result<Place, Memory>
 fn tell<R: Sink>(status: Status, report: &mut R) -> u8
     ensures code { result ≡ code_of status }
     ensures reports { Reports (line_of status) (R.model report.old) (R.model report.new) }
+    ensures silent { result ≡ 0 → report.new ≡ report.old }
 {
     if let Status::Done = status {
         return 0;

@@ -2,9 +2,9 @@
 ghost use Rattle.std.specs.Prelude.{◌≡◌, false, codes, map, option_and_then, option_map, string_bytes, IfOk, Some};
 ghost use Rattle.std.specs.List.{list_all};
 ghost use Rattle.clap.specs.Words.{app_of, found_of, kind_of, rows_of, rule_of};
-ghost use Rattle.clap.specs.Simple.{new_app, on_top};
+ghost use Rattle.clap.specs.Simple.{new_app, on_top, with_rule};
 ghost use Rattle.gate_base.specs.Ascii.{is_digit};
-ghost use Rattle.swift_wire.specs.Place.{IsPlace};
+ghost use Rattle.swift_requests.specs.Place.{IsPlace};
 ghost use Rattle.store_cmd.specs.Run.{place_by};
 ghost use Rattle.store_cmd.specs.Words.{FaultOf, Parses, ReadsWords, asked_by, asked_in, asked_of, asked_with, count_in, is_count, is_name, is_name_byte, is_number, needed_rule, store_app, with_settings};
 ghost use Rattle.store_cmd.specs.declared.words.WordsFault.TheVariants as faults;
@@ -79,10 +79,22 @@ fn parse<'a>(alloc: Global, words: &'a [String]) -> Result<ArgMatches<'a>, Words
 fn described<'a>(alloc: Global) -> Result<Command<'a>, AllocError>
     ensures { IfOk result (λ command. app_of command ≡ store_app) }
 {
-    let token = needed(alloc, "token");
-    let account = needed(alloc, "account");
-    let connections = needed(alloc, "connections");
-    named(alloc).arg(token)?.arg(account)?.arg(connections)
+    let bare = named(alloc);
+    let one = with_needed(alloc, bare, "token")?;
+    let two = with_needed(alloc, one, "account")?;
+    with_needed(alloc, two, "connections")
+}
+
+/// A command with one more option, which has to be given.
+fn with_needed<'a>(
+    alloc: Global,
+    command: Command<'a>,
+    name: &'a str,
+) -> Result<Command<'a>, AllocError>
+    ensures { IfOk result (λ more. app_of more ≡ with_rule (app_of command.entry) (needed_rule name.entry.now)) }
+{
+    let option = needed(alloc, name);
+    command.arg(option)
 }
 
 /// The program, whose words begin behind its name.

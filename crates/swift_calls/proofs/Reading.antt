@@ -26,13 +26,13 @@ reads_leave (HeadObject c n) tree is = refl
 reads_leave (GetObject c n range) tree is = refl
 reads_leave (DeleteObject c n) tree is = absurd (true≢false (sym is))
 
-either_keeps : (h : History) (p q : ℕ) (request : SwiftRequest) → only_reads request ≡ true → Either h p q request → h.tree_at q ≡ h.tree_at p
+either_keeps : (h : History) (p q : ℕ) (request : SwiftRequest) → only_reads request ≡ true → Either h p q request → h.account_at q ≡ h.account_at p
 either_keeps h p q request is (inl same) = same
-either_keeps h p q request is (inr done) = done ∙ reads_leave request (h.tree_at p) is
+either_keeps h p q request is (inr done) = done ∙ reads_leave request (h.account_at p) is
 
-pub reads_keep : (h : History) (p q : ℕ) (request : SwiftRequest) (result : Result SwiftReply SwiftFault) → only_reads request ≡ true → Called h p q request result → h.tree_at q ≡ h.tree_at p
-reads_keep h p q request (Ok reply) is called = called.tree ∙ reads_leave request (h.tree_at p) is
+pub reads_keep : (h : History) (p q : ℕ) (request : SwiftRequest) (result : Result SwiftReply SwiftFault) → only_reads request ≡ true → Called h p q request result → h.account_at q ≡ h.account_at p
+reads_keep h p q request (Ok reply) is called = called.tree ∙ reads_leave request (h.account_at p) is
 reads_keep h p q request (Err Failed) is (inl lost) = either_keeps h p q request is lost.either
-reads_keep h p q request (Err Failed) is (inr spent) = ap h.tree_at spent.1
+reads_keep h p q request (Err Failed) is (inr spent) = ap h.account_at spent.1
 reads_keep h p q request (Err Memory) is (inl unread) = either_keeps h p q request is unread.either
-reads_keep h p q request (Err Memory) is (inr same) = ap h.tree_at same
+reads_keep h p q request (Err Memory) is (inr same) = ap h.account_at same

@@ -23,8 +23,8 @@ use Rattle.swift_calls.proofs.lemmas.Outcomes.{all_answered}
 use Rattle.swift_calls.proofs.Replaying.{replayed_more}
 use Rattle.swift_calls.proofs.Serving.{tree_served}
 
-abbrev account_at : Account → List Entry → ℕ → Account
-account_at first log k = replayed first (take k log)
+abbrev account_by : Account → List Entry → ℕ → Account
+account_by first log k = replayed first (take k log)
 
 abbrev entry : SwiftRequest → Outcome → Entry
 entry request outcome = record { request = request; outcome = outcome }
@@ -36,10 +36,10 @@ length_logged : (log : List Entry) (request : SwiftRequest) (outcome : Outcome) 
 length_logged log request outcome = length-append log _
 
 -- before the call that is recorded last, and after it
-at_old : (first : Account) (log : List Entry) (request : SwiftRequest) (outcome : Outcome) → account_at first (logged log request outcome) (length log) ≡ account_at first log (length log)
+at_old : (first : Account) (log : List Entry) (request : SwiftRequest) (outcome : Outcome) → account_by first (logged log request outcome) (length log) ≡ account_by first log (length log)
 at_old first log request outcome = ap (replayed first) (take-append_seam log _ ∙ sym (take-length log))
 
-at_new : (first : Account) (log : List Entry) (request : SwiftRequest) (outcome : Outcome) → account_at first (logged log request outcome) (length (logged log request outcome)) ≡ left_by outcome request (account_at first log (length log))
+at_new : (first : Account) (log : List Entry) (request : SwiftRequest) (outcome : Outcome) → account_by first (logged log request outcome) (length (logged log request outcome)) ≡ left_by outcome request (account_by first log (length log))
 at_new first log request outcome = ap (replayed first) (take-length _) ∙ replayed_more first log _ ∙ ap (λ l. left_by outcome request (replayed first l)) (sym (take-length log))
 
 counted : (log : List Entry) (request : SwiftRequest) (outcome : Outcome) → failures (take (length (logged log request outcome)) (logged log request outcome)) ≡ failures (take (length log) (logged log request outcome)) + cond (is_lost outcome) 1 0
@@ -49,14 +49,14 @@ counted log request outcome =
     ap failures (take-length (logged log request outcome)) ∙ one_more ∙ ap (λ n. n + cond (is_lost outcome) 1 0) (sym before)
 
 -- what a call answers and leaves, of accounts at the ends of the record
-goes_same : (first : Account) (request : SwiftRequest) (outcome : Outcome) (result : Result SwiftReply SwiftFault) (old new : List Entry) → Logs outcome request result old new → Goes outcome request result (account_at first old (length old)) (account_at first new (length new))
-goes_same first request outcome (Ok reply) old new logs = (logs.0, ap (λ l. account_at first l (length l)) logs.1 ∙ at_new first old request outcome ∙ ap (λ o. left_by o request (account_at first old (length old))) logs.0)
-goes_same first request outcome (Err Failed) old new logs = (logs.0, ap (λ l. account_at first l (length l)) logs.1 ∙ at_new first old request outcome)
-goes_same first request outcome (Err Memory) old new logs = ap (λ l. account_at first l (length l)) logs
+goes_same : (first : Account) (request : SwiftRequest) (outcome : Outcome) (result : Result SwiftReply SwiftFault) (old new : List Entry) → Logs outcome request result old new → Goes outcome request result (account_by first old (length old)) (account_by first new (length new))
+goes_same first request outcome (Ok reply) old new logs = (logs.0, ap (λ l. account_by first l (length l)) logs.1 ∙ at_new first old request outcome ∙ ap (λ o. left_by o request (account_by first old (length old))) logs.0)
+goes_same first request outcome (Err Failed) old new logs = (logs.0, ap (λ l. account_by first l (length l)) logs.1 ∙ at_new first old request outcome)
+goes_same first request outcome (Err Memory) old new logs = ap (λ l. account_by first l (length l)) logs
 
 -- the same where the first account is kept
-pub goes_by : (first first' : Account) → first' ≡ first → (request : SwiftRequest) (outcome : Outcome) (result : Result SwiftReply SwiftFault) (old new : List Entry) → Logs outcome request result old new → Goes outcome request result (account_at first old (length old)) (account_at first' new (length new))
-goes_by first first' same request outcome result old new logs = subst (λ f. Goes outcome request result (account_at first old (length old)) (account_at f new (length new))) (sym same) (goes_same first request outcome result old new logs)
+pub goes_by : (first first' : Account) → first' ≡ first → (request : SwiftRequest) (outcome : Outcome) (result : Result SwiftReply SwiftFault) (old new : List Entry) → Logs outcome request result old new → Goes outcome request result (account_by first old (length old)) (account_by first' new (length new))
+goes_by first first' same request outcome result old new logs = subst (λ f. Goes outcome request result (account_by first old (length old)) (account_by f new (length new))) (sym same) (goes_same first request outcome result old new logs)
 
 either_by : (request : SwiftRequest) (outcome : Outcome) (old new : Account) → new ≡ left_by outcome request old → (tree_of new ≡ tree_of old) ⊎ (tree_of new ≡ (swift_step request (tree_of old)).tree)
 either_by request Answered old new e = inr (ap tree_of e ∙ tree_served request old)
@@ -69,15 +69,15 @@ rose_by false n m is e = absurd (true≢false (sym is))
 
 -- the history of a store that began with this account, by the record of its calls
 abbrev told_by : Bool → Account → List Entry → History
-told_by sure first log = record { observable = true; sure = sure; called = length log; faults = failures log; tree_at = λ k. tree_of (account_at first log k); faults_at = λ k. failures (take k log) }
+told_by sure first log = record { observable = true; sure = sure; called = length log; faults = failures log; account_at = λ k. tree_of (account_by first log k); faults_at = λ k. failures (take k log) }
 
 abbrev TellsOf : Bool → Account → SwiftRequest → List Entry → List Entry → Result SwiftReply SwiftFault → Type 0
 TellsOf sure first request old new result = Called (told_by sure first new) (length old) (length new) request result
 
-answered : (sure : Bool) (first : Account) (request : SwiftRequest) (outcome : Outcome) (reply : SwiftReply) (old : List Entry) → outcome ≡ Answered → reply ≡ (swift_step request (tree_of (account_at first old (length old)))).reply → TellsOf sure first request old (logged old request outcome) (Ok reply)
+answered : (sure : Bool) (first : Account) (request : SwiftRequest) (outcome : Outcome) (reply : SwiftReply) (old : List Entry) → outcome ≡ Answered → reply ≡ (swift_step request (tree_of (account_by first old (length old)))).reply → TellsOf sure first request old (logged old request outcome) (Ok reply)
 answered sure first request outcome reply old is replies =
-    let before = account_at first old (length old) in
-    let from : tree_of (account_at first (logged old request outcome) (length old)) ≡ tree_of before = ap tree_of (at_old first old request outcome) in
+    let before = account_by first old (length old) in
+    let from : tree_of (account_by first (logged old request outcome) (length old)) ≡ tree_of before = ap tree_of (at_old first old request outcome) in
     record {
       next = length_logged old request outcome;
       reply = replies ∙ ap (λ t. (swift_step request t).reply) (sym from);

@@ -21,12 +21,12 @@ pub record History : Type 0 where
   pub sure : Bool
   pub called : ℕ
   pub faults : ℕ
-  pub tree_at : ℕ → SwiftAccount
+  pub account_at : ℕ → SwiftAccount
   pub faults_at : ℕ → ℕ
 
 -- the account as it is
 abbrev pub present : History → SwiftAccount
-present h = h.tree_at h.called
+present h = h.account_at h.called
 
 -- how a call is counted: by one. With no call left it fails and is not counted; where memory runs out it may not be
 abbrev pub Counts : ℕ → ℕ → Result SwiftReply SwiftFault → Type 0
@@ -42,18 +42,18 @@ CountsFaults before now (Err Memory) = now ≡ before
 
 -- up to the number c the history stays as it was told
 pub record Extends (c : ℕ) (old new : History) : Type 0 where
-  pub accounts : (k : ℕ) → k ≤ c → new.tree_at k ≡ old.tree_at k
+  pub accounts : (k : ℕ) → k ≤ c → new.account_at k ≡ old.account_at k
   pub counts : (k : ℕ) → k ≤ c → new.faults_at k ≡ old.faults_at k
 
 -- a call that was counted took no effect, or its whole effect
 abbrev pub Either : History → ℕ → ℕ → SwiftRequest → Type 0
-Either h p q request = (h.tree_at q ≡ h.tree_at p) ⊎ (h.tree_at q ≡ (swift_step request (h.tree_at p)).tree)
+Either h p q request = (h.account_at q ≡ h.account_at p) ⊎ (h.account_at q ≡ (swift_step request (h.account_at p)).tree)
 
 -- a call was answered
 pub record Replied (h : History) (p q : ℕ) (request : SwiftRequest) (answered : SwiftReply) : Type 0 where
   pub next : q ≡ p + 1
-  pub reply : answered ≡ (swift_step request (h.tree_at p)).reply
-  pub tree : h.tree_at q ≡ (swift_step request (h.tree_at p)).tree
+  pub reply : answered ≡ (swift_step request (h.account_at p)).reply
+  pub tree : h.account_at q ≡ (swift_step request (h.account_at p)).tree
   pub quiet : h.faults_at q ≡ h.faults_at p
 
 -- a call, or its answer, was lost

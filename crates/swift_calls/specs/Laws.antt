@@ -14,4 +14,4 @@ ReadsLeave = (request : SwiftRequest) (tree : SwiftAccount) → only_reads reque
 -- and so it does in each history, whatever came of it
 abbrev pub ReadsKeep : Type 0
 ReadsKeep = (h : History) (p q : ℕ) (request : SwiftRequest) (result : Result SwiftReply SwiftFault)
-    → only_reads request ≡ true → Called h p q request result → h.tree_at q ≡ h.tree_at p
+    → only_reads request ≡ true → Called h p q request result → h.account_at q ≡ h.account_at p

@@ -30,7 +30,7 @@ history_of m = record {
   sure = loses_none m.before m.after m.stop;
   called = calls_of m;
   faults = failures m.log.items;
-  tree_at = tree_after m;
+  account_at = tree_after m;
   faults_at = faults_after m;
 }
 

@@ -101,16 +101,7 @@ impl Copying for SwiftRequest {
                 prefix,
                 marker,
                 limit,
-            } => {
-                let container = container.copy()?;
-                let (prefix, marker) = copy_both(prefix, marker)?;
-                Ok(SwiftRequest::ListNames {
-                    container,
-                    prefix,
-                    marker,
-                    limit: *limit,
-                })
-            }
+            } => copy_list(container, prefix, marker, *limit),
             SwiftRequest::PutObject {
                 container,
                 name,
@@ -118,26 +109,13 @@ impl Copying for SwiftRequest {
                 meta,
                 body,
             } => copy_put(container, name, content_type, meta, body),
-            SwiftRequest::HeadObject { container, name } => {
-                let (container, name) = copy_both(container, name)?;
-                Ok(SwiftRequest::HeadObject { container, name })
-            }
+            SwiftRequest::HeadObject { container, name } => copy_head(container, name),
             SwiftRequest::GetObject {
                 container,
                 name,
                 range,
-            } => {
-                let (container, name) = copy_both(container, name)?;
-                Ok(SwiftRequest::GetObject {
-                    container,
-                    name,
-                    range: *range,
-                })
-            }
-            SwiftRequest::DeleteObject { container, name } => {
-                let (container, name) = copy_both(container, name)?;
-                Ok(SwiftRequest::DeleteObject { container, name })
-            }
+            } => copy_get(container, name, *range),
+            SwiftRequest::DeleteObject { container, name } => copy_delete(container, name),
         }
     }
 }
@@ -148,6 +126,53 @@ fn copy_both(first: &Bytes, second: &Bytes) -> Result<(Bytes, Bytes), Memory>
     let first = first.copy()?;
     let second = second.copy()?;
     Ok((first, second))
+}
+
+fn copy_list(
+    container: &Bytes,
+    prefix: &Bytes,
+    marker: &Bytes,
+    limit: u32,
+) -> Result<SwiftRequest, Memory>
+    ensures { IfOk result (λ copied. copied ≡ SwiftRequest.ListNames container.now prefix.now marker.now limit) }
+{
+    let container = container.copy()?;
+    let (prefix, marker) = copy_both(prefix, marker)?;
+    Ok(SwiftRequest::ListNames {
+        container,
+        prefix,
+        marker,
+        limit,
+    })
+}
+
+fn copy_head(container: &Bytes, name: &Bytes) -> Result<SwiftRequest, Memory>
+    ensures { IfOk result (λ copied. copied ≡ SwiftRequest.HeadObject container.now name.now) }
+{
+    let (container, name) = copy_both(container, name)?;
+    Ok(SwiftRequest::HeadObject { container, name })
+}
+
+fn copy_get(
+    container: &Bytes,
+    name: &Bytes,
+    range: Option<(u64, u64)>,
+) -> Result<SwiftRequest, Memory>
+    ensures { IfOk result (λ copied. copied ≡ SwiftRequest.GetObject container.now name.now range) }
+{
+    let (container, name) = copy_both(container, name)?;
+    Ok(SwiftRequest::GetObject {
+        container,
+        name,
+        range,
+    })
+}
+
+fn copy_delete(container: &Bytes, name: &Bytes) -> Result<SwiftRequest, Memory>
+    ensures { IfOk result (λ copied. copied ≡ SwiftRequest.DeleteObject container.now name.now) }
+{
+    let (container, name) = copy_both(container, name)?;
+    Ok(SwiftRequest::DeleteObject { container, name })
 }
 
 fn copy_put(

@@ -1,12 +1,13 @@
 //! Whether a call is within the limits of a store.
-ghost use Rattle.std.specs.Prelude.{◌≡◌, ◌↔◌, IsTrue, IfSome, IsUtf8, Contains};
+ghost use Rattle.std.specs.Prelude.{◌≡◌, ◌≤◌, ◌↔◌, length, IsTrue, IfSome, IsUtf8, Contains};
 ghost use Rattle.std.specs.List.{list_all};
 ghost use Rattle.gate_base.specs.Fields.{is_field};
-ghost use Rattle.swift_calls.specs.Limits.{IsText, IsObjectName, IsMarker, IsLimit, IsRange, is_meta};
+ghost use Rattle.swift_calls.specs.Limits.{IsText, IsObjectName, IsMarker, IsLimit, IsRange, is_content_type, is_meta, most_body};
 ghost use Rattle.swift_calls.specs.Step.{IsContainerName, IsMoment, Fit};
+ghost use Rattle.swift_calls.specs.declared.calls.SwiftRequest.TheVariants as asked;
 
 use crate::SwiftRequest;
-use gate_base::{Bytes, is_field};
+use gate_base::{Bytes, List, is_field};
 
 /// The greatest body that a call puts, in bytes: 16 MiB.
 pub const MOST_BODY: usize = 16_777_216;
@@ -88,6 +89,56 @@ fn is_meta(pieces: &[Bytes]) -> bool
     pieces.len() <= 11 && are_fields(pieces)
 }
 
+fn is_page(marker: &Bytes, limit: u32) -> bool
+    ensures { IsTrue result ↔ (IsMarker marker.now × IsLimit limit) }
+{
+    is_marker(marker.as_slice()) && is_limit(limit)
+}
+
+fn is_place(container: &Bytes, name: &Bytes) -> bool
+    ensures { IsTrue result ↔ (IsContainerName container.now × IsObjectName name.now) }
+{
+    is_container_name(container.as_slice()) && is_object_name(name.as_slice())
+}
+
+fn is_content(content_type: &Bytes, meta: &List<Bytes>, body: &Bytes) -> bool
+    ensures { IsTrue result ↔ (IsTrue (is_content_type content_type.now) × IsTrue (is_meta meta.now) × (length body.now ≤ most_body)) }
+{
+    is_field(content_type.as_slice(), 512) && is_meta(meta.as_slice()) && body.len() <= MOST_BODY
+}
+
+fn makes_fit(container: &Bytes, created: Option<u64>) -> bool
+    ensures { IsTrue result ↔ (IsContainerName container.now × IfSome created IsMoment) }
+{
+    is_container_name(container.as_slice()) && is_moment(created)
+}
+
+fn lists_fit(container: &Bytes, prefix: &Bytes, marker: &Bytes, limit: u32) -> bool
+    ensures { IsTrue result ↔ Fit (asked.ListNames container.now prefix.now marker.now limit) }
+{
+    is_container_name(container.as_slice())
+        && is_marker(prefix.as_slice())
+        && is_page(marker, limit)
+}
+
+fn puts_fit(
+    container: &Bytes,
+    name: &Bytes,
+    content_type: &Bytes,
+    meta: &List<Bytes>,
+    body: &Bytes,
+) -> bool
+    ensures { IsTrue result ↔ Fit (asked.PutObject container.now name.now content_type.now meta.now body.now) }
+{
+    is_place(container, name) && is_content(content_type, meta, body)
+}
+
+fn gets_fit(container: &Bytes, name: &Bytes, range: Option<(u64, u64)>) -> bool
+    ensures { IsTrue result ↔ Fit (asked.GetObject container.now name.now range) }
+{
+    is_place(container, name) && is_range(range)
+}
+
 /// Whether a call is within the limits: names of containers have 1 to 256 bytes, of objects 1 to 1024, prefixes and
 /// markers at most 1028, all of UTF-8 without byte 0; a content type has 1 to 512 bytes, and each of at most 11
 /// pieces of metadata 1 to 256, of visible ASCII and spaces without a space at either end; a body has at most
@@ -97,15 +148,13 @@ pub fn is_fit(request: &SwiftRequest) -> bool
     ensures { IsTrue result ↔ Fit request.now }
 {
     match request {
-        SwiftRequest::ListContainers { marker, limit } => {
-            is_marker(marker.as_slice()) && is_limit(*limit)
-        }
+        SwiftRequest::ListContainers { marker, limit } => is_page(marker, *limit),
         SwiftRequest::HeadContainer { container } => is_container_name(container.as_slice()),
         SwiftRequest::PutContainer {
             container,
             created,
             ..
-        } => is_container_name(container.as_slice()) && is_moment(*created),
+        } => makes_fit(container, *created),
         SwiftRequest::PostContainer { container, .. } => is_container_name(container.as_slice()),
         SwiftRequest::DeleteContainer { container } => is_container_name(container.as_slice()),
         SwiftRequest::ListNames {
@@ -113,39 +162,20 @@ pub fn is_fit(request: &SwiftRequest) -> bool
             prefix,
             marker,
             limit,
-        } => {
-            is_container_name(container.as_slice())
-                && is_marker(prefix.as_slice())
-                && is_marker(marker.as_slice())
-                && is_limit(*limit)
-        }
+        } => lists_fit(container, prefix, marker, *limit),
         SwiftRequest::PutObject {
             container,
             name,
             content_type,
             meta,
             body,
-        } => {
-            is_container_name(container.as_slice())
-                && is_object_name(name.as_slice())
-                && is_field(content_type.as_slice(), 512)
-                && is_meta(meta.as_slice())
-                && body.len() <= MOST_BODY
-        }
-        SwiftRequest::HeadObject { container, name } => {
-            is_container_name(container.as_slice()) && is_object_name(name.as_slice())
-        }
+        } => puts_fit(container, name, content_type, meta, body),
+        SwiftRequest::HeadObject { container, name } => is_place(container, name),
         SwiftRequest::GetObject {
             container,
             name,
             range,
-        } => {
-            is_container_name(container.as_slice())
-                && is_object_name(name.as_slice())
-                && is_range(*range)
-        }
-        SwiftRequest::DeleteObject { container, name } => {
-            is_container_name(container.as_slice()) && is_object_name(name.as_slice())
-        }
+        } => gets_fit(container, name, *range),
+        SwiftRequest::DeleteObject { container, name } => is_place(container, name),
     }
 }

@@ -5,6 +5,7 @@ ghost use Rattle.std.specs.Option.{option_map};
 ghost use Rattle.gate_base.specs.Named.{has_name, named, changed};
 ghost use Rattle.swift_calls.specs.Account.{tree_of, file_of, IsOrdered, IsSized};
 ghost use Rattle.swift_calls.specs.Step.{swift_step, put_object};
+ghost use Rattle.swift_calls.specs.declared.account.Content.TheVariants.{Plain};
 ghost use Rattle.swift_calls.specs.Lists.{served, name_of, object_name, is_nil, without, with_object, listed, AreOrdered, AreSized};
 
 use crate::listing::{list_containers, list_objects};
@@ -257,6 +258,23 @@ fn serve_delete_object(
     }
 }
 
+/// An object with these bytes of its own.
+fn plain_object(
+    name: &Bytes,
+    content_type: &Bytes,
+    meta: &List<Bytes>,
+    body: &Bytes,
+) -> Result<Stored, Memory>
+    ensures { IfOk result (λ object. object ≡ record { name = name.now; content_type = content_type.now; meta = meta.now; content = Plain body.now }) }
+{
+    Ok(Stored {
+        name: name.copy()?,
+        content_type: content_type.copy()?,
+        meta: meta.copy()?,
+        content: Content::Plain(body.copy()?),
+    })
+}
+
 /// Makes a call on an account. Where memory runs out, nothing changes.
 pub(crate) fn serve(
     alloc: Global,
@@ -312,12 +330,7 @@ pub(crate) fn serve(
             meta,
             body,
         } => {
-            let object = Stored {
-                name: name.copy()?,
-                content_type: content_type.copy()?,
-                meta: meta.copy()?,
-                content: Content::Plain(body.copy()?),
-            };
+            let object = plain_object(name, content_type, meta, body)?;
             serve_put_object(alloc, containers, container.as_slice(), object)
         }
         SwiftRequest::HeadObject { container, name } => {

@@ -13,12 +13,12 @@ use Rattle.swift_calls.specs.declared.calls.SwiftReply.{SwiftReply}
 use Rattle.swift_calls.specs.declared.calls.SwiftReply.TheVariants.{NotFound}
 use Rattle.swift_calls.specs.declared.calls.SwiftFault.{SwiftFault}
 use Rattle.swift_calls.specs.declared.calls.SwiftFault.TheVariants.{Failed, Memory}
-use Rattle.swift_wire.specs.Answers.{SpellsAnswer, reply_of, said}
-use Rattle.swift_wire.specs.Calls.{SpellsRequest}
-use Rattle.swift_wire.specs.Link.{Exchanges, Exchanged}
-use Rattle.swift_wire.specs.declared.place.Place.{Place}
-use Rattle.swift_wire.specs.declared.link.LinkFault.{LinkFault}
-use Rattle.swift_wire.specs.declared.link.LinkFault.TheVariants.{Failed as NoLink, Memory as NoMemory}
+use Rattle.swift_replies.specs.Answers.{SpellsAnswer, reply_of, said}
+use Rattle.swift_requests.specs.Calls.{SpellsRequest}
+use Rattle.swift_requests.specs.Link.{Exchanges, Exchanged}
+use Rattle.swift_requests.specs.declared.place.Place.{Place}
+use Rattle.swift_requests.specs.declared.link.LinkFault.{LinkFault}
+use Rattle.swift_requests.specs.declared.link.LinkFault.TheVariants.{Failed as NoLink, Memory as NoMemory}
 use Rattle.swift_client.specs.Client.{is_same_place, is_clean, history_over, ReadsAs}
 
 -- ---- what it is to be observable

@@ -3,8 +3,8 @@ use Rattle.std.specs.Prelude.{◌≡◌, ℕ, Bool, true, List, [], codes}
 use Rattle.std.proofs.Common.{refl, sym, subst}
 use Rattle.swift_calls.specs.Account.{SwiftAccount}
 use Rattle.swift_calls.specs.History.{History}
-use Rattle.swift_wire.specs.Place.{IsPlace}
-use Rattle.swift_wire.specs.declared.place.Place.{Place}
+use Rattle.swift_requests.specs.Place.{IsPlace}
+use Rattle.swift_requests.specs.declared.place.Place.{Place}
 use Rattle.swift_store.specs.Log.{IsFresh, is_sure_by}
 
 -- the client's history is the link's, and the store's shelf the one that was given

@@ -5,8 +5,8 @@ use Rattle.swift_calls.specs.declared.calls.SwiftRequest.{SwiftRequest}
 use Rattle.swift_calls.specs.declared.calls.SwiftReply.{SwiftReply}
 use Rattle.swift_calls.specs.declared.calls.SwiftFault.{SwiftFault}
 use Rattle.swift_calls.specs.declared.calls.SwiftFault.TheVariants.{Failed, Memory}
-use Rattle.swift_wire.specs.Answers.{SpellsAnswer}
-use Rattle.swift_wire.specs.declared.place.Place.{Place}
+use Rattle.swift_replies.specs.Answers.{SpellsAnswer}
+use Rattle.swift_requests.specs.declared.place.Place.{Place}
 
 abbrev pub is_same_place : Place → Place → Bool
 is_same_place a b = bytes_eq a.host b.host && (bytes_eq a.account b.account && bytes_eq a.token b.token)

@@ -5,14 +5,15 @@ ghost use Rattle.std.proofs.Math.Nat.{add-zero};
 ghost use Rattle.std.proofs.lemmas.Bool.{and_parts, eqb-true, lt-ltb};
 ghost use Rattle.swift_calls.specs.History.{CountsFaults, budget};
 ghost use Rattle.swift_calls.specs.Step.{Fit};
-ghost use Rattle.swift_wire.specs.Place.{IsPlace};
+ghost use Rattle.swift_requests.specs.Place.{IsPlace};
 ghost use Rattle.swift_client.specs.Client.{history_over, ReadsAs};
 
 use gate_base::{Bytes, CALL_LIMIT, Counted};
 use std::alloc::Global;
-use std::mem::swap;
+use std::mem::replace;
 use swift_calls::{Swift, SwiftFault, SwiftReply, SwiftRequest};
-use swift_wire::{Link, LinkFault, Place, WireFault, read_answer, write_call};
+use swift_replies::{WireFault, read_answer};
+use swift_requests::{Link, LinkFault, Place, write_call};
 
 /// A Swift store over a link. Each call is one exchange, so its calls are those of the link.
 ///
@@ -24,7 +25,7 @@ pub struct SwiftClient<L: Link> {
     link: L,
     place: Place,
     alloc: Global,
-    /// The last answer.
+    /// The answer to the call at hand. It is let go once it was read.
     reply: Bytes,
     unread: Bytes,
     /// The answers that spelled nothing, and the calls made when none was left.
@@ -68,12 +69,13 @@ impl<L: Link> SwiftClient<L> {
         ensures own { CountsFaults self.old.own self.new.own result }
         ensures unread { IsErrOf result SwiftFault.Failed → self.new.unread ≡ self.old.reply }
     {
-        match read_answer(self.alloc, request, self.reply.as_slice()) {
+        let answer = replace(&mut self.reply, Bytes::new(self.alloc));
+        match read_answer(self.alloc, request, answer.as_slice()) {
             Ok(reply) => Ok(reply),
             Err(WireFault::Memory) => Err(SwiftFault::Memory),
             Err(WireFault::NotACall) => unreachable!(),
             Err(WireFault::NotAnAnswer) => {
-                swap(&mut self.unread, &mut self.reply);
+                self.unread = answer;
                 self.own = self.own.saturating_add(1);
                 Err(SwiftFault::Failed)
             }

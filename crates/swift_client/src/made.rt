@@ -1,7 +1,7 @@
 //! A store at the end of a TCP connection, and one over a shelf that is at hand.
 ghost use Rattle.std.specs.Prelude.{◌≡◌, true, IfOk};
 ghost use Rattle.std.specs.FinMap.{empty};
-ghost use Rattle.swift_wire.specs.Place.{IsPlace};
+ghost use Rattle.swift_requests.specs.Place.{IsPlace};
 ghost use Rattle.swift_store.specs.Log.{IsFresh, is_sure_by};
 ghost use Rattle.swift_client.specs.Silent.{silent_history};
 
@@ -10,8 +10,8 @@ use gate_base::{Bytes, Copying, List, Memory};
 use std::alloc::Global;
 use std::net::Net;
 use swift_calls::Swift;
+use swift_requests::Place;
 use swift_store::{MapShelf, Shelf, Store, StoreLink};
-use swift_wire::Place;
 
 /// The store at the address that the host of `place` gives, with the account and the token of `place`. The first call
 /// makes the connection. `limit` is the limit of time of the link, in seconds.
@@ -42,7 +42,7 @@ pub fn client_over<S: Shelf + Drop>(
     after: List<u64>,
 ) -> Result<SwiftClient<StoreLink<S>>, Memory>
     requires { IsPlace place }
-    ensures fresh { IfOk result (λ store. IsFresh (S.observable shelf) (is_sure_by (S.sure shelf) before after) (S.account shelf) (⟦<SwiftClient<StoreLink<S>> as Swift>⟧.history store)) }
+    ensures fresh { IfOk result (λ store. IsFresh (S.model shelf).observable (is_sure_by (S.model shelf).sure before after) (S.model shelf).account (⟦<SwiftClient<StoreLink<S>> as Swift>⟧.history store)) }
     ensures before { IfOk result (λ store. store.link.before ≡ before) }
     ensures after { IfOk result (λ store. store.link.after ≡ after) }
     ensures place { IfOk result (λ store. store.place ≡ place) }

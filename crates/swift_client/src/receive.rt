@@ -2,10 +2,10 @@
 ghost use Rattle.std.specs.Prelude.{◌≡◌, ◌≤◌, ◌<◌, ◌+◌, vec_len, IfOk};
 
 use gate_base::Bytes;
+use http_answers::{Announced, read_front};
 use std::alloc::Global;
 use std::io;
 use std::io::{ErrorKind, Read};
-use swift_wire::{Announced, read_front};
 
 /// The bytes of a head, at most.
 const HEAD_LIMIT: usize = 65_536;
@@ -15,6 +15,10 @@ const HEAD_LIMIT: usize = 65_536;
 const FRONT: usize = 16_384;
 
 const PIECE: usize = 65_536;
+
+/// The bytes of a head and a body together, at most: no answer to a call of ours has more. The longest are the bytes of an
+/// object, 16 MiB, and a page of names.
+const MOST: u64 = 67_108_864;
 
 /// A whole answer, and whether the connection may serve another exchange.
 #[derive(Drop)]
@@ -82,11 +86,12 @@ fn receive_some<S: Read>(stream: &mut S, answer: &mut Vec<u8>, most: usize) -> i
     Ok(count)
 }
 
-/// How many bytes a head and a body have together. More than a `usize` counts is an error.
+/// How many bytes a head and a body have together. More than [`MOST`] is an error, so that a store which announces what no
+/// answer has is not asked for it, and no memory is taken for it.
 fn whole(head: usize, body: u64) -> io::Result<usize> {
     match (head as u64).checked_add(body) {
-        Some(size) => Ok(size as usize),
-        None => Err(io::Error::from(ErrorKind::InvalidData)),
+        Some(size) if size <= MOST => Ok(size as usize),
+        _ => Err(io::Error::from(ErrorKind::InvalidData)),
     }
 }
 

@@ -11,7 +11,7 @@ use std::io;
 use std::io::{ErrorKind, Write};
 use std::net::{Net, OpenStream, ToSocketAddrs};
 use std::time::Duration;
-use swift_wire::{Link, LinkFault};
+use swift_requests::{Link, LinkFault};
 
 /// Exchanges with the store at an address, one after the other, over a connection that is kept from one to the next.
 ///

@@ -10,11 +10,11 @@ use Rattle.http_wire.proofs.lemmas.UniqueLemmas.{one_spelling}
 use Rattle.swift_calls.specs.Account.{SwiftAccount}
 use Rattle.swift_calls.specs.Step.{swift_step}
 use Rattle.swift_calls.specs.declared.calls.SwiftRequest.{SwiftRequest}
-use Rattle.swift_wire.specs.Answers.{SpellsAnswer}
-use Rattle.swift_wire.specs.AnswerText.{answer_text}
-use Rattle.swift_wire.specs.Calls.{SpellsCall, SpellsRequest}
-use Rattle.swift_wire.specs.Place.{HasToken}
-use Rattle.swift_wire.specs.declared.place.Place.{Place}
+use Rattle.swift_replies.specs.Answers.{SpellsAnswer}
+use Rattle.swift_replies.specs.AnswerText.{answer_text}
+use Rattle.swift_requests.specs.Calls.{SpellsCall, SpellsRequest}
+use Rattle.swift_requests.specs.Place.{HasToken}
+use Rattle.swift_requests.specs.declared.place.Place.{Place}
 use Rattle.swift_store.specs.Handing.{Hands}
 use Rattle.swift_store.specs.Serving.{Answers, Served}
 use Rattle.swift_store.specs.declared.faults.StoreFault.{StoreFault}

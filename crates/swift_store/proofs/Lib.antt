@@ -1,4 +1,5 @@
 pub mod Alone
+pub mod Calls
 pub mod Entries
 pub mod Handed
 pub mod Listing

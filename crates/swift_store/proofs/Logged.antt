@@ -18,12 +18,12 @@ use Rattle.swift_calls.specs.declared.calls.SwiftRequest.{SwiftRequest}
 use Rattle.swift_calls.specs.declared.memory.Outcome.{Outcome}
 use Rattle.swift_calls.specs.declared.memory.Outcome.TheVariants.{Answered}
 use Rattle.swift_calls.proofs.lemmas.Outcomes.{all_answered}
-use Rattle.swift_wire.specs.Answers.{SpellsAnswer}
-use Rattle.swift_wire.specs.Calls.{SpellsRequest}
-use Rattle.swift_wire.specs.Link.{Exchanges}
-use Rattle.swift_wire.specs.declared.place.Place.{Place}
-use Rattle.swift_wire.specs.declared.link.LinkFault.{LinkFault}
-use Rattle.swift_wire.specs.declared.link.LinkFault.TheVariants.{Failed as NoLink, Memory as NoMemory}
+use Rattle.swift_replies.specs.Answers.{SpellsAnswer}
+use Rattle.swift_requests.specs.Calls.{SpellsRequest}
+use Rattle.swift_requests.specs.Link.{Exchanges}
+use Rattle.swift_requests.specs.declared.place.Place.{Place}
+use Rattle.swift_requests.specs.declared.link.LinkFault.{LinkFault}
+use Rattle.swift_requests.specs.declared.link.LinkFault.TheVariants.{Failed as NoLink, Memory as NoMemory}
 use Rattle.swift_store.specs.Handing.{Hands}
 use Rattle.swift_store.specs.Log.{state_at, lost_after, history_by, is_sure_by}
 

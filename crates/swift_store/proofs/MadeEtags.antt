@@ -16,8 +16,8 @@ use Rattle.md5.proofs.StandardFacts.{length-md5}
 use Rattle.hex.specs.Hex.{lower_digits, encode_with, encode_lower}
 use Rattle.hex.proofs.HexLemmas.{length-encode_with}
 use Rattle.swift_calls.specs.Bodies.{etag_text}
-use Rattle.swift_wire.specs.Fields.{is_tag_byte}
-use Rattle.swift_wire.specs.AnswerText.{is_tag}
+use Rattle.swift_replies.specs.Fields.{is_tag_byte}
+use Rattle.swift_replies.specs.AnswerText.{is_tag}
 
 -- ---- the bytes of a hash
 

@@ -20,8 +20,8 @@ use Rattle.swift_calls.specs.Step.{IsMoment, is_bare, is_listed, names_reply, it
 use Rattle.swift_calls.specs.declared.account.ReadList.{ReadList}
 use Rattle.swift_calls.specs.declared.account.Content.{Content}
 use Rattle.swift_calls.specs.declared.account.Content.TheVariants.{Plain, Segments}
-use Rattle.swift_wire.specs.Answers.{is_part}
-use Rattle.swift_wire.specs.AnswerText.{
+use Rattle.swift_replies.specs.Answers.{is_part}
+use Rattle.swift_replies.specs.AnswerText.{
   Sent,
   is_created,
   is_item,
@@ -35,7 +35,7 @@ use Rattle.swift_wire.specs.AnswerText.{
   head_object_sent,
   get_sent,
 }
-use Rattle.swift_wire.proofs.lemmas.SmallHeads.{IsSmallHead, stored_spelled, head_spelled, bytes_spelled}
+use Rattle.swift_replies.proofs.lemmas.SmallHeads.{IsSmallHead, stored_spelled, head_spelled, bytes_spelled}
 use Rattle.swift_store.specs.Made.{IsMade, IsMadeObject}
 use Rattle.swift_store.proofs.MadeChanges.{made_found}
 use Rattle.swift_store.proofs.MadeEntries.{IsEntry, entries_found, page_passes}

@@ -10,7 +10,7 @@ use Rattle.swift_calls.specs.Step.{swift_step}
 use Rattle.swift_calls.specs.declared.calls.SwiftRequest.{SwiftRequest}
 use Rattle.swift_calls.specs.declared.memory.Outcome.{Outcome}
 use Rattle.swift_calls.specs.declared.memory.Outcome.TheVariants.{Answered, LostBefore, LostAfter}
-use Rattle.swift_wire.specs.Answers.{SpellsAnswer}
+use Rattle.swift_replies.specs.Answers.{SpellsAnswer}
 
 -- the one message that the bytes are, from the first to the last; or they are none
 abbrev pub IsMessageIn : List ℕ → Option Message → Type 0

@@ -1,9 +1,15 @@
 -- What a link tells that wrote down what each exchange found, and whether it was lost. E is an entry of its log, and T what
 -- an exchange finds. Source: this profile.
-use Rattle.std.specs.Prelude.{◌≡◌, ℕ, zero, suc, Bool, ◌&&◌, List, [], ◌∷◌, length, take, count_by}
+use Rattle.std.specs.Prelude.{◌≡◌, ℕ, zero, suc, Bool, ◌&&◌, List, [], ◌∷◌, length, take, count_by, Result, OnOk, IsErrOf}
+use Rattle.gate_base.specs.Causes.{Rose}
 use Rattle.swift_calls.specs.Account.{SwiftAccount}
 use Rattle.swift_calls.specs.History.{History, present}
-use Rattle.swift_calls.specs.Replay.{loses_none}
+use Rattle.swift_calls.specs.Replay.{loses_none, outcome_at}
+use Rattle.swift_calls.specs.declared.memory.Outcome.{Outcome}
+use Rattle.swift_calls.specs.declared.memory.Outcome.TheVariants.{Answered, LostBefore}
+use Rattle.swift_requests.specs.declared.link.LinkFault.{LinkFault}
+use Rattle.swift_requests.specs.declared.link.LinkFault.TheVariants.{Failed}
+use Rattle.swift_store.specs.Shelf.{ShelfModel}
 
 -- a history at its beginning: no call was counted, none failed, it is observable and sure as is said, and the account is this
 -- one
@@ -35,6 +41,24 @@ history_by told account was lost sure log now = record {
   sure = sure;
   called = length log;
   faults = count_by lost log;
-  tree_at = λ k. account (state_at was log now k);
+  account_at = λ k. account (state_at was log now k);
   faults_at = λ k. lost_after lost log k;
 }
+
+-- ---- which exchanges fail
+
+-- the numbers of the exchanges that lose their request, and of those that lose their answer
+pub record Losses : Type 0 where
+  pub before : List ℕ
+  pub after : List ℕ
+
+-- how the exchange of a number goes
+abbrev pub planned : Losses → ℕ → Outcome
+planned losses number = outcome_at losses.before losses.after 0 number
+
+-- an exchange went as was planned: it was answered only where no message was to be lost; it failed where none was to be only
+-- with a higher count of faults of the shelf; and a request that was to be lost left the shelf as it was
+pub record GoesAs (outcome : Outcome) (result : Result (Unit {0}) LinkFault) (old new : ShelfModel) : Type 0 where
+  pub answered : OnOk result (outcome ≡ Answered)
+  pub failed : IsErrOf result Failed → outcome ≡ Answered → Rose old.faults new.faults
+  pub unsent : outcome ≡ LostBefore → new ≡ old

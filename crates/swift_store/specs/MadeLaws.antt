@@ -3,7 +3,7 @@ use Rattle.std.specs.Prelude.{◌≡◌, true}
 use Rattle.swift_calls.specs.Account.{SwiftAccount}
 use Rattle.swift_calls.specs.Step.{Fit, swift_step}
 use Rattle.swift_calls.specs.declared.calls.SwiftRequest.{SwiftRequest}
-use Rattle.swift_wire.specs.AnswerText.{is_spelled}
+use Rattle.swift_replies.specs.AnswerText.{is_spelled}
 use Rattle.swift_store.specs.Made.{IsMade}
 
 -- each such call leaves such an account

@@ -20,10 +20,10 @@ use Rattle.swift_calls.specs.declared.calls.SwiftRequest.TheVariants.{
 }
 use Rattle.swift_calls.specs.declared.calls.SwiftReply.{SwiftReply}
 use Rattle.swift_calls.specs.declared.calls.SwiftReply.TheVariants as replies
-use Rattle.swift_wire.specs.AnswerText.{answer_text, refusal}
-use Rattle.swift_wire.specs.Calls.{SpellsCall}
-use Rattle.swift_wire.specs.Place.{HasToken}
-use Rattle.swift_wire.specs.declared.place.Place.{Place}
+use Rattle.swift_replies.specs.AnswerText.{answer_text, refusal}
+use Rattle.swift_requests.specs.Calls.{SpellsCall}
+use Rattle.swift_requests.specs.Place.{HasToken}
+use Rattle.swift_requests.specs.declared.place.Place.{Place}
 use Rattle.swift_store.specs.declared.faults.StoreFault.{StoreFault}
 use Rattle.swift_store.specs.declared.faults.StoreFault.TheVariants.{Failed, Memory}
 
@@ -54,6 +54,10 @@ TagsBody (PutObject container name content_type meta body) reply = TagsWith body
 TagsBody (HeadObject container name) reply = Unit {0}
 TagsBody (GetObject container name range) reply = Unit {0}
 TagsBody (DeleteObject container name) reply = Unit {0}
+
+-- the reply to a call of an account
+abbrev pub IsReply : SwiftRequest → SwiftAccount → SwiftReply → Type 0
+IsReply call account reply = reply ≡ (swift_step call account).reply
 
 -- from where to where an object of a size is read; nothing where the range begins past its end
 abbrev pub bounds : Option (ℕ × ℕ) → ℕ → Option (ℕ × ℕ)

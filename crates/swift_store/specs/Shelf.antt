@@ -1,6 +1,6 @@
 -- What the calls of a shelf tell and do, in the words of a store's step. Source: Object Storage API v1; that a shelf may
 -- fail is this profile's.
-use Rattle.std.specs.Prelude.{◌≡◌, ◌⊎◌, ℕ, ◌&&◌, nat_le, cond, List, [], slice_range, length, Option, None, Some, Result, Ok, Err}
+use Rattle.std.specs.Prelude.{◌≡◌, ◌⊎◌, ℕ, Bool, ◌&&◌, nat_le, cond, List, [], slice_range, length, Option, None, Some, Result, Ok, Err, IsTrue, IfOk, IsErrOf}
 use Rattle.std.specs.FinMap.{entries, get}
 use Rattle.gate_base.specs.Causes.{Rose}
 use Rattle.gate_base.specs.Maps.{Names}
@@ -15,17 +15,41 @@ use Rattle.swift_calls.specs.declared.heads.NameItem.{NameItem}
 use Rattle.swift_store.specs.declared.faults.StoreFault.{StoreFault}
 use Rattle.swift_store.specs.declared.faults.StoreFault.TheVariants.{Failed, Memory}
 
+-- what a shelf tells of itself: whether it never fails, its count of faults, whether it tells the account, and this
+pub record ShelfModel : Type 0 where
+  pub sure : Bool
+  pub faults : ℕ
+  pub observable : Bool
+  pub account : SwiftAccount
+
 -- the count of faults rises exactly where a call failed
 abbrev pub CountsStoreFaults : {A : Type 0} → ℕ → ℕ → Result A StoreFault → Type 0
 CountsStoreFaults before now (Ok value) = now ≡ before
 CountsStoreFaults before now (Err Failed) = Rose before now
 CountsStoreFaults before now (Err Memory) = now ≡ before
 
+-- what each call keeps: the count of faults rises exactly where it failed, and a shelf that never fails, or is observable, stays so
+pub record ShelfKeeps {A : Type 0} (old : ShelfModel) (result : Result A StoreFault) (new : ShelfModel) : Type 0 where
+  pub faults : CountsStoreFaults old.faults new.faults result
+  pub sure : IsTrue old.sure → IsTrue new.sure
+  pub never : IsTrue old.sure → IsErrOf result Failed → ⊥
+  pub observable : IsTrue old.observable → IsTrue new.observable
+
+-- a call that reads: it leaves the account, and what it answers is told of it
+pub record ShelfReads {A : Type 0} (told : SwiftAccount → A → Type 0) (old : ShelfModel) (result : Result A StoreFault) (new : ShelfModel) : Type 0 where
+  pub keeps : ShelfKeeps old result new
+  pub same : IsTrue old.observable → new.account ≡ old.account
+  pub effect : IsTrue old.observable → IfOk result (told old.account)
+
 -- a call that writes: where it failed it changed nothing or all, and where memory ran out nothing
 abbrev pub Writes : {A : Type 0} → SwiftAccount → SwiftAccount → SwiftAccount → Result A StoreFault → Type 0
 Writes old written new (Ok value) = new ≡ written
 Writes old written new (Err Failed) = (new ≡ old) ⊎ (new ≡ written)
 Writes old written new (Err Memory) = new ≡ old
+
+pub record ShelfWrites {A : Type 0} (written : SwiftAccount → SwiftAccount) (old : ShelfModel) (result : Result A StoreFault) (new : ShelfModel) : Type 0 where
+  pub keeps : ShelfKeeps old result new
+  pub effect : IsTrue old.observable → Writes old.account (written old.account) new.account result
 
 -- ---- what is told
 

@@ -1,10 +1,13 @@
 //! What each call writes, once its answer is there.
-ghost use Rattle.std.specs.Prelude.{◌≡◌, IsTrue, IsErrOf};
+ghost use Rattle.std.specs.Prelude.{◌≡◌, IsTrue};
 ghost use Rattle.swift_calls.specs.Step.{Fit, IsContainerName, swift_step};
 ghost use Rattle.swift_calls.specs.declared.calls.SwiftRequest.TheVariants as asked;
-ghost use Rattle.swift_store.specs.Shelf.{CountsStoreFaults, Writes};
+ghost use Rattle.swift_calls.specs.Account.{put_file};
+ghost use Rattle.swift_calls.specs.Bodies.{etag_of};
+ghost use Rattle.swift_calls.specs.declared.account.Content.TheVariants.{Plain};
+ghost use Rattle.swift_store.specs.Made.{IsMadeObject};
+ghost use Rattle.swift_store.specs.Shelf.{ShelfKeeps, ShelfWrites, Writes};
 ghost use Rattle.swift_store.specs.Serving.{TagsBody, TagsWith, etag_in, is_gone};
-ghost use Rattle.swift_store.specs.declared.faults.StoreFault.TheVariants as fault;
 
 use crate::{Shelf, StoreFault};
 use gate_base::{Bytes, List};
@@ -31,11 +34,7 @@ fn etag_in(reply: SwiftReply) -> Option<Bytes>
 #[tactic(auto, using(crate::proofs::Writing::posted_by, crate::proofs::Writing::not_posted, crate::proofs::Writing::moment_told, crate::proofs::Writing::unwritten))]
 fn post_container<S: Shelf>(shelf: &mut S, name: &[u8], readers: ReadList) -> Result<(), StoreFault>
     requires name { IsContainerName name.now }
-    ensures faults { CountsStoreFaults (S.faults shelf.old) (S.faults shelf.new) result }
-    ensures sure { IsTrue (S.sure shelf.old) → IsTrue (S.sure shelf.new) }
-    ensures never { IsTrue (S.sure shelf.old) → IsErrOf result fault.Failed → ⊥ }
-    ensures observable { IsTrue (S.observable shelf.old) → IsTrue (S.observable shelf.new) }
-    ensures effect { IsTrue (S.observable shelf.old) → Writes (S.account shelf.old) (swift_step (asked.PostContainer name.now readers) (S.account shelf.old)).tree (S.account shelf.new) result }
+    ensures writes { ShelfWrites (λ account. (swift_step (asked.PostContainer name.now readers) account).tree) (S.model shelf.old) result (S.model shelf.new) }
 {
     match shelf.container(name)? {
         Some((_, created)) => { shelf.put_container(name, readers, created) }
@@ -49,11 +48,8 @@ fn delete_container<S: Shelf>(
     name: &[u8],
     reply: &SwiftReply,
 ) -> Result<(), StoreFault>
-    ensures faults { CountsStoreFaults (S.faults shelf.old) (S.faults shelf.new) result }
-    ensures sure { IsTrue (S.sure shelf.old) → IsTrue (S.sure shelf.new) }
-    ensures never { IsTrue (S.sure shelf.old) → IsErrOf result fault.Failed → ⊥ }
-    ensures observable { IsTrue (S.observable shelf.old) → IsTrue (S.observable shelf.new) }
-    ensures effect { IsTrue (S.observable shelf.old) → reply.now ≡ (swift_step (asked.DeleteContainer name.now) (S.account shelf.old)).reply → Writes (S.account shelf.old) (swift_step (asked.DeleteContainer name.now) (S.account shelf.old)).tree (S.account shelf.new) result }
+    ensures keeps { ShelfKeeps (S.model shelf.old) result (S.model shelf.new) }
+    ensures effect { IsTrue (S.model shelf.old).observable → reply.now ≡ (swift_step (asked.DeleteContainer name.now) (S.model shelf.old).account).reply → Writes (S.model shelf.old).account (swift_step (asked.DeleteContainer name.now) (S.model shelf.old).account).tree (S.model shelf.new).account result }
 {
     if is_gone(reply) {
         shelf.drop_container(name)?;
@@ -73,22 +69,36 @@ fn put_object<S: Shelf>(
 ) -> Result<(), StoreFault>
     requires fit { Fit (asked.PutObject container.now name content_type meta body) }
     requires tags { TagsWith body reply }
-    ensures faults { CountsStoreFaults (S.faults shelf.old) (S.faults shelf.new) result }
-    ensures sure { IsTrue (S.sure shelf.old) → IsTrue (S.sure shelf.new) }
-    ensures never { IsTrue (S.sure shelf.old) → IsErrOf result fault.Failed → ⊥ }
-    ensures observable { IsTrue (S.observable shelf.old) → IsTrue (S.observable shelf.new) }
-    ensures effect { IsTrue (S.observable shelf.old) → reply ≡ (swift_step (asked.PutObject container.now name content_type meta body) (S.account shelf.old)).reply → Writes (S.account shelf.old) (swift_step (asked.PutObject container.now name content_type meta body) (S.account shelf.old)).tree (S.account shelf.new) result }
+    ensures keeps { ShelfKeeps (S.model shelf.old) result (S.model shelf.new) }
+    ensures effect { IsTrue (S.model shelf.old).observable → reply ≡ (swift_step (asked.PutObject container.now name content_type meta body) (S.model shelf.old).account).reply → Writes (S.model shelf.old).account (swift_step (asked.PutObject container.now name content_type meta body) (S.model shelf.old).account).tree (S.model shelf.new).account result }
 {
-    if let Some(etag) = etag_in(reply) {
-        let object = Stored {
-            name,
-            content_type,
-            meta,
-            content: Content::Plain(body),
-        };
-        shelf.put(container, object, etag)?;
+    match etag_in(reply) {
+        Some(etag) => put_tagged(shelf, container, name, content_type, meta, body, etag),
+        None => Ok(()),
     }
-    Ok(())
+}
+
+/// Puts an object of these bytes.
+fn put_tagged<S: Shelf>(
+    shelf: &mut S,
+    container: &[u8],
+    name: Bytes,
+    content_type: Bytes,
+    meta: List<Bytes>,
+    body: Bytes,
+    etag: Bytes,
+) -> Result<(), StoreFault>
+    requires etag { etag ≡ etag_of (Plain body) }
+    requires made { IsMadeObject name (record { content_type = content_type; meta = meta; content = Plain body }) }
+    ensures writes { ShelfWrites (put_file container.now name (record { content_type = content_type; meta = meta; content = Plain body })) (S.model shelf.old) result (S.model shelf.new) }
+{
+    let object = Stored {
+        name,
+        content_type,
+        meta,
+        content: Content::Plain(body),
+    };
+    shelf.put(container, object, etag)
 }
 
 #[tactic(auto, using(crate::proofs::Writing::removed, crate::proofs::Writing::not_removed, crate::proofs::Writing::unwritten))]
@@ -98,11 +108,8 @@ fn delete_object<S: Shelf>(
     name: &[u8],
     reply: &SwiftReply,
 ) -> Result<(), StoreFault>
-    ensures faults { CountsStoreFaults (S.faults shelf.old) (S.faults shelf.new) result }
-    ensures sure { IsTrue (S.sure shelf.old) → IsTrue (S.sure shelf.new) }
-    ensures never { IsTrue (S.sure shelf.old) → IsErrOf result fault.Failed → ⊥ }
-    ensures observable { IsTrue (S.observable shelf.old) → IsTrue (S.observable shelf.new) }
-    ensures effect { IsTrue (S.observable shelf.old) → reply.now ≡ (swift_step (asked.DeleteObject container.now name.now) (S.account shelf.old)).reply → Writes (S.account shelf.old) (swift_step (asked.DeleteObject container.now name.now) (S.account shelf.old)).tree (S.account shelf.new) result }
+    ensures keeps { ShelfKeeps (S.model shelf.old) result (S.model shelf.new) }
+    ensures effect { IsTrue (S.model shelf.old).observable → reply.now ≡ (swift_step (asked.DeleteObject container.now name.now) (S.model shelf.old).account).reply → Writes (S.model shelf.old).account (swift_step (asked.DeleteObject container.now name.now) (S.model shelf.old).account).tree (S.model shelf.new).account result }
 {
     if is_gone(reply) {
         let _there = shelf.remove(container, name)?;
@@ -111,7 +118,6 @@ fn delete_object<S: Shelf>(
 }
 
 /// Writes what a call writes. Its body is moved.
-#[tactic(auto, using(crate::proofs::Writing::head_leaves))]
 pub(crate) fn apply<S: Shelf>(
     shelf: &mut S,
     call: SwiftRequest,
@@ -119,24 +125,10 @@ pub(crate) fn apply<S: Shelf>(
 ) -> Result<(), StoreFault>
     requires fit { Fit call }
     requires tags { TagsBody call reply }
-    ensures faults { CountsStoreFaults (S.faults shelf.old) (S.faults shelf.new) result }
-    ensures sure { IsTrue (S.sure shelf.old) → IsTrue (S.sure shelf.new) }
-    ensures never { IsTrue (S.sure shelf.old) → IsErrOf result fault.Failed → ⊥ }
-    ensures observable { IsTrue (S.observable shelf.old) → IsTrue (S.observable shelf.new) }
-    ensures effect { IsTrue (S.observable shelf.old) → reply ≡ (swift_step (call) (S.account shelf.old)).reply → Writes (S.account shelf.old) (swift_step (call) (S.account shelf.old)).tree (S.account shelf.new) result }
+    ensures keeps { ShelfKeeps (S.model shelf.old) result (S.model shelf.new) }
+    ensures effect { IsTrue (S.model shelf.old).observable → reply ≡ (swift_step (call) (S.model shelf.old).account).reply → Writes (S.model shelf.old).account (swift_step (call) (S.model shelf.old).account).tree (S.model shelf.new).account result }
 {
     match call {
-        SwiftRequest::PutContainer {
-            container,
-            readers,
-            created,
-        } => shelf.put_container(container.as_slice(), readers, created),
-        SwiftRequest::PostContainer { container, readers } => {
-            post_container(shelf, container.as_slice(), readers)
-        }
-        SwiftRequest::DeleteContainer { container } => {
-            delete_container(shelf, container.as_slice(), &reply)
-        }
         SwiftRequest::PutObject {
             container,
             name,
@@ -152,8 +144,36 @@ pub(crate) fn apply<S: Shelf>(
             body,
             reply,
         ),
+        other => apply_small(shelf, &other, &reply),
+    }
+}
+
+/// Writes what any other call writes. A PUT of an object doesn't come here.
+#[tactic(auto, using(crate::proofs::Writing::head_leaves))]
+fn apply_small<S: Shelf>(
+    shelf: &mut S,
+    call: &SwiftRequest,
+    reply: &SwiftReply,
+) -> Result<(), StoreFault>
+    requires fit { Fit call.now }
+    ensures keeps { ShelfKeeps (S.model shelf.old) result (S.model shelf.new) }
+    ensures effect { IsTrue (S.model shelf.old).observable → reply.now ≡ (swift_step (call.now) (S.model shelf.old).account).reply → Writes (S.model shelf.old).account (swift_step (call.now) (S.model shelf.old).account).tree (S.model shelf.new).account result }
+{
+    match call {
+        SwiftRequest::PutContainer {
+            container,
+            readers,
+            created,
+        } => shelf.put_container(container.as_slice(), *readers, *created),
+        SwiftRequest::PostContainer { container, readers } => {
+            post_container(shelf, container.as_slice(), *readers)
+        }
+        SwiftRequest::DeleteContainer { container } => {
+            delete_container(shelf, container.as_slice(), reply)
+        }
+        SwiftRequest::PutObject { .. } => Err(StoreFault::Memory),
         SwiftRequest::DeleteObject { container, name } => {
-            delete_object(shelf, container.as_slice(), name.as_slice(), &reply)
+            delete_object(shelf, container.as_slice(), name.as_slice(), reply)
         }
         SwiftRequest::ListContainers { .. } => Ok(()),
         SwiftRequest::HeadContainer { .. } => Ok(()),

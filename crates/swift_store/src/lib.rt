@@ -20,4 +20,4 @@ pub use laws::{law_has_spelling, law_stays_made};
 pub use map_shelf::MapShelf;
 pub use shelf::Shelf;
 pub use store::{Store, serve};
-pub use store_link::StoreLink;
+pub use store_link::{OverShelf, StoreLink};

@@ -46,13 +46,7 @@ impl MapShelf {
 }
 
 impl Shelf for MapShelf {
-    ghost observable = { λ _. true };
-
-    ghost sure = { λ _. true };
-
-    ghost faults = { λ _. 0 };
-
-    ghost account = { λ s. s.folders };
+    ghost model = { λ s. record { sure = true; faults = 0; observable = true; account = s.folders } };
 
     ghost made = { λ s observable. s.made };
 

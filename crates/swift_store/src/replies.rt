@@ -1,11 +1,9 @@
 //! The reply to each call, found before anything is written.
-ghost use Rattle.std.specs.Prelude.{◌≡◌, ℕ, List, Option, IsTrue, IfOk, IsErrOf};
-ghost use Rattle.swift_calls.specs.Step.{swift_step};
+ghost use Rattle.std.specs.Prelude.{◌≡◌, ℕ, List, Option, IfOk};
 ghost use Rattle.swift_calls.specs.declared.calls.SwiftRequest.TheVariants as asked;
-ghost use Rattle.swift_store.specs.Shelf.{CountsStoreFaults};
-ghost use Rattle.swift_store.specs.Serving.{TagsBody, TagsWith, bounds};
+ghost use Rattle.swift_store.specs.Shelf.{ShelfReads};
+ghost use Rattle.swift_store.specs.Serving.{IsReply, TagsBody, TagsWith, bounds};
 ghost use Rattle.swift_calls.specs.declared.account.ReadList.{ReadList};
-ghost use Rattle.swift_store.specs.declared.faults.StoreFault.TheVariants as fault;
 
 use crate::kept::etag_text;
 use crate::{Shelf, StoreFault};
@@ -18,24 +16,14 @@ fn list_containers<S: Shelf>(
     marker: &[u8],
     limit: u32,
 ) -> Result<SwiftReply, StoreFault>
-    ensures faults { CountsStoreFaults (S.faults shelf.old) (S.faults shelf.new) result }
-    ensures sure { IsTrue (S.sure shelf.old) → IsTrue (S.sure shelf.new) }
-    ensures never { IsTrue (S.sure shelf.old) → IsErrOf result fault.Failed → ⊥ }
-    ensures observable { IsTrue (S.observable shelf.old) → IsTrue (S.observable shelf.new) }
-    ensures same { IsTrue (S.observable shelf.old) → S.account shelf.new ≡ S.account shelf.old }
-    ensures effect { IsTrue (S.observable shelf.old) → IfOk result (λ reply. reply ≡ (swift_step (asked.ListContainers marker.now limit) (S.account shelf.old)).reply) }
+    ensures reads { ShelfReads (IsReply (asked.ListContainers marker.now limit)) (S.model shelf.old) result (S.model shelf.new) }
 {
     Ok(SwiftReply::Containers(shelf.containers(marker, limit)?))
 }
 
 #[tactic(auto, using(crate::proofs::Replying::head_some, crate::proofs::Replying::head_none))]
 fn head_container<S: Shelf>(shelf: &mut S, name: &[u8]) -> Result<SwiftReply, StoreFault>
-    ensures faults { CountsStoreFaults (S.faults shelf.old) (S.faults shelf.new) result }
-    ensures sure { IsTrue (S.sure shelf.old) → IsTrue (S.sure shelf.new) }
-    ensures never { IsTrue (S.sure shelf.old) → IsErrOf result fault.Failed → ⊥ }
-    ensures observable { IsTrue (S.observable shelf.old) → IsTrue (S.observable shelf.new) }
-    ensures same { IsTrue (S.observable shelf.old) → S.account shelf.new ≡ S.account shelf.old }
-    ensures effect { IsTrue (S.observable shelf.old) → IfOk result (λ reply. reply ≡ (swift_step (asked.HeadContainer name.now) (S.account shelf.old)).reply) }
+    ensures reads { ShelfReads (IsReply (asked.HeadContainer name.now)) (S.model shelf.old) result (S.model shelf.new) }
 {
     match shelf.container(name)? {
         Some((readers, created)) => Ok(SwiftReply::Readers { readers, created }),
@@ -45,12 +33,7 @@ fn head_container<S: Shelf>(shelf: &mut S, name: &[u8]) -> Result<SwiftReply, St
 
 #[tactic(auto, using(crate::proofs::Replying::put_there, crate::proofs::Replying::put_made))]
 fn put_container<S: Shelf>(shelf: &mut S, name: &[u8]) -> Result<SwiftReply, StoreFault>
-    ensures faults { CountsStoreFaults (S.faults shelf.old) (S.faults shelf.new) result }
-    ensures sure { IsTrue (S.sure shelf.old) → IsTrue (S.sure shelf.new) }
-    ensures never { IsTrue (S.sure shelf.old) → IsErrOf result fault.Failed → ⊥ }
-    ensures observable { IsTrue (S.observable shelf.old) → IsTrue (S.observable shelf.new) }
-    ensures same { IsTrue (S.observable shelf.old) → S.account shelf.new ≡ S.account shelf.old }
-    ensures effect { (readers : ReadList) (created : Option ℕ) → IsTrue (S.observable shelf.old) → IfOk result (λ reply. reply ≡ (swift_step (asked.PutContainer name.now readers created) (S.account shelf.old)).reply) }
+    ensures reads { ShelfReads (λ account reply. (readers : ReadList) (created : Option ℕ) → IsReply (asked.PutContainer name.now readers created) account reply) (S.model shelf.old) result (S.model shelf.new) }
 {
     if shelf.container(name)?.is_some() {
         Ok(SwiftReply::There)
@@ -61,12 +44,7 @@ fn put_container<S: Shelf>(shelf: &mut S, name: &[u8]) -> Result<SwiftReply, Sto
 
 #[tactic(auto, using(crate::proofs::Replying::post_there, crate::proofs::Replying::post_missing))]
 fn post_container<S: Shelf>(shelf: &mut S, name: &[u8]) -> Result<SwiftReply, StoreFault>
-    ensures faults { CountsStoreFaults (S.faults shelf.old) (S.faults shelf.new) result }
-    ensures sure { IsTrue (S.sure shelf.old) → IsTrue (S.sure shelf.new) }
-    ensures never { IsTrue (S.sure shelf.old) → IsErrOf result fault.Failed → ⊥ }
-    ensures observable { IsTrue (S.observable shelf.old) → IsTrue (S.observable shelf.new) }
-    ensures same { IsTrue (S.observable shelf.old) → S.account shelf.new ≡ S.account shelf.old }
-    ensures effect { (readers : ReadList) → IsTrue (S.observable shelf.old) → IfOk result (λ reply. reply ≡ (swift_step (asked.PostContainer name.now readers) (S.account shelf.old)).reply) }
+    ensures reads { ShelfReads (λ account reply. (readers : ReadList) → IsReply (asked.PostContainer name.now readers) account reply) (S.model shelf.old) result (S.model shelf.new) }
 {
     if shelf.container(name)?.is_some() {
         Ok(SwiftReply::Gone)
@@ -77,12 +55,7 @@ fn post_container<S: Shelf>(shelf: &mut S, name: &[u8]) -> Result<SwiftReply, St
 
 #[tactic(auto, using(crate::proofs::Replying::delete_gone, crate::proofs::Replying::delete_full, crate::proofs::Replying::delete_missing))]
 fn delete_container<S: Shelf>(shelf: &mut S, name: &[u8]) -> Result<SwiftReply, StoreFault>
-    ensures faults { CountsStoreFaults (S.faults shelf.old) (S.faults shelf.new) result }
-    ensures sure { IsTrue (S.sure shelf.old) → IsTrue (S.sure shelf.new) }
-    ensures never { IsTrue (S.sure shelf.old) → IsErrOf result fault.Failed → ⊥ }
-    ensures observable { IsTrue (S.observable shelf.old) → IsTrue (S.observable shelf.new) }
-    ensures same { IsTrue (S.observable shelf.old) → S.account shelf.new ≡ S.account shelf.old }
-    ensures effect { IsTrue (S.observable shelf.old) → IfOk result (λ reply. reply ≡ (swift_step (asked.DeleteContainer name.now) (S.account shelf.old)).reply) }
+    ensures reads { ShelfReads (IsReply (asked.DeleteContainer name.now)) (S.model shelf.old) result (S.model shelf.new) }
 {
     match shelf.is_bare(name)? {
         Some(true) => Ok(SwiftReply::Gone),
@@ -99,12 +72,7 @@ fn list_names<S: Shelf>(
     marker: &[u8],
     limit: u32,
 ) -> Result<SwiftReply, StoreFault>
-    ensures faults { CountsStoreFaults (S.faults shelf.old) (S.faults shelf.new) result }
-    ensures sure { IsTrue (S.sure shelf.old) → IsTrue (S.sure shelf.new) }
-    ensures never { IsTrue (S.sure shelf.old) → IsErrOf result fault.Failed → ⊥ }
-    ensures observable { IsTrue (S.observable shelf.old) → IsTrue (S.observable shelf.new) }
-    ensures same { IsTrue (S.observable shelf.old) → S.account shelf.new ≡ S.account shelf.old }
-    ensures effect { IsTrue (S.observable shelf.old) → IfOk result (λ reply. reply ≡ (swift_step (asked.ListNames container.now prefix.now marker.now limit) (S.account shelf.old)).reply) }
+    ensures reads { ShelfReads (IsReply (asked.ListNames container.now prefix.now marker.now limit)) (S.model shelf.old) result (S.model shelf.new) }
 {
     if shelf.container(container)?.is_some() {
         Ok(SwiftReply::Names(shelf.names(container, prefix, marker, limit)?))
@@ -121,12 +89,7 @@ fn put_object<S: Shelf>(
     container: &[u8],
     body: &[u8],
 ) -> Result<SwiftReply, StoreFault>
-    ensures faults { CountsStoreFaults (S.faults shelf.old) (S.faults shelf.new) result }
-    ensures sure { IsTrue (S.sure shelf.old) → IsTrue (S.sure shelf.new) }
-    ensures never { IsTrue (S.sure shelf.old) → IsErrOf result fault.Failed → ⊥ }
-    ensures observable { IsTrue (S.observable shelf.old) → IsTrue (S.observable shelf.new) }
-    ensures same { IsTrue (S.observable shelf.old) → S.account shelf.new ≡ S.account shelf.old }
-    ensures effect { (name content_type : List ℕ) (meta : List (List ℕ)) → IsTrue (S.observable shelf.old) → IfOk result (λ reply. reply ≡ (swift_step (asked.PutObject container.now name content_type meta body.now) (S.account shelf.old)).reply) }
+    ensures reads { ShelfReads (λ account reply. (name content_type : List ℕ) (meta : List (List ℕ)) → IsReply (asked.PutObject container.now name content_type meta body.now) account reply) (S.model shelf.old) result (S.model shelf.new) }
     ensures tags { IfOk result (TagsWith body.now) }
 {
     if shelf.container(container)?.is_some() {
@@ -143,12 +106,7 @@ fn head_object<S: Shelf>(
     container: &[u8],
     name: &[u8],
 ) -> Result<SwiftReply, StoreFault>
-    ensures faults { CountsStoreFaults (S.faults shelf.old) (S.faults shelf.new) result }
-    ensures sure { IsTrue (S.sure shelf.old) → IsTrue (S.sure shelf.new) }
-    ensures never { IsTrue (S.sure shelf.old) → IsErrOf result fault.Failed → ⊥ }
-    ensures observable { IsTrue (S.observable shelf.old) → IsTrue (S.observable shelf.new) }
-    ensures same { IsTrue (S.observable shelf.old) → S.account shelf.new ≡ S.account shelf.old }
-    ensures effect { IsTrue (S.observable shelf.old) → IfOk result (λ reply. reply ≡ (swift_step (asked.HeadObject container.now name.now) (S.account shelf.old)).reply) }
+    ensures reads { ShelfReads (IsReply (asked.HeadObject container.now name.now)) (S.model shelf.old) result (S.model shelf.new) }
 {
     match shelf.head(container, name)? {
         Some(head) => Ok(SwiftReply::Head(head)),
@@ -162,12 +120,7 @@ fn delete_object<S: Shelf>(
     container: &[u8],
     name: &[u8],
 ) -> Result<SwiftReply, StoreFault>
-    ensures faults { CountsStoreFaults (S.faults shelf.old) (S.faults shelf.new) result }
-    ensures sure { IsTrue (S.sure shelf.old) → IsTrue (S.sure shelf.new) }
-    ensures never { IsTrue (S.sure shelf.old) → IsErrOf result fault.Failed → ⊥ }
-    ensures observable { IsTrue (S.observable shelf.old) → IsTrue (S.observable shelf.new) }
-    ensures same { IsTrue (S.observable shelf.old) → S.account shelf.new ≡ S.account shelf.old }
-    ensures effect { IsTrue (S.observable shelf.old) → IfOk result (λ reply. reply ≡ (swift_step (asked.DeleteObject container.now name.now) (S.account shelf.old)).reply) }
+    ensures reads { ShelfReads (IsReply (asked.DeleteObject container.now name.now)) (S.model shelf.old) result (S.model shelf.new) }
 {
     if shelf.head(container, name)?.is_some() {
         Ok(SwiftReply::Gone)
@@ -185,12 +138,7 @@ fn get_object<S: Shelf>(
     name: &[u8],
     range: Option<(u64, u64)>,
 ) -> Result<SwiftReply, StoreFault>
-    ensures faults { CountsStoreFaults (S.faults shelf.old) (S.faults shelf.new) result }
-    ensures sure { IsTrue (S.sure shelf.old) → IsTrue (S.sure shelf.new) }
-    ensures never { IsTrue (S.sure shelf.old) → IsErrOf result fault.Failed → ⊥ }
-    ensures observable { IsTrue (S.observable shelf.old) → IsTrue (S.observable shelf.new) }
-    ensures same { IsTrue (S.observable shelf.old) → S.account shelf.new ≡ S.account shelf.old }
-    ensures effect { IsTrue (S.observable shelf.old) → IfOk result (λ reply. reply ≡ (swift_step (asked.GetObject container.now name.now range) (S.account shelf.old)).reply) }
+    ensures reads { ShelfReads (IsReply (asked.GetObject container.now name.now range)) (S.model shelf.old) result (S.model shelf.new) }
 {
     match shelf.head(container, name)? {
         Some(head) => match bounds(range, head.size) {
@@ -222,12 +170,7 @@ pub(crate) fn reply_to<S: Shelf>(
     shelf: &mut S,
     call: &SwiftRequest,
 ) -> Result<SwiftReply, StoreFault>
-    ensures faults { CountsStoreFaults (S.faults shelf.old) (S.faults shelf.new) result }
-    ensures sure { IsTrue (S.sure shelf.old) → IsTrue (S.sure shelf.new) }
-    ensures never { IsTrue (S.sure shelf.old) → IsErrOf result fault.Failed → ⊥ }
-    ensures observable { IsTrue (S.observable shelf.old) → IsTrue (S.observable shelf.new) }
-    ensures same { IsTrue (S.observable shelf.old) → S.account shelf.new ≡ S.account shelf.old }
-    ensures effect { IsTrue (S.observable shelf.old) → IfOk result (λ reply. reply ≡ (swift_step call.now (S.account shelf.old)).reply) }
+    ensures reads { ShelfReads (IsReply call.now) (S.model shelf.old) result (S.model shelf.new) }
     ensures tags { IfOk result (λ reply. TagsBody call.now reply) }
 {
     match call {

@@ -5,13 +5,7 @@ use gate_base::{Bytes, List};
 use swift_calls::{NameItem, ReadList, Stored, StoredHead};
 
 impl<S: Shelf> Shelf for &mut S {
-    ghost observable = { λ s. S.observable s.now };
-
-    ghost sure = { λ s. S.sure s.now };
-
-    ghost faults = { λ s. S.faults s.now };
-
-    ghost account = { λ s. S.account s.now };
+    ghost model = { λ s. S.model s.now };
 
     ghost made = { λ s observable. S.made s.now observable };
 

@@ -1,15 +1,14 @@
 //! A store of one account: requests in, answers out.
-ghost use Rattle.std.specs.Prelude.{◌≡◌, ◌<◌, ◌^◌, [], ◌++◌, length, false, IsTrue, IfOk, OnErr, IsErrOf};
+ghost use Rattle.std.specs.Prelude.{◌≡◌, ◌<◌, ◌^◌, [], ◌++◌, length, false, IsTrue, IfOk, OnErr};
 ghost use Rattle.gate_base.specs.Causes.{RisesIf};
-ghost use Rattle.swift_calls.specs.Step.{Fit};
+ghost use Rattle.swift_calls.specs.Step.{Fit, swift_step};
 ghost use Rattle.swift_calls.specs.declared.calls.SwiftRequest.{SwiftRequest};
-ghost use Rattle.swift_wire.specs.AnswerText.{answer_text, refusal};
-ghost use Rattle.swift_wire.specs.Calls.{SpellsRequest};
-ghost use Rattle.swift_wire.specs.Place.{IsPlace};
+ghost use Rattle.swift_replies.specs.AnswerText.{answer_text, refusal};
+ghost use Rattle.swift_requests.specs.Calls.{SpellsRequest};
+ghost use Rattle.swift_requests.specs.Place.{IsPlace};
 ghost use Rattle.swift_store.specs.Handing.{Hands};
-ghost use Rattle.swift_store.specs.Shelf.{CountsStoreFaults};
-ghost use Rattle.swift_store.specs.Serving.{Answers, Served};
-ghost use Rattle.swift_store.specs.declared.faults.StoreFault.TheVariants as fault;
+ghost use Rattle.swift_store.specs.Shelf.{ShelfKeeps, Writes};
+ghost use Rattle.swift_store.specs.Serving.{Answers, Served, TagsBody};
 
 use crate::effects::apply;
 use crate::reading::message_in;
@@ -19,7 +18,8 @@ use gate_base::{Bytes, Memory};
 use http_wire::Message;
 use std::alloc::Global;
 use swift_calls::{SwiftReply, SwiftRequest};
-use swift_wire::{Place, WireFault, has_token, read_call, refusal, write_answer};
+use swift_replies::{WireFault, refusal, write_answer};
+use swift_requests::{Place, has_token, read_call};
 
 /// A text with another behind it. Where it is empty nothing is copied.
 fn joined(alloc: Global, before: &Bytes, text: Bytes) -> Result<Bytes, Memory>
@@ -48,7 +48,7 @@ fn answered(
 }
 
 /// Serves one call: its reply first, then its answer's bytes, for which memory is taken, and at last what it writes.
-#[tactic(auto, using(crate::proofs::Served::answers_done, crate::proofs::Served::answers_unwritten, crate::proofs::Served::answers_failed))]
+#[tactic(auto, using(crate::proofs::Served::answers_by, crate::proofs::Served::answers_unwritten))]
 fn serve_call<S: Shelf>(
     alloc: Global,
     shelf: &mut S,
@@ -56,14 +56,48 @@ fn serve_call<S: Shelf>(
     out: &mut Bytes,
 ) -> Result<(), StoreFault>
     requires fit { Fit call }
-    ensures faults { CountsStoreFaults (S.faults shelf.old) (S.faults shelf.new) result }
-    ensures sure { IsTrue (S.sure shelf.old) → IsTrue (S.sure shelf.new) }
-    ensures never { IsTrue (S.sure shelf.old) → IsErrOf result fault.Failed → ⊥ }
-    ensures observable { IsTrue (S.observable shelf.old) → IsTrue (S.observable shelf.new) }
-    ensures answers { Answers (S.observable shelf.old) call (S.account shelf.old) (S.account shelf.new) out.old out.new result }
+    ensures keeps { ShelfKeeps (S.model shelf.old) result (S.model shelf.new) }
+    ensures answers { Answers (S.model shelf.old).observable call (S.model shelf.old).account (S.model shelf.new).account out.old out.new result }
 {
     let reply = reply_to(alloc, shelf, &call)?;
+    answer_call(alloc, shelf, call, reply, out)
+}
+
+/// Appends the answer of a call whose reply is known, and writes what the call writes. After an Err `out` is as before.
+#[tactic(auto, using(crate::proofs::Writing::unwritten))]
+fn answer_call<S: Shelf>(
+    alloc: Global,
+    shelf: &mut S,
+    call: SwiftRequest,
+    reply: SwiftReply,
+    out: &mut Bytes,
+) -> Result<(), StoreFault>
+    requires fit { Fit call }
+    requires tags { TagsBody call reply }
+    ensures keeps { ShelfKeeps (S.model shelf.old) result (S.model shelf.new) }
+    ensures effect { IsTrue (S.model shelf.old).observable → reply ≡ (swift_step call (S.model shelf.old).account).reply → Writes (S.model shelf.old).account (swift_step call (S.model shelf.old).account).tree (S.model shelf.new).account result }
+    ensures text { IfOk result (λ done. out.new ≡ out.old ++ answer_text call reply) }
+    ensures text_err { OnErr result (out.new ≡ out.old) }
+{
     let ready = answered(alloc, out, &call, &reply)?;
+    apply_ready(shelf, call, reply, ready, out)
+}
+
+/// Writes what a call writes, and then puts the answer that is ready in the place of what was written so far.
+fn apply_ready<S: Shelf>(
+    shelf: &mut S,
+    call: SwiftRequest,
+    reply: SwiftReply,
+    ready: Bytes,
+    out: &mut Bytes,
+) -> Result<(), StoreFault>
+    requires fit { Fit call }
+    requires tags { TagsBody call reply }
+    ensures keeps { ShelfKeeps (S.model shelf.old) result (S.model shelf.new) }
+    ensures effect { IsTrue (S.model shelf.old).observable → reply ≡ (swift_step call (S.model shelf.old).account).reply → Writes (S.model shelf.old).account (swift_step call (S.model shelf.old).account).tree (S.model shelf.new).account result }
+    ensures text { IfOk result (λ done. out.new ≡ ready) }
+    ensures text_err { OnErr result (out.new ≡ out.old) }
+{
     apply(shelf, call, reply)?;
     *out = ready;
     Ok(())
@@ -90,11 +124,8 @@ pub fn serve<S: Shelf>(
     out: &mut Bytes,
 ) -> Result<(), StoreFault>
     requires { IsPlace place.now }
-    ensures faults { CountsStoreFaults (S.faults shelf.old) (S.faults shelf.new) result }
-    ensures sure { IsTrue (S.sure shelf.old) → IsTrue (S.sure shelf.new) }
-    ensures never { IsTrue (S.sure shelf.old) → IsErrOf result fault.Failed → ⊥ }
-    ensures observable { IsTrue (S.observable shelf.old) → IsTrue (S.observable shelf.new) }
-    ensures served { Served (S.observable shelf.old) place.now message (S.account shelf.old) (S.account shelf.new) out.old out.new result }
+    ensures keeps { ShelfKeeps (S.model shelf.old) result (S.model shelf.new) }
+    ensures served { Served (S.model shelf.old).observable place.now message (S.model shelf.old).account (S.model shelf.new).account out.old out.new result }
 {
     if !has_token(place, &message) {
         *out = refused(alloc, out, 401)?;
@@ -137,11 +168,8 @@ impl<S: Shelf> Store<S> {
     /// Appends the answer to one message, as [`serve`] does.
     pub fn serve(&mut self, message: Message, out: &mut Bytes) -> Result<(), StoreFault>
         ensures place { self.new.place ≡ self.old.place }
-        ensures faults { CountsStoreFaults (S.faults self.old.shelf) (S.faults self.new.shelf) result }
-        ensures sure { IsTrue (S.sure self.old.shelf) → IsTrue (S.sure self.new.shelf) }
-        ensures never { IsTrue (S.sure self.old.shelf) → IsErrOf result fault.Failed → ⊥ }
-        ensures observable { IsTrue (S.observable self.old.shelf) → IsTrue (S.observable self.new.shelf) }
-        ensures served { Served (S.observable self.old.shelf) self.old.place message (S.account self.old.shelf) (S.account self.new.shelf) out.old out.new result }
+        ensures keeps { ShelfKeeps (S.model self.old.shelf) result (S.model self.new.shelf) }
+        ensures served { Served (S.model self.old.shelf).observable self.old.place message (S.model self.old.shelf).account (S.model self.new.shelf).account out.old out.new result }
     {
         serve(self.alloc, &self.place, &mut self.shelf, message, out)
     }
@@ -150,13 +178,13 @@ impl<S: Shelf> Store<S> {
     /// Request`. True where the shelf failed, and then nothing is appended.
     pub(crate) fn hand(&mut self, bytes: &[u8], out: &mut Bytes) -> Result<bool, Memory>
         ensures place { self.new.place ≡ self.old.place }
-        ensures faults { IfOk result (λ lost. RisesIf lost (S.faults self.old.shelf) (S.faults self.new.shelf)) }
-        ensures sure { IsTrue (S.sure self.old.shelf) → IsTrue (S.sure self.new.shelf) }
-        ensures never { IsTrue (S.sure self.old.shelf) → IfOk result (λ lost. lost ≡ false) }
-        ensures observable { IsTrue (S.observable self.old.shelf) → IsTrue (S.observable self.new.shelf) }
-        ensures same { IsTrue (S.observable self.old.shelf) → OnErr result (S.account self.new.shelf ≡ S.account self.old.shelf) }
-        ensures hands { out.old ≡ [] → length out.new < 2 ^ 63 → IsTrue (S.observable self.old.shelf) → (call : SwiftRequest) → Fit call
-            → SpellsRequest self.old.place call bytes.now → Hands call (S.account self.old.shelf) (S.account self.new.shelf) out.new result }
+        ensures faults { IfOk result (λ lost. RisesIf lost (S.model self.old.shelf).faults (S.model self.new.shelf).faults) }
+        ensures sure { IsTrue (S.model self.old.shelf).sure → IsTrue (S.model self.new.shelf).sure }
+        ensures never { IsTrue (S.model self.old.shelf).sure → IfOk result (λ lost. lost ≡ false) }
+        ensures observable { IsTrue (S.model self.old.shelf).observable → IsTrue (S.model self.new.shelf).observable }
+        ensures same { IsTrue (S.model self.old.shelf).observable → OnErr result ((S.model self.new.shelf).account ≡ (S.model self.old.shelf).account) }
+        ensures hands { out.old ≡ [] → length out.new < 2 ^ 63 → IsTrue (S.model self.old.shelf).observable → (call : SwiftRequest) → Fit call
+            → SpellsRequest self.old.place call bytes.now → Hands call (S.model self.old.shelf).account (S.model self.new.shelf).account out.new result }
     {
         match message_in(self.alloc, bytes)? {
             Some(message) => match self.serve(message, out) {

@@ -1,21 +1,24 @@
 //! A link to a store that is at hand.
-ghost use Rattle.std.specs.Prelude.{◌≡◌, ◌<◌, ◌≤◌, ◌^◌, [], ◌∷◌, ◌++◌, length, take, count_by, vec_len, vec_capacity, false, IsTrue, IfOk, OnErr};
+ghost use Rattle.std.specs.Prelude.{◌≡◌, ◌+◌, ◌<◌, ◌≤◌, ◌^◌, [], ◌∷◌, ◌++◌, length, take, count_by, vec_len, vec_capacity, false, IsTrue, IfOk, OnErr};
 ghost use Rattle.std.proofs.Common.{refl, ap, subst};
 ghost use Rattle.std.proofs.Math.Seq.{take-length};
 ghost use Rattle.std.proofs.lemmas.List.{take-take};
 ghost use Rattle.std.proofs.lemmas.List.Sums.{sum_by-take-le};
+ghost use Rattle.swift_calls.specs.History.{budget};
 ghost use Rattle.swift_calls.specs.Replay.{outcome_at};
 ghost use Rattle.swift_calls.specs.Step.{Fit};
 ghost use Rattle.swift_calls.specs.declared.calls.SwiftRequest.{SwiftRequest};
-ghost use Rattle.swift_wire.specs.Calls.{SpellsRequest};
+ghost use Rattle.swift_requests.specs.Calls.{SpellsRequest};
+ghost use Rattle.swift_requests.specs.Link.{Exchanges};
 ghost use Rattle.swift_store.specs.Handing.{Goes, Hands};
-ghost use Rattle.swift_store.specs.Log.{IsFresh, history_by, is_sure_by, lost_after};
+ghost use Rattle.swift_store.specs.Log.{GoesAs, IsFresh, Losses, history_by, is_sure_by, lost_after, planned};
+ghost use Rattle.swift_store.specs.Shelf.{ShelfModel};
 
 use crate::{Shelf, Store};
 use gate_base::{Bytes, Counted, List, Memory};
 use std::snapshot::Snapshot;
 use swift_calls::Outcome;
-use swift_wire::{Link, LinkFault};
+use swift_requests::{Link, LinkFault};
 
 /// The store as an exchange found it, which takes no memory, and whether the exchange was lost.
 #[derive(Drop)]
@@ -39,8 +42,9 @@ impl<S: Shelf> StoreLink<S> {
     /// A link to the store. The exchanges numbered in `before` lose their request, and those in `after` their answer; a
     /// number in both lists counts as one of `before`. No exchange was made.
     pub fn new(store: Store<S>, before: List<u64>, after: List<u64>) -> StoreLink<S>
-        ensures fresh { IsFresh (S.observable store.shelf) (is_sure_by (S.sure store.shelf) before after) (S.account store.shelf) (⟦<StoreLink<S> as Link>⟧.history result) }
+        ensures fresh { IsFresh (S.model store.shelf).observable (is_sure_by (S.model store.shelf).sure before after) (S.model store.shelf).account (⟦<StoreLink<S> as Link>⟧.history result) }
         ensures place { ⟦<StoreLink<S> as Link>⟧.place result ≡ store.place }
+        ensures losses { ⟦<StoreLink<S> as OverShelf>⟧.losses result ≡ record { before = before; after = after } }
         ensures before { result.before ≡ before }
         ensures after { result.after ≡ after }
     {
@@ -85,13 +89,13 @@ fn hand_by<S: Shelf>(
     answer: &mut Bytes,
 ) -> Result<bool, Memory>
     ensures place { store.new.place ≡ store.old.place }
-    ensures observable { IsTrue (S.observable store.old.shelf) → IsTrue (S.observable store.new.shelf) }
-    ensures same { IsTrue (S.observable store.old.shelf) → OnErr result (S.account store.new.shelf ≡ S.account store.old.shelf) }
-    ensures sure { IsTrue (S.sure store.old.shelf) → IsTrue (S.sure store.new.shelf) }
-    ensures never { outcome ≡ Outcome.Answered → IsTrue (S.sure store.old.shelf) → IfOk result (λ lost. lost ≡ false) }
-    ensures goes { Goes (λ s. S.faults s.shelf) outcome store.old store.new result }
-    ensures hands { answer.old ≡ [] → length answer.new < 2 ^ 63 → IsTrue (S.observable store.old.shelf) → (call : SwiftRequest) → Fit call
-        → SpellsRequest store.old.place call request.now → Hands call (S.account store.old.shelf) (S.account store.new.shelf) answer.new result }
+    ensures observable { IsTrue (S.model store.old.shelf).observable → IsTrue (S.model store.new.shelf).observable }
+    ensures same { IsTrue (S.model store.old.shelf).observable → OnErr result ((S.model store.new.shelf).account ≡ (S.model store.old.shelf).account) }
+    ensures sure { IsTrue (S.model store.old.shelf).sure → IsTrue (S.model store.new.shelf).sure }
+    ensures never { outcome ≡ Outcome.Answered → IsTrue (S.model store.old.shelf).sure → IfOk result (λ lost. lost ≡ false) }
+    ensures goes { Goes (λ s. (S.model s.shelf).faults) outcome store.old store.new result }
+    ensures hands { answer.old ≡ [] → length answer.new < 2 ^ 63 → IsTrue (S.model store.old.shelf).observable → (call : SwiftRequest) → Fit call
+        → SpellsRequest store.old.place call request.now → Hands call (S.model store.old.shelf).account (S.model store.new.shelf).account answer.new result }
 {
     match outcome {
         Outcome::LostBefore => Ok(true),
@@ -103,6 +107,21 @@ fn hand_by<S: Shelf>(
     }
 }
 
+/// What a link over a shelf tells of itself beside its history.
+pub trait OverShelf {
+    /// Which of its exchanges lose a message.
+    ghost losses: { Self → Losses };
+
+    /// What its shelf tells.
+    ghost shelf: { Self → ShelfModel };
+}
+
+impl<S: Shelf> OverShelf for StoreLink<S> {
+    ghost losses = { λ l. record { before = l.before; after = l.after } };
+
+    ghost shelf = { λ l. S.model l.store.shelf };
+}
+
 impl<S: Shelf> Counted for StoreLink<S> {
     ghost called = { λ l. length l.log.items };
 
@@ -112,7 +131,7 @@ impl<S: Shelf> Counted for StoreLink<S> {
 }
 
 impl<S: Shelf> Link for StoreLink<S> {
-    ghost history = { λ l. history_by (λ s. S.observable s.shelf) (λ s. S.account s.shelf) (λ e. e.was.value) (λ e. e.lost) (is_sure_by (S.sure l.store.shelf) l.before l.after) l.log.items l.store };
+    ghost history = { λ l. history_by (λ s. (S.model s.shelf).observable) (λ s. (S.model s.shelf).account) (λ e. e.was.value) (λ e. e.lost) (is_sure_by (S.model l.store.shelf).sure l.before l.after) l.log.items l.store };
 
     ghost place = { λ l. l.store.place };
 
@@ -124,7 +143,14 @@ impl<S: Shelf> Link for StoreLink<S> {
           subst (λ entries. count_by (λ e. e.lost) entries ≤ lost_after (λ e. e.lost) l.log.items k) (take-take j k l.log.items order) (sum_by-take-le _ (take k l.log.items) j);
     } };
 
-    fn exchange(&mut self, request: &[u8], reply: &mut Bytes) -> Result<(), LinkFault> {
+    fn exchange(&mut self, request: &[u8], reply: &mut Bytes) -> Result<(), LinkFault>
+        requires { length self.old.log.items < budget }
+        ensures place { ⟦<StoreLink<S> as Link>⟧.place self.new ≡ ⟦<StoreLink<S> as Link>⟧.place self.old }
+        ensures exchanges { Exchanges (⟦<StoreLink<S> as Link>⟧.place self.old) (⟦<StoreLink<S> as Link>⟧.history self.old) request.now reply.new result (⟦<StoreLink<S> as Link>⟧.history self.new) }
+        ensures losses { ⟦<StoreLink<S> as OverShelf>⟧.losses self.new ≡ ⟦<StoreLink<S> as OverShelf>⟧.losses self.old }
+        ensures goes { GoesAs (planned (⟦<StoreLink<S> as OverShelf>⟧.losses self.old) ((⟦<StoreLink<S> as Link>⟧.history self.old).called + 1)) result
+            (⟦<StoreLink<S> as OverShelf>⟧.shelf self.old) (⟦<StoreLink<S> as OverShelf>⟧.shelf self.new) }
+    {
         if self.log.reserve(1).is_err() {
             return Err(LinkFault::Memory);
         }

@@ -1,5 +1,5 @@
--- The containers beside a bucket are no buckets.
-use Rattle.std.specs.Prelude.{◌≡◌, ◌≢◌, ◌==◌, ℕ, Bool, true, false, ◌||◌, List, ◌++◌, codes}
+-- The containers beside a bucket, and the gateway's own, are no buckets.
+use Rattle.std.specs.Prelude.{◌≡◌, ◌≢◌, ◌==◌, ℕ, Bool, true, false, ◌||◌, List, [], ◌++◌, codes}
 use Rattle.std.specs.List.{list_any}
 use Rattle.std.specs.Ordering.{eq_by_cmp}
 use Rattle.std.proofs.Common.{refl, sym, ap, ◌∙◌, true≢false}
@@ -8,7 +8,7 @@ use Rattle.gate_base.specs.Maps.{name_cmp}
 use Rattle.gate_base.proofs.lemmas.Maps.{by_name, apart}
 use Rattle.s3_names.specs.Bucket.{is_bucket}
 use Rattle.s3_names.proofs.lemmas.BucketLemmas.{bucket_has_no_plus}
-use Rattle.upload_records.specs.Layout.{uploads_name, segments_name}
+use Rattle.upload_records.specs.Layout.{uploads_name, segments_name, gateway_name}
 
 or_true : (a : Bool) → (a || true) ≡ true
 or_true true = refl
@@ -28,3 +28,7 @@ uploads_apart b name is = apart by_name (uploads_name name) b (no_bucket b name 
 pub segments_apart : (b name : List ℕ) → is_bucket b ≡ true → eq_by_cmp name_cmp (segments_name name) b ≡ false
 unfolding segments_name
 segments_apart b name is = apart by_name (segments_name name) b (no_bucket b name (codes "+segments") is refl)
+
+pub gateway_apart : (b : List ℕ) → is_bucket b ≡ true → eq_by_cmp name_cmp gateway_name b ≡ false
+unfolding gateway_name
+gateway_apart b is = apart by_name gateway_name b (no_bucket b [] (codes "+gateway") is refl)

@@ -18,7 +18,7 @@ use Rattle.swift_calls.specs.declared.account.Content.TheVariants.{Plain}
 use Rattle.swift_calls.specs.declared.calls.SwiftRequest.{SwiftRequest}
 use Rattle.swift_calls.specs.declared.calls.SwiftRequest.TheVariants.{PutContainer, PostContainer, DeleteContainer, PutObject, DeleteObject}
 use Rattle.upload_records.specs.Layout.{segments_name, readers_of}
-use Rattle.upload_records.specs.Native.{object_of, object_at, IsSettled, IsUnsealed, s3_state}
+use Rattle.upload_records.specs.Native.{object_of, object_at, SameGateway, IsUnsealed, s3_state}
 use Rattle.upload_records.specs.Consistent.{IsConsistent, IsPlainObject, IsObject, IsStored}
 
 -- a call is quiet on an account: the account after it is consistent, and represents the same state
@@ -30,35 +30,36 @@ pub record DoesStutter (tree : SwiftAccount) (request : SwiftRequest) : Type 0 w
 abbrev pub ReadsStutter : Type 0
 ReadsStutter = (tree : SwiftAccount) (request : SwiftRequest) → only_reads request ≡ true → IsConsistent tree → DoesStutter tree request
 
--- over a settled account, the account after a call is consistent and settled, and represents the state that is changed by f
+-- the account after a call is consistent, it represents the state that is changed by f, and the gateway's own container is as
+-- it was, so that an account that was settled still is
 pub record ChangesBy (tree : SwiftAccount) (request : SwiftRequest) (f : State → State) : Type 0 where
   pub sound : IsConsistent (swift_step request tree).tree
-  pub settled : IsSettled (swift_step request tree).tree
   pub state : s3_state (swift_step request tree).tree ≡ f (s3_state tree)
+  pub gateway : SameGateway tree (swift_step request tree).tree
 
 -- the PUT of a bucket's container that is missing makes the bucket
 abbrev pub BucketMade : Type 0
 BucketMade = (tree : SwiftAccount) (name : List ℕ) (acl : Acl) (moment : ℕ) → is_bucket name ≡ true → moment < moment_limit → IsConsistent tree
-    → IsSettled tree → get tree name ≡ None
+    → IsUnsealed tree → get tree name ≡ None
     → ChangesBy tree (PutContainer name (readers_of acl) (Some moment)) (λ state. insert state name (new_bucket moment acl))
 
 -- a bucket is there exactly where its container is
 abbrev pub BucketThere : Type 0
-BucketThere = (tree : SwiftAccount) (name : List ℕ) → is_bucket name ≡ true → IsSettled tree → is_some (get (s3_state tree) name) ≡ is_some (get tree name)
+BucketThere = (tree : SwiftAccount) (name : List ℕ) → is_bucket name ≡ true → IsUnsealed tree → is_some (get (s3_state tree) name) ≡ is_some (get tree name)
 
 -- a bucket has no object exactly where its container has none
 abbrev pub BucketBare : Type 0
-BucketBare = (tree : SwiftAccount) (name : List ℕ) → is_bucket name ≡ true → IsConsistent tree → IsSettled tree
+BucketBare = (tree : SwiftAccount) (name : List ℕ) → is_bucket name ≡ true → IsConsistent tree → IsUnsealed tree
     → option_map machine.is_bare (get (s3_state tree) name) ≡ option_map store.is_bare (get tree name)
 
 -- the DELETE of a bucket's container that has no object takes the bucket away
 abbrev pub BucketGone : Type 0
-BucketGone = (tree : SwiftAccount) (name : List ℕ) → is_bucket name ≡ true → IsConsistent tree → IsSettled tree
+BucketGone = (tree : SwiftAccount) (name : List ℕ) → is_bucket name ≡ true → IsConsistent tree → IsUnsealed tree
     → option_map store.is_bare (get tree name) ≡ Some true → ChangesBy tree (DeleteContainer name) (λ state. remove state name)
 
 -- the POST of a bucket's container replaces who may read it
 abbrev pub AclReplaced : Type 0
-AclReplaced = (tree : SwiftAccount) (name : List ℕ) (acl : Acl) → is_bucket name ≡ true → IsConsistent tree → IsSettled tree
+AclReplaced = (tree : SwiftAccount) (name : List ℕ) (acl : Acl) → is_bucket name ≡ true → IsConsistent tree → IsUnsealed tree
     → ChangesBy tree (PostContainer name (readers_of acl)) (adjust name (with_acl acl))
 
 -- the empty account is consistent, no completion is sealed on it, and it represents the state without a bucket
@@ -77,12 +78,12 @@ file_put content_type meta body = record { content_type = content_type; meta = m
 abbrev pub ObjectPut : Type 0
 ObjectPut = (tree : SwiftAccount) (bucket key content_type : List ℕ) (meta : List (List ℕ)) (body : List ℕ)
     (plain : IsPlainObject (file_put content_type meta body))
-    → is_bucket bucket ≡ true → is_key key ≡ true → IsStored key (file_put content_type meta body) → IsConsistent tree → IsSettled tree
+    → is_bucket bucket ≡ true → is_key key ≡ true → IsStored key (file_put content_type meta body) → IsConsistent tree → IsUnsealed tree
     → ChangesBy tree (PutObject bucket key content_type meta body) (adjust bucket (put_object key (object_in plain)))
 
 -- the DELETE of a file of a bucket takes the object away
 abbrev pub ObjectGone : Type 0
-ObjectGone = (tree : SwiftAccount) (bucket key : List ℕ) → is_bucket bucket ≡ true → IsConsistent tree → IsSettled tree
+ObjectGone = (tree : SwiftAccount) (bucket key : List ℕ) → is_bucket bucket ≡ true → IsConsistent tree → IsUnsealed tree
     → ChangesBy tree (DeleteObject bucket key) (adjust bucket (drop_object key))
 
 -- an object of the state is what the file of its key represents, which has the form of one
@@ -93,5 +94,5 @@ FindsObject tree bucket key (Some file) = IsObject (files tree (segments_name bu
 
 -- over a consistent account an object of the state is what the file of its key represents
 abbrev pub ObjectFound : Type 0
-ObjectFound = (tree : SwiftAccount) (bucket key : List ℕ) → is_bucket bucket ≡ true → IsConsistent tree → IsSettled tree
+ObjectFound = (tree : SwiftAccount) (bucket key : List ℕ) → is_bucket bucket ≡ true → IsConsistent tree → IsUnsealed tree
     → FindsObject tree bucket key (find_object tree bucket key)

@@ -1,6 +1,6 @@
 -- The S3 state that an account represents: what its containers hold, and over it the completion that is sealed. It is a
 -- total function: what doesn't read as a bucket, an object, an upload or a completion isn't there. Source: this profile.
-use Rattle.std.specs.Prelude.{◌≡◌, ℕ, List, cond, Option, None, Some}
+use Rattle.std.specs.Prelude.{◌≡◌, ℕ, List, cond, is_some, Option, None, Some}
 use Rattle.std.specs.Option.{unwrap_or}
 use Rattle.std.specs.FinMap.{get}
 use Rattle.gate_base.specs.Maps.{Names, picked}
@@ -13,7 +13,7 @@ use Rattle.swift_calls.specs.Bodies.{Look, bytes_of}
 use Rattle.swift_marks.specs.declared.tag.Tag.{Tag}
 use Rattle.swift_marks.specs.Tag.{read_tag}
 use Rattle.swift_marks.specs.Pack.{unpacked}
-use Rattle.upload_records.specs.Layout.{uploads_name, segments_name, acl_of}
+use Rattle.upload_records.specs.Layout.{uploads_name, segments_name, gateway_name, acl_of}
 
 -- segments are looked up beside the bucket, whatever container they name
 abbrev pub within : Names SwiftObject → Look
@@ -72,7 +72,12 @@ abbrev pub laid : Option Finished → State → State
 laid None state = state
 laid (Some f) state = finished f state
 
--- no completion is sealed
+-- what stands in the gateway's own container is the same, and the container is there on both accounts or on neither
+pub record SameGateway (tree new : SwiftAccount) : Type 0 where
+  pub there : is_some (get new gateway_name) ≡ is_some (get tree gateway_name)
+  pub holds : files new gateway_name ≡ files tree gateway_name
+
+-- no completion is sealed, so that the state is that of the buckets
 abbrev pub IsUnsealed : SwiftAccount → Type 0
 IsUnsealed tree = sealed_of tree ≡ None
 

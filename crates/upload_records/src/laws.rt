@@ -3,7 +3,8 @@ ghost use Rattle.upload_records.specs.Laws.{AclReplaced, BucketBare, BucketGone,
 
 use swift_calls::law_reads_leave;
 
-/// The PUT of the container of a bucket that isn't there makes the bucket, and leaves the account consistent and settled.
+/// Where no completion is sealed, the PUT of the container of a bucket that isn't there makes the bucket; it leaves the
+/// account consistent, and the gateway's own container as it was.
 pub fn law_bucket_made()
     ensures { BucketMade }
 {}
@@ -18,13 +19,14 @@ pub fn law_bucket_bare()
     ensures { BucketBare }
 {}
 
-/// The DELETE of a bucket's container that has no object takes the bucket away, and leaves the account consistent and
-/// settled.
+/// Where no completion is sealed, the DELETE of a bucket's container that has no object takes the bucket away; it leaves the
+/// account consistent, and the gateway's own container as it was.
 pub fn law_bucket_gone()
     ensures { BucketGone }
 {}
 
-/// The POST of a bucket's container replaces who may read it, and leaves the account consistent and settled.
+/// Where no completion is sealed, the POST of a bucket's container replaces who may read it; it leaves the account
+/// consistent, and the gateway's own container as it was.
 pub fn law_acl_replaced()
     ensures { AclReplaced }
 {}
@@ -34,12 +36,14 @@ pub fn law_empty_consistent()
     ensures { EmptyConsistent }
 {}
 
-/// The PUT of an object's file into a bucket puts the object, and leaves the account consistent and settled.
+/// Where no completion is sealed, the PUT of an object's file into a bucket puts the object; it leaves the account
+/// consistent, and the gateway's own container as it was.
 pub fn law_object_put()
     ensures { ObjectPut }
 {}
 
-/// The DELETE of an object's file takes the object away, and leaves the account consistent and settled.
+/// Where no completion is sealed, the DELETE of an object's file takes the object away; it leaves the account consistent,
+/// and the gateway's own container as it was.
 pub fn law_object_gone()
     ensures { ObjectGone }
 {}

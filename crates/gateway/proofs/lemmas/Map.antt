@@ -16,17 +16,17 @@ use Rattle.swift_calls.proofs.lemmas.Histories.{extends_before}
 use Rattle.upload_records.specs.Native.{IsSettled}
 use Rattle.upload_records.specs.Consistent.{IsConsistent}
 use Rattle.recovery.specs.declared.state.Known.{Known}
-use Rattle.recovery.specs.Answers.{most_calls, most_settling}
+use Rattle.recovery.specs.Answers.{beside_of, most_calls, most_settling}
 use Rattle.recovery.specs.Calls.{amount}
 use Rattle.recovery.specs.Stutters.{LastFailed}
 use Rattle.recovery.specs.Settling.{IsKnown}
-use Rattle.recovery.proofs.lemmas.Agree.{quiet_agree, last_failed_agree, answers_agree}
+use Rattle.recovery.proofs.lemmas.Agree.{quiet_agree, last_failed_agree, answers_agree, beside_agree}
 use Rattle.gateway.specs.declared.ended.Ended.{Ended}
 use Rattle.gateway.specs.declared.service.Service.{Service}
-use Rattle.gateway.specs.Proper.{IsProperCode}
+use Rattle.s3_requests.specs.Proper.{IsProperCode}
 use Rattle.gateway.specs.Request.{Request}
-use Rattle.gateway.specs.Exchange.{ReplyRelation, StoreCursor, Span, Asked, asked_by, IsSpan, SettledBy, NotSettledBy, IsCaused, Performs, unsettled, answered, Replies, refused, performed, RepliesAny, refused_any, performed_any, RepliesBy, FaultFreeReplies, Exchange, CutExchange}
-use Rattle.gateway.specs.Connection.{Progress, ConnectionCursor, Serves, Exchanges, none, more, Breaks, Ends, over, cut, served, unread, unheard, untold, broken, ConnectionTrace}
+use Rattle.gateway.specs.Exchange.{ReplyRelation, StoreCursor, Span, Asked, asked_by, IsSpan, SettledBy, NotSettledBy, IsCaused, Performs, unsettled, answered, Replies, refused, performed, RepliesAny, refused_any, performed_any, RepliesBy, FaultFreeReplies, Exchange, CutExchange, PartExchange}
+use Rattle.gateway.specs.Connection.{Progress, ConnectionCursor, Serves, Exchanges, none, more, Breaks, Parts, Ends, over, cut, served, unread, unheard, untold, broken, parted, ConnectionTrace}
 use Rattle.gateway.proofs.lemmas.Order.{serves_order, exchanges_order, ends_order, serves_order_faults, exchanges_order_faults, ends_order_faults}
 
 -- ---- between two store cursors
@@ -97,6 +97,40 @@ module _ {R R' : ReplyRelation} {first last : StoreCursor} (f : FollowsBetween R
     exchange = cut_exchange_map between breaks.exchange;
   }
 
+  pub part_exchange_map : {connection : ℕ} {old new : StoreCursor} {span : Span} {request : Request} {label : Label} {end : Ended} {sent sent' : List Piece} → Between first last old new
+      → PartExchange R connection old span new request label end sent sent' → PartExchange R' connection old span new request label end sent sent'
+  part_exchange_map {old = old} {new = new} {span = span} {request = request} {label = label} between exchange = record {
+    reply = exchange.reply;
+    fault = exchange.fault;
+    breaks = exchange.breaks;
+    is_span = exchange.is_span;
+    replies = f old new span request label exchange.reply exchange.is_span between exchange.replies;
+    fails = f old new span request label exchange.fault exchange.is_span between exchange.fails;
+    head = exchange.head;
+    part = exchange.part;
+    unsent = exchange.unsent;
+    read = exchange.read;
+    due = exchange.due;
+    some_left = exchange.some_left;
+    sends = exchange.sends;
+    behind = exchange.behind;
+    of_read = exchange.of_read;
+  }
+
+  pub parts_map : {service : Service} {connection : ℕ} {ended : Ended} {old : ConnectionCursor} {span : Span} {new : Progress} → Between first last old.progress.store new.store
+      → Parts service R connection ended old span new → Parts service R' connection ended old span new
+  parts_map between parts = record {
+    request = parts.request;
+    label = parts.label;
+    rest = parts.rest;
+    place = parts.place;
+    heard = parts.heard;
+    resolves = parts.resolves;
+    owed = parts.owed;
+    labels = parts.labels;
+    exchange = part_exchange_map between parts.exchange;
+  }
+
   pub exchanges_map : {service : Service} {connection : ℕ} {old new : ConnectionCursor} {spans : List Span} → Between first last old.progress.store new.progress.store
       → Exchanges service R connection old spans new → Exchanges service R' connection old spans new
   exchanges_map between (none cursor) = none cursor
@@ -118,6 +152,7 @@ module _ {R R' : ReplyRelation} {first last : StoreCursor} (f : FollowsBetween R
   ends_map between (unheard is only owed) = unheard is only owed
   ends_map between (untold heard is only owed sends) = untold heard is only owed sends
   ends_map between (broken span is breaks) = broken span is (breaks_map between breaks)
+  ends_map between (parted span parts) = parted span (parts_map between parts)
 
   pub connection_trace_map : {service : Service} {connection : ℕ} {ended : Ended} {old : ConnectionCursor} {spans : List Span} {new : Progress} → Between first last old.progress.store new.store
       → ConnectionTrace service R connection ended old spans new → ConnectionTrace service R' connection ended old spans new
@@ -163,8 +198,9 @@ module _ {h h' : History} {c : ℕ} (kept : Extends c h h') where
   performs_agree : {settings : Settings} {old new : StoreCursor} {span : Span} {asks : Option Asked} {op : Op} {label : Label} {reply : Reply} → IsSpan old span new asks → new.number ≤ c
       → Performs settings h old span new op label reply → Performs settings h' old span new op label reply
   performs_agree is_span near (unsettled not begins takes) = unsettled (not_settled_by_agree (omega arith) near not) begins takes
-  performs_agree {new = new} {span = span} {op = op} is_span near (answered settled answers bound) =
+  performs_agree {new = new} {span = span} {op = op} {label = label} {reply = reply} is_span near (answered settled answers beside bound) =
       answered (settled_by_agree (omega arith) (omega arith) settled) (answers_agree (extends_before near kept) answers)
+      (beside_agree (beside_of op) label reply (omega arith) (extends_before near kept) beside)
       (subst (λ tree. new.number ≤ span.begins + amount (most_calls op tree)) (sym (kept.accounts span.begins (omega arith))) bound)
 
 -- what was said of replies over an observable store, is so in each later history

@@ -5,7 +5,7 @@ use Rattle.std.proofs.Common.{refl, sym, ap, subst, arith}
 use Rattle.gateway.specs.declared.ended.Ended.{Ended}
 use Rattle.gateway.specs.declared.service.Service.{Service}
 use Rattle.gateway.specs.Exchange.{ReplyRelation, StoreCursor, Span, Asked, IsSpan}
-use Rattle.gateway.specs.Connection.{Progress, ConnectionCursor, Serves, Exchanges, none, more, Breaks, Ends, over, cut, served, unread, unheard, untold, broken, ConnectionTrace}
+use Rattle.gateway.specs.Connection.{Progress, ConnectionCursor, Serves, Exchanges, none, more, Breaks, Ends, over, cut, served, unread, unheard, untold, broken, parted, ConnectionTrace}
 use Rattle.gateway.specs.Stands.{Follows}
 
 -- ---- lists of spans
@@ -53,6 +53,7 @@ module _ {service : Service} {R : ReplyRelation} {connection : ℕ} where
   ends_order (unheard is only owed) = let e = ap (λ m. m.number) only.store in omega arith
   ends_order (untold heard is only owed sends) = let e = ap (λ m. m.number) only.store in omega arith
   ends_order (broken span is breaks) = breaks_order breaks
+  ends_order (parted span parts) = let is_span = parts.exchange.is_span in omega arith
 
   pub connection_trace_order : {ended : Ended} {old : ConnectionCursor} {spans : List Span} {new : Progress} → ConnectionTrace service R connection ended old spans new → old.progress.store.number ≤ new.store.number
   connection_trace_order trace = let first = exchanges_order trace.exchanges in let last = ends_order trace.ends in omega arith
@@ -77,6 +78,7 @@ module _ {service : Service} {R : ReplyRelation} {connection : ℕ} where
   ends_order_faults (unheard is only owed) = let e = ap (λ m. m.faults) only.store in omega arith
   ends_order_faults (untold heard is only owed sends) = let e = ap (λ m. m.faults) only.store in omega arith
   ends_order_faults (broken span is breaks) = breaks_order_faults breaks
+  ends_order_faults (parted span parts) = parts.exchange.is_span.faults
 
   pub connection_trace_order_faults : {ended : Ended} {old : ConnectionCursor} {spans : List Span} {new : Progress} → ConnectionTrace service R connection ended old spans new → old.progress.store.faults ≤ new.store.faults
   connection_trace_order_faults trace = let first = exchanges_order_faults trace.exchanges in let last = ends_order_faults trace.ends in omega arith
@@ -102,6 +104,7 @@ module _ {service : Service} {R : ReplyRelation} {connection : ℕ} where
   ends_follow (unheard is only owed) = follows_none (ap (λ m. m.number) only.store)
   ends_follow (untold heard is only owed sends) = follows_none (ap (λ m. m.number) only.store)
   ends_follow (broken span is breaks) = breaks_follow breaks
+  ends_follow (parted span parts) = is_span_follows parts.exchange.is_span
 
   pub connection_trace_follow : {ended : Ended} {old : ConnectionCursor} {spans : List Span} {new : Progress} → ConnectionTrace service R connection ended old spans new → Follows old.progress.store.number spans new.store.number
   connection_trace_follow {old = old} {new = new} trace =

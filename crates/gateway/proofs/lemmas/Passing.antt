@@ -19,18 +19,18 @@ use Rattle.gateway.specs.declared.ended.Ended.{Ended}
 use Rattle.gateway.specs.declared.service.Service.{Service}
 use Rattle.gateway.specs.Request.{Request}
 use Rattle.gateway.specs.Exchange.{StoreCursor, Span, Asked, asked_by, IsSpan, IsKnownOf, Performs, unsettled, answered, Replies, refused, performed}
-use Rattle.gateway.specs.Connection.{Progress, ConnectionCursor, Serves, Exchanges, none, more, Breaks, Ends, over, cut, served, unread, unheard, untold, broken, ConnectionTrace}
+use Rattle.gateway.specs.Connection.{Progress, ConnectionCursor, Serves, Exchanges, none, more, Breaks, Ends, over, cut, served, unread, unheard, untold, broken, parted, ConnectionTrace}
 use Rattle.gateway.specs.Stands.{Follows, OpPasses, NonePasses, SpanPasses, AllPass}
 use Rattle.gateway.proofs.lemmas.Order.{follows_order, exchanges_follow, connection_trace_follow}
 
 -- ---- one request
 
 -- at one number nothing is done
-quiet_none : {h : History} {p q : ℕ} → p ≡ q → IsConsistent (h.tree_at p) → Stutters h p q
+quiet_none : {h : History} {p q : ℕ} → p ≡ q → IsConsistent (h.account_at p) → Stutters h p q
 quiet_none {h = h} {p = p} one sound = record {
   ordered = omega arith;
-  same = λ k from to. let e : k ≡ p = omega arith in ap (λ n. s3_state (h.tree_at n)) e;
-  sound = λ k from to. let e : p ≡ k = omega arith in subst (λ n. IsConsistent (h.tree_at n)) e sound;
+  same = λ k from to. let e : k ≡ p = omega arith in ap (λ n. s3_state (h.account_at n)) e;
+  sound = λ k from to. let e : p ≡ k = omega arith in subst (λ n. IsConsistent (h.account_at n)) e sound;
 }
 
 -- an operation: the store could not be settled, and nothing was done from there on; or the operation was answered
@@ -42,33 +42,33 @@ performs_pass {settings = settings} {h = h} {old = old} {new = new} {span = span
     let at : new.number ≡ span.begins = omega arith in
     let whole : span.begins ≡ span.to = omega arith in
     let committed : span.begins ≡ span.committed = omega arith in
-    let still : Stutters h span.begins span.to = quiet_none whole (subst (λ n. IsConsistent (h.tree_at n)) at (not.quiet.sound new.number order (omega arith))) in
+    let still : Stutters h span.begins span.to = quiet_none whole (subst (λ n. IsConsistent (h.account_at n)) at (not.quiet.sound new.number order (omega arith))) in
     record {
       settles = subst {A = ℕ × ℕ} (λ n. Stutters h n.0 n.1) (λ i. (sym is_span.from i, at i)) not.quiet;
       passes = subst {A = ℕ × ℕ} (λ n. Passes settings h span.begins n.0 span.to op label n.1) (λ i. (committed i, sym takes i)) (passes_still still);
-      settling = subst (λ n. span.begins ≤ n + amount (most_settling (h.tree_at n))) (sym is_span.from) (omega arith);
+      settling = subst (λ n. span.begins ≤ n + amount (most_settling (h.account_at n))) (sym is_span.from) (omega arith);
       calls = omega arith;
     }
-performs_pass {settings = settings} {h = h} {span = span} {op = op} {label = label} is_span (answered settled answers bound) = record {
+performs_pass {settings = settings} {h = h} {span = span} {op = op} {label = label} is_span (answered settled answers beside bound) = record {
   settles = subst (λ n. Stutters h n span.begins) (sym is_span.from) settled.quiet;
   passes = subst (λ n. Passes settings h span.begins span.committed n op label span.takes) (sym is_span.to) answers.passes;
-  settling = subst (λ n. span.begins ≤ n + amount (most_settling (h.tree_at n))) (sym is_span.from) settled.within;
-  calls = subst (λ n. n ≤ span.begins + amount (most_calls op (h.tree_at span.begins))) (sym is_span.to) bound;
+  settling = subst (λ n. span.begins ≤ n + amount (most_settling (h.account_at n))) (sym is_span.from) settled.within;
+  calls = subst (λ n. n ≤ span.begins + amount (most_calls op (h.account_at span.begins))) (sym is_span.to) bound;
 }
 
 pub replies_pass : {settings : Settings} {h : History} {old new : StoreCursor} {span : Span} {request : Request} {label : Label} {reply : Reply} → IsSpan old span new (asked_by request.means label)
     → Replies settings h old span new request label reply → SpanPasses settings h span span.asked
 replies_pass {settings = settings} {h = h} {old = old} {new = new} {span = span} {label = label} is_span (refused code means is proper sound same takes) =
     let number : new.number ≡ old.number = ap (λ m. m.number) same in
-    let passes : NonePasses h span = record { none = omega arith; takes = takes; sound = subst (λ n. IsConsistent (h.tree_at n)) (sym is_span.from) sound } in
+    let passes : NonePasses h span = record { none = omega arith; takes = takes; sound = subst (λ n. IsConsistent (h.account_at n)) (sym is_span.from) sound } in
     subst (SpanPasses settings h span) (sym (is_span.asked ∙ ap (λ m. asked_by m label) means)) passes
 replies_pass {settings = settings} {h = h} {span = span} {label = label} is_span (performed op means performs caused known) =
     subst (SpanPasses settings h span) (sym (is_span.asked ∙ ap (λ m. asked_by m label) means)) (performs_pass is_span performs)
 
 -- the account is consistent at each of its numbers
-pub span_sound : (settings : Settings) (h : History) (span : Span) (asked : Option Asked) (k : ℕ) → span.from ≤ k → k ≤ span.to → SpanPasses settings h span asked → IsConsistent (h.tree_at k)
-span_sound settings h span None k from to passes = let one = passes.none in let e : span.from ≡ k = omega arith in subst (λ n. IsConsistent (h.tree_at n)) e passes.sound
-span_sound settings h span (Some asked) k from to passes = elim (cases_lt k span.begins) as (λ _. IsConsistent (h.tree_at k)) [
+pub span_sound : (settings : Settings) (h : History) (span : Span) (asked : Option Asked) (k : ℕ) → span.from ≤ k → k ≤ span.to → SpanPasses settings h span asked → IsConsistent (h.account_at k)
+span_sound settings h span None k from to passes = let one = passes.none in let e : span.from ≡ k = omega arith in subst (λ n. IsConsistent (h.account_at n)) e passes.sound
+span_sound settings h span (Some asked) k from to passes = elim (cases_lt k span.begins) as (λ _. IsConsistent (h.account_at k)) [
   | inl near ↦ passes.settles.sound k from (omega arith)
   | inr far ↦ passes.passes.sound k far to
 ]
@@ -95,9 +95,9 @@ all_pass_append settings h [] after first then = then
 all_pass_append settings h (span ∷ before) after (passes, first) then = (passes, all_pass_append settings h before after first then)
 
 -- after requests that follow one another the account is consistent
-pub all_pass_sound : (settings : Settings) (h : History) (p q : ℕ) (spans : List Span) → IsConsistent (h.tree_at p) → Follows p spans q → AllPass settings h spans → IsConsistent (h.tree_at q)
+pub all_pass_sound : (settings : Settings) (h : History) (p q : ℕ) (spans : List Span) → IsConsistent (h.account_at p) → Follows p spans q → AllPass settings h spans → IsConsistent (h.account_at q)
 unfolding Follows AllPass
-all_pass_sound settings h p q [] sound same passes = subst (λ n. IsConsistent (h.tree_at n)) same sound
+all_pass_sound settings h p q [] sound same passes = subst (λ n. IsConsistent (h.account_at n)) same sound
 all_pass_sound settings h p q (span ∷ spans) sound (begins, settled, committed, ends, then) (passes, rest) =
     all_pass_sound settings h span.to q spans (span_sound settings h span span.asked span.to (omega arith) (omega arith) passes) then rest
 
@@ -123,6 +123,7 @@ module _ {service : Service} {h : History} {connection : ℕ} where
   ends_pass (unheard is only owed) = all_pass_none service.settings h
   ends_pass (untold heard is only owed sends) = all_pass_none service.settings h
   ends_pass (broken span is breaks) = all_pass_one service.settings h span (breaks_pass breaks)
+  ends_pass (parted span parts) = all_pass_one service.settings h span (replies_pass parts.exchange.is_span parts.exchange.replies)
 
   pub connection_trace_pass : {ended : Ended} {old : ConnectionCursor} {spans : List Span} {new : Progress} → ConnectionTrace service (Replies service.settings h) connection ended old spans new → AllPass service.settings h spans
   connection_trace_pass trace =
@@ -130,13 +131,13 @@ module _ {service : Service} {h : History} {connection : ℕ} where
 
   -- ---- the account is left consistent
 
-  pub exchanges_sound : {old new : ConnectionCursor} {spans : List Span} → IsConsistent (h.tree_at old.progress.store.number) → Exchanges service (Replies service.settings h) connection old spans new
-      → IsConsistent (h.tree_at new.progress.store.number)
+  pub exchanges_sound : {old new : ConnectionCursor} {spans : List Span} → IsConsistent (h.account_at old.progress.store.number) → Exchanges service (Replies service.settings h) connection old spans new
+      → IsConsistent (h.account_at new.progress.store.number)
   exchanges_sound {old = old} {new = new} {spans = spans} sound exchanges =
       all_pass_sound service.settings h old.progress.store.number new.progress.store.number spans sound (exchanges_follow exchanges) (exchanges_pass exchanges)
 
-  pub connection_trace_sound : {ended : Ended} {old : ConnectionCursor} {spans : List Span} {new : Progress} → IsConsistent (h.tree_at old.progress.store.number)
-      → ConnectionTrace service (Replies service.settings h) connection ended old spans new → IsConsistent (h.tree_at new.store.number)
+  pub connection_trace_sound : {ended : Ended} {old : ConnectionCursor} {spans : List Span} {new : Progress} → IsConsistent (h.account_at old.progress.store.number)
+      → ConnectionTrace service (Replies service.settings h) connection ended old spans new → IsConsistent (h.account_at new.store.number)
   connection_trace_sound {old = old} {spans = spans} {new = new} sound trace =
       all_pass_sound service.settings h old.progress.store.number new.store.number spans sound (connection_trace_follow trace) (connection_trace_pass trace)
 
@@ -160,6 +161,7 @@ module _ {service : Service} {h : History} {connection : ℕ} where
   ends_known known (unheard is only owed) = subst (IsKnownOf h) (sym only.store) known
   ends_known known (untold heard is only owed sends) = subst (IsKnownOf h) (sym only.store) known
   ends_known known (broken span is breaks) = breaks_known known breaks
+  ends_known known (parted span parts) = replies_known known parts.exchange.replies
 
   pub connection_trace_known : {ended : Ended} {old : ConnectionCursor} {spans : List Span} {new : Progress} → IsKnownOf h old.progress.store
       → ConnectionTrace service (Replies service.settings h) connection ended old spans new → IsKnownOf h new.store

@@ -19,12 +19,12 @@ one_of_more : (settings : Settings) (h : History) (span : Span) (spans : List Sp
 one_of_more settings h span spans entry k late (inl same) = absurd (omega arith)
 one_of_more settings h span spans entry k late (inr (other, one, within, passes)) = inr (other, Contains-append_right (span ∷ []) spans other one, within, passes)
 
-pub stands_throughout : (settings : Settings) (h : History) (spans : List Span) (entry exit : ℕ) → IsConsistent (h.tree_at entry) → Follows entry spans exit → AllPass settings h spans
+pub stands_throughout : (settings : Settings) (h : History) (spans : List Span) (entry exit : ℕ) → IsConsistent (h.account_at entry) → Follows entry spans exit → AllPass settings h spans
     → StandsThroughout settings h spans entry exit
 unfolding Follows AllPass
 stands_throughout settings h [] entry exit sound same passes = λ k from to.
     let one : k ≡ entry = omega arith in
-    record { sound = subst (λ n. IsConsistent (h.tree_at n)) (sym one) sound; stands = inl one }
+    record { sound = subst (λ n. IsConsistent (h.account_at n)) (sym one) sound; stands = inl one }
 stands_throughout settings h (span ∷ spans) entry exit sound (begins, settled, committed, ends, then) (passes, rest) = λ k from to.
     elim (cases_lt span.to k) as (λ _. StandsAt settings h (span ∷ spans) entry k) [
       | inl late ↦

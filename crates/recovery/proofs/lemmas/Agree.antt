@@ -1,5 +1,6 @@
 -- What the calls of an operation amounted to is so in each later history too; and how two stretches are joined.
-use Rattle.std.specs.Prelude.{◌≡◌, ◌<◌, ◌≤◌, ◌-◌, ℕ, cond, nat_lt, true, false}
+use Rattle.std.specs.Prelude.{◌≡◌, ◌<◌, ◌≤◌, ℕ, Bool, cond, nat_lt, true, false, is_some, List}
+use Rattle.std.specs.FinMap.{get}
 use Rattle.std.proofs.Common.{refl, sym, ap, subst, ◌∙◌, inl, inr, arith}
 use Rattle.std.proofs.lemmas.Bool.{cases_lt}
 use Rattle.std.proofs.lemmas.Bool.Decides.{nat_tests}
@@ -8,23 +9,25 @@ use Rattle.s3_machine.specs.declared.operation.Label.{Label}
 use Rattle.s3_machine.specs.declared.operation.Settings.{Settings}
 use Rattle.s3_machine.specs.declared.operation.Op.{Op}
 use Rattle.s3_machine.specs.declared.operation.Reply.{Reply}
+use Rattle.s3_machine.specs.declared.operation.Reply.TheVariants.{Memory, Gone}
 use Rattle.s3_machine.specs.State.{State}
-use Rattle.s3_machine.specs.Step.{IsFree, step}
-use Rattle.swift_calls.specs.Account.{SwiftAccount}
-use Rattle.swift_calls.specs.History.{History, Extends}
+use Rattle.s3_machine.specs.Step.{S3Step}
+use Rattle.swift_calls.specs.Account.{files}
+use Rattle.swift_calls.specs.History.{History, Extends, FaultFree}
+use Rattle.upload_records.specs.Layout.{segments_name}
 use Rattle.upload_records.specs.Native.{s3_state}
 use Rattle.upload_records.specs.Consistent.{IsConsistent}
 use Rattle.recovery.specs.Stutters.{Stutters, OldBefore, LastFailed, was_lost, had_none}
 use Rattle.recovery.specs.Calls.{Commits}
-use Rattle.recovery.specs.Answers.{GivesId, Stepped, IsStage, before_step, after_step, Passes, AnswersBy, machine, unavailable, memory, Answers}
+use Rattle.recovery.specs.Answers.{steps_of, IsStage, before_step, after_step, Passes, is_old_if_failed, is_old_if_out_of_memory, OldIf, AnswersBy, machine, unavailable, memory, Answers, Beside, nothing_beside, opens_in, clears, upload_at, IsFirstFree, SaysBeside}
 
 -- ---- later histories
 
 -- the state at a number that is kept
-same_at : {old new : History} {q : ℕ} → Extends q old new → (k p : ℕ) → k ≤ q → p ≤ q → s3_state (old.tree_at k) ≡ s3_state (old.tree_at p) → s3_state (new.tree_at k) ≡ s3_state (new.tree_at p)
+same_at : {old new : History} {q : ℕ} → Extends q old new → (k p : ℕ) → k ≤ q → p ≤ q → s3_state (old.account_at k) ≡ s3_state (old.account_at p) → s3_state (new.account_at k) ≡ s3_state (new.account_at p)
 same_at kept k p to from e = ap s3_state (kept.accounts k to) ∙ e ∙ sym (ap s3_state (kept.accounts p from))
 
-sound_at : {old new : History} {q : ℕ} → Extends q old new → (k : ℕ) → k ≤ q → IsConsistent (old.tree_at k) → IsConsistent (new.tree_at k)
+sound_at : {old new : History} {q : ℕ} → Extends q old new → (k : ℕ) → k ≤ q → IsConsistent (old.account_at k) → IsConsistent (new.account_at k)
 sound_at kept k to sound = subst IsConsistent (sym (kept.accounts k to)) sound
 
 pub quiet_agree : {old new : History} {p q : ℕ} → Extends q old new → Stutters old p q → Stutters new p q
@@ -46,12 +49,12 @@ last_failed_agree {p = p} {q = q} ordered kept (was_lost last after_p next quiet
 last_failed_agree {p = p} {q = q} ordered kept (had_none spent quiet same) =
     had_none spent (kept.counts q (omega arith) ∙ quiet ∙ sym (kept.counts p ordered)) (same_at kept q p (omega arith) ordered same)
 
--- over the same accounts
-stepped_at : {old old' : SwiftAccount} {new new' : State} (settings : Settings) (op : Op) (label : Label) (reply : Reply) → old ≡ old' → new ≡ new' → Stepped settings old op label reply new → Stepped settings old' op label reply new'
-stepped_at settings op label reply from to stepped = subst {A = SwiftAccount × State} (λ s. Stepped settings s.0 op label reply s.1) (λ i. (from i, to i)) stepped
+-- over the same states
+step_at : {old old' new new' : State} (settings : Settings) (op : Op) (label : Label) (reply : Reply) → old ≡ old' → new ≡ new' → S3Step settings old op label reply new → S3Step settings old' op label reply new'
+step_at settings op label reply from to step = subst {A = State × State} (λ s. S3Step settings s.0 op label reply s.1) (λ i. (from i, to i)) step
 
-stage_at : {old old' : SwiftAccount} {new new' : State} (settings : Settings) (op : Op) (label : Label) (n : ℕ) → old ≡ old' → new ≡ new' → IsStage settings old op label n new → IsStage settings old' op label n new'
-stage_at settings op label n from to stage = subst {A = SwiftAccount × State} (λ s. IsStage settings s.0 op label n s.1) (λ i. (from i, to i)) stage
+stage_at : {old old' new new' : State} (settings : Settings) (op : Op) (label : Label) (n : ℕ) → old ≡ old' → new ≡ new' → IsStage settings old op label n new → IsStage settings old' op label n new'
+stage_at settings op label n from to stage = subst {A = State × State} (λ s. IsStage settings s.0 op label n s.1) (λ i. (from i, to i)) stage
 
 pub passes_agree : {old new : History} {settings : Settings} {p t q : ℕ} {op : Op} {label : Label} {takes : ℕ} → Extends q old new → Passes settings old p t q op label takes → Passes settings new p t q op label takes
 passes_agree {settings = settings} {p = p} {t = t} {q = q} {op = op} {label = label} kept passes =
@@ -64,21 +67,48 @@ passes_agree {settings = settings} {p = p} {t = t} {q = q} {op = op} {label = la
       rises = passes.rises;
       before = passes.before;
       since = passes.since;
-      is = λ k from to. stage_at settings op label (passes.stage k) (sym (kept.accounts p (omega arith))) (ap s3_state (sym (kept.accounts k to))) (passes.is k from to);
+      is = λ k from to. stage_at settings op label (passes.stage k) (ap s3_state (sym (kept.accounts p (omega arith)))) (ap s3_state (sym (kept.accounts k to))) (passes.is k from to);
       sound = λ k from to. sound_at kept k to (passes.sound k from to);
     }
 
+old_if_agree : (t : Bool) {old new : History} (p q : ℕ) → Extends q old new → OldIf t old p q → OldIf t new p q
+old_if_agree true p q kept old = old_before_agree kept old
+old_if_agree false p q kept old = tt
+
 answers_by_agree : {old new : History} {settings : Settings} {p q : ℕ} {op : Op} {label : Label} {takes : ℕ} {reply : Reply} → p ≤ q → Extends q old new → AnswersBy settings old p q op label takes reply → AnswersBy settings new p q op label takes reply
-answers_by_agree {settings = settings} {p = p} {q = q} {op = op} {label = label} {reply = reply} ordered kept (machine one stepped) =
-    machine one (stepped_at settings op label reply (sym (kept.accounts p ordered)) (ap s3_state (sym (kept.accounts q (omega arith)))) stepped)
-answers_by_agree ordered kept (unavailable is failed old) = unavailable is (last_failed_agree ordered kept failed) (old_before_agree kept old)
-answers_by_agree ordered kept (memory is old) = memory is (old_before_agree kept old)
+answers_by_agree {settings = settings} {p = p} {q = q} {op = op} {label = label} {reply = reply} ordered kept (machine all step) =
+    machine all (step_at settings op label reply (ap s3_state (sym (kept.accounts p ordered))) (ap s3_state (sym (kept.accounts q (omega arith)))) step)
+answers_by_agree {p = p} {q = q} {op = op} ordered kept (unavailable is failed old) = unavailable is (last_failed_agree ordered kept failed) (old_if_agree (is_old_if_failed op) p q kept old)
+answers_by_agree {p = p} {q = q} {op = op} ordered kept (memory is old) = memory is (old_if_agree (is_old_if_out_of_memory op) p q kept old)
 
 pub answers_agree : {old new : History} {settings : Settings} {p t q : ℕ} {op : Op} {label : Label} {takes : ℕ} {reply : Reply} → Extends q old new → Answers settings old p t q op label takes reply → Answers settings new p t q op label takes reply
 answers_agree kept answers =
     let first = answers.passes.after_p in
     let last = answers.passes.up_to_q in
-    record { passes = passes_agree kept answers.passes; by = answers_by_agree (omega arith) kept answers.by; beside = answers.beside }
+    record { passes = passes_agree kept answers.passes; by = answers_by_agree (omega arith) kept answers.by }
+
+-- no call failed in the history as it was told before
+fault_free_before : {old new : History} {p q : ℕ} → Extends q old new → FaultFree new p q → FaultFree old p q
+fault_free_before {old = old} {new = new} kept none j k from order to (inl rose) =
+    none j k from order to (inl (subst (λ n. Rose n (new.faults_at k)) (sym (kept.counts j (omega arith))) (subst (Rose (old.faults_at j)) (sym (kept.counts k to)) rose)))
+fault_free_before kept none j k from order to (inr spent) = none j k from order to (inr spent)
+
+-- what is said of the account beside the state
+pub beside_agree : (b : Beside) {old new : History} (label : Label) {p q : ℕ} (reply : Reply) → p ≤ q → Extends q old new → SaysBeside b label old p q reply → SaysBeside b label new p q reply
+beside_agree nothing_beside label reply ordered kept says = tt
+beside_agree (opens_in bucket) label {p = p} {q = q} reply ordered kept says = λ id none some.
+    let first = kept.accounts p ordered in
+    let last = kept.accounts q (omega arith) in
+    subst (λ tree. IsFirstFree tree bucket label.draw id) (sym first)
+    (says id (ap (λ tree. upload_at (get (s3_state tree) bucket) id) (sym first) ∙ none) (ap (λ tree. is_some (upload_at (get (s3_state tree) bucket) id)) (sym last) ∙ some))
+beside_agree (clears bucket id) label {q = q} reply ordered kept says = λ gone none name named.
+    ap (λ tree. get (files tree (segments_name bucket)) name) (kept.accounts q (omega arith)) ∙ says gone (fault_free_before kept none) name named
+
+-- where no call was made and memory ran out, it is nothing
+pub beside_memory : (b : Beside) (label : Label) (h : History) (p : ℕ) → SaysBeside b label h p p Memory
+beside_memory nothing_beside label h p = tt
+beside_memory (opens_in bucket) label h p = λ id none some. absurd (let no : false ≡ true = sym (ap is_some none) ∙ some in cc)
+beside_memory (clears bucket id) label h p = λ gone. absurd (let no : Memory ≡ Gone = gone in cc)
 
 -- ---- stretches
 
@@ -88,11 +118,11 @@ quiet_trans {h = h} {p = p} {q = q} {r = r} first then =
     let then_ordered = then.ordered in
     record {
       ordered = omega arith;
-      same = λ k from to. elim (cases_lt k q) as (λ _. s3_state (h.tree_at k) ≡ s3_state (h.tree_at p)) [
+      same = λ k from to. elim (cases_lt k q) as (λ _. s3_state (h.account_at k) ≡ s3_state (h.account_at p)) [
         | inl near ↦ first.same k from (omega arith)
         | inr far ↦ then.same k far to ∙ first.same q first_ordered (omega arith)
       ];
-      sound = λ k from to. elim (cases_lt k q) as (λ _. IsConsistent (h.tree_at k)) [
+      sound = λ k from to. elim (cases_lt k q) as (λ _. IsConsistent (h.account_at k)) [
         | inl near ↦ first.sound k from (omega arith)
         | inr far ↦ then.sound k far to
       ];
@@ -112,49 +142,17 @@ passes_still {p = p} quiet = record {
 }
 
 -- quiet calls go through a step that leaves the state, at once
-pub passes_at_once : {settings : Settings} {h : History} {p q : ℕ} {op : Op} {label : Label} {reply : Reply} → Stutters h p q → Stepped settings (h.tree_at p) op label reply (s3_state (h.tree_at p)) → Passes settings h p p q op label 1
-passes_at_once {settings = settings} {h = h} {p = p} {op = op} {label = label} {reply = reply} quiet stepped = record {
+pub passes_at_once : {settings : Settings} {h : History} {p q : ℕ} {op : Op} {label : Label} {reply : Reply} → Stutters h p q → S3Step settings (s3_state (h.account_at p)) op label reply (s3_state (h.account_at p)) → Passes settings h p p q op label (steps_of op)
+passes_at_once {settings = settings} {h = h} {p = p} {op = op} {label = label} {reply = reply} quiet step = record {
   after_p = omega arith;
   up_to_q = quiet.ordered;
-  stage = λ k. 1;
+  stage = λ k. steps_of op;
   rises = λ j k from order to. omega arith;
   before = λ some k from to. absurd (omega arith);
   since = λ k from to. refl;
-  is = λ k from to. after_step refl reply (subst (Stepped settings (h.tree_at p) op label reply) (sym (quiet.same k from to)) stepped);
+  is = λ k from to. after_step refl reply (subst (S3Step settings (s3_state (h.account_at p)) op label reply) (sym (quiet.same k from to)) step);
   sound = quiet.sound;
 }
-
--- calls of which the last one commits go through one step
-pub passes_once : {settings : Settings} {h : History} {p q : ℕ} {op : Op} {label : Label} {reply : Reply} {S : State → State → Type 0} → Commits h p q S → Stepped settings (h.tree_at p) op label reply (s3_state (h.tree_at q))
-    → Passes settings h p q q op label 1
-passes_once {settings = settings} {h = h} {p = p} {q = q} {op = op} {label = label} {reply = reply} commits stepped =
-    let last = commits.last in
-    let next = commits.next in
-    let quiet = commits.quiet in
-    let ordered = quiet.ordered in
-    record {
-      after_p = omega arith;
-      up_to_q = omega arith;
-      stage = λ k. k - last;
-      rises = λ j k from order to. omega arith;
-      before = λ some k from to. omega arith;
-      since = λ k from to. omega arith;
-      is = λ k from to. elim (cases_lt k q) as (λ _. IsStage settings (h.tree_at p) op label (k - last) (s3_state (h.tree_at k))) [
-        | inl near ↦ before_step (omega arith) (quiet.same k from (omega arith))
-        | inr far ↦ let e : q ≡ k = omega arith in after_step (omega arith) reply (subst (λ j. Stepped settings (h.tree_at p) op label reply (s3_state (h.tree_at j))) e stepped)
-      ];
-      sound = λ k from to. elim (cases_lt k q) as (λ _. IsConsistent (h.tree_at k)) [
-        | inl near ↦ quiet.sound k from (omega arith)
-        | inr far ↦ let e : q ≡ k = omega arith in subst (λ j. IsConsistent (h.tree_at j)) e commits.sound
-      ];
-    }
-
--- an id that the later account lets the operation give, the earlier one lets it give
-abbrev pub CarriesId : Op → Label → SwiftAccount → SwiftAccount → Type 0
-CarriesId op label old new = (id : ℕ) → GivesId op label new id → GivesId op label old id
-
-pub same_ids : (op : Op) (label : Label) {old new : SwiftAccount} → new ≡ old → CarriesId op label old new
-same_ids op label same = λ id given. subst (λ tree. GivesId op label tree id) same given
 
 lt_is : (k q : ℕ) → k < q → nat_lt k q ≡ true
 lt_is k q near = grind (arith, nat_tests)
@@ -162,14 +160,89 @@ lt_is k q near = grind (arith, nat_tests)
 not_lt : (k q : ℕ) → q ≤ k → nat_lt k q ≡ false
 not_lt k q far = grind (arith, nat_tests)
 
+-- calls of which the last one commits go through the whole at once
+pub passes_once : {settings : Settings} {h : History} {p q : ℕ} {op : Op} {label : Label} {reply : Reply} {S : State → State → Type 0} → Commits h p q S → S3Step settings (s3_state (h.account_at p)) op label reply (s3_state (h.account_at q))
+    → Passes settings h p q q op label (steps_of op)
+passes_once {settings = settings} {h = h} {p = p} {q = q} {op = op} {label = label} {reply = reply} commits step =
+    let next = commits.next in
+    let quiet = commits.quiet in
+    let ordered = quiet.ordered in
+    record {
+      after_p = omega arith;
+      up_to_q = omega arith;
+      stage = λ k. cond (nat_lt k q) 0 (steps_of op);
+      rises = λ j k from order to. elim (cases_lt j q) as (λ _. cond (nat_lt j q) 0 (steps_of op) ≤ cond (nat_lt k q) 0 (steps_of op)) [
+        | inl near ↦ subst (λ n. n ≤ cond (nat_lt k q) 0 (steps_of op)) (sym (below j near)) (omega arith)
+        | inr far ↦ subst {A = ℕ × ℕ} (λ n. n.0 ≤ n.1) (λ i. (sym (above j far) i, sym (above k (omega arith)) i)) (omega arith)
+      ];
+      before = λ some k from to. subst (λ n. n < steps_of op) (sym (below k to)) some;
+      since = λ k from to. above k from;
+      is = λ k from to. elim (cases_lt k q) as (λ _. IsStage settings (s3_state (h.account_at p)) op label (cond (nat_lt k q) 0 (steps_of op)) (s3_state (h.account_at k))) [
+        | inl near ↦ before_step (below k near) (quiet.same k from (omega arith))
+        | inr far ↦ let e : q ≡ k = omega arith in after_step (above k far) reply (subst (λ j. S3Step settings (s3_state (h.account_at p)) op label reply (s3_state (h.account_at j))) e step)
+      ];
+      sound = λ k from to. elim (cases_lt k q) as (λ _. IsConsistent (h.account_at k)) [
+        | inl near ↦ quiet.sound k from (omega arith)
+        | inr far ↦ let e : q ≡ k = omega arith in subst (λ j. IsConsistent (h.account_at j)) e commits.sound
+      ];
+    }
+  where
+    below : (k : ℕ) → k < q → cond (nat_lt k q) 0 (steps_of op) ≡ 0
+    below k near = ap (λ t. cond t 0 (steps_of op)) (lt_is k q near)
+
+    above : (k : ℕ) → q ≤ k → cond (nat_lt k q) 0 (steps_of op) ≡ steps_of op
+    above k far = ap (λ t. cond t 0 (steps_of op)) (not_lt k q far)
+
+-- quiet calls go on from where an operation's steps were taken
+pub passes_rest : {settings : Settings} {h : History} {p t q r : ℕ} {op : Op} {label : Label} {takes : ℕ} → Passes settings h p t q op label takes → Stutters h q r → Passes settings h p t r op label takes
+passes_rest {settings = settings} {h = h} {p = p} {t = t} {q = q} {r = r} {op = op} {label = label} {takes = takes} passes rest =
+    let first = passes.after_p in
+    let last = passes.up_to_q in
+    let ordered = rest.ordered in
+    let stage : ℕ → ℕ = λ k. cond (nat_lt k q) (passes.stage k) takes in
+    record {
+      after_p = first;
+      up_to_q = omega arith;
+      stage = stage;
+      rises = λ j k from order to. elim (cases_lt k q) as (λ _. stage j ≤ stage k) [
+        | inl near ↦ subst {A = ℕ × ℕ} (λ n. n.0 ≤ n.1) (λ i. (sym (below j (omega arith)) i, sym (below k near) i)) (passes.rises j k from order (omega arith))
+        | inr far ↦ elim (cases_lt j q) as (λ _. stage j ≤ stage k) [
+          | inl near ↦ subst {A = ℕ × ℕ} (λ n. n.0 ≤ n.1) (λ i. (sym (below j near) i, (passes.since q last (omega arith) ∙ sym (above k far)) i)) (passes.rises j q from (omega arith) (omega arith))
+          | inr later ↦ subst {A = ℕ × ℕ} (λ n. n.0 ≤ n.1) (λ i. (sym (above j later) i, sym (above k far) i)) (omega arith)
+        ]
+      ];
+      before = λ some k from to. subst (λ n. n < takes) (sym (below k (omega arith))) (passes.before some k from to);
+      since = λ k from to. elim (cases_lt k q) as (λ _. stage k ≡ takes) [
+        | inl near ↦ below k near ∙ passes.since k from (omega arith)
+        | inr far ↦ above k far
+      ];
+      is = λ k from to. elim (cases_lt k q) as (λ _. IsStage settings (s3_state (h.account_at p)) op label (stage k) (s3_state (h.account_at k))) [
+        | inl near ↦ subst (λ n. IsStage settings (s3_state (h.account_at p)) op label n (s3_state (h.account_at k))) (sym (below k near)) (passes.is k from (omega arith))
+        | inr far ↦ stage_at' (passes.since q last (omega arith) ∙ sym (above k far)) (sym (rest.same k far to)) (passes.is q (omega arith) (omega arith))
+      ];
+      sound = λ k from to. elim (cases_lt k q) as (λ _. IsConsistent (h.account_at k)) [
+        | inl near ↦ passes.sound k from (omega arith)
+        | inr far ↦ rest.sound k far to
+      ];
+    }
+  where
+    below : (k : ℕ) → k < q → cond (nat_lt k q) (passes.stage k) takes ≡ passes.stage k
+    below k near = ap (λ t. cond t (passes.stage k) takes) (lt_is k q near)
+
+    above : (k : ℕ) → q ≤ k → cond (nat_lt k q) (passes.stage k) takes ≡ takes
+    above k far = ap (λ t. cond t (passes.stage k) takes) (not_lt k q far)
+
+    stage_at' : {m n : ℕ} {one other : State} → m ≡ n → one ≡ other → IsStage settings (s3_state (h.account_at p)) op label m one → IsStage settings (s3_state (h.account_at p)) op label n other
+    stage_at' to same stage = subst {A = ℕ × State} (λ s. IsStage settings (s3_state (h.account_at p)) op label s.0 s.1) (λ i. (to i, same i)) stage
+
 module _ {h : History} {p q : ℕ} (quiet : Stutters h p q) where
-  same_state : s3_state (h.tree_at q) ≡ s3_state (h.tree_at p)
+  same_state : s3_state (h.account_at q) ≡ s3_state (h.account_at p)
   same_state = quiet.same q quiet.ordered (omega arith)
 
   before_after : {r : ℕ} → OldBefore h q r → OldBefore h p r
   before_after then k from to =
       let ordered = quiet.ordered in
-      elim (cases_lt k q) as (λ _. s3_state (h.tree_at k) ≡ s3_state (h.tree_at p)) [
+      elim (cases_lt k q) as (λ _. s3_state (h.account_at k) ≡ s3_state (h.account_at p)) [
         | inl near ↦ quiet.same k from (omega arith)
         | inr far ↦ then k far to ∙ quiet.same q ordered (omega arith)
       ]
@@ -178,26 +251,21 @@ module _ {h : History} {p q : ℕ} (quiet : Stutters h p q) where
   failed_after same (was_lost last after_q next still rose) = let ordered = quiet.ordered in was_lost last (omega arith) next (still ∙ same) rose
   failed_after same (had_none spent still state) = had_none spent (still ∙ same) (state ∙ same_state)
 
-module _ {settings : Settings} {h : History} {p q : ℕ} {op : Op} {label : Label} (quiet : Stutters h p q) (carries : CarriesId op label (h.tree_at p) (h.tree_at q)) where
-  stepped_after : {reply : Reply} {new : State} → Stepped settings (h.tree_at q) op label reply new → Stepped settings (h.tree_at p) op label reply new
-  stepped_after {reply = reply} {new = new} stepped = record {
-    step = record {
-      id = stepped.step.id;
-      free = subst (λ s. IsFree s op stepped.step.id) (same_state quiet) stepped.step.free;
-      replies = stepped.step.replies ∙ ap (λ s. (step settings s op label stepped.step.id).reply) (same_state quiet);
-      goes = stepped.step.goes ∙ ap (λ s. (step settings s op label stepped.step.id).state) (same_state quiet);
-    };
-    id = carries stepped.step.id stepped.id;
-  }
+  old_if_after : (t : Bool) (r : ℕ) → OldIf t h q r → OldIf t h p r
+  old_if_after true r old = before_after old
+  old_if_after false r old = tt
 
-  stage_after : {n : ℕ} {new : State} → IsStage settings (h.tree_at q) op label n new → IsStage settings (h.tree_at p) op label n new
-  stage_after (before_step none same) = before_step none (same ∙ same_state quiet)
-  stage_after (after_step one reply stepped) = after_step one reply (stepped_after stepped)
+module _ {settings : Settings} {h : History} {p q : ℕ} {op : Op} {label : Label} (quiet : Stutters h p q) where
+  step_after : {reply : Reply} {new : State} → S3Step settings (s3_state (h.account_at q)) op label reply new → S3Step settings (s3_state (h.account_at p)) op label reply new
+  step_after {reply = reply} step = step_at settings op label reply (same_state quiet) refl step
+
+  stage_after : {n : ℕ} {new : State} → IsStage settings (s3_state (h.account_at q)) op label n new → IsStage settings (s3_state (h.account_at p)) op label n new
+  stage_after {n = n} stage = stage_at settings op label n (same_state quiet) refl stage
 
   by_after : {r takes : ℕ} {reply : Reply} → h.faults_at q ≡ h.faults_at p → AnswersBy settings h q r op label takes reply → AnswersBy settings h p r op label takes reply
-  by_after same (machine one stepped) = machine one (stepped_after stepped)
-  by_after same (unavailable is failed old) = unavailable is (failed_after quiet same failed) (before_after quiet old)
-  by_after same (memory is old) = memory is (before_after quiet old)
+  by_after same (machine all step) = machine all (step_after step)
+  by_after {r = r} same (unavailable is failed old) = unavailable is (failed_after quiet same failed) (old_if_after quiet (is_old_if_failed op) r old)
+  by_after {r = r} same (memory is old) = memory is (old_if_after quiet (is_old_if_out_of_memory op) r old)
 
   passes_after : {t r takes : ℕ} → Passes settings h q t r op label takes → Passes settings h p t r op label takes
   passes_after {t = t} {r = r} {takes = takes} passes =
@@ -217,11 +285,11 @@ module _ {settings : Settings} {h : History} {p q : ℕ} {op : Op} {label : Labe
           | inr far ↦ subst (λ n. n < takes) (sym (above k far)) (passes.before some k far to)
         ];
         since = λ k from to. above k (omega arith) ∙ passes.since k from to;
-        is = λ k from to. elim (cases_lt k q) as (λ _. IsStage settings (h.tree_at p) op label (stage k) (s3_state (h.tree_at k))) [
+        is = λ k from to. elim (cases_lt k q) as (λ _. IsStage settings (s3_state (h.account_at p)) op label (stage k) (s3_state (h.account_at k))) [
           | inl near ↦ before_step (below k near) (quiet.same k from (omega arith))
-          | inr far ↦ subst (λ n. IsStage settings (h.tree_at p) op label n (s3_state (h.tree_at k))) (sym (above k far)) (stage_after (passes.is k far to))
+          | inr far ↦ subst (λ n. IsStage settings (s3_state (h.account_at p)) op label n (s3_state (h.account_at k))) (sym (above k far)) (stage_after (passes.is k far to))
         ];
-        sound = λ k from to. elim (cases_lt k q) as (λ _. IsConsistent (h.tree_at k)) [
+        sound = λ k from to. elim (cases_lt k q) as (λ _. IsConsistent (h.account_at k)) [
           | inl near ↦ quiet.sound k from (omega arith)
           | inr far ↦ passes.sound k far to
         ];
@@ -235,4 +303,4 @@ module _ {settings : Settings} {h : History} {p q : ℕ} {op : Op} {label : Labe
 
   -- quiet calls without a fault, and then those of the whole answer
   pub answers_after : {t r takes : ℕ} {reply : Reply} → h.faults_at q ≡ h.faults_at p → Answers settings h q t r op label takes reply → Answers settings h p t r op label takes reply
-  answers_after same answers = record { passes = passes_after answers.passes; by = by_after same answers.by; beside = answers.beside }
+  answers_after same answers = record { passes = passes_after answers.passes; by = by_after same answers.by }

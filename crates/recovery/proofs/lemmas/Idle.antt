@@ -15,19 +15,19 @@ near_one : {p q : ℕ} (k : ℕ) → q ≤ p + 1 → p ≤ k → k ≤ q → (k 
 near_one {p = p} {q = q} k near from to = elim (cases_lt k q) [ inl below ↦ inl (omega arith) | inr above ↦ inr (omega arith) ]
 
 -- no call, or one that left the account
-pub stays : {h : History} {p q : ℕ} → p ≤ q → q ≤ p + 1 → h.tree_at q ≡ h.tree_at p → IsConsistent (h.tree_at p) → Stutters h p q
+pub stays : {h : History} {p q : ℕ} → p ≤ q → q ≤ p + 1 → h.account_at q ≡ h.account_at p → IsConsistent (h.account_at p) → Stutters h p q
 stays {h = h} {p = p} {q = q} ordered near same sound = record {
   ordered = ordered;
   same = λ k from to. ap s3_state (here k from to);
   sound = λ k from to. subst IsConsistent (sym (here k from to)) sound;
 }
   where
-    here : (k : ℕ) → p ≤ k → k ≤ q → h.tree_at k ≡ h.tree_at p
-    here k from to = elim (near_one k near from to) [ inl e ↦ ap h.tree_at e | inr e ↦ ap h.tree_at e ∙ same ]
+    here : (k : ℕ) → p ≤ k → k ≤ q → h.account_at k ≡ h.account_at p
+    here k from to = elim (near_one k near from to) [ inl e ↦ ap h.account_at e | inr e ↦ ap h.account_at e ∙ same ]
 
 -- no call was made
-pub none_made : {h : History} {p q : ℕ} → q ≡ p → IsConsistent (h.tree_at p) → Stutters h p q
-none_made {h = h} same sound = stays (omega arith) (omega arith) (ap h.tree_at same) sound
+pub none_made : {h : History} {p q : ℕ} → q ≡ p → IsConsistent (h.account_at p) → Stutters h p q
+none_made {h = h} same sound = stays (omega arith) (omega arith) (ap h.account_at same) sound
 
 -- no call was made
 pub goes_none : (h : History) → GoesOn h h

@@ -9,8 +9,8 @@ use Rattle.s3_names.specs.Bucket.{is_bucket}
 use Rattle.s3_machine.specs.State.{Bucket}
 use Rattle.swift_calls.specs.Account.{SwiftContainer, SwiftAccount, files, files_of}
 use Rattle.upload_records.specs.Layout.{uploads_name, segments_name}
-use Rattle.upload_records.specs.Native.{object_of, bucket_of, bucket_from, IsSettled, s3_state}
-use Rattle.upload_records.proofs.lemmas.Settled.{s3_state_settled}
+use Rattle.upload_records.specs.Native.{object_of, bucket_of, bucket_from, IsUnsealed, s3_state}
+use Rattle.upload_records.proofs.lemmas.Settled.{s3_state_unsealed}
 use Rattle.upload_records.proofs.Plain.{get_plain}
 
 module _ (tree : SwiftAccount) (b : List ℕ) (is : is_bucket b ≡ true) where
@@ -29,11 +29,11 @@ module _ (tree : SwiftAccount) (b : List ℕ) (is : is_bucket b ≡ true) where
       let never : Some made ≡ None = ap (λ t. cond t (Some made) None) (sym is) ∙ e in
       cc
 
-  module _ (settled : IsSettled tree) where
+  module _ (unsealed : IsUnsealed tree) where
     found_in : get (s3_state tree) b ≡ option_and_then (bucket_of tree b) (get tree b)
-    found_in = ap (λ s. get s b) (s3_state_settled tree settled) ∙ get_plain tree b
+    found_in = ap (λ s. get s b) (s3_state_unsealed tree unsealed) ∙ get_plain tree b
 
-    -- over a settled account the objects of a bucket that is there
+    -- over an account on which no completion is sealed the objects of a bucket that is there
     pub objects_there : (n : Bucket) → get (s3_state tree) b ≡ Some n → n.objects ≡ picked (object_of (files tree (segments_name b))) (files tree b)
     objects_there n e = there_by (get tree b) n (sym found_in ∙ e)
 

@@ -1,4 +1,4 @@
--- What the calls on an object's file do to the state, over a settled account, and what is found of an object.
+-- What the calls on an object's file do to the state, over an account on which no completion is sealed, and what is found of an object.
 use Rattle.std.specs.Prelude.{◌≡◌, ℕ, List, true, is_some, Option, None, Some}
 use Rattle.std.specs.Option.{option_and_then}
 use Rattle.std.specs.FinMap.{get, insert, remove}
@@ -14,10 +14,10 @@ use Rattle.swift_calls.specs.Account.{SwiftObject, SwiftContainer, SwiftAccount,
 use Rattle.swift_calls.specs.Bodies.{bytes_of}
 use Rattle.swift_calls.specs.Step as store
 use Rattle.upload_records.specs.Layout.{segments_name}
-use Rattle.upload_records.specs.Native.{within, object_by, object_of, object_at, IsSettled, s3_state}
+use Rattle.upload_records.specs.Native.{within, object_by, object_of, object_at, IsUnsealed, s3_state}
 use Rattle.upload_records.specs.Consistent.{IsConsistent, IsPlainObject, IsObject, in_one_piece, IsStored}
 use Rattle.upload_records.specs.Laws.{ChangesBy, FindsObject, file_put, object_in}
-use Rattle.upload_records.proofs.lemmas.Settled.{s3_state_settled}
+use Rattle.upload_records.proofs.lemmas.Settled.{s3_state_unsealed}
 use Rattle.upload_records.proofs.Plain.{plain_at, plain_put, plain_removed}
 use Rattle.upload_records.proofs.Carried.{sound_object, sound_put, sound_removed}
 use Rattle.upload_records.proofs.Leaves.{changes_by}
@@ -40,20 +40,20 @@ file_is_object tree b key file sound is found = sound_object tree b key file sou
 
 -- ---- what is found
 
--- over a settled account an object of the state is what the file of its key represents
-s3_state_at : (tree : SwiftAccount) (b key : List ℕ) → is_bucket b ≡ true → IsSettled tree
+-- over an account on which no completion is sealed an object of the state is what the file of its key represents
+s3_state_at : (tree : SwiftAccount) (b key : List ℕ) → is_bucket b ≡ true → IsUnsealed tree
     → object_at (get (s3_state tree) b) key ≡ option_and_then (object_of (files tree (segments_name b)) key) (find_object tree b key)
-s3_state_at tree b key is settled = ap (λ s. object_at (get s b) key) (s3_state_settled tree settled) ∙ plain_at tree b key is
+s3_state_at tree b key is unsealed = ap (λ s. object_at (get s b) key) (s3_state_unsealed tree unsealed) ∙ plain_at tree b key is
 
-finds : (tree : SwiftAccount) (b key : List ℕ) (o : Option SwiftObject) → is_bucket b ≡ true → IsConsistent tree → IsSettled tree → find_object tree b key ≡ o → FindsObject tree b key o
-finds tree b key None is sound settled e = s3_state_at tree b key is settled ∙ ap (option_and_then (object_of (files tree (segments_name b)) key)) e
-finds tree b key (Some file) is sound settled e =
+finds : (tree : SwiftAccount) (b key : List ℕ) (o : Option SwiftObject) → is_bucket b ≡ true → IsConsistent tree → IsUnsealed tree → find_object tree b key ≡ o → FindsObject tree b key o
+finds tree b key None is sound unsealed e = s3_state_at tree b key is unsealed ∙ ap (option_and_then (object_of (files tree (segments_name b)) key)) e
+finds tree b key (Some file) is sound unsealed e =
     let object = sound_object tree b key file sound is e in
     let reads = reads_as (files tree (segments_name b)) (segments_name b) key file object in
-    (object, reads.0, reads.1, s3_state_at tree b key is settled ∙ ap (option_and_then (object_of (files tree (segments_name b)) key)) e ∙ reads.1)
+    (object, reads.0, reads.1, s3_state_at tree b key is unsealed ∙ ap (option_and_then (object_of (files tree (segments_name b)) key)) e ∙ reads.1)
 
-pub found : (tree : SwiftAccount) (b key : List ℕ) → is_bucket b ≡ true → IsConsistent tree → IsSettled tree → FindsObject tree b key (find_object tree b key)
-found tree b key is sound settled = finds tree b key (find_object tree b key) is sound settled refl
+pub found : (tree : SwiftAccount) (b key : List ℕ) → is_bucket b ≡ true → IsConsistent tree → IsUnsealed tree → FindsObject tree b key (find_object tree b key)
+found tree b key is sound unsealed = finds tree b key (find_object tree b key) is sound unsealed refl
 
 -- ---- an object comes, or goes
 
@@ -69,15 +69,15 @@ delete_leaves None b key tree none =
 delete_leaves (Some file) b key tree there = refl
 
 pub object_put : (tree : SwiftAccount) (b key content_type : List ℕ) (meta : List (List ℕ)) (body : List ℕ) (plain : IsPlainObject (file_put content_type meta body))
-    → is_bucket b ≡ true → is_key key ≡ true → IsStored key (file_put content_type meta body) → IsConsistent tree → IsSettled tree
+    → is_bucket b ≡ true → is_key key ≡ true → IsStored key (file_put content_type meta body) → IsConsistent tree → IsUnsealed tree
     → ChangesBy tree (PutObject b key content_type meta body) (adjust b (put_object key (object_in plain)))
-object_put tree b key content_type meta body plain is keyed stored sound settled =
+object_put tree b key content_type meta body plain is keyed stored sound unsealed =
     let file : SwiftObject = file_put content_type meta body in
-    changes_by tree (put_file b key file tree) b (PutObject b key content_type meta body) (adjust b (put_object key (object_in plain))) is settled (off_adjust by_name b (on_files (λ fs. insert fs key file)) tree)
+    changes_by tree (put_file b key file tree) b (PutObject b key content_type meta body) (adjust b (put_object key (object_in plain))) is unsealed (off_adjust by_name b (on_files (λ fs. insert fs key file)) tree)
     (put_leaves (get tree b) b key file tree refl) (sound_put tree b key file is sound (in_one_piece keyed plain) stored)
     (plain_put tree b key file (object_in plain) (plain_object (files tree (segments_name b)) key file plain) is)
 
-pub object_gone : (tree : SwiftAccount) (b key : List ℕ) → is_bucket b ≡ true → IsConsistent tree → IsSettled tree → ChangesBy tree (DeleteObject b key) (adjust b (drop_object key))
-object_gone tree b key is sound settled =
-    changes_by tree (remove_file b key tree) b (DeleteObject b key) (adjust b (drop_object key)) is settled (off_adjust by_name b (on_files (λ fs. remove fs key)) tree)
+pub object_gone : (tree : SwiftAccount) (b key : List ℕ) → is_bucket b ≡ true → IsConsistent tree → IsUnsealed tree → ChangesBy tree (DeleteObject b key) (adjust b (drop_object key))
+object_gone tree b key is sound unsealed =
+    changes_by tree (remove_file b key tree) b (DeleteObject b key) (adjust b (drop_object key)) is unsealed (off_adjust by_name b (on_files (λ fs. remove fs key)) tree)
     (delete_leaves (find_object tree b key) b key tree refl) (sound_removed tree b key is sound) (plain_removed tree b key is)

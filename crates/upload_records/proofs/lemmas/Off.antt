@@ -1,4 +1,4 @@
--- A call on a bucket's container, or on a file in it, leaves the account settled.
+-- A call on a bucket's container, or on a file in it, leaves the gateway's own container.
 use Rattle.std.specs.Prelude.{◌≡◌, ℕ, Bool, List, true, false, Option, None, Some}
 use Rattle.std.specs.FinMap.{get, insert, remove}
 use Rattle.std.proofs.Common.{refl}
@@ -8,9 +8,9 @@ use Rattle.swift_calls.specs.declared.account.ReadList.{ReadList}
 use Rattle.swift_calls.specs.declared.calls.SwiftRequest.TheVariants.{PutContainer, PostContainer, DeleteContainer, PutObject, DeleteObject}
 use Rattle.swift_calls.specs.Account.{SwiftObject, SwiftContainer, SwiftAccount, find_object, on_files, with_head, with_readers}
 use Rattle.swift_calls.specs.Step.{swift_step, is_bare, put_container, post_container, delete_by, delete_container, put_object, delete_object}
-use Rattle.upload_records.specs.Native.{IsSettled}
+use Rattle.upload_records.specs.Native.{SameGateway}
 use Rattle.upload_records.specs.Laws.{file_put}
-use Rattle.upload_records.proofs.lemmas.Settled.{OffSame, settled_off}
+use Rattle.upload_records.proofs.lemmas.Settled.{OffSame, same_off}
 
 put_off : (o : Option SwiftContainer) (b : List ℕ) (readers : ReadList) (created : Option ℕ) (tree : SwiftAccount) → OffSame tree (put_container o b readers created tree).tree b
 put_off None b readers created tree = off_insert by_name tree b _
@@ -36,18 +36,18 @@ delete_file_off : (o : Option SwiftObject) (b key : List ℕ) (tree : SwiftAccou
 delete_file_off None b key tree = λ n apart. refl
 delete_file_off (Some file) b key tree = off_adjust by_name b (on_files (λ fs. remove fs key)) tree
 
-module _ (tree : SwiftAccount) (b : List ℕ) (is : is_bucket b ≡ true) (settled : IsSettled tree) where
-  pub settled_put : (readers : ReadList) (created : Option ℕ) → IsSettled (swift_step (PutContainer b readers created) tree).tree
-  settled_put readers created = settled_off tree _ b is (put_off (get tree b) b readers created tree) settled
+module _ (tree : SwiftAccount) (b : List ℕ) (is : is_bucket b ≡ true) where
+  pub same_put : (readers : ReadList) (created : Option ℕ) → SameGateway tree (swift_step (PutContainer b readers created) tree).tree
+  same_put readers created = same_off tree _ b is (put_off (get tree b) b readers created tree)
 
-  pub settled_post : (readers : ReadList) → IsSettled (swift_step (PostContainer b readers) tree).tree
-  settled_post readers = settled_off tree _ b is (post_off (get tree b) b readers tree) settled
+  pub same_post : (readers : ReadList) → SameGateway tree (swift_step (PostContainer b readers) tree).tree
+  same_post readers = same_off tree _ b is (post_off (get tree b) b readers tree)
 
-  pub settled_drop : IsSettled (swift_step (DeleteContainer b) tree).tree
-  settled_drop = settled_off tree _ b is (drop_off (get tree b) b tree) settled
+  pub same_drop : SameGateway tree (swift_step (DeleteContainer b) tree).tree
+  same_drop = same_off tree _ b is (drop_off (get tree b) b tree)
 
-  pub settled_put_file : (key content_type : List ℕ) (meta : List (List ℕ)) (body : List ℕ) → IsSettled (swift_step (PutObject b key content_type meta body) tree).tree
-  settled_put_file key content_type meta body = settled_off tree _ b is (put_file_off (get tree b) b key (file_put content_type meta body) tree) settled
+  pub same_put_file : (key content_type : List ℕ) (meta : List (List ℕ)) (body : List ℕ) → SameGateway tree (swift_step (PutObject b key content_type meta body) tree).tree
+  same_put_file key content_type meta body = same_off tree _ b is (put_file_off (get tree b) b key (file_put content_type meta body) tree)
 
-  pub settled_delete_file : (key : List ℕ) → IsSettled (swift_step (DeleteObject b key) tree).tree
-  settled_delete_file key = settled_off tree _ b is (delete_file_off (find_object tree b key) b key tree) settled
+  pub same_delete_file : (key : List ℕ) → SameGateway tree (swift_step (DeleteObject b key) tree).tree
+  same_delete_file key = same_off tree _ b is (delete_file_off (find_object tree b key) b key tree)

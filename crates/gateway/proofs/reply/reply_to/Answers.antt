@@ -1,6 +1,7 @@
 use Rattle.std.proofs.Common.{◌≡◌, subst}
 use Rattle.s3_machine.specs.declared.code.Code.TheVariants.{ServiceUnavailable}
-use Rattle.gateway.specs.ResolvedRequest.{IsProperMeant, Understands}
+use Rattle.gateway.specs.ResolvedRequest.{Understands}
+use Rattle.s3_requests.specs.Proper.{IsProperMeant}
 use Rattle.gateway.proofs.Replying.{operated_stands, code_meant, stands_still, replied_op, replied_refused, replied_memory}
 use Rattle.gateway.proofs.reply.reply_to.Goals as goal
 

@@ -1,30 +1,32 @@
-use Rattle.std.proofs.Common.{◌≡◌, true, false, None, Some, ap, refl, sym, ◌∙◌}
-use Rattle.gateway_cmd.specs.Session.{serving_of}
-use Rattle.gateway_cmd.proofs.Sessions.{run_serves_none, run_signs_none, run_session}
+use Rattle.std.proofs.Common.{◌≡◌, true, false, None, Some, refl, sym, subst, ◌∙◌}
+use Rattle.gateway_cmd.specs.declared.status.RunOutcome.TheVariants.{Plain}
+use Rattle.gateway_cmd.specs.Report.{Fits}
+use Rattle.gateway_cmd.specs.Tasks.{task_of}
+use Rattle.gateway_cmd.proofs.Sessions.{does_none, as_region, run_session, session_fits}
 use Rattle.gateway_cmd.proofs.attempt.perform.Goals as goal
 
-pub returns-in-Err-BadLine-clause-serves : goal.returns-in-Err-BadLine-clause-serves
-returns-in-Err-BadLine-clause-serves g c = λ serving is. run_serves_none serving c.args.keys.now _ _ _ _ _ refl refl refl
+pub returns-in-Err-BadLine-clause-does : goal.returns-in-Err-BadLine-clause-does
+returns-in-Err-BadLine-clause-does g c = does_none _ c.args.keys.now _ _ _ _ _ refl refl (λ good other. (let clash : true ≡ false = sym good ∙ (rw c.in-Err-BadLine.field-0-is at c.in-Err-BadLine.ensures) in cc))
 
-pub returns-in-Err-BadLine-clause-signs : goal.returns-in-Err-BadLine-clause-signs
-returns-in-Err-BadLine-clause-signs g c = λ id region is. run_signs_none id region c.args.keys.now _ _ _ refl (λ done. cc) (λ good other. (let clash : true ≡ false = sym good ∙ (rw c.in-Err-BadLine.field-0-is at c.in-Err-BadLine.ensures) in cc))
+pub returns-in-Err-Twice-clause-does : goal.returns-in-Err-Twice-clause-does
+returns-in-Err-Twice-clause-does g c = does_none _ c.args.keys.now _ _ _ _ _ refl refl (λ good other. (let clash : true ≡ false = sym good ∙ (rw c.in-Err-Twice.field-0-is at c.in-Err-Twice.ensures) in cc))
 
-pub returns-in-Err-Twice-clause-serves : goal.returns-in-Err-Twice-clause-serves
-returns-in-Err-Twice-clause-serves g c = λ serving is. run_serves_none serving c.args.keys.now _ _ _ _ _ refl refl refl
+pub returns-clause-does : goal.returns-clause-does
+returns-clause-does g c = does_none _ c.args.keys.now _ _ _ _ _ refl refl (λ good other. other refl)
 
-pub returns-in-Err-Twice-clause-signs : goal.returns-in-Err-Twice-clause-signs
-returns-in-Err-Twice-clause-signs g c = λ id region is. run_signs_none id region c.args.keys.now _ _ _ refl (λ done. cc) (λ good other. (let clash : true ≡ false = sym good ∙ (rw c.in-Err-Twice.field-0-is at c.in-Err-Twice.ensures) in cc))
+pub returns-in-Session-clause-does : goal.returns-in-Session-clause-does
+returns-in-Session-clause-does g c = rw c.in-Session.is
+    (run_session c.in-Session.region None c.args.keys.now c.session.new.known c.service-service.ensures c.in-Ok.ensures.0 c.session.ensures.line c.session.ensures.serves)
 
-pub returns-clause-serves : goal.returns-clause-serves
-returns-clause-serves g c = λ serving is. run_serves_none serving c.args.keys.now _ _ _ _ _ refl refl refl
+pub returns-in-Serve-clause-does : goal.returns-in-Serve-clause-does
+returns-in-Serve-clause-does g c = rw c.in-Serve.is
+    (run_session c.in-Serve.region (Some c.in-Serve.connections) c.args.keys.now c.session-in-Serve.new.known c.service-service-in-Serve.ensures c.in-Ok.ensures.0 c.session-in-Serve.ensures.line c.session-in-Serve.ensures.serves)
 
-pub returns-clause-signs : goal.returns-clause-signs
-returns-clause-signs g c = λ id region is. run_signs_none id region c.args.keys.now _ _ _ refl (λ done. cc) (λ good other. other refl)
+pub returns-in-Session-clause-fits : goal.returns-in-Session-clause-fits
+returns-in-Session-clause-fits g c = subst (λ command. Fits (task_of (Some command)) (Plain c.session.result)) (sym c.in-Session.is) (session_fits (as_region c.in-Session.region None) c.session.result c.session.ensures.line.ends)
 
-pub returns-in-Session-clause-serves : goal.returns-in-Session-clause-serves
-returns-in-Session-clause-serves g c = λ serving is.
-    run_session c.args.command c.in-Session.region None c.args.keys.now c.session.new.known serving (ap (λ command. serving_of (Some command)) c.in-Session.is) is c.service-service.ensures c.in-Ok.ensures.0 c.session.ensures.line c.session.ensures.serves
+pub returns-in-Serve-clause-fits : goal.returns-in-Serve-clause-fits
+returns-in-Serve-clause-fits g c = subst (λ command. Fits (task_of (Some command)) (Plain c.session-in-Serve.result)) (sym c.in-Serve.is) (session_fits (as_region c.in-Serve.region (Some c.in-Serve.connections)) c.session-in-Serve.result c.session-in-Serve.ensures.line.ends)
 
-pub returns-in-Serve-clause-serves : goal.returns-in-Serve-clause-serves
-returns-in-Serve-clause-serves g c = λ serving is.
-    run_session c.args.command c.in-Serve.region (Some c.in-Serve.connections) c.args.keys.now c.session-in-Serve.new.known serving (ap (λ command. serving_of (Some command)) c.in-Serve.is) is c.service-service-in-Serve.ensures c.in-Ok.ensures.0 c.session-in-Serve.ensures.line c.session-in-Serve.ensures.serves
+pub returns-in-Ok-clause-fits : goal.returns-in-Ok-clause-fits
+returns-in-Ok-clause-fits g c = subst (λ command. Fits (task_of (Some command)) c.sign.result) (sym c.in-Sign.is) (c.sign.ensures.fits c.in-Sign.key c.in-Sign.region)

@@ -10,8 +10,8 @@ returns-in_err-head_object-clause-plans g c = λ label. told_nothing (lit≤ tt)
 pub returns-clause-plans : goal.returns-clause-plans
 returns-clause-plans g c = λ label.
     answers (lit≤ tt) (Some c.in-Some.field-0) c.in-Some.is _ c.in_ok-head_object.ensures.asks (search rules)
-    (λ state there object. object_acl_told _ state _ _ _ there _ _ object)
+    (λ tree there object. object_acl_told _ _ _ _ _ there _ _ object)
 
 pub returns-in_default-clause-plans : goal.returns-in_default-clause-plans
 returns-in_default-clause-plans g c = λ label.
-    answers (lit≤ tt) None c.in_default.is _ c.in_ok-head_object.ensures.asks (search rules) (λ state there none. object_acl_none _ state _ _ _ there _ none)
+    answers (lit≤ tt) None c.in_default.is _ c.in_ok-head_object.ensures.asks (search rules) (λ tree there none. object_acl_none _ _ _ _ _ there _ none)

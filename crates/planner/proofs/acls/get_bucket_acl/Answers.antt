@@ -9,8 +9,8 @@ returns-in_err-list-clause-plans g c = λ label. told_nothing (lit≤ tt) c.in_e
 
 pub returns-in-Some-clause-plans : goal.returns-in-Some-clause-plans
 returns-in-Some-clause-plans g c = λ label.
-    answers (lit≤ tt) (Some c.in-Some.list) c.in-Some.is _ c.in_ok-list.ensures.asks (search rules) (λ state any told. acl_told _ state _ _ _ told)
+    answers (lit≤ tt) (Some c.in-Some.list) c.in-Some.is _ c.in_ok-list.ensures.asks (search rules) (λ tree any told. acl_told _ _ _ _ _ told)
 
 pub returns-in-None-clause-plans : goal.returns-in-None-clause-plans
 returns-in-None-clause-plans g c = λ label.
-    answers (lit≤ tt) None c.in-None.is _ c.in_ok-list.ensures.asks (search rules) (λ state any told. acl_missing _ state _ _ told)
+    answers (lit≤ tt) None c.in-None.is _ c.in_ok-list.ensures.asks (search rules) (λ tree any told. acl_missing _ _ _ _ told)

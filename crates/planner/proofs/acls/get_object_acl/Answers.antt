@@ -9,9 +9,9 @@ returns-in_err-list-clause-plans g c = λ label. told_nothing (lit≤ tt) c.in_e
 
 pub returns-in_default-clause-plans : goal.returns-in_default-clause-plans
 returns-in_default-clause-plans g c = λ label.
-    answers (lit≤ tt) None c.in_default.is _ c.in_ok-list.ensures.asks (search rules) (λ state any told. object_acl_missing _ state _ _ told _)
+    answers (lit≤ tt) None c.in_default.is _ c.in_ok-list.ensures.asks (search rules) (λ tree any told. object_acl_missing _ _ _ _ told _)
 
 pub returns-clause-plans : goal.returns-clause-plans
 returns-clause-plans g c = λ label.
     goes_on (lit≤ tt) (Some c.in-Some.list) c.in-Some.is c.head_bucket.ensures.stays.settings c.in_ok-list.ensures.asks (c.acl_within.ensures.plans label)
-    (λ state any told. told)
+    (λ tree any told. told)

@@ -8,4 +8,4 @@ use Rattle.planner.proofs.acls.put_bucket_acl.Goals as goal
 pub returns-clause-plans : goal.returns-clause-plans
 returns-clause-plans g c = λ label.
     subst (Plans _ _ _ _ _ _ _ _) (sym c.set_end.ensures)
-    (commits _ (lit≤ tt) c.set_acl.ensures.changes set_is_own (λ state any. tt) (λ state told new any does. set _ state _ _ _ told new does))
+    (commits _ (lit≤ tt) c.set_acl.ensures.changes set_is_own (λ tree any. tt) (λ _ told new any does. set _ _ _ _ _ told new does))

@@ -13,8 +13,8 @@ returns-in_err-head_bucket-clause-plans g c = λ label. told_nothing (lit≤ tt)
 pub returns-in-Some-clause-plans : goal.returns-in-Some-clause-plans
 returns-in-Some-clause-plans g c = λ label.
     answers (lit≤ tt) (Some c.in-Some.field-0) c.in-Some.is _ c.in_ok-head_bucket.ensures.asks (search rules)
-    (λ state any told. located _ state _ _ _ told _ (c.in_ok-region.ensures ∙ search rules))
+    (λ tree any told. located _ _ _ _ _ told _ (c.in_ok-region.ensures ∙ search rules))
 
 pub returns-in-None-clause-plans : goal.returns-in-None-clause-plans
 returns-in-None-clause-plans g c = λ label.
-    answers (lit≤ tt) None c.in-None.is _ c.in_ok-head_bucket.ensures.asks (search rules) (λ state any told. locate_missing _ state _ _ told)
+    answers (lit≤ tt) None c.in-None.is _ c.in_ok-head_bucket.ensures.asks (search rules) (λ tree any told. locate_missing _ _ _ _ told)

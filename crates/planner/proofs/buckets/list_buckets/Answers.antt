@@ -16,4 +16,4 @@ pub returns-clause-plans : goal.returns-clause-plans
 returns-clause-plans g c = λ label.
     let most = most_calls ListBuckets (present (g.W.Swift.history c.args.state.now.store.now)) in
     calls_end most (as_wide most) c.in_ok-list_buckets.field-0 refl _ c.in_ok-list_buckets.ensures.asks
-    (buckets_is_own c.in_ok-list_buckets.field-0 c.in_ok-list_buckets.ensures.dated) (search rules) (λ state any told. (_, refl, buckets_listed _ state _ _ told))
+    (buckets_is_own c.in_ok-list_buckets.field-0 c.in_ok-list_buckets.ensures.dated) (search rules) (λ tree any told. (_, refl, buckets_listed _ _ _ _ told))

@@ -6,9 +6,9 @@ use Rattle.planner.proofs.buckets.make_missing.Goals as goal
 
 pub returns-clause-plans : goal.returns-clause-plans
 returns-clause-plans g c =
-    subst (Plans _ _ _ _ _ _ _ _) (sym c.reply_after.ensures)
-    (commits _ (lit≤ tt) c.make_bucket.ensures.changes (λ done. search rules) (λ state missing. missing_of _ state missing)
-    (λ state done new missing is. becomes (steps_made _ state _ _ _ _ c.in_ok-copy.ensures missing) is))
+    subst (Plans _ _ _ _ _ _ _ _) (sym c.made_end.ensures)
+    (commits _ (lit≤ tt) c.make_bucket.ensures.changes (λ done. search rules) (λ tree missing. missing_of _ _ missing)
+    (λ tree done new missing is. becomes (steps_made _ _ _ _ _ _ c.in_ok-name.ensures missing) is))
 
-pub returns-in_err-copy-clause-plans : goal.returns-in_err-copy-clause-plans
-returns-in_err-copy-clause-plans g c = out_of_memory _ _ c.from_residual.ensures.1
+pub returns-in_err-name-clause-plans : goal.returns-in_err-name-clause-plans
+returns-in_err-name-clause-plans g c = out_of_memory _ _ c.from_residual.ensures.1

@@ -1,16 +1,15 @@
 use Rattle.std.specs.Prelude.{None, Some}
 use Rattle.std.proofs.Common.{arith, rules}
 use Rattle.recovery.specs.Answers.{pages}
-use Rattle.planner.proofs.Ends.{told_nothing, answers, goes_on}
-use Rattle.planner.proofs.Listings.{counted_after, list_missing}
+use Rattle.planner.proofs.Ends.{told_nothing, answers}
+use Rattle.planner.proofs.Listings.{counted_on, list_missing}
 use Rattle.planner.proofs.listing.list_objects.Goals as goal
 
 pub returns-in_err-list-clause-plans : goal.returns-in_err-list-clause-plans
 returns-in_err-list-clause-plans g c = told_nothing (omega arith) c.in_err-list.ensures.asks _ c.from_residual.ensures.1
 
 pub returns-in_default-clause-plans : goal.returns-in_default-clause-plans
-returns-in_default-clause-plans g c = answers (omega arith) None c.in_default.is _ c.in_ok-list.ensures.asks (search rules) (λ state any told. list_missing _ state _ _ _ told)
+returns-in_default-clause-plans g c = answers (omega arith) None c.in_default.is _ c.in_ok-list.ensures.asks (search rules) (λ tree any told. list_missing _ _ _ _ _ told)
 
 pub returns-clause-plans : goal.returns-clause-plans
-returns-clause-plans g c = counted_after pages c.args.bucket c.in_ok-list.ensures.asks
-    (goes_on (omega arith) (Some c.in-Some.list) c.in-Some.is c.head_bucket.ensures.stays.settings c.in_ok-list.ensures.asks c.list_within.ensures.plans (λ state any told. told))
+returns-clause-plans g c = counted_on pages c.args.bucket (Some c.in-Some.list) c.in-Some.is c.head_bucket.ensures.stays.settings c.in_ok-list.ensures.asks c.list_within.ensures.plans (λ tree any told. told)

@@ -11,7 +11,7 @@ use Rattle.planner.proofs.Listings.{items_are_own, list_refused, list_told}
 use Rattle.planner.proofs.listing.list_within.Goals as goal
 
 pub returns-then-not-may_read-clause-plans : goal.returns-then-not-may_read-clause-plans
-returns-then-not-may_read-clause-plans g c = needs_none _ (search rules) (λ state there. list_refused _ state _ _ _ _ there (sym c.may_read.ensures ∙ c.if-not-may_read.true))
+returns-then-not-may_read-clause-plans g c = needs_none _ (search rules) (λ tree there. list_refused _ _ _ _ _ _ there (sym c.may_read.ensures ∙ c.if-not-may_read.true))
 
 pub returns-in_err-listed-clause-plans : goal.returns-in_err-listed-clause-plans
 returns-in_err-listed-clause-plans g c =
@@ -23,4 +23,4 @@ returns-clause-plans g c =
     let most = by_account (pages (len (files (present (g.W.Swift.history c.args.state.now.store.now)) c.args.bucket))) in
     calls_end most (as_wide most) c.in_ok-listed.listed refl _ c.in_ok-listed.ensures.asks
     (subst IsOwnReply (sym c.objects.ensures) (items_are_own _ _ _ c.in_ok-listed.ensures.dated)) (search rules)
-    (λ state there told. (_, ap Ok c.objects.ensures, list_told _ state _ _ _ _ there (sym c.may_read.ensures ∙ c.if-not-may_read.false) _ told))
+    (λ tree there told. (_, ap Ok c.objects.ensures, list_told _ _ _ _ _ _ there (sym c.may_read.ensures ∙ c.if-not-may_read.false) _ told))

@@ -6,5 +6,5 @@ use Rattle.planner.proofs.objects.delete_from.Goals as goal
 
 pub returns-clause-plans : goal.returns-clause-plans
 returns-clause-plans g c = λ list label.
-    subst (Plans _ _ _ _ _ _ _ _) (sym c.reply_after.ensures)
-    (commits _ (lit≤ tt) c.delete_object.ensures.changes (λ done. search rules) (λ state there. tt) (λ state done new there is. becomes (deletes _ state _ _ _ list there) is))
+    subst (Plans _ _ _ _ _ _ _ _) (sym c.gone_end.ensures)
+    (commits _ (lit≤ tt) c.delete_object.ensures.changes (λ done. search rules) (λ tree there. tt) (λ _ done new there is. becomes (deletes _ _ _ _ _ list there) is))

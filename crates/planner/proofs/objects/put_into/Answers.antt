@@ -6,14 +6,14 @@ use Rattle.planner.proofs.Steps.{put_other, put_stored}
 use Rattle.planner.proofs.objects.put_into.Goals as goal
 
 pub returns-then-is_other_acl-clause-plans : goal.returns-then-is_other_acl-clause-plans
-returns-then-is_other_acl-clause-plans g c = needs_none _ (search rules) (λ state there. put_other _ state _ _ _ _ there _ _ _ _ (sym c.is_other_acl.ensures ∙ c.if-is_other_acl.true))
+returns-then-is_other_acl-clause-plans g c = needs_none _ (search rules) (λ tree there. put_other _ _ _ _ _ _ there _ _ _ _ (sym c.is_other_acl.ensures ∙ c.if-is_other_acl.true))
 
-pub returns-in_err-from_slice-clause-plans : goal.returns-in_err-from_slice-clause-plans
-returns-in_err-from_slice-clause-plans g c = out_of_memory _ _ c.from_residual.ensures.1
+pub returns-in_err-text-clause-plans : goal.returns-in_err-text-clause-plans
+returns-in_err-text-clause-plans g c = out_of_memory _ _ c.from_residual.ensures.1
 
 pub returns-clause-plans : goal.returns-clause-plans
 returns-clause-plans g c =
-    subst (Plans _ _ _ _ _ _ _ _) (sym c.reply_after.ensures)
-    (commits _ (lit≤ tt) c.put_object.ensures.changes (λ done. search rules) (λ state there. (c.args.list, there))
-    (λ state done new there is. becomes (put_stored c.args.state.now.settings.now state c.args.bucket c.args.key c.args.label.now _ there c.args.acl c.args.content_type c.args.meta.now c.args.body _
-    (sym c.is_other_acl.ensures ∙ c.if-is_other_acl.false) (c.in_ok-from_slice.ensures ∙ c.body_etag-etag.ensures ∙ ap body_etag c.as_slice.ensures)) is))
+    subst (Plans _ _ _ _ _ _ _ _) (sym c.stored_end.ensures)
+    (commits _ (lit≤ tt) c.put_object.ensures.changes (λ done. search rules) (λ tree there. (c.args.list, there))
+    (λ tree done new there is. becomes (put_stored c.args.state.now.settings.now _ c.args.bucket c.args.key c.args.label.now _ there c.args.acl c.args.content_type c.args.meta.now c.args.body _
+    (sym c.is_other_acl.ensures ∙ c.if-is_other_acl.false) (c.in_ok-text.ensures ∙ c.body_etag-etag.ensures ∙ ap body_etag c.as_slice.ensures)) is))

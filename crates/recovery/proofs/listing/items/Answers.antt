@@ -1,5 +1,5 @@
-use Rattle.std.proofs.Common.{◌∙◌}
-use Rattle.recovery.proofs.Made.{made_more, made_fault}
+use Rattle.std.proofs.Common.{◌∙◌, sym, subst, rules, arith}
+use Rattle.recovery.proofs.Made.{Made, made_none, made_more, made_fault, made_all}
 use Rattle.recovery.proofs.listing.items.Goals as goal
 
 pub returns-in_err-add_item-clause-asks : goal.returns-in_err-add_item-clause-asks
@@ -15,3 +15,9 @@ loop-name-preserved g c = record {
   dated = c.in_ok-add_item.ensures.dated c.loop-name.invariant.dated;
   made = made_more c.loop-name.invariant.made c.name-item.result c.loop-name-test.true c.name-item.is c.in_ok-add_item.ensures.asks;
 }
+
+pub loop-name-init : goal.loop-name-init
+loop-name-init g c = record { stays = (search rules); dated = (search rules); made = subst (Made _ _ _ 0) (sym c.new-items.ensures) (made_none _ _) }
+
+pub returns-clause-asks : goal.returns-clause-asks
+returns-clause-asks g c = made_all c.loop-name.invariant.made (omega (arith, c.loop-name-test.false))

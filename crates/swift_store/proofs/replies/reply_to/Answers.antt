@@ -1,17 +1,16 @@
-use Rattle.std.proofs.Common.{◌≡◌, sym, ap, subst, ◌∙◌, IfOk}
-use Rattle.swift_calls.specs.Step.{swift_step}
+use Rattle.std.proofs.Common.{sym, ap, subst, ◌∙◌}
 use Rattle.swift_calls.specs.declared.calls.SwiftRequest.{SwiftRequest}
 use Rattle.swift_calls.specs.declared.calls.SwiftRequest.TheVariants.{PutContainer, PostContainer}
+use Rattle.swift_store.specs.Serving.{IsReply}
+use Rattle.swift_store.proofs.Calls.{reads_as}
 use Rattle.swift_store.proofs.replies.reply_to.Goals as goal
 
-pub returns-in-PutContainer-clause-effect : goal.returns-in-PutContainer-clause-effect
-returns-in-PutContainer-clause-effect g c = λ told.
+pub returns-in-PutContainer-clause-reads : goal.returns-in-PutContainer-clause-reads
+returns-in-PutContainer-clause-reads g c =
     let same = ap (λ n. PutContainer n c.in-PutContainer.readers c.in-PutContainer.created) c.as_slice-in-PutContainer.ensures ∙ sym c.in-PutContainer.is in
-    subst (λ (call : SwiftRequest). IfOk c.put_container.result (λ reply. reply ≡ (swift_step call (g.S.Shelf.account c.args.shelf.now)).reply)) same
-    (c.put_container.ensures.effect c.in-PutContainer.readers c.in-PutContainer.created told)
+    reads_as _ (λ account reply is. subst (λ (call : SwiftRequest). IsReply call account reply) same (is c.in-PutContainer.readers c.in-PutContainer.created)) c.put_container.ensures.reads
 
-pub returns-in-PostContainer-clause-effect : goal.returns-in-PostContainer-clause-effect
-returns-in-PostContainer-clause-effect g c = λ told.
+pub returns-in-PostContainer-clause-reads : goal.returns-in-PostContainer-clause-reads
+returns-in-PostContainer-clause-reads g c =
     let same = ap (λ n. PostContainer n c.in-PostContainer.readers) c.as_slice-in-PostContainer.ensures ∙ sym c.in-PostContainer.is in
-    subst (λ (call : SwiftRequest). IfOk c.post_container.result (λ reply. reply ≡ (swift_step call (g.S.Shelf.account c.args.shelf.now)).reply)) same
-    (c.post_container.ensures.effect c.in-PostContainer.readers told)
+    reads_as _ (λ account reply is. subst (λ (call : SwiftRequest). IsReply call account reply) same (is c.in-PostContainer.readers)) c.post_container.ensures.reads

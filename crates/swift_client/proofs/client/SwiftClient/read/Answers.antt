@@ -1,9 +1,9 @@
-use Rattle.std.proofs.Common.{subst, Err}
-use Rattle.swift_wire.specs.Answers.{ReadsAnswer}
-use Rattle.swift_wire.specs.declared.fault.WireFault.TheVariants.{NotAnAnswer}
+use Rattle.std.proofs.Common.{◌∙◌, subst, Err}
+use Rattle.swift_replies.specs.Answers.{ReadsAnswer}
+use Rattle.swift_replies.specs.declared.fault.WireFault.TheVariants.{NotAnAnswer}
 use Rattle.swift_client.proofs.client.SwiftClient.read.Goals as goal
 
 pub returns-in-Err-NotAnAnswer-clause-reads : goal.returns-in-Err-NotAnAnswer-clause-reads
 returns-in-Err-NotAnAnswer-clause-reads g c =
     let none = subst (λ fault. ReadsAnswer c.args.request.now c.as_slice.result.now (Err fault)) c.in-Err-NotAnAnswer.field-0-is c.in-Err-NotAnAnswer.ensures in
-    subst (λ bytes. ReadsAnswer c.args.request.now bytes (Err NotAnAnswer)) c.as_slice.ensures none
+    subst (λ bytes. ReadsAnswer c.args.request.now bytes (Err NotAnAnswer)) (c.as_slice.ensures ∙ c.replace-answer.ensures.value) none

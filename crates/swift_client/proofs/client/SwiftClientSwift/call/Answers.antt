@@ -1,7 +1,7 @@
 use Rattle.std.proofs.Common.{◌<◌, arith, sym, subst}
 use Rattle.std.proofs.lemmas.Bool.Decides.{nat_tests}
 use Rattle.swift_calls.specs.History.{budget}
-use Rattle.swift_wire.specs.Calls.{SpellsRequest}
+use Rattle.swift_requests.specs.Calls.{SpellsRequest}
 use Rattle.swift_client.proofs.Calling.{read_as, lost, unread}
 use Rattle.swift_client.proofs.client.SwiftClientSwift.call.Goals as goal
 

@@ -1,0 +1,2 @@
+pub mod AnnouncedLemmas
+pub mod lemmas

@@ -1,0 +1,4 @@
+pub mod Announced
+pub mod Fields
+pub mod Framing
+pub mod Head

@@ -1,0 +1,39 @@
+//! The values of headers, each as it is read.
+ghost use Rattle.std.specs.Prelude.{◌≡◌, option_map};
+ghost use Rattle.std.specs.Option.{option_copied};
+ghost use Rattle.http_answers.specs.Fields.{field, only, size_in};
+
+use crate::numbers::number_in;
+use gate_base::Pair;
+use http_wire::{first_value, has_header, has_one};
+
+/// The value of a header that may be absent: `None` where it is given more than once.
+pub fn field<'a>(headers: &'a [Pair], name: &[u8]) -> Option<Option<&'a [u8]>>
+    ensures { option_map option_copied result ≡ field name.now headers.now }
+{
+    if has_one(headers, name) {
+        return Some(Some(first_value(headers, name)));
+    }
+    if has_header(headers, name) {
+        None
+    } else {
+        Some(None)
+    }
+}
+
+/// The value of a header that has to be there, exactly once.
+pub fn only<'a>(headers: &'a [Pair], name: &[u8]) -> Option<&'a [u8]>
+    ensures { option_copied result ≡ only name.now headers.now }
+{
+    match field(headers, name) {
+        Some(value) => value,
+        None => None,
+    }
+}
+
+/// The one Content-Length, of 1 to 19 digits.
+pub fn size_in(headers: &[Pair]) -> Option<u64>
+    ensures { result ≡ size_in headers.now }
+{
+    number_in(only(headers, b"content-length")?)
+}

@@ -1,0 +1,14 @@
+//! Answers of HTTP/1.1: their heads, where they end, what they announce, and the values of their headers.
+#![tactic(auto)]
+
+mod announced;
+mod fields;
+mod framing;
+mod head;
+mod numbers;
+
+pub use announced::{Announced, read_front};
+pub use fields::{field, only, size_in};
+pub use framing::{End, answer_end, expected};
+pub use head::{Front, HEAD_LIMIT, Head, find_head};
+pub use numbers::{append_decimal, number_in, plain_number};

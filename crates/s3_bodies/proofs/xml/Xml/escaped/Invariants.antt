@@ -1,6 +1,0 @@
-use Rattle.std.proofs.Common.{◌≡◌, ◌++◌, take}
-use Rattle.s3_bodies.specs.Xml.{escaped}
-use Rattle.s3_bodies.proofs.xml.Xml.escaped.Given as goal
-
-abbrev pub invariant-loop-byte : goal.invariant-loop-byte
-invariant-loop-byte l = l.self.text ≡ l.initial.self.text ++ escaped (take l.byte-index l.text)

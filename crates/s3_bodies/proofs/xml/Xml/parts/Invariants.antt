@@ -1,7 +1,0 @@
-use Rattle.std.proofs.Common.{◌≡◌, ◌++◌, take}
-use Rattle.std.specs.List.{flat_map}
-use Rattle.s3_bodies.specs.Bodies.{part_element}
-use Rattle.s3_bodies.proofs.xml.Xml.parts.Given as goal
-
-abbrev pub invariant-loop-item : goal.invariant-loop-item
-invariant-loop-item l = l.self.text ≡ l.initial.self.text ++ flat_map part_element (take l.item-index l.items)

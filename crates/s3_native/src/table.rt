@@ -1,0 +1,73 @@
+//! What stands under names.
+ghost use Rattle.std.specs.Prelude.{◌≡◌, nat_eq, option_copied, OnOk, OnErr};
+ghost use Rattle.std.specs.FinMap.{empty, get, insert, len, remove};
+
+use gate_base::Memory;
+use std::alloc::Global;
+use std::collections::BTreeMap;
+use std::marker::Model;
+
+/// Values under names. Contracts see it as the map.
+#[derive(Drop)]
+pub(crate) struct Table<V> {
+    alloc: Global,
+    pub(crate) entries: BTreeMap<Vec<u8>, V>,
+}
+
+impl<V> Model for Table<V> {
+    ghost use Rattle.std.specs.Coded.{coded_ℕ, coded_list};
+    ghost use Rattle.std.specs.FinMap as map;
+    ghost use Rattle.gate_base.specs.Maps.{Names};
+
+    ghost Value = { Names V };
+
+    ghost coded = { map.code (coded_list coded_ℕ) V.code };
+
+    ghost use Rattle.s3_native.specs.Table.{names_of};
+
+    ghost view = { λ t. names_of t.entries.entries };
+}
+
+impl<V> Table<V> {
+    /// The empty table. It takes no memory.
+    pub(crate) fn new(alloc: Global) -> Table<V>
+        ensures { result ≡ empty }
+    {
+        Table {
+            alloc,
+            entries: BTreeMap::new(alloc),
+        }
+    }
+
+    pub(crate) fn get(&self, name: &[u8]) -> Option<&V>
+        ensures { option_copied result ≡ get self.now name.now }
+    {
+        self.entries.get(name)
+    }
+
+    pub(crate) fn is_empty(&self) -> bool
+        ensures { result ≡ nat_eq (len self.now) 0 }
+    {
+        self.entries.is_empty()
+    }
+}
+
+impl<V: Drop> Table<V> {
+    /// Puts a value under a name, in place of what stands there. Where memory runs out, the table is as before, and the
+    /// value is dropped.
+    pub(crate) fn put(&mut self, name: &[u8], value: V) -> Result<(), Memory>
+        ensures ok { OnOk result (self.new ≡ insert self.old name.now value) }
+        ensures err { OnErr result (self.new ≡ self.old) }
+    {
+        let key = Vec::from_slice(self.alloc, name)?;
+        self.entries.insert(key, value)?;
+        Ok(())
+    }
+
+    /// Takes away what stands under a name, if anything does.
+    pub(crate) fn drop_at(&mut self, name: &[u8])
+        ensures { self.new ≡ remove self.old name.now }
+    {
+        self.entries.remove(name);
+    }
+}

@@ -1,0 +1,5 @@
+pub mod Dates
+pub mod Escapes
+pub mod Headers
+pub mod Iso
+pub mod Pieces

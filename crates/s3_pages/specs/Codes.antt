@@ -1,0 +1,147 @@
+-- The name, the status and the message of each error code. Source: Amazon S3 API Reference, "Error responses"; the
+-- messages are this profile's, and so is InconsistentStore.
+use Rattle.std.specs.Prelude.{ℕ, List, codes}
+use Rattle.s3_machine.specs.declared.code.Code.{Code}
+use Rattle.s3_machine.specs.declared.code.Code.TheVariants.{
+  AccessDenied,
+  AuthorizationHeaderMalformed,
+  BadDigest,
+  BucketAlreadyOwnedByYou,
+  BucketNotEmpty,
+  EntityTooLarge,
+  EntityTooSmall,
+  IncompleteBody,
+  InconsistentStore,
+  InvalidAccessKeyId,
+  InvalidArgument,
+  InvalidBucketName,
+  InvalidDigest,
+  InvalidPart,
+  InvalidPartOrder,
+  InvalidRange,
+  InvalidRequest,
+  InvalidStorageClass,
+  InvalidURI,
+  KeyTooLongError,
+  MalformedXML,
+  MetadataTooLarge,
+  MethodNotAllowed,
+  MissingContentLength,
+  NoSuchBucket,
+  NoSuchKey,
+  NoSuchUpload,
+  NotImplemented,
+  PreconditionFailed,
+  RequestTimeTooSkewed,
+  ServiceUnavailable,
+  SignatureDoesNotMatch,
+  XAmzContentSHA256Mismatch,
+}
+
+-- the name of a code, as the element `Code` has it
+abbrev pub name_of : Code → List ℕ
+name_of AccessDenied = codes "AccessDenied"
+name_of AuthorizationHeaderMalformed = codes "AuthorizationHeaderMalformed"
+name_of BadDigest = codes "BadDigest"
+name_of BucketAlreadyOwnedByYou = codes "BucketAlreadyOwnedByYou"
+name_of BucketNotEmpty = codes "BucketNotEmpty"
+name_of EntityTooLarge = codes "EntityTooLarge"
+name_of EntityTooSmall = codes "EntityTooSmall"
+name_of IncompleteBody = codes "IncompleteBody"
+name_of InconsistentStore = codes "InconsistentStore"
+name_of InvalidAccessKeyId = codes "InvalidAccessKeyId"
+name_of InvalidArgument = codes "InvalidArgument"
+name_of InvalidBucketName = codes "InvalidBucketName"
+name_of InvalidDigest = codes "InvalidDigest"
+name_of InvalidPart = codes "InvalidPart"
+name_of InvalidPartOrder = codes "InvalidPartOrder"
+name_of InvalidRange = codes "InvalidRange"
+name_of InvalidRequest = codes "InvalidRequest"
+name_of InvalidStorageClass = codes "InvalidStorageClass"
+name_of InvalidURI = codes "InvalidURI"
+name_of KeyTooLongError = codes "KeyTooLongError"
+name_of MalformedXML = codes "MalformedXML"
+name_of MetadataTooLarge = codes "MetadataTooLarge"
+name_of MethodNotAllowed = codes "MethodNotAllowed"
+name_of MissingContentLength = codes "MissingContentLength"
+name_of NoSuchBucket = codes "NoSuchBucket"
+name_of NoSuchKey = codes "NoSuchKey"
+name_of NoSuchUpload = codes "NoSuchUpload"
+name_of NotImplemented = codes "NotImplemented"
+name_of PreconditionFailed = codes "PreconditionFailed"
+name_of RequestTimeTooSkewed = codes "RequestTimeTooSkewed"
+name_of ServiceUnavailable = codes "ServiceUnavailable"
+name_of SignatureDoesNotMatch = codes "SignatureDoesNotMatch"
+name_of XAmzContentSHA256Mismatch = codes "XAmzContentSHA256Mismatch"
+
+-- the status of the reply that has the code
+abbrev pub status_of : Code → ℕ
+status_of AccessDenied = 403
+status_of AuthorizationHeaderMalformed = 400
+status_of BadDigest = 400
+status_of BucketAlreadyOwnedByYou = 409
+status_of BucketNotEmpty = 409
+status_of EntityTooLarge = 400
+status_of EntityTooSmall = 400
+status_of IncompleteBody = 400
+status_of InconsistentStore = 500
+status_of InvalidAccessKeyId = 403
+status_of InvalidArgument = 400
+status_of InvalidBucketName = 400
+status_of InvalidDigest = 400
+status_of InvalidPart = 400
+status_of InvalidPartOrder = 400
+status_of InvalidRange = 416
+status_of InvalidRequest = 400
+status_of InvalidStorageClass = 400
+status_of InvalidURI = 400
+status_of KeyTooLongError = 400
+status_of MalformedXML = 400
+status_of MetadataTooLarge = 400
+status_of MethodNotAllowed = 405
+status_of MissingContentLength = 411
+status_of NoSuchBucket = 404
+status_of NoSuchKey = 404
+status_of NoSuchUpload = 404
+status_of NotImplemented = 501
+status_of PreconditionFailed = 412
+status_of RequestTimeTooSkewed = 403
+status_of ServiceUnavailable = 503
+status_of SignatureDoesNotMatch = 403
+status_of XAmzContentSHA256Mismatch = 400
+
+-- the sentence of the element `Message`
+abbrev pub message_of : Code → List ℕ
+message_of AccessDenied = codes "Access denied."
+message_of AuthorizationHeaderMalformed = codes "The authorization header is malformed."
+message_of BadDigest = codes "The Content-MD5 differs from the body."
+message_of BucketAlreadyOwnedByYou = codes "You own this bucket already."
+message_of BucketNotEmpty = codes "The bucket is not empty."
+message_of EntityTooLarge = codes "The body is too large."
+message_of EntityTooSmall = codes "A part is too small."
+message_of IncompleteBody = codes "The body is incomplete."
+message_of InconsistentStore = codes "The store is inconsistent."
+message_of InvalidAccessKeyId = codes "The access key is unknown."
+message_of InvalidArgument = codes "An argument is invalid."
+message_of InvalidBucketName = codes "The bucket name is invalid."
+message_of InvalidDigest = codes "The Content-MD5 is invalid."
+message_of InvalidPart = codes "A part is missing or differs."
+message_of InvalidPartOrder = codes "The parts are not in ascending order."
+message_of InvalidRange = codes "The range is not satisfiable."
+message_of InvalidRequest = codes "The request is invalid."
+message_of InvalidStorageClass = codes "The storage class is invalid."
+message_of InvalidURI = codes "The URI is invalid."
+message_of KeyTooLongError = codes "The key is too long."
+message_of MalformedXML = codes "The body is malformed."
+message_of MetadataTooLarge = codes "The metadata is too large."
+message_of MethodNotAllowed = codes "The method is not allowed here."
+message_of MissingContentLength = codes "Content-Length is missing."
+message_of NoSuchBucket = codes "The bucket does not exist."
+message_of NoSuchKey = codes "The key does not exist."
+message_of NoSuchUpload = codes "The upload does not exist."
+message_of NotImplemented = codes "This is not implemented."
+message_of PreconditionFailed = codes "A precondition failed."
+message_of RequestTimeTooSkewed = codes "The request time is too far off."
+message_of ServiceUnavailable = codes "The store is unavailable."
+message_of SignatureDoesNotMatch = codes "The signature does not match."
+message_of XAmzContentSHA256Mismatch = codes "The payload hash differs from the body."

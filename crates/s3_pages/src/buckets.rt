@@ -1,0 +1,159 @@
+//! The pages of the replies on buckets and access control lists.
+ghost use Rattle.std.specs.Prelude.{◌≡◌, ◌<◌, ◌++◌, IfOk, OnOk};
+ghost use Rattle.std.specs.List.{All, flat_map};
+ghost use Rattle.gate_base.specs.Told.{moment_limit};
+ghost use Rattle.s3_machine.specs.Shown.{IsShownBucket};
+ghost use Rattle.s3_pages.specs.Bodies.{acl_body, bucket_element, buckets_body, location_body, public_grant, region_text};
+ghost use Rattle.s3_pages.specs.Pages.{xml_page};
+
+use crate::pages::xml_headers;
+use crate::xml::Xml;
+use gate_base::{Bytes, Memory, Page};
+use s3_machine::{BucketItem, Label};
+use s3_names::Acl;
+use std::alloc::Global;
+
+/// The page of ListBuckets.
+pub(crate) fn buckets(alloc: Global, items: &[BucketItem], label: &Label) -> Result<Page, Memory>
+    requires dated { All IsShownBucket items.now }
+    requires moment { label.now.moment < moment_limit }
+    ensures { IfOk result (λ page. page ≡ xml_page 200 (buckets_body items.now) label.now) }
+{
+    Ok(Page {
+        status: 200,
+        headers: xml_headers(alloc, label)?,
+        body: buckets_body(alloc, items)?,
+    })
+}
+
+#[tactic(auto, unfolding(crate::specs::Bodies::buckets_body))]
+fn buckets_body(alloc: Global, items: &[BucketItem]) -> Result<Bytes, Memory>
+    requires { All IsShownBucket items.now }
+    ensures { IfOk result (λ body. body ≡ buckets_body items.now) }
+{
+    let mut xml = Xml::new(alloc)?;
+    xml.root(b"ListAllMyBucketsResult")?;
+    xml.owner()?;
+    xml.tags(b"<Buckets>")?;
+    xml.buckets(items)?;
+    xml.tags(b"</Buckets>")?;
+    xml.end(b"ListAllMyBucketsResult")?;
+    Ok(xml.text)
+}
+
+/// The page of GetLocation.
+pub(crate) fn location(alloc: Global, region: &[u8], label: &Label) -> Result<Page, Memory>
+    requires { label.now.moment < moment_limit }
+    ensures { IfOk result (λ page. page ≡ xml_page 200 (location_body region.now) label.now) }
+{
+    Ok(Page {
+        status: 200,
+        headers: xml_headers(alloc, label)?,
+        body: location_body(alloc, region)?,
+    })
+}
+
+#[tactic(auto, unfolding(crate::specs::Bodies::location_body))]
+fn location_body(alloc: Global, region: &[u8]) -> Result<Bytes, Memory>
+    ensures { IfOk result (λ body. body ≡ location_body region.now) }
+{
+    let mut xml = Xml::new(alloc)?;
+    xml.root(b"LocationConstraint")?;
+    xml.escaped(region_text(region))?;
+    xml.end(b"LocationConstraint")?;
+    Ok(xml.text)
+}
+
+/// The region as a location tells it: `us-east-1` by no text.
+fn region_text(region: &[u8]) -> &[u8]
+    ensures { result.now ≡ region_text region.now }
+{
+    if region == b"us-east-1".as_slice() {
+        b""
+    } else {
+        region
+    }
+}
+
+/// The page of GetBucketAcl and GetObjectAcl.
+pub(crate) fn acl(alloc: Global, list: Acl, label: &Label) -> Result<Page, Memory>
+    requires { label.now.moment < moment_limit }
+    ensures { IfOk result (λ page. page ≡ xml_page 200 (acl_body list) label.now) }
+{
+    Ok(Page {
+        status: 200,
+        headers: xml_headers(alloc, label)?,
+        body: acl_body(alloc, list)?,
+    })
+}
+
+#[tactic(auto, unfolding(crate::specs::Bodies::acl_body))]
+fn acl_body(alloc: Global, list: Acl) -> Result<Bytes, Memory>
+    ensures { IfOk result (λ body. body ≡ acl_body list) }
+{
+    let mut xml = Xml::new(alloc)?;
+    xml.root(b"AccessControlPolicy")?;
+    xml.owner()?;
+    xml.tags(b"<AccessControlList>")?;
+    xml.owner_grant()?;
+    xml.public_grant(list)?;
+    xml.tags(b"</AccessControlList>")?;
+    xml.end(b"AccessControlPolicy")?;
+    Ok(xml.text)
+}
+
+impl Xml {
+    ghost use Rattle.s3_pages.specs.Bodies.{owner_grant, reader_grant};
+
+    fn owner_grant(&mut self) -> Result<(), Memory>
+        ensures { OnOk result (self.new.text ≡ self.old.text ++ owner_grant) }
+    {
+        self.tags(
+            b"<Grant><Grantee xmlns:xsi=\"http://www.w3.org/2001/XMLSchema-instance\" xsi:type=\"CanonicalUser\">",
+        )?;
+        self.tags(
+            b"<ID>s3gate</ID><DisplayName>s3gate</DisplayName></Grantee><Permission>FULL_CONTROL</Permission></Grant>",
+        )
+    }
+
+    fn public_grant(&mut self, list: Acl) -> Result<(), Memory>
+        ensures { OnOk result (self.new.text ≡ self.old.text ++ public_grant list) }
+    {
+        match list {
+            Acl::Private => Ok(()),
+            Acl::PublicRead => self.reader_grant(),
+        }
+    }
+
+    fn reader_grant(&mut self) -> Result<(), Memory>
+        ensures { OnOk result (self.new.text ≡ self.old.text ++ reader_grant) }
+    {
+        self.tags(
+            b"<Grant><Grantee xmlns:xsi=\"http://www.w3.org/2001/XMLSchema-instance\" xsi:type=\"Group\">",
+        )?;
+        self.tags(
+            b"<URI>http://acs.amazonaws.com/groups/global/AllUsers</URI></Grantee><Permission>READ</Permission></Grant>",
+        )
+    }
+
+    fn buckets(&mut self, items: &[BucketItem]) -> Result<(), Memory>
+        requires { All IsShownBucket items.now }
+        ensures { OnOk result (self.new.text ≡ self.old.text ++ flat_map bucket_element items.now) }
+    {
+        for item in items {
+            self.bucket(item)?;
+        }
+        Ok(())
+    }
+
+    #[tactic(auto, unfolding(crate::specs::Bodies::bucket_element))]
+    fn bucket(&mut self, item: &BucketItem) -> Result<(), Memory>
+        requires { IsShownBucket item.now }
+        ensures { OnOk result (self.new.text ≡ self.old.text ++ bucket_element item.now) }
+    {
+        self.tags(b"<Bucket>")?;
+        self.element(b"Name", item.name.as_slice())?;
+        self.time(b"CreationDate", item.created)?;
+        self.tags(b"</Bucket>")
+    }
+}

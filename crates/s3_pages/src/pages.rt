@@ -1,0 +1,254 @@
+ghost use Rattle.std.specs.Prelude.{◌≡◌, ◌≢◌, ◌<◌, [], ◌∷◌, ◌++◌, IfOk, OnOk};
+ghost use Rattle.gate_base.specs.Told.{moment_limit};
+ghost use Rattle.s3_machine.specs.Shown.{IsShowable};
+ghost use Rattle.s3_pages.specs.Pages.{page_of, common_headers, done_page, gone_page, header, made_page, not_modified_page, refused_page, stored_page, xml_type};
+ghost use Rattle.s3_pages.specs.Xml.{error_body};
+
+use crate::buckets::{acl, buckets, location};
+use crate::listing::objects;
+use crate::object::object;
+use crate::uploads::{completed, parts, started, uploads};
+use crate::xml::Xml;
+use crate::{codes, texts};
+use gate_base::{Bytes, List, Memory, Page, Pair};
+use s3_machine::{Code, Label, ObjectHead, Reply};
+use std::alloc::Global;
+
+/// The page of a reply: its status, its headers in their order, and its body (Amazon S3 API Reference; what that
+/// leaves open is this profile's). `resource` is the raw path of the request's target. The moments in the label and the
+/// reply, in seconds since the beginning of 1970, lie before the year 10000, and an object's range ends at most at 2^63
+/// and isn't empty where it is partial. The page of an object has `Content-Length` as its last header, also where its
+/// body is empty; other headers that belong to the message and not to the reply are not among these. The reply for want
+/// of memory has no page: its bytes are fixed. The body of an object is moved into its page. The call fails only where
+/// memory runs out.
+pub fn page(alloc: Global, reply: Reply, label: &Label, resource: &[u8]) -> Result<Page, Memory>
+    requires reply { reply ≢ Reply.Memory }
+    requires showable { IsShowable reply }
+    requires moment { label.now.moment < moment_limit }
+    ensures { IfOk result (λ page. page ≡ page_of reply label.now resource.now) }
+{
+    match reply {
+        Reply::Object {
+            head,
+            from,
+            length,
+            partial,
+            body,
+        } => object(alloc, &head, from, length, partial, body, label),
+        other => other_page(alloc, &other, label, resource),
+    }
+}
+
+/// The page of any reply but the object of a GET or a HEAD, which doesn't come here.
+fn other_page(alloc: Global, reply: &Reply, label: &Label, resource: &[u8]) -> Result<Page, Memory>
+    requires reply { reply.now ≢ Reply.Memory }
+    requires showable { IsShowable reply.now }
+    requires moment { label.now.moment < moment_limit }
+    ensures { IfOk result (λ page. page ≡ page_of reply.now label.now resource.now) }
+{
+    match reply {
+        Reply::Refused(code) => refused(alloc, *code, label, resource),
+        Reply::Memory => unreachable!(),
+        Reply::Done => done(alloc, label),
+        Reply::Gone => gone(alloc, label),
+        Reply::NotModified(head) => not_modified(alloc, head, label),
+        Reply::Buckets(items) => buckets(alloc, items.as_slice(), label),
+        Reply::Made { bucket } => made(alloc, bucket.as_slice(), label),
+        Reply::Location { region } => location(alloc, region.as_slice(), label),
+        Reply::AclOf(list) => acl(alloc, *list, label),
+        Reply::Objects {
+            bucket,
+            asked,
+            items,
+            truncated,
+        } => objects(
+            alloc,
+            bucket.as_slice(),
+            asked,
+            items.as_slice(),
+            *truncated,
+            label,
+        ),
+        Reply::Uploads {
+            bucket,
+            prefix,
+            key_marker,
+            id_marker,
+            max,
+            items,
+            truncated,
+        } => uploads(
+            alloc,
+            bucket.as_slice(),
+            prefix.as_slice(),
+            key_marker.as_slice(),
+            id_marker.as_slice(),
+            *max,
+            items.as_slice(),
+            *truncated,
+            label,
+        ),
+        Reply::Stored { etag } => stored(alloc, etag.as_slice(), label),
+        Reply::Object { .. } => Err(Memory),
+        Reply::Started { bucket, key, id } => {
+            started(alloc, bucket.as_slice(), key.as_slice(), *id, label)
+        }
+        Reply::Parts {
+            bucket,
+            key,
+            id,
+            marker,
+            max,
+            items,
+            truncated,
+        } => parts(
+            alloc,
+            bucket.as_slice(),
+            key.as_slice(),
+            *id,
+            *marker,
+            *max,
+            items.as_slice(),
+            *truncated,
+            label,
+        ),
+        Reply::Completed { bucket, key, etag } => completed(
+            alloc,
+            bucket.as_slice(),
+            key.as_slice(),
+            etag.as_slice(),
+            label,
+        ),
+    }
+}
+
+fn refused(alloc: Global, code: Code, label: &Label, resource: &[u8]) -> Result<Page, Memory>
+    requires { label.now.moment < moment_limit }
+    ensures { IfOk result (λ page. page ≡ refused_page code label.now resource.now) }
+{
+    Ok(Page {
+        status: codes::status(code),
+        headers: xml_headers(alloc, label)?,
+        body: error(alloc, code, resource, label.request_id)?,
+    })
+}
+
+fn done(alloc: Global, label: &Label) -> Result<Page, Memory>
+    requires { label.now.moment < moment_limit }
+    ensures { IfOk result (λ page. page ≡ done_page label.now) }
+{
+    Ok(Page {
+        status: 200,
+        headers: common(alloc, label)?,
+        body: Bytes::new(alloc),
+    })
+}
+
+fn not_modified(alloc: Global, head: &ObjectHead, label: &Label) -> Result<Page, Memory>
+    requires dated { head.now.modified < moment_limit }
+    requires moment { label.now.moment < moment_limit }
+    ensures { IfOk result (λ page. page ≡ not_modified_page head.now label.now) }
+{
+    let date = texts::date_bytes(head.modified);
+    let etag = texts::quoted(alloc, head.etag.as_slice())?;
+    let mut headers = common(alloc, label)?;
+    add_header(alloc, &mut headers, b"ETag", etag.as_slice())?;
+    add_header(alloc, &mut headers, b"Last-Modified", &date)?;
+    Ok(Page {
+        status: 304,
+        headers,
+        body: Bytes::new(alloc),
+    })
+}
+
+fn made(alloc: Global, bucket: &[u8], label: &Label) -> Result<Page, Memory>
+    requires { label.now.moment < moment_limit }
+    ensures { IfOk result (λ page. page ≡ made_page bucket.now label.now) }
+{
+    let mut place = Bytes::from_slice(alloc, b"/")?;
+    place.append(bucket)?;
+    let mut headers = common(alloc, label)?;
+    add_header(alloc, &mut headers, b"Location", place.as_slice())?;
+    Ok(Page {
+        status: 200,
+        headers,
+        body: Bytes::new(alloc),
+    })
+}
+
+fn gone(alloc: Global, label: &Label) -> Result<Page, Memory>
+    requires { label.now.moment < moment_limit }
+    ensures { IfOk result (λ page. page ≡ gone_page label.now) }
+{
+    Ok(Page {
+        status: 204,
+        headers: common(alloc, label)?,
+        body: Bytes::new(alloc),
+    })
+}
+
+fn stored(alloc: Global, etag: &[u8], label: &Label) -> Result<Page, Memory>
+    requires { label.now.moment < moment_limit }
+    ensures { IfOk result (λ page. page ≡ stored_page etag.now label.now) }
+{
+    let mut headers = common(alloc, label)?;
+    let quoted = texts::quoted(alloc, etag)?;
+    add_header(alloc, &mut headers, b"ETag", quoted.as_slice())?;
+    Ok(Page {
+        status: 200,
+        headers,
+        body: Bytes::new(alloc),
+    })
+}
+
+/// The headers that every page begins with.
+pub(crate) fn common(alloc: Global, label: &Label) -> Result<List<Pair>, Memory>
+    requires { label.now.moment < moment_limit }
+    ensures { IfOk result (λ headers. headers ≡ common_headers label.now) }
+{
+    let date = texts::date_bytes(label.moment);
+    let id = texts::id_digits(label.request_id);
+    let mut headers = List::new(alloc);
+    add_header(alloc, &mut headers, b"Date", &date)?;
+    add_header(alloc, &mut headers, b"x-amz-request-id", &id)?;
+    Ok(headers)
+}
+
+/// The headers of a page whose body is XML.
+pub(crate) fn xml_headers(alloc: Global, label: &Label) -> Result<List<Pair>, Memory>
+    requires { label.now.moment < moment_limit }
+    ensures { IfOk result (λ headers. headers ≡ common_headers label.now ++ xml_type ∷ []) }
+{
+    let mut headers = common(alloc, label)?;
+    add_header(alloc, &mut headers, b"Content-Type", b"application/xml")?;
+    Ok(headers)
+}
+
+/// Adds a header at the end.
+pub(crate) fn add_header(
+    alloc: Global,
+    headers: &mut List<Pair>,
+    name: &[u8],
+    value: &[u8],
+) -> Result<(), Memory>
+    ensures { OnOk result (headers.new ≡ headers.old ++ header name.now value.now ∷ []) }
+{
+    headers.push(Pair {
+        name: Bytes::from_slice(alloc, name)?,
+        value: Bytes::from_slice(alloc, value)?,
+    })
+}
+
+#[tactic(auto, unfolding(crate::specs::Xml::error_body))]
+fn error(alloc: Global, code: Code, resource: &[u8], id: u128) -> Result<Bytes, Memory>
+    ensures { IfOk result (λ body. body ≡ error_body code resource.now id) }
+{
+    let mut xml = Xml::new(alloc)?;
+    xml.tags(b"<Error>")?;
+    xml.element(b"Code", codes::name(code))?;
+    xml.element(b"Message", codes::message(code))?;
+    xml.element(b"Resource", resource)?;
+    xml.element(b"RequestId", &texts::id_digits(id))?;
+    xml.tags(b"</Error>")?;
+    Ok(xml.text)
+}

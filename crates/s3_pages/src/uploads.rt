@@ -1,0 +1,332 @@
+//! The pages of the replies on uploads and their parts.
+ghost use Rattle.std.specs.Prelude.{◌≡◌, ◌<◌, ◌++◌, IfOk, OnOk, codes};
+ghost use Rattle.std.specs.List.{All, flat_map};
+ghost use Rattle.gate_base.specs.Told.{moment_limit};
+ghost use Rattle.s3_machine.specs.Shown.{IsShownPart, IsShownUpload};
+ghost use Rattle.s3_pages.specs.Bodies.{
+  completed_body,
+  next_part,
+  next_upload,
+  number_element,
+  part_element,
+  parts_asked,
+  parts_body,
+  place_text,
+  started_body,
+  upload_element,
+  upload_place,
+  uploads_asked,
+  uploads_body,
+  where_true,
+};
+ghost use Rattle.s3_pages.specs.Pages.{xml_page};
+
+use crate::pages::xml_headers;
+use crate::xml::Xml;
+use gate_base::{Bytes, Memory, Page};
+use s3_machine::{Label, PartItem, UploadItem};
+use s3_names::encode_path;
+use std::alloc::Global;
+
+/// The page of ListUploads.
+pub(crate) fn uploads(
+    alloc: Global,
+    bucket: &[u8],
+    prefix: &[u8],
+    key_marker: &[u8],
+    id_marker: &[u8],
+    max: u32,
+    items: &[UploadItem],
+    truncated: bool,
+    label: &Label,
+) -> Result<Page, Memory>
+    requires dated { All IsShownUpload items.now }
+    requires moment { label.now.moment < moment_limit }
+    ensures { IfOk result (λ page. page ≡ xml_page 200 (uploads_body bucket.now prefix.now key_marker.now id_marker.now max items.now truncated) label.now) }
+{
+    Ok(Page {
+        status: 200,
+        headers: xml_headers(alloc, label)?,
+        body: uploads_body(
+            alloc, bucket, prefix, key_marker, id_marker, max, items, truncated,
+        )?,
+    })
+}
+
+#[tactic(auto, unfolding(crate::specs::Bodies::uploads_body))]
+fn uploads_body(
+    alloc: Global,
+    bucket: &[u8],
+    prefix: &[u8],
+    key_marker: &[u8],
+    id_marker: &[u8],
+    max: u32,
+    items: &[UploadItem],
+    truncated: bool,
+) -> Result<Bytes, Memory>
+    requires { All IsShownUpload items.now }
+    ensures { IfOk result (λ body. body ≡ uploads_body bucket.now prefix.now key_marker.now id_marker.now max items.now truncated) }
+{
+    let mut xml = Xml::new(alloc)?;
+    xml.root(b"ListMultipartUploadsResult")?;
+    xml.uploads_asked(bucket, prefix, key_marker, id_marker)?;
+    xml.next_upload(items, truncated)?;
+    xml.count(b"MaxUploads", max)?;
+    xml.truth(b"IsTruncated", truncated)?;
+    xml.uploads(items)?;
+    xml.end(b"ListMultipartUploadsResult")?;
+    Ok(xml.text)
+}
+
+/// The page of CreateUpload.
+pub(crate) fn started(
+    alloc: Global,
+    bucket: &[u8],
+    key: &[u8],
+    id: u128,
+    label: &Label,
+) -> Result<Page, Memory>
+    requires { label.now.moment < moment_limit }
+    ensures { IfOk result (λ page. page ≡ xml_page 200 (started_body bucket.now key.now id) label.now) }
+{
+    Ok(Page {
+        status: 200,
+        headers: xml_headers(alloc, label)?,
+        body: started_body(alloc, bucket, key, id)?,
+    })
+}
+
+#[tactic(auto, unfolding(crate::specs::Bodies::started_body))]
+fn started_body(alloc: Global, bucket: &[u8], key: &[u8], id: u128) -> Result<Bytes, Memory>
+    ensures { IfOk result (λ body. body ≡ started_body bucket.now key.now id) }
+{
+    let mut xml = Xml::new(alloc)?;
+    xml.root(b"InitiateMultipartUploadResult")?;
+    xml.upload_place(bucket, key, id)?;
+    xml.end(b"InitiateMultipartUploadResult")?;
+    Ok(xml.text)
+}
+
+/// The page of ListParts.
+pub(crate) fn parts(
+    alloc: Global,
+    bucket: &[u8],
+    key: &[u8],
+    id: u128,
+    marker: u32,
+    max: u32,
+    items: &[PartItem],
+    truncated: bool,
+    label: &Label,
+) -> Result<Page, Memory>
+    requires dated { All IsShownPart items.now }
+    requires moment { label.now.moment < moment_limit }
+    ensures { IfOk result (λ page. page ≡ xml_page 200 (parts_body bucket.now key.now id marker max items.now truncated) label.now) }
+{
+    Ok(Page {
+        status: 200,
+        headers: xml_headers(alloc, label)?,
+        body: parts_body(alloc, bucket, key, id, marker, max, items, truncated)?,
+    })
+}
+
+#[tactic(auto, unfolding(crate::specs::Bodies::parts_body))]
+fn parts_body(
+    alloc: Global,
+    bucket: &[u8],
+    key: &[u8],
+    id: u128,
+    marker: u32,
+    max: u32,
+    items: &[PartItem],
+    truncated: bool,
+) -> Result<Bytes, Memory>
+    requires { All IsShownPart items.now }
+    ensures { IfOk result (λ body. body ≡ parts_body bucket.now key.now id marker max items.now truncated) }
+{
+    let mut xml = Xml::new(alloc)?;
+    xml.root(b"ListPartsResult")?;
+    xml.upload_place(bucket, key, id)?;
+    xml.initiator()?;
+    xml.owner()?;
+    xml.storage_class()?;
+    xml.parts_asked(marker, max, items, truncated)?;
+    xml.parts(items)?;
+    xml.end(b"ListPartsResult")?;
+    Ok(xml.text)
+}
+
+/// The page of CompleteUpload.
+pub(crate) fn completed(
+    alloc: Global,
+    bucket: &[u8],
+    key: &[u8],
+    etag: &[u8],
+    label: &Label,
+) -> Result<Page, Memory>
+    requires { label.now.moment < moment_limit }
+    ensures { IfOk result (λ page. page ≡ xml_page 200 (completed_body bucket.now key.now etag.now) label.now) }
+{
+    Ok(Page {
+        status: 200,
+        headers: xml_headers(alloc, label)?,
+        body: completed_body(alloc, bucket, key, etag)?,
+    })
+}
+
+#[tactic(auto, unfolding(crate::specs::Bodies::completed_body))]
+fn completed_body(alloc: Global, bucket: &[u8], key: &[u8], etag: &[u8]) -> Result<Bytes, Memory>
+    ensures { IfOk result (λ body. body ≡ completed_body bucket.now key.now etag.now) }
+{
+    let place = place(alloc, bucket, key)?;
+    let mut xml = Xml::new(alloc)?;
+    xml.root(b"CompleteMultipartUploadResult")?;
+    xml.element(b"Location", place.as_slice())?;
+    xml.element(b"Bucket", bucket)?;
+    xml.element(b"Key", key)?;
+    xml.etag(etag)?;
+    xml.end(b"CompleteMultipartUploadResult")?;
+    Ok(xml.text)
+}
+
+/// The path of an object.
+fn place(alloc: Global, bucket: &[u8], key: &[u8]) -> Result<Bytes, Memory>
+    ensures { IfOk result (λ text. text ≡ place_text bucket.now key.now) }
+{
+    let key = encode_path(alloc, key)?;
+    let mut text = Bytes::from_slice(alloc, b"/")?;
+    text.append(bucket)?;
+    text.append(b"/")?;
+    text.append(key.as_slice())?;
+    Ok(text)
+}
+
+impl Xml {
+    #[tactic(auto, unfolding(crate::specs::Bodies::uploads_asked))]
+    fn uploads_asked(
+        &mut self,
+        bucket: &[u8],
+        prefix: &[u8],
+        key_marker: &[u8],
+        id_marker: &[u8],
+    ) -> Result<(), Memory>
+        ensures { OnOk result (self.new.text ≡ self.old.text ++ uploads_asked bucket.now prefix.now key_marker.now id_marker.now) }
+    {
+        self.element(b"Bucket", bucket)?;
+        self.element(b"Prefix", prefix)?;
+        self.element(b"KeyMarker", key_marker)?;
+        self.element(b"UploadIdMarker", id_marker)
+    }
+
+    fn next_upload(&mut self, items: &[UploadItem], truncated: bool) -> Result<(), Memory>
+        ensures { OnOk result (self.new.text ≡ self.old.text ++ where_true truncated (next_upload items.now)) }
+    {
+        if !truncated {
+            return Ok(());
+        }
+        match items.last() {
+            Some(item) => {
+                self.element(b"NextKeyMarker", item.key.as_slice())?;
+                self.id(b"NextUploadIdMarker", item.id)
+            }
+            None => {
+                self.element(b"NextKeyMarker", b"")?;
+                self.element(b"NextUploadIdMarker", b"")
+            }
+        }
+    }
+
+    fn uploads(&mut self, items: &[UploadItem]) -> Result<(), Memory>
+        requires { All IsShownUpload items.now }
+        ensures { OnOk result (self.new.text ≡ self.old.text ++ flat_map upload_element items.now) }
+    {
+        for item in items {
+            self.upload(item)?;
+        }
+        Ok(())
+    }
+
+    #[tactic(auto, unfolding(crate::specs::Bodies::upload_element))]
+    fn upload(&mut self, item: &UploadItem) -> Result<(), Memory>
+        requires { IsShownUpload item.now }
+        ensures { OnOk result (self.new.text ≡ self.old.text ++ upload_element item.now) }
+    {
+        self.tags(b"<Upload>")?;
+        self.element(b"Key", item.key.as_slice())?;
+        self.id(b"UploadId", item.id)?;
+        self.initiator()?;
+        self.owner()?;
+        self.storage_class()?;
+        self.time(b"Initiated", item.started)?;
+        self.tags(b"</Upload>")
+    }
+
+    /// Appends of which upload a reply speaks.
+    #[tactic(auto, unfolding(crate::specs::Bodies::upload_place))]
+    fn upload_place(&mut self, bucket: &[u8], key: &[u8], id: u128) -> Result<(), Memory>
+        ensures { OnOk result (self.new.text ≡ self.old.text ++ upload_place bucket.now key.now id) }
+    {
+        self.element(b"Bucket", bucket)?;
+        self.element(b"Key", key)?;
+        self.id(b"UploadId", id)
+    }
+
+    #[tactic(auto, unfolding(crate::specs::Bodies::parts_asked))]
+    fn parts_asked(
+        &mut self,
+        marker: u32,
+        max: u32,
+        items: &[PartItem],
+        truncated: bool,
+    ) -> Result<(), Memory>
+        ensures { OnOk result (self.new.text ≡ self.old.text ++ parts_asked marker max items.now truncated) }
+    {
+        self.count(b"PartNumberMarker", marker)?;
+        self.next_part(truncated, items)?;
+        self.count(b"MaxParts", max)?;
+        self.truth(b"IsTruncated", truncated)
+    }
+
+    fn next_part(&mut self, truncated: bool, items: &[PartItem]) -> Result<(), Memory>
+        ensures { OnOk result (self.new.text ≡ self.old.text ++ where_true truncated (number_element (codes "NextPartNumberMarker") (next_part items.now))) }
+    {
+        if truncated {
+            self.count(b"NextPartNumberMarker", next_part(items))
+        } else {
+            Ok(())
+        }
+    }
+
+    fn parts(&mut self, items: &[PartItem]) -> Result<(), Memory>
+        requires { All IsShownPart items.now }
+        ensures { OnOk result (self.new.text ≡ self.old.text ++ flat_map part_element items.now) }
+    {
+        for item in items {
+            self.part(item)?;
+        }
+        Ok(())
+    }
+
+    #[tactic(auto, unfolding(crate::specs::Bodies::part_element))]
+    fn part(&mut self, item: &PartItem) -> Result<(), Memory>
+        requires { IsShownPart item.now }
+        ensures { OnOk result (self.new.text ≡ self.old.text ++ part_element item.now) }
+    {
+        self.tags(b"<Part>")?;
+        self.count(b"PartNumber", item.number)?;
+        self.time(b"LastModified", item.modified)?;
+        self.etag(item.etag.as_slice())?;
+        self.number(b"Size", item.size)?;
+        self.tags(b"</Part>")
+    }
+}
+
+/// The number of the last part, or 0.
+fn next_part(items: &[PartItem]) -> u32
+    ensures { result ≡ next_part items.now }
+{
+    match items.last() {
+        Some(item) => item.number,
+        None => 0,
+    }
+}

@@ -1,0 +1,11 @@
+pub mod Conditions
+pub mod Content
+pub mod Headers
+pub mod Laws
+pub mod Listings
+pub mod Meaning
+pub mod Numbers
+pub mod Proper
+pub mod Query
+pub mod Ranges
+pub mod Rows

@@ -1,0 +1,166 @@
+-- The table of requests: which method, at which level of a target, with which names in the query asks for which
+-- operation. Source: Amazon S3 API Reference, "Actions"; that other names are refused is this profile.
+use Rattle.std.specs.Prelude.{ℕ, Bool, true, false, not, ◌&&◌, ◌||◌, ◌==◌, if◌then◌else◌, List, [], ◌∷◌, length, map, filter, find, codes, bytes_eq, Option}
+use Rattle.std.specs.Borrow.{Bor}
+use Rattle.std.specs.List.{list_all, list_any}
+use Rattle.gate_base.specs.declared.page.Pair.{Pair}
+use Rattle.s3_requests.specs.declared.rows.Level.{Level}
+use Rattle.s3_requests.specs.declared.rows.Level.TheVariants.{Service, Bucket, Key}
+use Rattle.s3_requests.specs.declared.rows.Row.{Row}
+use Rattle.s3_requests.specs.declared.rows.Row.TheVariants.{ListBuckets, CreateBucket, PutBucketAcl, DeleteBucket, HeadBucket, GetBucketLocation}
+use Rattle.s3_requests.specs.declared.rows.Row.TheVariants.{GetBucketAcl, ListObjects, ListObjectsV2, ListMultipartUploads, PutObject, GetObject}
+use Rattle.s3_requests.specs.declared.rows.Row.TheVariants.{HeadObject, DeleteObject, GetObjectAcl, CreateMultipartUpload, UploadPart, ListParts}
+use Rattle.s3_requests.specs.declared.rows.Row.TheVariants.{CompleteMultipartUpload, AbortMultipartUpload}
+
+-- what the table says in a row: its method, its level, the selectors that the query has, and the further names that it may have;
+-- whether the operation is built, whether anybody may ask for it, whether it takes a content type and metadata, whether its
+-- body names a location, and whether the headers must name an access control list
+pub record Shape : Type 0 where
+  pub method : List ℕ
+  pub level : Level
+  pub selectors : List (List ℕ)
+  pub further : List (List ℕ)
+  pub is_built : Bool
+  pub is_open : Bool
+  pub has_content : Bool
+  pub has_location : Bool
+  pub needs_acl : Bool
+
+-- a row that isn't built, for the owner alone
+abbrev pub plain : List ℕ → Level → List (List ℕ) → List (List ℕ) → Shape
+plain method level selectors further = record {
+  method = method;
+  level = level;
+  selectors = selectors;
+  further = further;
+  is_built = false;
+  is_open = false;
+  has_content = false;
+  has_location = false;
+  needs_acl = false;
+}
+
+-- one that is built
+abbrev pub built : Shape → Shape
+built shape = record shape { is_built = true }
+
+-- one that anybody may ask for
+abbrev pub for_all : Shape → Shape
+for_all shape = record shape { is_open = true }
+
+-- one that takes a content type and metadata
+abbrev pub with_content : Shape → Shape
+with_content shape = record shape { has_content = true }
+
+-- one whose body names a location, or is none
+abbrev pub with_location : Shape → Shape
+with_location shape = record shape { has_location = true }
+
+-- one that puts the access control list which its headers name
+abbrev pub with_acl : Shape → Shape
+with_acl shape = record shape { needs_acl = true }
+
+-- the names by which a query chooses a row
+abbrev pub selectors : List (List ℕ)
+selectors = codes "acl" ∷ codes "location" ∷ codes "uploads" ∷ codes "uploadId" ∷ codes "partNumber" ∷ codes "list-type" ∷ []
+
+-- the names that rows have beside their selectors
+abbrev pub objects_names : List (List ℕ)
+objects_names = codes "prefix" ∷ codes "delimiter" ∷ codes "marker" ∷ codes "max-keys" ∷ codes "encoding-type" ∷ []
+
+abbrev pub objects_v2_names : List (List ℕ)
+objects_v2_names =
+    codes "prefix" ∷ codes "delimiter" ∷ codes "start-after" ∷ codes "continuation-token" ∷ codes "max-keys" ∷ codes "encoding-type"
+    ∷ codes "fetch-owner" ∷ []
+
+abbrev pub uploads_names : List (List ℕ)
+uploads_names = codes "prefix" ∷ codes "key-marker" ∷ codes "upload-id-marker" ∷ codes "max-uploads" ∷ []
+
+abbrev pub parts_names : List (List ℕ)
+parts_names = codes "max-parts" ∷ codes "part-number-marker" ∷ []
+
+-- the table
+abbrev pub shape_of : Row → Shape
+shape_of ListBuckets = built (plain (codes "GET") Service [] [])
+shape_of CreateBucket = with_location (built (plain (codes "PUT") Bucket [] []))
+shape_of PutBucketAcl = with_acl (built (plain (codes "PUT") Bucket (codes "acl" ∷ []) []))
+shape_of DeleteBucket = built (plain (codes "DELETE") Bucket [] [])
+shape_of HeadBucket = for_all (built (plain (codes "HEAD") Bucket [] []))
+shape_of GetBucketLocation = built (plain (codes "GET") Bucket (codes "location" ∷ []) [])
+shape_of GetBucketAcl = built (plain (codes "GET") Bucket (codes "acl" ∷ []) [])
+shape_of ListObjects = for_all (built (plain (codes "GET") Bucket [] objects_names))
+shape_of ListObjectsV2 = for_all (built (plain (codes "GET") Bucket (codes "list-type" ∷ []) objects_v2_names))
+shape_of ListMultipartUploads = plain (codes "GET") Bucket (codes "uploads" ∷ []) uploads_names
+shape_of PutObject = with_content (built (plain (codes "PUT") Key [] []))
+shape_of GetObject = for_all (built (plain (codes "GET") Key [] []))
+shape_of HeadObject = for_all (built (plain (codes "HEAD") Key [] []))
+shape_of DeleteObject = built (plain (codes "DELETE") Key [] [])
+shape_of GetObjectAcl = built (plain (codes "GET") Key (codes "acl" ∷ []) [])
+shape_of CreateMultipartUpload = with_content (plain (codes "POST") Key (codes "uploads" ∷ []) [])
+shape_of UploadPart = plain (codes "PUT") Key (codes "partNumber" ∷ codes "uploadId" ∷ []) []
+shape_of ListParts = plain (codes "GET") Key (codes "uploadId" ∷ []) parts_names
+shape_of CompleteMultipartUpload = plain (codes "POST") Key (codes "uploadId" ∷ []) []
+shape_of AbortMultipartUpload = plain (codes "DELETE") Key (codes "uploadId" ∷ []) []
+
+unfoldable pub rows : List Row
+rows =
+    ListBuckets ∷ CreateBucket ∷ PutBucketAcl ∷ DeleteBucket ∷ HeadBucket ∷ GetBucketLocation ∷ GetBucketAcl
+    ∷ ListObjects ∷ ListObjectsV2 ∷ ListMultipartUploads
+    ∷ PutObject ∷ GetObject ∷ HeadObject ∷ DeleteObject ∷ GetObjectAcl ∷ CreateMultipartUpload ∷ UploadPart
+    ∷ ListParts ∷ CompleteMultipartUpload ∷ AbortMultipartUpload ∷ []
+
+-- the methods of the table
+abbrev pub is_method : List ℕ → Bool
+is_method method =
+    bytes_eq method (codes "GET") || bytes_eq method (codes "HEAD") || bytes_eq method (codes "PUT")
+    || bytes_eq method (codes "POST") || bytes_eq method (codes "DELETE")
+
+-- no bucket and no key is the service, no key is a bucket
+abbrev pub level_of : List ℕ → List ℕ → Level
+level_of bucket key = if length key == 0 then (if length bucket == 0 then Service else Bucket) else Key
+
+abbrev pub is_same_level : Level → Level → Bool
+is_same_level Service Service = true
+is_same_level Bucket Bucket = true
+is_same_level Key Key = true
+is_same_level _ _ = false
+
+-- all names of a query count but `x-id`, by which clients name the operation a second time
+abbrev pub counts : Pair → Bool
+counts pair = not (bytes_eq pair.name (codes "x-id"))
+
+abbrev pub asked : List Pair → List Pair
+asked query = filter counts query
+
+abbrev pub is_asked : List Pair → List ℕ → Bool
+is_asked query name = list_any (λ pair. bytes_eq pair.name name) (asked query)
+
+abbrev pub is_among : List ℕ → List (List ℕ) → Bool
+is_among name names = list_any (λ other. bytes_eq name other) names
+
+-- the texts behind references
+abbrev pub texts : List (Bor (List ℕ)) → List (List ℕ)
+texts names = map (λ name. name.now) names
+
+-- the row has the name
+abbrev pub is_name_of : List ℕ → Row → Bool
+is_name_of name row = is_among name (shape_of row).selectors || is_among name (shape_of row).further
+
+abbrev pub is_same : Bool → Bool → Bool
+is_same a b = if a then b else not b
+
+abbrev pub agrees : List Pair → List (List ℕ) → List ℕ → Bool
+agrees query names name = is_same (is_asked query name) (is_among name names)
+
+-- these are the selectors that the query has
+abbrev pub is_same_set : List Pair → List (List ℕ) → Bool
+is_same_set query names = list_all (agrees query names) selectors
+
+-- the request is one of the row
+abbrev pub fits : List ℕ → Level → List Pair → Row → Bool
+fits method level query row =
+    bytes_eq method (shape_of row).method && is_same_level level (shape_of row).level && is_same_set query (shape_of row).selectors
+
+-- the row of a request, if there is one
+abbrev pub row_for : List ℕ → Level → List Pair → Option Row
+row_for method level query = find (fits method level query) rows

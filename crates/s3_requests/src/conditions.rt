@@ -1,0 +1,191 @@
+//! The conditions of a GET or a HEAD.
+ghost use Rattle.std.specs.Prelude.{◌≡◌, ◌-◌, ◌≤◌, ◌<◌, ◌++◌, [], ◌∷◌, false, map, drop, length, position, slice_get, IfOk, IfSome, OnOk};
+ghost use Rattle.std.specs.List.{prefix_len, suffix_len, slice_split};
+ghost use Rattle.std.specs.Option.{option_map_or};
+ghost use Rattle.http_wire.specs.Closing.{is_comma};
+ghost use Rattle.s3_requests.specs.Conditions.{is_space, is_quote, behind_spaces, before_spaces, without_weak, is_quoted, without_quotes, etag_of, etags_of, given_etags, date_of, given_date, given_conditions};
+
+use gate_base::{Bytes, List, Memory, Pair};
+use http_wire::{has_header, text_of};
+use httpdate::HttpDate;
+use s3_machine::{Conditions, ETags};
+use std::alloc::Global;
+
+fn is_space(byte: u8) -> bool
+    ensures { result ≡ is_space byte }
+{
+    byte == b' '
+}
+
+fn first_spaces(text: &[u8]) -> usize
+    ensures is { result ≡ prefix_len is_space text.now }
+    ensures within { result ≤ length text.now }
+{
+    text.iter().take_while(|byte| is_space(**byte)).count()
+}
+
+fn last_spaces(text: &[u8]) -> usize
+    ensures is { result ≡ suffix_len is_space text.now }
+    ensures within { result ≤ length text.now }
+{
+    text.iter()
+        .rev()
+        .take_while(|byte| is_space(**byte))
+        .count()
+}
+
+fn behind_spaces(text: &[u8]) -> &[u8]
+    ensures { result.now ≡ behind_spaces text.now }
+{
+    &text[first_spaces(text)..]
+}
+
+fn before_spaces(text: &[u8]) -> &[u8]
+    ensures { result.now ≡ before_spaces text.now }
+{
+    &text[..text.len() - last_spaces(text)]
+}
+
+/// The text without the `W/` of a weak tag (RFC 9110, section 8.8.3).
+fn without_weak(text: &[u8]) -> &[u8]
+    ensures { result.now ≡ without_weak text.now }
+{
+    if text.starts_with(b"W/") {
+        &text[2..]
+    } else {
+        text
+    }
+}
+
+fn ends_quoted(text: &[u8]) -> bool
+    ensures { result ≡ option_map_or is_quote (slice_get text.now (length text.now - 1)) false }
+{
+    match text.last() {
+        Some(byte) => *byte == b'"',
+        None => false,
+    }
+}
+
+fn is_quoted(text: &[u8]) -> bool
+    ensures { result ≡ is_quoted text.now }
+{
+    2 <= text.len() && text.starts_with(b"\"") && ends_quoted(text)
+}
+
+fn without_quotes(text: &[u8]) -> &[u8]
+    ensures { result.now ≡ without_quotes text.now }
+{
+    if is_quoted(text) {
+        &text[1..text.len() - 1]
+    } else {
+        text
+    }
+}
+
+/// The tag that stands between two commas.
+#[tactic(auto, unfolding(crate::specs::Conditions::etag_of))]
+fn etag_of(piece: &[u8]) -> &[u8]
+    ensures { result.now ≡ etag_of piece.now }
+{
+    without_quotes(without_weak(before_spaces(behind_spaces(piece))))
+}
+
+fn push_etag(alloc: Global, etags: &mut List<Bytes>, piece: &[u8]) -> Result<(), Memory>
+    ensures { OnOk result (etags.new ≡ etags.old ++ etag_of piece.now ∷ []) }
+{
+    etags.push(Bytes::from_slice(alloc, etag_of(piece))?)
+}
+
+fn comma(byte: u8) -> bool
+    ensures { result ≡ is_comma byte }
+{
+    byte == b','
+}
+
+/// The place of the first comma.
+fn first_comma(text: &[u8]) -> Option<usize>
+    ensures place { result ≡ position is_comma text.now }
+    ensures within { IfSome result (λ at. at < length text.now) }
+{
+    text.iter().position(|byte| comma(*byte))
+}
+
+/// The text behind its first byte.
+fn after_first(text: &[u8]) -> &[u8]
+    requires { 0 < length text.now }
+    ensures { result.now ≡ drop 1 text.now }
+{
+    &text[1..]
+}
+
+/// The tags between the commas, in order.
+#[tactic(auto, using(crate::proofs::Tags::tags_go_on, crate::proofs::Tags::tags_end))]
+fn listed(alloc: Global, value: &[u8]) -> Result<List<Bytes>, Memory>
+    ensures { IfOk result (λ etags. etags ≡ map etag_of (slice_split is_comma value.now)) }
+{
+    let mut etags = List::new(alloc);
+    let mut rest = value;
+    'pieces: while let Some(at) = first_comma(rest) {
+        let (piece, others) = rest.split_at(at);
+        push_etag(alloc, &mut etags, piece)?;
+        rest = after_first(others);
+    }
+    push_etag(alloc, &mut etags, rest)?;
+    Ok(etags)
+}
+
+#[tactic(auto, unfolding(crate::specs::Conditions::etags_of))]
+fn etags_of(alloc: Global, value: &[u8]) -> Result<ETags, Memory>
+    ensures { IfOk result (λ etags. etags ≡ etags_of value.now) }
+{
+    if value == b"*".as_slice() {
+        return Ok(ETags::Any);
+    }
+    let etags = listed(alloc, value)?;
+    Ok(ETags::Listed(etags))
+}
+
+fn given_etags(alloc: Global, headers: &[Pair], name: &[u8]) -> Result<ETags, Memory>
+    ensures { IfOk result (λ etags. etags ≡ given_etags name.now headers.now) }
+{
+    if !has_header(headers, name) {
+        return Ok(ETags::Absent);
+    }
+    let value = text_of(alloc, headers, name)?;
+    etags_of(alloc, value.as_slice())
+}
+
+/// The moment of a date in one of the three forms of RFC 9110, section 5.6.7, in seconds since the beginning of 1970; none for
+/// every other text, and for a date before 1970.
+#[tactic(auto, unfolding(crate::specs::Conditions::date_of))]
+fn date_of(text: &[u8]) -> Option<u64>
+    ensures { result ≡ date_of text.now }
+{
+    match HttpDate::parse_ascii(text) {
+        Ok(date) => Some(date.unix_secs()),
+        Err(_) => None,
+    }
+}
+
+fn given_date(alloc: Global, headers: &[Pair], name: &[u8]) -> Result<Option<u64>, Memory>
+    ensures { IfOk result (λ date. date ≡ given_date name.now headers.now) }
+{
+    let text = text_of(alloc, headers, name)?;
+    Ok(date_of(text.as_slice()))
+}
+
+/// The conditions that the headers of a GET or a HEAD make (RFC 9110, section 13.1).
+pub fn given_conditions(alloc: Global, headers: &[Pair]) -> Result<Conditions, Memory>
+    ensures { IfOk result (λ conditions. conditions ≡ given_conditions headers.now) }
+{
+    let modified = given_date(alloc, headers, b"if-modified-since")?;
+    let unmodified = given_date(alloc, headers, b"if-unmodified-since")?;
+    let matched = given_etags(alloc, headers, b"if-match")?;
+    let unmatched = given_etags(alloc, headers, b"if-none-match")?;
+    Ok(Conditions {
+        matched,
+        unmatched,
+        modified,
+        unmodified,
+    })
+}

@@ -1,0 +1,205 @@
+//! What an object is put with, the digest of its body, its content type and its user metadata; and the location that a
+//! bucket is made with.
+ghost use Rattle.std.specs.Prelude.{◌≡◌, ◌&&◌, ◌||◌, ◌==◌, IfOk, OnOk, Ok, true, false};
+ghost use Rattle.std.specs.List.{starts_with};
+ghost use Rattle.base64.specs.Engines.{standard};
+ghost use Rattle.base64.specs.GeneralPurpose.{encode_of};
+ghost use Rattle.md5.specs.Md5.{md5};
+ghost use Rattle.s3_machine.specs.Limits.{is_kept_header};
+ghost use Rattle.http_wire.specs.Headers.{has_header, text_of};
+ghost use Rattle.s3_requests.specs.Rows.{shape_of};
+ghost use Rattle.s3_requests.specs.Content.{is_digest, has_bad_digest, is_other_body, given_type, taken_type, is_own_header, is_entry, entry_name, entered, given_meta, taken_meta, is_bad_entry, has_bad_entry, is_long_body, is_here, has_bad_location, has_other_location};
+
+use crate::rows::{Row, shape_of};
+use base64::DecodeAllocError;
+use base64::engine::general_purpose::STANDARD;
+use gate_base::{Bytes, Memory, Pair};
+use http_wire::{has_header, text_of};
+use md5::{Digest, Md5};
+use s3_bodies::{BodyFault, read_location};
+use s3_machine::{MOST_BODY_BYTES, is_meta_name, is_meta_value};
+use s3_names::Meta;
+use std::alloc::Global;
+
+/// Whether the text is the strict base64 of 16 bytes (RFC 4648, section 4).
+fn is_digest(alloc: Global, text: &[u8]) -> Result<bool, Memory>
+    ensures { IfOk result (λ digest. digest ≡ is_digest text.now) }
+{
+    match STANDARD.decode(alloc, text) {
+        Ok(bytes) => Ok(bytes.as_slice().len() == 16),
+        Err(DecodeAllocError::DecodeError(_)) => Ok(false),
+        Err(DecodeAllocError::OutOfMemory) => Err(Memory),
+    }
+}
+
+/// Whether there is a Content-MD5 that is no digest (RFC 1864).
+pub fn has_bad_digest(alloc: Global, headers: &[Pair]) -> Result<bool, Memory>
+    ensures { IfOk result (λ bad. bad ≡ has_bad_digest headers.now) }
+{
+    if !has_header(headers, b"content-md5") {
+        return Ok(false);
+    }
+    let text = text_of(alloc, headers, b"content-md5")?;
+    Ok(!is_digest(alloc, text.as_slice())?)
+}
+
+fn digest_text(alloc: Global, body: &[u8]) -> Result<Bytes, Memory>
+    ensures { IfOk result (λ text. text ≡ encode_of standard (md5 body.now)) }
+{
+    let text = STANDARD.encode(alloc, &Md5::digest(body))?;
+    Bytes::from_slice(alloc, text.as_bytes())
+}
+
+/// Whether there is a Content-MD5 other than the body's.
+pub fn is_other_body(alloc: Global, headers: &[Pair], body: &[u8]) -> Result<bool, Memory>
+    ensures { IfOk result (λ other. other ≡ is_other_body headers.now body.now) }
+{
+    if !has_header(headers, b"content-md5") {
+        return Ok(false);
+    }
+    let text = text_of(alloc, headers, b"content-md5")?;
+    let digest = digest_text(alloc, body)?;
+    Ok(text.as_slice() != digest.as_slice())
+}
+
+fn given_type(alloc: Global, headers: &[Pair]) -> Result<Bytes, Memory>
+    ensures { IfOk result (λ text. text ≡ given_type headers.now) }
+{
+    let text = text_of(alloc, headers, b"content-type")?;
+    if text.len() == 0 {
+        Bytes::from_slice(alloc, b"binary/octet-stream")
+    } else {
+        Ok(text)
+    }
+}
+
+/// The content type that the operation takes.
+pub fn taken_type(alloc: Global, row: Row, headers: &[Pair]) -> Result<Bytes, Memory>
+    ensures { IfOk result (λ text. text ≡ taken_type row headers.now) }
+{
+    if shape_of(row).has_content() {
+        given_type(alloc, headers)
+    } else {
+        Bytes::from_slice(alloc, b"binary/octet-stream")
+    }
+}
+
+fn is_own_header(name: &[u8]) -> bool
+    ensures { result ≡ is_own_header name.now }
+{
+    name.starts_with(b"x-amz-meta-")
+}
+
+fn is_kept_header(name: &[u8]) -> bool
+    ensures { result ≡ is_kept_header name.now }
+{
+    name == b"cache-control".as_slice()
+        || name == b"content-disposition".as_slice()
+        || name == b"content-encoding".as_slice()
+        || name == b"content-language".as_slice()
+        || name == b"expires".as_slice()
+}
+
+fn is_entry(name: &[u8]) -> bool
+    ensures { result ≡ is_entry name.now }
+{
+    is_own_header(name) || is_kept_header(name)
+}
+
+/// The name of the entry that a header makes: `-` and what follows `x-amz-meta-`, or the header's own.
+fn entry_name(name: &[u8]) -> &[u8]
+    ensures { result.now ≡ entry_name name.now }
+{
+    if is_own_header(name) {
+        &name[10..]
+    } else {
+        name
+    }
+}
+
+/// Puts the entry of a header into its place, unless its name is there.
+fn enter(alloc: Global, meta: &mut Meta, headers: &[Pair], header: &Pair) -> Result<(), Memory>
+    ensures { OnOk result (meta.new ≡ entered headers.now meta.old header.now) }
+{
+    let name = header.name.as_slice();
+    if !is_entry(name) {
+        return Ok(());
+    }
+    let value = text_of(alloc, headers, name)?;
+    let _is_new = meta.add(entry_name(name), value.as_slice())?;
+    Ok(())
+}
+
+#[tactic(auto, unfolding(crate::specs::Content::given_meta))]
+fn given_meta(alloc: Global, headers: &[Pair]) -> Result<Meta, Memory>
+    ensures { IfOk result (λ meta. meta ≡ given_meta headers.now) }
+{
+    let mut meta = Meta::new(alloc);
+    for header in headers {
+        enter(alloc, &mut meta, headers, header)?;
+    }
+    Ok(meta)
+}
+
+/// The metadata that the operation takes.
+pub fn taken_meta(alloc: Global, row: Row, headers: &[Pair]) -> Result<Meta, Memory>
+    ensures { IfOk result (λ meta. meta ≡ taken_meta row headers.now) }
+{
+    if shape_of(row).has_content() {
+        given_meta(alloc, headers)
+    } else {
+        Ok(Meta::new(alloc))
+    }
+}
+
+fn is_bad_entry(entry: &Pair) -> bool
+    ensures { result ≡ is_bad_entry entry.now }
+{
+    !(is_meta_name(entry.name.as_slice()) && is_meta_value(entry.value.as_slice()))
+}
+
+/// Whether an entry is past its form.
+pub fn has_bad_entry(meta: &Meta) -> bool
+    ensures { result ≡ has_bad_entry meta.now }
+{
+    any_bad_entry(meta.pairs())
+}
+
+fn any_bad_entry(entries: &[Pair]) -> bool
+    ensures { result ≡ has_bad_entry entries.now }
+{
+    entries.iter().any(|entry| is_bad_entry(entry))
+}
+
+/// Whether the body has more bytes than any that is read.
+pub fn is_long_body(body: &[u8]) -> bool
+    ensures { result ≡ is_long_body body.now }
+{
+    MOST_BODY_BYTES < body.len() as u64
+}
+
+fn is_here(region: &[u8], location: &[u8]) -> bool
+    ensures { result ≡ is_here region.now location.now }
+{
+    location.len() == 0 || location == region
+}
+
+/// Whether the body should name a location and isn't of that form, and whether it should name one and names neither the
+/// region nor none. The body is read once.
+pub fn location_faults(
+    alloc: Global,
+    row: Row,
+    region: &[u8],
+    body: &[u8],
+) -> Result<(bool, bool), Memory>
+    ensures { IfOk result (λ faults. faults ≡ record { 0 = has_bad_location row body.now; 1 = has_other_location row region.now body.now }) }
+{
+    if !shape_of(row).has_location() {
+        return Ok((false, false));
+    }
+    match read_location(alloc, body) {
+        Ok(location) => Ok((false, !is_here(region, location.as_slice()))),
+        Err(BodyFault::NotTheBody(_) | BodyFault::TooMany) => Ok((true, true)),
+        Err(BodyFault::Memory) => Err(Memory),
+    }
+}

@@ -1,0 +1,515 @@
+//! What a request means.
+ghost use Rattle.std.specs.Prelude.{◌≡◌, ◌≢◌, ◌&&◌, IfOk};
+ghost use Rattle.s3_requests.specs.Proper.{IsProperMeant};
+ghost use Rattle.s3_requests.specs.Meaning.{first_refusal, reasons, header_reasons, digest_reasons, argument_reasons, content_reasons, body_reasons, meaning_of, op_of, or_private, put_acl, KeepsFront, is_denied, has_bad_bucket, row_of};
+ghost use Rattle.s3_requests.specs.declared.meant.Meant.TheVariants as variant;
+ghost use Rattle.s3_requests.specs.Rows.{shape_of, level_of};
+ghost use Rattle.s3_requests.specs.Meaning.{has_long_key, has_bad_key};
+ghost use Rattle.s3_requests.specs.Content.{taken_type, taken_meta};
+ghost use Rattle.s3_requests.specs.Headers.{given_acl};
+ghost use Rattle.s3_requests.specs.Conditions.{given_conditions};
+ghost use Rattle.s3_requests.specs.Ranges.{given_range};
+ghost use Rattle.s3_requests.specs.Listings.{first_asked, second_asked};
+
+use crate::conditions::given_conditions;
+use crate::content::{
+    has_bad_digest, has_bad_entry, is_long_body, is_other_body, location_faults, taken_meta,
+    taken_type,
+};
+use crate::headers::{
+    given_acl, has_other_acl, has_other_class, has_unsupported, is_chunked, is_conditional_write,
+    lacks_acl,
+};
+use crate::listings::{first_asked, has_bad_token, has_bad_word, has_long_text, second_asked};
+use crate::query::{has_foreign_name, has_name_twice, has_unknown_name};
+use crate::ranges::given_range;
+use crate::rows::{Level, Row, is_method, is_same_level, level_of, row_for, shape_of};
+use gate_base::{Bytes, Caller, Copying, Memory, Pair};
+use http_wire::Message;
+use s3_machine::{Code, Op, Settings, is_content_type, is_proper_meta};
+use s3_names::{Acl, MOST_KEY_BYTES, Meta, Target, is_bucket, is_key};
+use std::alloc::Global;
+use std::mem;
+
+/// What a request means.
+#[derive(Debug, Drop)]
+pub enum Meant {
+    /// An operation that keeps the limits of this profile.
+    Op(Op),
+    /// The code by which it is refused.
+    Refused(Code),
+    /// Memory ran out.
+    Memory,
+}
+
+impl Copying for Meant {
+    fn copy(&self) -> Result<Meant, Memory> {
+        match self {
+            Meant::Op(op) => Ok(Meant::Op(op.copy()?)),
+            Meant::Refused(code) => Ok(Meant::Refused(*code)),
+            Meant::Memory => Ok(Meant::Memory),
+        }
+    }
+}
+
+/// What a request means whose target was read (Amazon S3 API Reference, restated by this profile): the operation that it
+/// asks for, or the code of the first reason to refuse it. The body moves into an operation that has one; the method and
+/// the target of the message stay.
+pub fn meaning(
+    alloc: Global,
+    message: &mut Message,
+    target: &Target,
+    caller: &Caller,
+    settings: &Settings,
+) -> Meant
+    ensures value { result ≢ variant.Memory → result ≡ meaning_of settings.now message.entry.now target.now caller.now }
+    ensures proper { IsProperMeant result }
+    ensures keeps { KeepsFront message.entry.now message.exit.now }
+{
+    match by_target(alloc, settings, message, target, caller) {
+        Ok(meant) => meant,
+        Err(_) => Meant::Memory,
+    }
+}
+
+/// The reasons against the target, and then those of its row.
+#[tactic(auto, unfolding(crate::specs::Meaning::meaning_of))]
+fn by_target(
+    alloc: Global,
+    settings: &Settings,
+    message: &mut Message,
+    target: &Target,
+    caller: &Caller,
+) -> Result<Meant, Memory>
+    ensures value { IfOk result (λ meant. meant ≡ meaning_of settings.now message.entry.now target.now caller.now) }
+    ensures keeps { KeepsFront message.entry.now message.exit.now }
+{
+    if !is_method(message.method.as_slice()) {
+        return Ok(Meant::Refused(Code::MethodNotAllowed));
+    }
+    if has_bad_bucket(target) {
+        return Ok(Meant::Refused(Code::InvalidBucketName));
+    }
+    if has_long_key(target) {
+        return Ok(Meant::Refused(Code::KeyTooLongError));
+    }
+    if has_bad_key(target) {
+        return Ok(Meant::Refused(Code::InvalidURI));
+    }
+    if has_unknown_name(target.query.pairs()) {
+        return Ok(Meant::Refused(Code::NotImplemented));
+    }
+    match row_of(message, target) {
+        Some(row) => by_row(alloc, settings, row, message, target, caller),
+        None => Ok(Meant::Refused(Code::MethodNotAllowed)),
+    }
+}
+
+/// The reasons against the names of the query, and then those against the headers.
+fn by_row(
+    alloc: Global,
+    settings: &Settings,
+    row: Row,
+    message: &mut Message,
+    target: &Target,
+    caller: &Caller,
+) -> Result<Meant, Memory>
+    ensures value { IfOk result (λ meant. meant ≡ first_refusal (reasons settings.now row message.entry.now target.now caller.now) (op_of row message.entry.now target.now)) }
+    ensures keeps { KeepsFront message.entry.now message.exit.now }
+{
+    if !shape_of(row).is_built() {
+        return Ok(Meant::Refused(Code::NotImplemented));
+    }
+    if has_foreign_name(row, target.query.pairs()) {
+        return Ok(Meant::Refused(Code::NotImplemented));
+    }
+    if has_name_twice(target.query.pairs()) {
+        return Ok(Meant::Refused(Code::InvalidArgument));
+    }
+    by_headers(alloc, settings, row, message, target, caller)
+}
+
+/// The reasons against the headers, and then those against the content.
+fn by_headers(
+    alloc: Global,
+    settings: &Settings,
+    row: Row,
+    message: &mut Message,
+    target: &Target,
+    caller: &Caller,
+) -> Result<Meant, Memory>
+    ensures value { IfOk result (λ meant. meant ≡ first_refusal (header_reasons settings.now row message.entry.now target.now caller.now) (op_of row message.entry.now target.now)) }
+    ensures keeps { KeepsFront message.entry.now message.exit.now }
+{
+    let method = message.method.as_slice();
+    let headers = message.headers.as_slice();
+    if has_unsupported(headers) {
+        return Ok(Meant::Refused(Code::NotImplemented));
+    }
+    if is_chunked(alloc, headers)? {
+        return Ok(Meant::Refused(Code::NotImplemented));
+    }
+    if is_conditional_write(method, headers) {
+        return Ok(Meant::Refused(Code::NotImplemented));
+    }
+    if has_other_acl(alloc, headers)? {
+        return Ok(Meant::Refused(Code::NotImplemented));
+    }
+    if lacks_acl(row, headers) {
+        return Ok(Meant::Refused(Code::NotImplemented));
+    }
+    if has_other_class(alloc, headers)? {
+        return Ok(Meant::Refused(Code::InvalidStorageClass));
+    }
+    by_digest(alloc, settings, row, message, target, caller)
+}
+
+/// The reasons against the digest of the body, and then those against the values of the query.
+fn by_digest(
+    alloc: Global,
+    settings: &Settings,
+    row: Row,
+    message: &mut Message,
+    target: &Target,
+    caller: &Caller,
+) -> Result<Meant, Memory>
+    ensures value { IfOk result (λ meant. meant ≡ first_refusal (digest_reasons settings.now row message.entry.now target.now caller.now) (op_of row message.entry.now target.now)) }
+    ensures keeps { KeepsFront message.entry.now message.exit.now }
+{
+    let headers = message.headers.as_slice();
+    if has_bad_digest(alloc, headers)? {
+        return Ok(Meant::Refused(Code::InvalidDigest));
+    }
+    if is_other_body(alloc, headers, message.body.as_slice())? {
+        return Ok(Meant::Refused(Code::BadDigest));
+    }
+    by_arguments(alloc, settings, row, message, target, caller)
+}
+
+/// The reasons against the values of the query, and then those against the content.
+fn by_arguments(
+    alloc: Global,
+    settings: &Settings,
+    row: Row,
+    message: &mut Message,
+    target: &Target,
+    caller: &Caller,
+) -> Result<Meant, Memory>
+    ensures value { IfOk result (λ meant. meant ≡ first_refusal (argument_reasons settings.now row message.entry.now target.now caller.now) (op_of row message.entry.now target.now)) }
+    ensures keeps { KeepsFront message.entry.now message.exit.now }
+{
+    let query = target.query.pairs();
+    if has_bad_word(query) {
+        return Ok(Meant::Refused(Code::InvalidArgument));
+    }
+    if has_long_text(query) {
+        return Ok(Meant::Refused(Code::InvalidArgument));
+    }
+    if has_bad_token(alloc, query)? {
+        return Ok(Meant::Refused(Code::InvalidArgument));
+    }
+    by_content(alloc, settings, row, message, target, caller)
+}
+
+/// The reasons against the content, and then those against the body.
+fn by_content(
+    alloc: Global,
+    settings: &Settings,
+    row: Row,
+    message: &mut Message,
+    target: &Target,
+    caller: &Caller,
+) -> Result<Meant, Memory>
+    ensures value { IfOk result (λ meant. meant ≡ first_refusal (content_reasons settings.now row message.entry.now caller.now) (op_of row message.entry.now target.now)) }
+    ensures keeps { KeepsFront message.entry.now message.exit.now }
+{
+    let headers = message.headers.as_slice();
+    let acl = given_acl(alloc, headers)?;
+    let content_type = taken_type(alloc, row, headers)?;
+    if !is_content_type(content_type.as_slice()) {
+        return Ok(Meant::Refused(Code::InvalidArgument));
+    }
+    let meta = taken_meta(alloc, row, headers)?;
+    if has_bad_entry(&meta) {
+        return Ok(Meant::Refused(Code::InvalidArgument));
+    }
+    if !is_proper_meta(&meta) {
+        return Ok(Meant::Refused(Code::MetadataTooLarge));
+    }
+    by_body(
+        alloc,
+        settings,
+        row,
+        message,
+        target,
+        caller,
+        acl,
+        content_type,
+        meta,
+    )
+}
+
+/// The reasons against the body and the caller, and then the operation.
+fn by_body(
+    alloc: Global,
+    settings: &Settings,
+    row: Row,
+    message: &mut Message,
+    target: &Target,
+    caller: &Caller,
+    acl: Option<Acl>,
+    content_type: Bytes,
+    meta: Meta,
+) -> Result<Meant, Memory>
+    requires acl { acl ≡ given_acl message.now.headers }
+    requires content_type { content_type ≡ taken_type row message.now.headers }
+    requires meta { meta ≡ taken_meta row message.now.headers }
+    ensures value { IfOk result (λ meant. meant ≡ first_refusal (body_reasons settings.now row message.entry.now caller.now) (op_of row message.entry.now target.now)) }
+    ensures keeps { KeepsFront message.entry.now message.exit.now }
+{
+    if is_long_body(message.body.as_slice()) {
+        return Ok(Meant::Refused(Code::EntityTooLarge));
+    }
+    let region = settings.region.as_slice();
+    let (is_bad, is_other) = location_faults(alloc, row, region, message.body.as_slice())?;
+    if is_bad {
+        return Ok(Meant::Refused(Code::MalformedXML));
+    }
+    if is_other {
+        return Ok(Meant::Refused(Code::InvalidArgument));
+    }
+    if is_denied(row, *caller) {
+        return Ok(Meant::Refused(Code::AccessDenied));
+    }
+    op_of(alloc, row, message, target, acl, content_type, meta)
+}
+
+/// The operation of a row, with the access control list that is named, and the content type and the metadata that it takes.
+fn op_of(
+    alloc: Global,
+    row: Row,
+    message: &mut Message,
+    target: &Target,
+    acl: Option<Acl>,
+    content_type: Bytes,
+    meta: Meta,
+) -> Result<Meant, Memory>
+    requires acl { acl ≡ given_acl message.now.headers }
+    requires content_type { content_type ≡ taken_type row message.now.headers }
+    requires meta { meta ≡ taken_meta row message.now.headers }
+    ensures value { IfOk result (λ meant. meant ≡ op_of row message.entry.now target.now) }
+    ensures keeps { KeepsFront message.entry.now message.exit.now }
+{
+    match row {
+        Row::ListBuckets => Ok(Meant::Op(Op::ListBuckets)),
+        Row::CreateBucket => create_bucket(target, or_private(acl)),
+        Row::PutBucketAcl => put_bucket_acl(target, acl),
+        Row::DeleteBucket => delete_bucket(target),
+        Row::HeadBucket => head_bucket(target),
+        Row::GetBucketLocation => get_location(target),
+        Row::GetBucketAcl => get_bucket_acl(target),
+        Row::PutObject => put_object(alloc, message, target, acl, content_type, meta),
+        Row::ListObjects => list_objects(alloc, target),
+        Row::ListObjectsV2 => list_objects_v2(alloc, target),
+        Row::GetObject => get_object(alloc, message.headers.as_slice(), target),
+        Row::HeadObject => head_object(alloc, message.headers.as_slice(), target),
+        Row::DeleteObject => delete_object(target),
+        Row::GetObjectAcl => get_object_acl(target),
+        Row::ListMultipartUploads
+        | Row::CreateMultipartUpload
+        | Row::UploadPart
+        | Row::ListParts
+        | Row::CompleteMultipartUpload
+        | Row::AbortMultipartUpload => Ok(Meant::Refused(Code::NotImplemented)),
+    }
+}
+
+fn or_private(acl: Option<Acl>) -> Acl
+    ensures { result ≡ or_private acl }
+{
+    match acl {
+        Some(acl) => acl,
+        None => Acl::Private,
+    }
+}
+
+fn create_bucket(target: &Target, acl: Acl) -> Result<Meant, Memory>
+    ensures { IfOk result (λ meant. meant ≡ Meant.Op (Op.CreateBucket target.now.bucket acl)) }
+{
+    let bucket = target.bucket.copy()?;
+    Ok(Meant::Op(Op::CreateBucket { bucket, acl }))
+}
+
+fn put_bucket_acl(target: &Target, acl: Option<Acl>) -> Result<Meant, Memory>
+    ensures { IfOk result (λ meant. meant ≡ put_acl target.now.bucket acl) }
+{
+    match acl {
+        Some(acl) => {
+            let bucket = target.bucket.copy()?;
+            Ok(Meant::Op(Op::PutBucketAcl { bucket, acl }))
+        }
+        None => Ok(Meant::Refused(Code::NotImplemented)),
+    }
+}
+
+fn delete_bucket(target: &Target) -> Result<Meant, Memory>
+    ensures { IfOk result (λ meant. meant ≡ Meant.Op (Op.DeleteBucket target.now.bucket)) }
+{
+    let bucket = target.bucket.copy()?;
+    Ok(Meant::Op(Op::DeleteBucket { bucket }))
+}
+
+fn head_bucket(target: &Target) -> Result<Meant, Memory>
+    ensures { IfOk result (λ meant. meant ≡ Meant.Op (Op.HeadBucket target.now.bucket)) }
+{
+    let bucket = target.bucket.copy()?;
+    Ok(Meant::Op(Op::HeadBucket { bucket }))
+}
+
+fn get_location(target: &Target) -> Result<Meant, Memory>
+    ensures { IfOk result (λ meant. meant ≡ Meant.Op (Op.GetLocation target.now.bucket)) }
+{
+    let bucket = target.bucket.copy()?;
+    Ok(Meant::Op(Op::GetLocation { bucket }))
+}
+
+fn get_bucket_acl(target: &Target) -> Result<Meant, Memory>
+    ensures { IfOk result (λ meant. meant ≡ Meant.Op (Op.GetBucketAcl target.now.bucket)) }
+{
+    let bucket = target.bucket.copy()?;
+    Ok(Meant::Op(Op::GetBucketAcl { bucket }))
+}
+
+fn put_object(
+    alloc: Global,
+    message: &mut Message,
+    target: &Target,
+    acl: Option<Acl>,
+    content_type: Bytes,
+    meta: Meta,
+) -> Result<Meant, Memory>
+    ensures value { IfOk result (λ meant. meant ≡ Meant.Op (Op.PutObject target.now.bucket target.now.key acl content_type meta message.entry.now.body)) }
+    ensures keeps { KeepsFront message.entry.now message.exit.now }
+{
+    let (bucket, key) = place(target)?;
+    Ok(Meant::Op(Op::PutObject {
+        bucket,
+        key,
+        acl,
+        content_type,
+        meta,
+        body: mem::replace(&mut message.body, Bytes::new(alloc)),
+    }))
+}
+
+/// The bucket and the key of the target.
+fn place(target: &Target) -> Result<(Bytes, Bytes), Memory>
+    ensures { IfOk result (λ copies. copies ≡ record { 0 = target.now.bucket; 1 = target.now.key }) }
+{
+    let bucket = target.bucket.copy()?;
+    let key = target.key.copy()?;
+    Ok((bucket, key))
+}
+
+fn list_objects(alloc: Global, target: &Target) -> Result<Meant, Memory>
+    ensures { IfOk result (λ meant. meant ≡ Meant.Op (Op.ListObjects target.now.bucket (first_asked target.now.query))) }
+{
+    let bucket = target.bucket.copy()?;
+    let asked = first_asked(alloc, target.query.pairs())?;
+    Ok(Meant::Op(Op::ListObjects { bucket, asked }))
+}
+
+fn list_objects_v2(alloc: Global, target: &Target) -> Result<Meant, Memory>
+    ensures { IfOk result (λ meant. meant ≡ Meant.Op (Op.ListObjects target.now.bucket (second_asked target.now.query))) }
+{
+    let bucket = target.bucket.copy()?;
+    let asked = second_asked(alloc, target.query.pairs())?;
+    Ok(Meant::Op(Op::ListObjects { bucket, asked }))
+}
+
+fn get_object(alloc: Global, headers: &[Pair], target: &Target) -> Result<Meant, Memory>
+    ensures { IfOk result (λ meant. meant ≡ Meant.Op (Op.GetObject target.now.bucket target.now.key (given_range headers.now) (given_conditions headers.now))) }
+{
+    let range = given_range(alloc, headers)?;
+    let (bucket, key) = place(target)?;
+    let conditions = given_conditions(alloc, headers)?;
+    Ok(Meant::Op(Op::GetObject {
+        bucket,
+        key,
+        range,
+        conditions,
+    }))
+}
+
+fn head_object(alloc: Global, headers: &[Pair], target: &Target) -> Result<Meant, Memory>
+    ensures { IfOk result (λ meant. meant ≡ Meant.Op (Op.HeadObject target.now.bucket target.now.key (given_range headers.now) (given_conditions headers.now))) }
+{
+    let range = given_range(alloc, headers)?;
+    let (bucket, key) = place(target)?;
+    let conditions = given_conditions(alloc, headers)?;
+    Ok(Meant::Op(Op::HeadObject {
+        bucket,
+        key,
+        range,
+        conditions,
+    }))
+}
+
+fn delete_object(target: &Target) -> Result<Meant, Memory>
+    ensures { IfOk result (λ meant. meant ≡ Meant.Op (Op.DeleteObject target.now.bucket target.now.key)) }
+{
+    let bucket = target.bucket.copy()?;
+    let key = target.key.copy()?;
+    Ok(Meant::Op(Op::DeleteObject { bucket, key }))
+}
+
+fn get_object_acl(target: &Target) -> Result<Meant, Memory>
+    ensures { IfOk result (λ meant. meant ≡ Meant.Op (Op.GetObjectAcl target.now.bucket target.now.key)) }
+{
+    let bucket = target.bucket.copy()?;
+    let key = target.key.copy()?;
+    Ok(Meant::Op(Op::GetObjectAcl { bucket, key }))
+}
+
+fn level_of_target(target: &Target) -> Level
+    ensures { result ≡ level_of target.now.bucket target.now.key }
+{
+    level_of(target.bucket.as_slice(), target.key.as_slice())
+}
+
+fn row_of(message: &Message, target: &Target) -> Option<Row>
+    ensures { result ≡ row_of message.now target.now }
+{
+    row_for(
+        message.method.as_slice(),
+        level_of_target(target),
+        target.query.pairs(),
+    )
+}
+
+fn has_bad_bucket(target: &Target) -> bool
+    ensures { result ≡ has_bad_bucket target.now }
+{
+    !is_same_level(level_of_target(target), Level::Service) && !is_bucket(target.bucket.as_slice())
+}
+
+fn has_long_key(target: &Target) -> bool
+    ensures { result ≡ has_long_key target.now }
+{
+    MOST_KEY_BYTES < target.key.len()
+}
+
+fn has_bad_key(target: &Target) -> bool
+    ensures { result ≡ has_bad_key target.now }
+{
+    is_same_level(level_of_target(target), Level::Key) && !is_key(target.key.as_slice())
+}
+
+fn is_denied(row: Row, caller: Caller) -> bool
+    ensures { result ≡ is_denied row caller }
+{
+    match caller {
+        Caller::Owner => false,
+        Caller::Anonymous => !shape_of(row).is_open(),
+    }
+}

@@ -1,0 +1,104 @@
+//! The names of a query and their values. `x-id`, by which clients name the operation a second time, is none of the names.
+ghost use Rattle.std.specs.Prelude.{◌≡◌, filter, find, bytes_eq};
+ghost use Rattle.std.specs.Option.{option_copied};
+ghost use Rattle.s3_requests.specs.Rows.{counts, is_asked};
+ghost use Rattle.s3_requests.specs.Query.{is_foreign, has_foreign_name, is_unknown, has_unknown_name, count_of, is_given_twice, has_name_twice, text_at};
+
+use crate::rows::{Row, is_known, is_name_of};
+use gate_base::Pair;
+
+fn counts(pair: &Pair) -> bool
+    ensures { result ≡ counts pair.now }
+{
+    pair.name.as_slice() != b"x-id".as_slice()
+}
+
+fn has_name(name: &[u8], pair: &Pair) -> bool
+    ensures { result ≡ bytes_eq pair.now.name name.now }
+{
+    pair.name.as_slice() == name
+}
+
+/// Whether the query has the name.
+pub fn is_asked(query: &[Pair], name: &[u8]) -> bool
+    ensures { result ≡ is_asked query.now name.now }
+{
+    query
+        .iter()
+        .filter(|pair| counts(pair))
+        .any(|pair| has_name(name, pair))
+}
+
+fn is_unknown(pair: &Pair) -> bool
+    ensures { result ≡ is_unknown pair.now }
+{
+    !is_known(pair.name.as_slice())
+}
+
+/// Whether the query has a name that no row has.
+pub fn has_unknown_name(query: &[Pair]) -> bool
+    ensures { result ≡ has_unknown_name query.now }
+{
+    query
+        .iter()
+        .filter(|pair| counts(pair))
+        .any(|pair| is_unknown(pair))
+}
+
+fn is_foreign(row: Row, pair: &Pair) -> bool
+    ensures { result ≡ is_foreign row pair.now }
+{
+    !is_name_of(pair.name.as_slice(), row)
+}
+
+/// Whether the query has a name that the row doesn't have.
+pub fn has_foreign_name(row: Row, query: &[Pair]) -> bool
+    ensures { result ≡ has_foreign_name row query.now }
+{
+    query
+        .iter()
+        .filter(|pair| counts(pair))
+        .any(|pair| is_foreign(row, pair))
+}
+
+fn count_of(name: &[u8], query: &[Pair]) -> usize
+    ensures { result ≡ count_of name.now query.now }
+{
+    query
+        .iter()
+        .filter(|pair| counts(pair))
+        .filter(|pair| has_name(name, pair))
+        .count()
+}
+
+fn is_given_twice(query: &[Pair], pair: &Pair) -> bool
+    ensures { result ≡ is_given_twice query.now pair.now }
+{
+    1 < count_of(pair.name.as_slice(), query)
+}
+
+/// Whether the query has a name twice.
+pub fn has_name_twice(query: &[Pair]) -> bool
+    ensures { result ≡ has_name_twice query.now }
+{
+    query
+        .iter()
+        .filter(|pair| counts(pair))
+        .any(|pair| is_given_twice(query, pair))
+}
+
+/// The value of a name, nothing where the query doesn't have the name.
+pub fn text_at<'a>(query: &'a [Pair], name: &[u8]) -> &'a [u8]
+    ensures { result.now ≡ text_at name.now query.now }
+{
+    match first(query, name) {
+        Some(pair) => pair.value.as_slice(),
+        None => b"",
+    }
+}
+
+fn first<'a>(query: &'a [Pair], name: &[u8]) -> Option<&'a Pair>
+    ensures { option_copied result ≡ find (λ pair. bytes_eq pair.name name.now) query.now }
+{
+    query.iter().find(|pair| has_name(name, pair))
+}

@@ -1,0 +1,7 @@
+pub mod AnswerLemmas
+pub mod ListJsonLemmas
+pub mod ListLemmas
+pub mod ListTextLemmas
+pub mod MetaLemmas
+pub mod SentLemmas
+pub mod lemmas

@@ -1,0 +1,15 @@
+pub mod AnswerLaws
+pub mod BareRows
+pub mod CutLemmas
+pub mod GivenLemmas
+pub mod GoodFields
+pub mod HeadFields
+pub mod HeadRows
+pub mod ListRows
+pub mod MetaFieldLemmas
+pub mod ReadBack
+pub mod ReadersRow
+pub mod ReadsBack
+pub mod Sizes
+pub mod SmallHeads
+pub mod ValueRows

@@ -1,0 +1,146 @@
+-- Values as they are written and read: numbers, ETags, read lists; and the rows of an ETag and of a read list.
+use Rattle.std.proofs.Common.{◌≡◌, ℕ, ◌-◌, ◌^◌, ◌<◌, ◌≤◌, Bool, true, false, List, [], ◌∷◌, length, map, reverse, Some, None, refl, sym, ap, ◌∙◌, rules, arith}
+use Rattle.std.specs.Prelude.{◌&&◌, ◌==◌, not, codes, decimal, nat_le, nat_lt, bytes_eq, slice_index, slice_range, option_map, is_some, if◌then◌else◌}
+use Rattle.std.specs.List.{list_all}
+use Rattle.std.specs.Str.Parse.{digits_value}
+use Rattle.std.proofs.lemmas.Bool.{and_parts, and_from, leb-true, lt-ltb, le-leb, false≢true}
+use Rattle.std.proofs.lemmas.Bool.Decides.{nat_tests}
+use Rattle.std.proofs.lemmas.Fmt.{length-decimal-le, decimal_nonempty, digits_decimal, digits_value-decimal}
+use Rattle.std.proofs.lemmas.List.Elements.{All-head, All-weaker}
+use Rattle.std.proofs.lemmas.List.Sums.{AllPass-from_list_all, list_all-from_AllPass}
+use Rattle.std.proofs.lemmas.Slice.Eq.{bytes_eq-Decides}
+use Rattle.std.proofs.lemmas.Str.Parse.{IsNumeralModel, IsDigitsTest, numerals_by_value}
+use Rattle.gate_base.specs.Ascii.{is_digit}
+use Rattle.httparse.specs.Grammar.{AllPass, is_ows, is_value_byte, is_token_byte}
+use Rattle.httparse.proofs.TrimLemmas.{AllPass-reverse}
+use Rattle.http1.specs.Head.{are_headers, is_trimmed_value, starts_visible}
+use Rattle.http_wire.specs.FirstMessage.{is_length}
+use Rattle.swift_calls.specs.declared.calls.SwiftRequest.{SwiftRequest}
+use Rattle.swift_calls.specs.declared.calls.SwiftRequest.TheVariants.{PutObject}
+use Rattle.swift_calls.specs.declared.calls.SwiftReply.TheVariants.{Stored}
+use Rattle.http_answers.specs.Fields.{number_in, plain_number}
+use Rattle.swift_replies.specs.Fields.{is_tag_byte, is_quoted, tag_in, tag_only}
+use Rattle.http_answers.specs.Framing.{expected}
+use Rattle.swift_replies.specs.Answers.{SpellsAnswer}
+use Rattle.swift_replies.specs.AnswerText.{Sent, head_text, is_tag, sent_text, stored_by, stored_sent, text_by, within_limit, length_field, etag_field}
+use Rattle.swift_replies.proofs.lemmas.BareRows.{zero_text}
+use Rattle.swift_replies.proofs.lemmas.ReadBack.{lowered, written_spells}
+
+-- ---- values without white space
+
+-- neither white space nor a control byte
+abbrev pub is_visible : ℕ → Bool
+is_visible b = nat_lt 32 b && not (b == 127)
+
+visible_byte : (b : ℕ) → is_visible b ≡ true → (not (is_ows b) ≡ true) × (is_value_byte b ≡ true)
+visible_byte b visible = grind (arith, nat_tests)
+
+starts : (text : List ℕ) → AllPass is_visible text → starts_visible text ≡ true
+starts [] all = refl
+starts (b ∷ bs) all = (visible_byte b (All-head (λ c. is_visible c ≡ true) b bs all)).0
+
+-- such a text is read as it is written
+pub trimmed : (text : List ℕ) → AllPass is_visible text → is_trimmed_value text ≡ true
+trimmed text all =
+    let values = All-weaker (λ b. is_visible b ≡ true) (λ b. is_value_byte b ≡ true) (λ b visible. (visible_byte b visible).1) text all in
+    and_from _ _ (starts text all) (and_from _ _ (starts (reverse text) (AllPass-reverse is_visible text all)) (list_all-from_AllPass is_value_byte text values))
+
+-- ---- numbers
+
+tells : IsDigitsTest (λ ds. list_all is_digit ds ≡ true)
+tells = search rules
+
+own : IsNumeralModel (λ ds. list_all is_digit ds ≡ true) (digits_value 10)
+own = numerals_by_value _ tells
+
+digit_visible : (b : ℕ) → is_digit b ≡ true → is_visible b ≡ true
+digit_visible b digit = grind (arith, nat_tests)
+
+pub decimal_trimmed : (n : ℕ) → n < 2 ^ 64 → is_trimmed_value (decimal n) ≡ true
+decimal_trimmed n fits =
+    trimmed (decimal n)
+    (All-weaker (λ b. is_digit b ≡ true) (λ b. is_visible b ≡ true) digit_visible (decimal n) (AllPass-from_list_all is_digit (decimal n) (digits_decimal own n fits)))
+
+pub decimal_length : (n : ℕ) → n < 10 ^ 19 → is_length (decimal n) ≡ true
+decimal_length n small =
+    let fits : n < 2 ^ 64 = omega (arith, small) in
+    and_from _ _ (lt-ltb 0 (length (decimal n)) (decimal_nonempty n fits))
+    (and_from _ _ (le-leb (length (decimal n)) 19 (length-decimal-le 19 n (omega arith) small fits)) (digits_decimal own n fits))
+
+pub number_back : (n : ℕ) → n < 10 ^ 19 → number_in (decimal n) ≡ Some n
+number_back n small =
+    let fits : n < 2 ^ 64 = omega (arith, small) in
+    ap (λ b. if b then Some (digits_value 10 (decimal n)) else None) (decimal_length n small) ∙ ap (λ v. Some v) (digits_value-decimal own n fits)
+
+pub plain_back : (n : ℕ) → n < 10 ^ 19 → plain_number (decimal n) ≡ Some n
+plain_back n small =
+    let fits : n < 2 ^ 64 = omega (arith, small) in
+    let value : digits_value 10 (decimal n) ≡ n = digits_value-decimal own n fits in
+    let same : bytes_eq (decimal n) (decimal (digits_value 10 (decimal n))) ≡ true =
+    (bytes_eq-Decides (decimal n) (decimal (digits_value 10 (decimal n)))).1 (sym (ap decimal value)) in
+    ap (λ b. if b then Some (digits_value 10 (decimal n)) else None) (and_from _ _ (decimal_length n small) same) ∙ ap (λ v. Some v) value
+
+-- ---- ETags
+
+tag_visible : (b : ℕ) → is_tag_byte b ≡ true → is_visible b ≡ true
+tag_visible b tag = grind (arith, nat_tests)
+
+pub tag_trimmed : (etag : List ℕ) → is_tag etag ≡ true → is_trimmed_value etag ≡ true
+tag_trimmed etag fine =
+    trimmed etag (All-weaker (λ b. is_tag_byte b ≡ true) (λ b. is_visible b ≡ true) tag_visible etag (AllPass-from_list_all is_tag_byte etag fine))
+
+no_quote : (b : ℕ) → is_tag_byte b ≡ true → (b == 34) ≡ false
+no_quote b tag = grind (arith, nat_tests)
+
+not_quoted : (etag : List ℕ) → is_tag etag ≡ true → is_quoted etag ≡ false
+not_quoted [] fine = refl
+not_quoted (b ∷ bs) fine =
+    let first : (b == 34) ≡ false = no_quote b (and_parts (is_tag_byte b) _ fine).0 in
+    ap (λ v. nat_le 2 (length (b ∷ bs)) && (v && (slice_index (b ∷ bs) (length (b ∷ bs) - 1) == 34))) first ∙ and_no (nat_le 2 (length (b ∷ bs)))
+  where
+    and_no : (t : Bool) → (t && false) ≡ false
+    and_no true = refl
+    and_no false = refl
+
+pub tag_back : (etag : List ℕ) → is_tag etag ≡ true → tag_in etag ≡ Some etag
+tag_back etag fine =
+    ap (λ b. tag_only (if b then slice_range etag 1 (length etag - 1) else etag)) (not_quoted etag fine)
+    ∙ ap (λ b. if b then Some etag else None) fine
+
+-- ---- the row of an ETag
+
+stored_headers : (etag : List ℕ) → is_tag etag ≡ true → are_headers (length_field 0 ∷ etag_field etag ∷ []) ≡ true
+unfolding are_headers is_token_byte
+stored_headers etag fine =
+    ap (λ v. are_headers ((codes "Content-Length", v) ∷ etag_field etag ∷ [])) zero_text ∙ ap (λ b. b && true) (tag_trimmed etag fine)
+
+stored_size : (etag : List ℕ) → expected false 201 (map lowered (length_field 0 ∷ etag_field etag ∷ [])) ≡ Some 0
+stored_size etag = ap (λ v. expected false 201 (map lowered ((codes "Content-Length", v) ∷ etag_field etag ∷ []))) zero_text
+
+stored_spells : (container name content_type : List ℕ) (meta : List (List ℕ)) (body etag : List ℕ) → is_tag etag ≡ true
+    → length (head_text (stored_by etag)) ≤ 65536
+    → SpellsAnswer (PutObject container name content_type meta body) (Stored etag) (sent_text (stored_by etag))
+stored_spells container name content_type meta body etag fine short =
+    written_spells (PutObject container name content_type meta body) (Stored etag) (stored_by etag) refl (stored_headers etag fine) short (stored_size etag)
+    (ap (option_map (λ v. Stored v)) (tag_back etag fine))
+
+-- a reply that has a spelling is written within the limit
+pub limit_of : (s : Sent) (P : List ℕ → Type 0) → is_some (within_limit s) ≡ true → (length (head_text s) ≤ 65536 → P (sent_text s)) → P (text_by (within_limit s))
+limit_of s P some given = by_limit (nat_le (length (head_text s)) 65536) refl some
+  where
+    by_limit : (b : Bool) → nat_le (length (head_text s)) 65536 ≡ b → is_some (if b then Some s else None) ≡ true → P (text_by (if b then Some s else None))
+    by_limit true short some = given (leb-true (length (head_text s)) 65536 short)
+    by_limit false long some = absurd (false≢true some)
+
+pub stored_reads_back : (container name content_type : List ℕ) (meta : List (List ℕ)) (body etag : List ℕ) → is_some (stored_sent etag) ≡ true
+    → SpellsAnswer (PutObject container name content_type meta body) (Stored etag) (text_by (stored_sent etag))
+stored_reads_back container name content_type meta body etag some = by_tag (is_tag etag) refl some
+  where
+    call : SwiftRequest
+    call = PutObject container name content_type meta body
+
+    by_tag : (b : Bool) → is_tag etag ≡ b → is_some (if b then within_limit (stored_by etag) else None) ≡ true
+        → SpellsAnswer call (Stored etag) (text_by (if b then within_limit (stored_by etag) else None))
+    by_tag true fine some =
+        limit_of (stored_by etag) (SpellsAnswer call (Stored etag)) some (stored_spells container name content_type meta body etag fine)
+    by_tag false other some = absurd (false≢true some)

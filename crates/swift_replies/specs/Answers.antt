@@ -1,0 +1,233 @@
+-- Which bytes spell which answer to a call. Source: Object Storage API v1; the statuses of the table are this profile.
+use Rattle.std.specs.Prelude.{
+  ◌≡◌,
+  ⊤,
+  ℕ,
+  Bool,
+  true,
+  false,
+  ◌&&◌,
+  ◌==◌,
+  nat_lt,
+  if◌then◌else◌,
+  ◌+◌,
+  ◌-◌,
+  min,
+  List,
+  [],
+  ◌∷◌,
+  length,
+  drop,
+  codes,
+  Option,
+  Some,
+  None,
+  option_map,
+  option_and_then,
+  Result,
+  Ok,
+  Err,
+}
+use Rattle.gate_base.specs.declared.page.Pair.{Pair}
+use Rattle.httparse.specs.Grammar.{ResponseHead, status_code}
+use Rattle.serde_json.specs.Data.{Data, Items, no_items, item}
+use Rattle.serde_json.specs.Find.{as_array}
+use Rattle.slo_manifest.specs.Entry.{text_at, number_at}
+use Rattle.slo_manifest.specs.Manifest.{json_of}
+use Rattle.swift_calls.specs.declared.heads.StoredHead.{StoredHead}
+use Rattle.swift_calls.specs.declared.heads.NameItem.{NameItem}
+use Rattle.swift_calls.specs.declared.calls.SwiftRequest.{SwiftRequest}
+use Rattle.swift_calls.specs.declared.calls.SwiftRequest.TheVariants.{
+  ListContainers,
+  HeadContainer,
+  PutContainer,
+  PostContainer,
+  DeleteContainer,
+  ListNames,
+  PutObject,
+  HeadObject,
+  GetObject,
+  DeleteObject,
+}
+use Rattle.swift_calls.specs.declared.calls.SwiftReply.{SwiftReply}
+use Rattle.swift_calls.specs.declared.calls.SwiftReply.TheVariants.{
+  Made,
+  There,
+  Gone,
+  Stored,
+  NotFound,
+  NotEmpty,
+  Unsatisfiable,
+  Containers,
+  Readers,
+  Names,
+  Head,
+  Bytes,
+}
+use Rattle.http_answers.specs.Framing.{IsAnswer, headers_in}
+use Rattle.swift_replies.specs.Fields.{readers_in, created_in, etag_in, whole_size_in, head_in}
+use Rattle.http_answers.specs.Fields.{size_in}
+use Rattle.swift_replies.specs.declared.fault.WireFault.{WireFault}
+use Rattle.swift_replies.specs.declared.fault.WireFault.TheVariants.{NotACall, NotAnAnswer, Memory}
+
+-- what an answer says: its status, its headers by names in lower case, its body
+pub record Said : Type 0 where
+  pub status : ℕ
+  pub headers : List Pair
+  pub body : List ℕ
+
+-- ---- lists in JSON; further fields of an entry count for nothing
+
+abbrev pub both : {A B C : Type 0} → (A → B → C) → Option A → Option B → Option C
+both f None b = None
+both f (Some a) None = None
+both f (Some a) (Some b) = Some (f a b)
+
+-- what f reads of each item, where it reads something of each
+unfoldable pub each : {A : Type 0} → (Data → Option A) → Items → Option (List A)
+each f no_items = Some []
+each f (item entry rest) = both (λ first others. first ∷ others) (f entry) (each f rest)
+
+-- the entries of a text, where it is a list
+abbrev pub items_in : List ℕ → Option Items
+items_in body = option_and_then as_array (json_of body)
+
+-- an entry of a listing of containers
+abbrev pub container_name : Data → Option (List ℕ)
+container_name entry = text_at (codes "name") entry
+
+abbrev pub item_from : Option (List ℕ) → Option (List ℕ) → Option ℕ → Option (List ℕ) → Option NameItem
+item_from None hash size content_type = None
+item_from (Some name) None size content_type = None
+item_from (Some name) (Some hash) None content_type = None
+item_from (Some name) (Some hash) (Some size) None = None
+item_from (Some name) (Some hash) (Some size) (Some content_type) =
+    Some (record { name = name; hash = hash; size = size; content_type = content_type })
+
+-- an entry of a listing of objects
+abbrev pub name_item : Data → Option NameItem
+name_item entry =
+    item_from (text_at (codes "name") entry) (text_at (codes "hash") entry) (number_at (codes "bytes") entry) (text_at (codes "content_type") entry)
+
+abbrev pub container_names : List ℕ → Option (List (List ℕ))
+container_names body = option_and_then (each container_name) (items_in body)
+
+abbrev pub name_items : List ℕ → Option (List NameItem)
+name_items body = option_and_then (each name_item) (items_in body)
+
+-- ---- the reply of each status
+
+abbrev pub missing : ℕ → Option SwiftReply
+missing status = if status == 404 then Some NotFound else None
+
+abbrev pub gone : ℕ → Option SwiftReply
+gone status = if status == 204 then Some Gone else missing status
+
+abbrev pub put_reply : ℕ → Option SwiftReply
+put_reply status = if status == 201 then Some Made else (if status == 202 then Some There else None)
+
+abbrev pub delete_reply : ℕ → Option SwiftReply
+delete_reply status = if status == 409 then Some NotEmpty else gone status
+
+abbrev pub containers_reply : ℕ → List ℕ → Option SwiftReply
+containers_reply status body =
+    if status == 200 then option_map (λ names. Containers names) (container_names body) else (if status == 204 then Some (Containers []) else None)
+
+abbrev pub names_reply : ℕ → List ℕ → Option SwiftReply
+names_reply status body =
+    if status == 200 then option_map (λ items. Names items) (name_items body) else (if status == 204 then Some (Names []) else missing status)
+
+abbrev pub readers_reply : List Pair → Option SwiftReply
+readers_reply headers = both (λ readers created. Readers readers created) (readers_in headers) (created_in headers)
+
+abbrev pub head_container_reply : ℕ → List Pair → Option SwiftReply
+head_container_reply status headers = if status == 204 then readers_reply headers else missing status
+
+abbrev pub stored_reply : List Pair → Option SwiftReply
+stored_reply headers = option_map (λ etag. Stored etag) (etag_in headers)
+
+abbrev pub put_object_reply : ℕ → List Pair → Option SwiftReply
+put_object_reply status headers = if status == 201 then stored_reply headers else missing status
+
+abbrev pub head_reply : List Pair → Option SwiftReply
+head_reply headers = option_map (λ head. Head head) (head_in (size_in headers) headers)
+
+abbrev pub head_object_reply : ℕ → List Pair → Option SwiftReply
+head_object_reply status headers = if status == 200 then head_reply headers else missing status
+
+-- so many bytes are those of the range of an object of this size
+abbrev pub is_part : Option (ℕ × ℕ) → ℕ → ℕ → Bool
+is_part None size count = count == size
+is_part (Some range) size count = nat_lt range.0 size && count == min (range.1 + 1) size - range.0
+
+abbrev pub bytes_from : Option (ℕ × ℕ) → Option StoredHead → List ℕ → Option SwiftReply
+bytes_from range None body = None
+bytes_from range (Some head) body = if is_part range head.size (length body) then Some (Bytes head body) else None
+
+-- 206, which only a range is answered with
+abbrev pub part_reply : Option (ℕ × ℕ) → List Pair → List ℕ → Option SwiftReply
+part_reply None headers body = None
+part_reply (Some range) headers body = bytes_from (Some range) (head_in (whole_size_in headers) headers) body
+
+-- 416, which only a range is answered with
+abbrev pub beyond : Option (ℕ × ℕ) → Option SwiftReply
+beyond None = None
+beyond (Some range) = Some Unsatisfiable
+
+abbrev pub bytes_reply : Option (ℕ × ℕ) → ℕ → List Pair → List ℕ → Option SwiftReply
+bytes_reply range status headers body =
+    if status == 200 then bytes_from range (head_in (size_in headers) headers) body
+    else (if status == 206 then part_reply range headers body else (if status == 416 then beyond range else missing status))
+
+-- the reply that an answer gives to a call, if it gives one
+abbrev pub reply_of : SwiftRequest → Said → Option SwiftReply
+reply_of (ListContainers marker limit) s = containers_reply s.status s.body
+reply_of (HeadContainer container) s = head_container_reply s.status s.headers
+reply_of (PutContainer container readers created) s = put_reply s.status
+reply_of (PostContainer container readers) s = gone s.status
+reply_of (DeleteContainer container) s = delete_reply s.status
+reply_of (ListNames container prefix marker limit) s = names_reply s.status s.body
+reply_of (PutObject container name content_type meta body) s = put_object_reply s.status s.headers
+reply_of (HeadObject container name) s = head_object_reply s.status s.headers
+reply_of (GetObject container name range) s = bytes_reply range s.status s.headers s.body
+reply_of (DeleteObject container name) s = gone s.status
+
+-- ---- spellings
+
+-- the calls that are sent with HEAD, so that their answers have no body (RFC 9110, section 9.3.2)
+abbrev pub asks_head : SwiftRequest → Bool
+asks_head (ListContainers marker limit) = false
+asks_head (HeadContainer container) = true
+asks_head (PutContainer container readers created) = false
+asks_head (PostContainer container readers) = false
+asks_head (DeleteContainer container) = false
+asks_head (ListNames container prefix marker limit) = false
+asks_head (PutObject container name content_type meta body) = false
+asks_head (HeadObject container name) = true
+asks_head (GetObject container name range) = false
+asks_head (DeleteObject container name) = false
+
+-- the body, where the bytes are a head of this length and exactly the body that has to follow
+abbrev pub body_by : List ℕ → ℕ → Option ℕ → Option (List ℕ)
+body_by bytes len None = None
+body_by bytes len (Some size) = if length (drop len bytes) == size then Some (drop len bytes) else None
+
+-- what an answer of a head and a body says
+abbrev pub said : ResponseHead → List ℕ → Said
+said h body = record { status = status_code h; headers = headers_in h; body = body }
+
+-- the bytes are one whole answer, which gives this reply to the call
+abbrev pub SpellsAnswer : SwiftRequest → SwiftReply → List ℕ → Type 0
+SpellsAnswer call reply bytes =
+    (h : ResponseHead) × (n m : ℕ) × IsAnswer (asks_head call) bytes h n m × (reply_of call (said h (drop n bytes)) ≡ Some reply)
+
+-- the bytes give no reply to the call
+abbrev pub SpellsNone : SwiftRequest → List ℕ → Type 0
+SpellsNone call bytes = (reply : SwiftReply) → ¬ (SpellsAnswer call reply bytes)
+
+-- what is read of an answer to a call: the reply that its bytes spell, or that they spell none
+abbrev pub ReadsAnswer : SwiftRequest → List ℕ → Result SwiftReply WireFault → Type 0
+ReadsAnswer call bytes (Ok reply) = SpellsAnswer call reply bytes
+ReadsAnswer call bytes (Err NotAnAnswer) = SpellsNone call bytes
+ReadsAnswer call bytes (Err NotACall) = ⊥
+ReadsAnswer call bytes (Err Memory) = ⊤

@@ -1,0 +1,4 @@
+pub mod AnswerLaws
+pub mod AnswerText
+pub mod Answers
+pub mod Fields

@@ -1,0 +1,330 @@
+//! Answers as they are read.
+ghost use Rattle.std.specs.Prelude.{◌≡◌, ◌≤◌, ◌-◌, ◌+◌, min, drop, length, option_map, IfOk, Some};
+ghost use Rattle.http_answers.specs.Head.{Shows};
+ghost use Rattle.http_answers.specs.declared.head.Front.TheVariants.{Whole};
+ghost use Rattle.swift_replies.specs.Answers.{ReadsAnswer, asks_head, body_by, reply_of, missing, gone, put_reply, delete_reply, containers_reply, names_reply, head_container_reply, readers_reply, put_object_reply, stored_reply, head_object_reply, head_reply, is_part, bytes_from, part_reply, beyond, bytes_reply};
+
+use crate::WireFault;
+use crate::fields::created_in;
+use crate::lists::{container_names, name_items};
+use crate::objects::head_in;
+use crate::values::{etag_in, readers_in, whole_size_in};
+use gate_base::{Bytes, List, Memory, Pair};
+use http_answers::{Front, Head, expected, find_head, size_in};
+use std::alloc::Global;
+use swift_calls::{StoredHead, SwiftReply, SwiftRequest};
+
+/// The reply that the bytes of one whole answer spell to a call (Object Storage API v1). Further headers, and further
+/// fields of JSON, count for nothing. `NotAnAnswer` exactly where they spell none; a body is copied once.
+#[tactic(auto, using(crate::proofs::AnswerLemmas::none_open, crate::proofs::AnswerLemmas::none_dead))]
+pub fn read_answer(
+    alloc: Global,
+    call: &SwiftRequest,
+    bytes: &[u8],
+) -> Result<SwiftReply, WireFault>
+    ensures { ReadsAnswer call.now bytes.now result }
+{
+    match find_head(alloc, bytes)? {
+        Front::Whole(found) => read_found(alloc, call, bytes, &found),
+        Front::More => Err(WireFault::NotAnAnswer),
+        Front::Dead => Err(WireFault::NotAnAnswer),
+    }
+}
+
+/// The same where the head was found.
+#[tactic(auto, using(crate::proofs::AnswerLemmas::reads_reply, crate::proofs::AnswerLemmas::reads_none, crate::proofs::AnswerLemmas::reads_no_body))]
+fn read_found(
+    alloc: Global,
+    call: &SwiftRequest,
+    bytes: &[u8],
+    found: &Head,
+) -> Result<SwiftReply, WireFault>
+    requires { Shows bytes.now (Whole found.now) }
+    ensures { ReadsAnswer call.now bytes.now result }
+{
+    let headers = found.headers.as_slice();
+    let size = expected(asks_head(call), found.status, headers);
+    let Some(body) = body_by(bytes, found.len, size) else {
+        return Err(WireFault::NotAnAnswer);
+    };
+    match reply_of(alloc, call, found.status, headers, body)? {
+        Some(reply) => Ok(reply),
+        None => Err(WireFault::NotAnAnswer),
+    }
+}
+
+/// The body, where the bytes are a head of this length and exactly the body that has to follow.
+fn body_by(bytes: &[u8], len: usize, size: Option<u64>) -> Option<&[u8]>
+    requires { len ≤ length bytes.now }
+    ensures { option_map (λ body. body.now) result ≡ body_by bytes.now len size }
+{
+    let body = &bytes[len..];
+    if body.len() as u64 == size? {
+        Some(body)
+    } else {
+        None
+    }
+}
+
+/// Whether the call is sent with HEAD.
+pub(crate) fn asks_head(call: &SwiftRequest) -> bool
+    ensures { result ≡ asks_head call.now }
+{
+    match call {
+        SwiftRequest::HeadContainer { .. } | SwiftRequest::HeadObject { .. } => true,
+        _ => false,
+    }
+}
+
+/// The reply that an answer gives to a call, if it gives one.
+fn reply_of(
+    alloc: Global,
+    call: &SwiftRequest,
+    status: u16,
+    headers: &[Pair],
+    body: &[u8],
+) -> Result<Option<SwiftReply>, Memory>
+    ensures { IfOk result (λ reply. reply ≡ reply_of call.now (record { status = status; headers = headers.now; body = body.now })) }
+{
+    match call {
+        SwiftRequest::ListContainers { .. } => containers_reply(alloc, status, body),
+        SwiftRequest::HeadContainer { .. } => Ok(head_container_reply(status, headers)),
+        SwiftRequest::PutContainer { .. } => Ok(put_reply(status)),
+        SwiftRequest::PostContainer { .. } => Ok(gone(status)),
+        SwiftRequest::DeleteContainer { .. } => Ok(delete_reply(status)),
+        SwiftRequest::ListNames { .. } => names_reply(alloc, status, body),
+        SwiftRequest::PutObject { .. } => put_object_reply(alloc, status, headers),
+        SwiftRequest::HeadObject { .. } => head_object_reply(alloc, status, headers),
+        SwiftRequest::GetObject { range, .. } => bytes_reply(alloc, *range, status, headers, body),
+        SwiftRequest::DeleteObject { .. } => Ok(gone(status)),
+    }
+}
+
+fn missing(status: u16) -> Option<SwiftReply>
+    ensures { result ≡ missing status }
+{
+    if status == 404 {
+        Some(SwiftReply::NotFound)
+    } else {
+        None
+    }
+}
+
+fn gone(status: u16) -> Option<SwiftReply>
+    ensures { result ≡ gone status }
+{
+    if status == 204 {
+        Some(SwiftReply::Gone)
+    } else {
+        missing(status)
+    }
+}
+
+fn put_reply(status: u16) -> Option<SwiftReply>
+    ensures { result ≡ put_reply status }
+{
+    if status == 201 {
+        return Some(SwiftReply::Made);
+    }
+    if status == 202 {
+        Some(SwiftReply::There)
+    } else {
+        None
+    }
+}
+
+fn delete_reply(status: u16) -> Option<SwiftReply>
+    ensures { result ≡ delete_reply status }
+{
+    if status == 409 {
+        Some(SwiftReply::NotEmpty)
+    } else {
+        gone(status)
+    }
+}
+
+fn containers_reply(alloc: Global, status: u16, body: &[u8]) -> Result<Option<SwiftReply>, Memory>
+    ensures { IfOk result (λ reply. reply ≡ containers_reply status body.now) }
+{
+    if status == 200 {
+        return match container_names(alloc, body)? {
+            Some(names) => Ok(Some(SwiftReply::Containers(names))),
+            None => Ok(None),
+        };
+    }
+    if status == 204 {
+        Ok(Some(SwiftReply::Containers(List::new(alloc))))
+    } else {
+        Ok(None)
+    }
+}
+
+fn names_reply(alloc: Global, status: u16, body: &[u8]) -> Result<Option<SwiftReply>, Memory>
+    ensures { IfOk result (λ reply. reply ≡ names_reply status body.now) }
+{
+    if status == 200 {
+        return match name_items(alloc, body)? {
+            Some(items) => Ok(Some(SwiftReply::Names(items))),
+            None => Ok(None),
+        };
+    }
+    if status == 204 {
+        Ok(Some(SwiftReply::Names(List::new(alloc))))
+    } else {
+        Ok(missing(status))
+    }
+}
+
+fn head_container_reply(status: u16, headers: &[Pair]) -> Option<SwiftReply>
+    ensures { result ≡ head_container_reply status headers.now }
+{
+    if status == 204 {
+        readers_reply(headers)
+    } else {
+        missing(status)
+    }
+}
+
+fn readers_reply(headers: &[Pair]) -> Option<SwiftReply>
+    ensures { result ≡ readers_reply headers.now }
+{
+    let readers = readers_in(headers)?;
+    let created = created_in(headers)?;
+    Some(SwiftReply::Readers { readers, created })
+}
+
+fn put_object_reply(
+    alloc: Global,
+    status: u16,
+    headers: &[Pair],
+) -> Result<Option<SwiftReply>, Memory>
+    ensures { IfOk result (λ reply. reply ≡ put_object_reply status headers.now) }
+{
+    if status == 201 {
+        stored_reply(alloc, headers)
+    } else {
+        Ok(missing(status))
+    }
+}
+
+fn stored_reply(alloc: Global, headers: &[Pair]) -> Result<Option<SwiftReply>, Memory>
+    ensures { IfOk result (λ reply. reply ≡ stored_reply headers.now) }
+{
+    match etag_in(headers) {
+        Some(etag) => Ok(Some(SwiftReply::Stored {
+            etag: Bytes::from_slice(alloc, etag)?,
+        })),
+        None => Ok(None),
+    }
+}
+
+fn head_object_reply(
+    alloc: Global,
+    status: u16,
+    headers: &[Pair],
+) -> Result<Option<SwiftReply>, Memory>
+    ensures { IfOk result (λ reply. reply ≡ head_object_reply status headers.now) }
+{
+    if status == 200 {
+        head_reply(alloc, headers)
+    } else {
+        Ok(missing(status))
+    }
+}
+
+fn head_reply(alloc: Global, headers: &[Pair]) -> Result<Option<SwiftReply>, Memory>
+    ensures { IfOk result (λ reply. reply ≡ head_reply headers.now) }
+{
+    match head_in(alloc, size_in(headers), headers)? {
+        Some(head) => Ok(Some(SwiftReply::Head(head))),
+        None => Ok(None),
+    }
+}
+
+fn bytes_reply(
+    alloc: Global,
+    range: Option<(u64, u64)>,
+    status: u16,
+    headers: &[Pair],
+    body: &[u8],
+) -> Result<Option<SwiftReply>, Memory>
+    ensures { IfOk result (λ reply. reply ≡ bytes_reply range status headers.now body.now) }
+{
+    if status == 200 {
+        let head = head_in(alloc, size_in(headers), headers)?;
+        return bytes_from(alloc, range, head, body);
+    }
+    if status == 206 {
+        return part_reply(alloc, range, headers, body);
+    }
+    if status == 416 {
+        Ok(beyond(range))
+    } else {
+        Ok(missing(status))
+    }
+}
+
+fn part_reply(
+    alloc: Global,
+    range: Option<(u64, u64)>,
+    headers: &[Pair],
+    body: &[u8],
+) -> Result<Option<SwiftReply>, Memory>
+    ensures { IfOk result (λ reply. reply ≡ part_reply range headers.now body.now) }
+{
+    match range {
+        Some(range) => {
+            let head = head_in(alloc, whole_size_in(headers), headers)?;
+            bytes_from(alloc, Some(range), head, body)
+        }
+        None => Ok(None),
+    }
+}
+
+fn beyond(range: Option<(u64, u64)>) -> Option<SwiftReply>
+    ensures { result ≡ beyond range }
+{
+    match range {
+        Some(_) => Some(SwiftReply::Unsatisfiable),
+        None => None,
+    }
+}
+
+/// The bytes of an object, where they are as many as its size and the range say.
+fn bytes_from(
+    alloc: Global,
+    range: Option<(u64, u64)>,
+    head: Option<StoredHead>,
+    body: &[u8],
+) -> Result<Option<SwiftReply>, Memory>
+    ensures { IfOk result (λ reply. reply ≡ bytes_from range head body.now) }
+{
+    let Some(head) = head else {
+        return Ok(None);
+    };
+    if is_part(range, head.size, body.len()) {
+        let body = Bytes::from_slice(alloc, body)?;
+        Ok(Some(SwiftReply::Bytes { head, body }))
+    } else {
+        Ok(None)
+    }
+}
+
+/// Whether so many bytes are those of the range of an object of this size.
+pub(crate) fn is_part(range: Option<(u64, u64)>, size: u64, count: usize) -> bool
+    ensures { result ≡ is_part range size count }
+{
+    match range {
+        None => count as u64 == size,
+        Some((first, last)) => {
+            first < size && count as u64 == end_of(last, size).saturating_sub(first)
+        }
+    }
+}
+
+/// The end of a range in an object of this size.
+fn end_of(last: u64, size: u64) -> u64
+    ensures { result ≡ min (last + 1) size }
+{
+    if last < size { last + 1 } else { size }
+}

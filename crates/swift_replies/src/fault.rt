@@ -1,0 +1,47 @@
+ghost use Rattle.std.specs.Prelude.{◌≡◌};
+
+use gate_base::{Copying, Memory};
+use std::alloc::AllocError;
+
+/// Why a message or an answer isn't read.
+#[derive(Clone, Copy, Debug, PartialEq, Eq)]
+pub enum WireFault {
+    /// The message is no call of Object Storage API v1 at the place.
+    NotACall,
+
+    /// The bytes are no answer to the call.
+    NotAnAnswer,
+
+    /// Memory ran out.
+    Memory,
+}
+
+impl Copying for WireFault {
+    fn copy(&self) -> Result<WireFault, Memory>
+        ensures { result ≡ Ok self.now }
+    {
+        Ok(*self)
+    }
+}
+
+impl From<Memory> for WireFault {
+    ghost use Rattle.std.specs.Prelude.{◌≡◌};
+    ghost use Rattle.swift_replies.specs.declared.fault.WireFault.TheVariants.{Memory as memory_ran_out};
+
+    ghost from_gives = { λ _ fault. fault ≡ memory_ran_out };
+
+    fn from(_: Memory) -> WireFault {
+        WireFault::Memory
+    }
+}
+
+impl From<AllocError> for WireFault {
+    ghost use Rattle.std.specs.Prelude.{◌≡◌};
+    ghost use Rattle.swift_replies.specs.declared.fault.WireFault.TheVariants.{Memory as memory_ran_out};
+
+    ghost from_gives = { λ _ fault. fault ≡ memory_ran_out };
+
+    fn from(_: AllocError) -> WireFault {
+        WireFault::Memory
+    }
+}

@@ -1,0 +1,19 @@
+//! How replies of Object Storage API v1 are written in answers of HTTP/1.1, and how they are read.
+#![tactic(auto)]
+
+mod answer_laws;
+mod answers;
+mod fault;
+mod fields;
+mod header_text;
+mod list_text;
+mod lists;
+mod objects;
+mod values;
+mod written;
+
+pub use answer_laws::{law_one_answer, law_one_reply, law_reads_back};
+pub use answers::read_answer;
+pub use fault::WireFault;
+pub use fields::{created_in, meta_in, readers_by};
+pub use written::{refusal, write_answer};

@@ -1,0 +1,142 @@
+//! Listings in JSON, as they are written.
+ghost use Rattle.std.specs.Prelude.{◌≡◌, ◌&&◌, ◌^◌, nat_lt, map, IfOk, true, Option, Some, None, if◌then◌else◌};
+ghost use Rattle.std.specs.List.{list_all};
+ghost use Rattle.std.specs.Str.{is_utf8};
+ghost use Rattle.serde_json.specs.View.{view};
+ghost use Rattle.swift_replies.specs.AnswerText.{list_text, container_value, item_by, item_value, is_item};
+
+use gate_base::{Bytes, Memory};
+use serde_json::{Value, json};
+use std::alloc::{AllocError, Global};
+use std::str;
+use swift_calls::NameItem;
+
+/// The text of a listing of containers; none where a name isn't UTF-8.
+pub(crate) fn containers_text(alloc: Global, names: &[Bytes]) -> Result<Option<Bytes>, Memory>
+    ensures { IfOk result (λ text. text ≡ (if list_all is_utf8 names.now then Some (list_text (map container_value names.now)) else None)) }
+{
+    if are_utf8(names) {
+        Ok(Some(names_text(alloc, names)?))
+    } else {
+        Ok(None)
+    }
+}
+
+/// The text of a listing of objects; none where one of their texts isn't UTF-8.
+pub(crate) fn items_text(alloc: Global, items: &[NameItem]) -> Result<Option<Bytes>, Memory>
+    ensures { IfOk result (λ text. text ≡ (if list_all is_item items.now then Some (list_text (map item_value items.now)) else None)) }
+{
+    if are_items(items) {
+        Ok(Some(objects_text(alloc, items)?))
+    } else {
+        Ok(None)
+    }
+}
+
+fn are_utf8(names: &[Bytes]) -> bool
+    ensures { result ≡ list_all is_utf8 names.now }
+{
+    names.iter().all(|name| is_utf8(name.as_slice()))
+}
+
+fn are_items(items: &[NameItem]) -> bool
+    ensures { result ≡ list_all is_item items.now }
+{
+    items.iter().all(|item| is_item(item))
+}
+
+fn is_item(item: &NameItem) -> bool
+    ensures { result ≡ is_item item.now }
+{
+    is_utf8(item.name.as_slice())
+        && (is_utf8(item.hash.as_slice())
+            && (is_utf8(item.content_type.as_slice()) && is_whole(item.size)))
+}
+
+/// Whether a size is read as a whole number, which each `u64` is.
+fn is_whole(size: u64) -> bool
+    ensures { result ≡ nat_lt size (2 ^ 64) }
+{
+    true
+}
+
+#[tactic(auto, using(crate::proofs::ListTextLemmas::is_utf8_where, crate::proofs::ListTextLemmas::is_utf8_unless))]
+fn is_utf8(bytes: &[u8]) -> bool
+    ensures { result ≡ is_utf8 bytes.now }
+{
+    match str::from_utf8(bytes) {
+        Ok(_) => true,
+        Err(_) => false,
+    }
+}
+
+/// Bytes that are UTF-8, as text.
+#[tactic(auto, using(crate::proofs::ListTextLemmas::utf8_after_all))]
+fn text_of(bytes: &[u8]) -> &str
+    requires { is_utf8 bytes.now ≡ true }
+    ensures { result.now ≡ bytes.now }
+{
+    match str::from_utf8(bytes) {
+        Ok(text) => text,
+        Err(_) => unreachable!(),
+    }
+}
+
+#[tactic(auto, using(crate::proofs::ListTextLemmas::passes, crate::proofs::ListTextLemmas::map_more))]
+fn names_text(alloc: Global, names: &[Bytes]) -> Result<Bytes, Memory>
+    requires { list_all is_utf8 names.now ≡ true }
+    ensures { IfOk result (λ text. text ≡ list_text (map container_value names.now)) }
+{
+    let mut entries = Vec::new(alloc);
+    for name in names {
+        entries.push(container_value(alloc, text_of(name.as_slice()))?)?;
+    }
+    Ok(Bytes::from_vec(Value::Array(entries).to_vec(alloc)?))
+}
+
+#[tactic(auto, using(crate::proofs::ListTextLemmas::passes, crate::proofs::ListTextLemmas::map_more))]
+fn objects_text(alloc: Global, items: &[NameItem]) -> Result<Bytes, Memory>
+    requires { list_all is_item items.now ≡ true }
+    ensures { IfOk result (λ text. text ≡ list_text (map item_value items.now)) }
+{
+    let mut entries = Vec::new(alloc);
+    for item in items {
+        entries.push(item_of(alloc, item)?)?;
+    }
+    Ok(Bytes::from_vec(Value::Array(entries).to_vec(alloc)?))
+}
+
+fn container_value(alloc: Global, name: &str) -> Result<Value, AllocError>
+    ensures { IfOk result (λ value. view value ≡ container_value name.now) }
+{
+    json!(in alloc; {"bytes": 0u64, "count": 0u64, "name": name})
+}
+
+#[tactic(auto, using(crate::proofs::ListTextLemmas::name_is_utf8, crate::proofs::ListTextLemmas::hash_is_utf8, crate::proofs::ListTextLemmas::type_is_utf8))]
+fn item_of(alloc: Global, item: &NameItem) -> Result<Value, AllocError>
+    requires { is_item item.now ≡ true }
+    ensures { IfOk result (λ value. view value ≡ item_value item.now) }
+{
+    let name = text_of(item.name.as_slice());
+    let hash = text_of(item.hash.as_slice());
+    let content_type = text_of(item.content_type.as_slice());
+    item_value(alloc, name, hash, item.size, content_type)
+}
+
+fn item_value(
+    alloc: Global,
+    name: &str,
+    hash: &str,
+    size: u64,
+    content_type: &str,
+) -> Result<Value, AllocError>
+    ensures { IfOk result (λ value. view value ≡ item_by name.now hash.now size content_type.now) }
+{
+    json!(in alloc; {
+        "bytes": size,
+        "content_type": content_type,
+        "hash": hash,
+        "last_modified": "1970-01-01T00:00:00.000000",
+        "name": name
+    })
+}

@@ -1,0 +1,9 @@
+pub mod AcceptLemmas
+pub mod CallLemmas
+pub mod HeaderLemmas
+pub mod PathLemmas
+pub mod PlaceLemmas
+pub mod QueryLemmas
+pub mod SizeLemmas
+pub mod SpellLemmas
+pub mod TextLemmas

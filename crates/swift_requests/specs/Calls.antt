@@ -1,0 +1,195 @@
+-- Which message spells which call of an account. Source: Object Storage API v1, the call of each path by its method.
+-- Further headers are ignored, and neither `Host` nor the version is looked at.
+use Rattle.std.specs.Prelude.{◌≡◌, ⊤, ℕ, Bool, ◌==◌, nat_eq, nat_le, List, [], ◌∷◌, drop, codes, bytes_eq, if◌then◌else◌, Result, Ok, Err}
+use Rattle.std.specs.List.{starts_with, before_first, after_first}
+use Rattle.std.specs.Prelude.{Option, None, Some, option_map, option_and_then}
+use Rattle.gate_base.specs.declared.page.Pair.{Pair}
+use Rattle.http_wire.specs.declared.message.Message.{Message}
+use Rattle.http_wire.specs.FirstMessage.{Spells}
+use Rattle.s3_names.specs.Target.{query_text}
+use Rattle.swift_calls.specs.Step.{Fit}
+use Rattle.swift_calls.specs.declared.account.ReadList.{ReadList}
+use Rattle.swift_calls.specs.declared.calls.SwiftRequest.{SwiftRequest}
+use Rattle.swift_calls.specs.declared.calls.SwiftRequest.TheVariants.{
+  ListContainers,
+  HeadContainer,
+  PutContainer,
+  PostContainer,
+  DeleteContainer,
+  ListNames,
+  PutObject,
+  HeadObject,
+  GetObject,
+  DeleteObject,
+}
+use Rattle.swift_replies.specs.Answers.{both}
+use Rattle.http_answers.specs.Fields.{field, only, plain_number}
+use Rattle.swift_replies.specs.Fields.{readers_by, created_in, meta_in}
+use Rattle.swift_requests.specs.Paths.{path_of, values_named}
+use Rattle.swift_requests.specs.Place.{HasToken}
+use Rattle.swift_replies.specs.declared.fault.WireFault.{WireFault}
+use Rattle.swift_replies.specs.declared.fault.WireFault.TheVariants.{NotACall, NotAnAnswer, Memory}
+use Rattle.swift_requests.specs.declared.paths.Path.{Path}
+use Rattle.swift_requests.specs.declared.paths.Path.TheVariants.{Account, Container, Object}
+use Rattle.swift_requests.specs.declared.place.Place.{Place}
+
+-- ---- listings
+
+-- the query of a listing of an account: `format=json&limit=N&marker=M`
+abbrev pub account_names : List (List ℕ)
+account_names = codes "format" ∷ codes "limit" ∷ codes "marker" ∷ []
+
+-- of a container: `format=json&limit=N&marker=M&prefix=P`
+abbrev pub container_names : List (List ℕ)
+container_names = codes "format" ∷ codes "limit" ∷ codes "marker" ∷ codes "prefix" ∷ []
+
+abbrev pub is_json : List ℕ → Bool
+is_json text = bytes_eq text (codes "json")
+
+abbrev pub up_to : ℕ → ℕ → Option ℕ
+up_to most number = if nat_le number most then Some number else None
+
+-- how many names are asked for: 1000 at most
+abbrev pub limit_of : List ℕ → Option ℕ
+limit_of text = option_and_then (up_to 1000) (plain_number text)
+
+abbrev pub containers_listing : List (List ℕ) → Option SwiftRequest
+containers_listing [] = None
+containers_listing (format ∷ []) = None
+containers_listing (format ∷ limit ∷ []) = None
+containers_listing (format ∷ limit ∷ marker ∷ []) = if is_json format then option_map (λ most. ListContainers marker most) (limit_of limit) else None
+containers_listing (format ∷ limit ∷ marker ∷ other ∷ values) = None
+
+abbrev pub names_listing : List ℕ → List (List ℕ) → Option SwiftRequest
+names_listing container [] = None
+names_listing container (format ∷ []) = None
+names_listing container (format ∷ limit ∷ []) = None
+names_listing container (format ∷ limit ∷ marker ∷ []) = None
+names_listing container (format ∷ limit ∷ marker ∷ prefix ∷ []) =
+    if is_json format then option_map (λ most. ListNames container prefix marker most) (limit_of limit) else None
+names_listing container (format ∷ limit ∷ marker ∷ prefix ∷ other ∷ values) = None
+
+-- ---- ranges
+
+abbrev pub is_dash : ℕ → Bool
+is_dash byte = byte == 45
+
+-- the place of a byte, below 2^63
+abbrev pub place_of : List ℕ → Option ℕ
+place_of text = option_and_then (up_to 9223372036854775807) (plain_number text)
+
+-- `FROM-TO`
+abbrev pub places_of : List ℕ → Option (ℕ × ℕ)
+places_of text = both (λ first last. (first, last)) (place_of (before_first is_dash text)) (place_of (after_first is_dash text))
+
+-- `bytes=FROM-TO`
+abbrev pub range_of : List ℕ → Option (ℕ × ℕ)
+range_of text = if starts_with nat_eq text (codes "bytes=") then places_of (drop 6 text) else None
+
+abbrev pub range_from : Option (Option (List ℕ)) → Option (Option (ℕ × ℕ))
+range_from None = None
+range_from (Some None) = Some None
+range_from (Some (Some value)) = option_map (λ range. Some range) (range_of value)
+
+-- the range where the header may be absent
+abbrev pub range_in : List Pair → Option (Option (ℕ × ℕ))
+range_in headers = range_from (field (codes "range") headers)
+
+-- ---- the calls of each kind of path, by the method
+
+abbrev pub has_method : List ℕ → Message → Bool
+has_method name message = bytes_eq message.method name
+
+-- a call that has no query
+abbrev pub unasked : Message → Option SwiftRequest → Option SwiftRequest
+unasked message call = if bytes_eq (query_text message.target) [] then call else None
+
+-- a call that has no body
+abbrev pub bodiless : Message → Option SwiftRequest → Option SwiftRequest
+bodiless message call = if bytes_eq message.body [] then call else None
+
+-- GET of an account
+abbrev pub account_call : Message → Option SwiftRequest
+account_call message =
+    if has_method (codes "GET") message then option_and_then containers_listing (values_named account_names (query_text message.target)) else None
+
+-- the read list, which PUT and POST of a container have to give
+abbrev pub readers_given : List Pair → Option ReadList
+readers_given headers = option_and_then readers_by (only (codes "x-container-read") headers)
+
+-- PUT of a container
+abbrev pub put_container : List ℕ → Message → Option SwiftRequest
+put_container container message = both (λ readers created. PutContainer container readers created) (readers_given message.headers) (created_in message.headers)
+
+-- POST of a container
+abbrev pub post_container : List ℕ → Message → Option SwiftRequest
+post_container container message = option_map (λ readers. PostContainer container readers) (readers_given message.headers)
+
+-- HEAD, PUT, POST and DELETE of a container
+abbrev pub changed_container : List ℕ → Message → Option SwiftRequest
+changed_container container message =
+    if has_method (codes "HEAD") message then Some (HeadContainer container)
+    else (if has_method (codes "PUT") message then put_container container message
+    else (if has_method (codes "POST") message then post_container container message
+    else (if has_method (codes "DELETE") message then Some (DeleteContainer container) else None)))
+
+-- those, and GET of a container
+abbrev pub container_call : List ℕ → Message → Option SwiftRequest
+container_call container message =
+    if has_method (codes "GET") message then option_and_then (names_listing container) (values_named container_names (query_text message.target))
+    else unasked message (changed_container container message)
+
+-- PUT of an object
+abbrev pub put_object : List ℕ → List ℕ → Message → Option SwiftRequest
+put_object container name message =
+    both (λ content_type meta. PutObject container name content_type meta message.body) (only (codes "content-type") message.headers)
+    (meta_in message.headers)
+
+-- HEAD, GET and DELETE of an object
+abbrev pub bare_object_call : List ℕ → List ℕ → Message → Option SwiftRequest
+bare_object_call container name message =
+    if has_method (codes "HEAD") message then Some (HeadObject container name)
+    else (if has_method (codes "GET") message then option_map (λ range. GetObject container name range) (range_in message.headers)
+    else (if has_method (codes "DELETE") message then Some (DeleteObject container name) else None))
+
+-- those, and PUT of an object, which alone may have a body
+abbrev pub object_call : List ℕ → List ℕ → Message → Option SwiftRequest
+object_call container name message =
+    if has_method (codes "PUT") message then unasked message (put_object container name message)
+    else bodiless message (unasked message (bare_object_call container name message))
+
+-- ---- the call of a message
+
+abbrev pub account_in : Path → List ℕ
+account_in (Account account) = account
+account_in (Container account container) = account
+account_in (Object account container name) = account
+
+-- by the kind of its path
+abbrev pub call_at : Path → Message → Option SwiftRequest
+call_at (Account account) message = bodiless message (account_call message)
+call_at (Container account container) message = bodiless message (container_call container message)
+call_at (Object account container name) message = object_call container name message
+
+abbrev pub call_within : Place → Message → Option Path → Option SwiftRequest
+call_within place message None = None
+call_within place message (Some path) = if bytes_eq (account_in path) place.account then call_at path message else None
+
+-- the call that a message makes of the place's account, within its limits or not
+abbrev pub call_of : Place → Message → Option SwiftRequest
+call_of place message = call_within place message (path_of message.target)
+
+-- the message spells the call, which is within its limits
+abbrev pub SpellsCall : Place → SwiftRequest → Message → Type 0
+SpellsCall place call message = (call_of place message ≡ Some call) × Fit call
+
+-- the bytes are one whole request that spells the call, and it has the place's token
+abbrev pub SpellsRequest : Place → SwiftRequest → List ℕ → Type 0
+SpellsRequest place call bytes = (message : Message) × Spells bytes message × HasToken place message × SpellsCall place call message
+
+-- what reading a message answers: the call that it spells, or that it spells none
+abbrev pub ReadsCall : Place → Message → Result SwiftRequest WireFault → Type 0
+ReadsCall place message (Ok call) = SpellsCall place call message
+ReadsCall place message (Err NotACall) = (call : SwiftRequest) → ¬ (SpellsCall place call message)
+ReadsCall place message (Err NotAnAnswer) = ⊥
+ReadsCall place message (Err Memory) = ⊤

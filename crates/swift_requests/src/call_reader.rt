@@ -1,0 +1,237 @@
+//! Calls read from messages.
+ghost use Rattle.std.specs.Prelude.{◌≡◌, [], not, IfOk, bytes_eq};
+ghost use Rattle.http_wire.specs.declared.message.Message.{Message};
+ghost use Rattle.s3_names.specs.Target.{query_text};
+ghost use Rattle.swift_requests.specs.Place.{IsPlace};
+ghost use Rattle.swift_requests.specs.Calls.{account_in, has_method, unasked, bodiless, account_call, put_container, post_container, changed_container, container_call, readers_given, put_object, bare_object_call, object_call, call_at, call_of, ReadsCall};
+
+use crate::Place;
+use crate::listings::{containers_listing, names_listing};
+use crate::paths::{Path, account_in, read_path};
+use crate::ranges::range_in;
+use gate_base::{Bytes, Memory, Pair, cut};
+use http_answers::only;
+use http_wire::Message;
+use std::alloc::Global;
+use swift_calls::{ReadList, SwiftRequest, is_fit};
+use swift_replies::{WireFault, created_in, meta_in, readers_by};
+
+/// The call that a message spells at the place. `NotACall` exactly where it spells none that is within the limits of a
+/// store; whether it has the place's token is for `has_token` to say. The message is taken, so that the body of a
+/// PUT becomes the call's without a copy.
+pub fn read_call(alloc: Global, place: &Place, message: Message) -> Result<SwiftRequest, WireFault>
+    requires { IsPlace place.now }
+    ensures { ReadsCall place.now message result }
+{
+    match call_of(alloc, place, message)? {
+        Some(call) => {
+            if is_fit(&call) {
+                Ok(call)
+            } else {
+                Err(WireFault::NotACall)
+            }
+        }
+        None => Err(WireFault::NotACall),
+    }
+}
+
+/// The call that a message makes of the place's account, within its limits or not.
+fn call_of(alloc: Global, place: &Place, message: Message) -> Result<Option<SwiftRequest>, Memory>
+    ensures { IfOk result (λ call. call ≡ call_of place.now message) }
+{
+    match read_path(alloc, message.target.as_slice())? {
+        Some(path) => {
+            if account_in(&path) == place.account.as_slice() {
+                call_at(alloc, path, message)
+            } else {
+                Ok(None)
+            }
+        }
+        None => Ok(None),
+    }
+}
+
+/// The call by the kind of its path.
+fn call_at(alloc: Global, path: Path, message: Message) -> Result<Option<SwiftRequest>, Memory>
+    ensures { IfOk result (λ call. call ≡ call_at path message) }
+{
+    match path {
+        Path::Account(_) => account_call(alloc, &message),
+        Path::Container(_, container) => container_call(alloc, container, &message),
+        Path::Object(_, container, name) => object_call(alloc, container, name, message),
+    }
+}
+
+/// GET of an account.
+fn account_call(alloc: Global, message: &Message) -> Result<Option<SwiftRequest>, Memory>
+    ensures { IfOk result (λ call. call ≡ bodiless message.now (account_call message.now)) }
+{
+    if has_body(message) || !has_method(message, b"GET") {
+        return Ok(None);
+    }
+    containers_listing(alloc, query_of(message))
+}
+
+/// The calls of a container.
+fn container_call(
+    alloc: Global,
+    container: Bytes,
+    message: &Message,
+) -> Result<Option<SwiftRequest>, Memory>
+    ensures { IfOk result (λ call. call ≡ bodiless message.now (container_call container message.now)) }
+{
+    if has_body(message) {
+        return Ok(None);
+    }
+    if has_method(message, b"GET") {
+        return names_listing(alloc, container, query_of(message));
+    }
+    if has_query(message) {
+        return Ok(None);
+    }
+    Ok(changed_container(container, message))
+}
+
+/// HEAD, PUT, POST and DELETE of a container.
+fn changed_container(container: Bytes, message: &Message) -> Option<SwiftRequest>
+    ensures { result ≡ changed_container container message.now }
+{
+    if has_method(message, b"HEAD") {
+        return Some(SwiftRequest::HeadContainer { container });
+    }
+    if has_method(message, b"PUT") {
+        return put_container(container, message);
+    }
+    if has_method(message, b"POST") {
+        return post_container(container, message);
+    }
+    if has_method(message, b"DELETE") {
+        Some(SwiftRequest::DeleteContainer { container })
+    } else {
+        None
+    }
+}
+
+fn put_container(container: Bytes, message: &Message) -> Option<SwiftRequest>
+    ensures { result ≡ put_container container message.now }
+{
+    let readers = readers_given(message.headers.as_slice())?;
+    let created = created_in(message.headers.as_slice())?;
+    Some(SwiftRequest::PutContainer {
+        container,
+        readers,
+        created,
+    })
+}
+
+fn post_container(container: Bytes, message: &Message) -> Option<SwiftRequest>
+    ensures { result ≡ post_container container message.now }
+{
+    let readers = readers_given(message.headers.as_slice())?;
+    Some(SwiftRequest::PostContainer { container, readers })
+}
+
+/// The read list, which PUT and POST of a container have to give.
+fn readers_given(headers: &[Pair]) -> Option<ReadList>
+    ensures { result ≡ readers_given headers.now }
+{
+    match only(headers, b"x-container-read") {
+        Some(value) => readers_by(value),
+        None => None,
+    }
+}
+
+/// The calls of an object. A PUT has a body, which is moved.
+fn object_call(
+    alloc: Global,
+    container: Bytes,
+    name: Bytes,
+    message: Message,
+) -> Result<Option<SwiftRequest>, Memory>
+    ensures { IfOk result (λ call. call ≡ object_call container name message) }
+{
+    if has_query(&message) {
+        return Ok(None);
+    }
+    if has_method(&message, b"PUT") {
+        return put_object(alloc, container, name, message);
+    }
+    if has_body(&message) {
+        return Ok(None);
+    }
+    Ok(bare_object_call(container, name, &message))
+}
+
+/// HEAD, GET and DELETE of an object.
+fn bare_object_call(container: Bytes, name: Bytes, message: &Message) -> Option<SwiftRequest>
+    ensures { result ≡ bare_object_call container name message.now }
+{
+    if has_method(message, b"HEAD") {
+        return Some(SwiftRequest::HeadObject { container, name });
+    }
+    if has_method(message, b"GET") {
+        let range = range_in(message.headers.as_slice())?;
+        return Some(SwiftRequest::GetObject {
+            container,
+            name,
+            range,
+        });
+    }
+    if has_method(message, b"DELETE") {
+        Some(SwiftRequest::DeleteObject { container, name })
+    } else {
+        None
+    }
+}
+
+/// PUT of an object. The body isn't copied.
+fn put_object(
+    alloc: Global,
+    container: Bytes,
+    name: Bytes,
+    message: Message,
+) -> Result<Option<SwiftRequest>, Memory>
+    ensures { IfOk result (λ call. call ≡ put_object container name message) }
+{
+    let headers = message.headers.as_slice();
+    let Some(content_type) = only(headers, b"content-type") else {
+        return Ok(None);
+    };
+    let content_type = Bytes::from_slice(alloc, content_type)?;
+    let Some(meta) = meta_in(alloc, headers)? else {
+        return Ok(None);
+    };
+    Ok(Some(SwiftRequest::PutObject {
+        container,
+        name,
+        content_type,
+        meta,
+        body: message.body,
+    }))
+}
+
+fn has_method(message: &Message, name: &[u8]) -> bool
+    ensures { result ≡ has_method name.now message.now }
+{
+    message.method.as_slice() == name
+}
+
+fn has_body(message: &Message) -> bool
+    ensures { result ≡ not (bytes_eq message.now.body []) }
+{
+    message.body.as_slice() != b"".as_slice()
+}
+
+/// The query of the target; empty where there is none.
+fn query_of(message: &Message) -> &[u8]
+    ensures { result.now ≡ query_text message.now.target }
+{
+    let (_, query) = cut(message.target.as_slice(), b'?');
+    query
+}
+
+fn has_query(message: &Message) -> bool
+    ensures { result ≡ not (bytes_eq (query_text message.now.target) []) }
+{
+    query_of(message) != b"".as_slice()
+}

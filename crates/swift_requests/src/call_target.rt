@@ -1,0 +1,128 @@
+//! The target of a call that is written.
+ghost use Rattle.std.specs.Prelude.{◌≡◌, ◌++◌, OnOk, codes};
+ghost use Rattle.s3_names.specs.Escapes.{escaped_all, escaped_path};
+ghost use Rattle.swift_requests.specs.CallText.{account_text, container_text, object_text, listing_text, target_text};
+
+use crate::Place;
+use gate_base::{Bytes, Memory};
+use http_answers::append_decimal;
+use s3_names::{encode_all, encode_path};
+use std::alloc::Global;
+use swift_calls::SwiftRequest;
+
+/// Adds the target of a call.
+pub(crate) fn append_target(
+    alloc: Global,
+    text: &mut Bytes,
+    place: &Place,
+    call: &SwiftRequest,
+) -> Result<(), Memory>
+    ensures { OnOk result (text.new ≡ text.old ++ target_text place.now call.now) }
+{
+    match call {
+        SwiftRequest::ListContainers { marker, limit } => {
+            append_account_listing(alloc, text, place, *limit, marker.as_slice())
+        }
+        SwiftRequest::ListNames {
+            container,
+            prefix,
+            marker,
+            limit,
+        } => {
+            append_container(alloc, text, place, container)?;
+            append_listing(alloc, text, *limit, marker.as_slice())?;
+            text.append(b"&prefix=")?;
+            append_escaped(alloc, text, prefix.as_slice())
+        }
+        SwiftRequest::HeadContainer { container }
+        | SwiftRequest::PutContainer { container, .. }
+        | SwiftRequest::PostContainer { container, .. }
+        | SwiftRequest::DeleteContainer { container } => append_container(
+            alloc, text, place, container,
+        ),
+        SwiftRequest::PutObject {
+            container,
+            name,
+            ..
+        }
+        | SwiftRequest::HeadObject { container, name }
+        | SwiftRequest::GetObject {
+            container,
+            name,
+            ..
+        }
+        | SwiftRequest::DeleteObject { container, name } => append_object(
+            alloc, text, place, container, name,
+        ),
+    }
+}
+
+/// Adds `/v1/ACCOUNT`.
+fn append_account(alloc: Global, text: &mut Bytes, place: &Place) -> Result<(), Memory>
+    ensures { OnOk result (text.new ≡ text.old ++ account_text place.now) }
+{
+    text.append(b"/v1/")?;
+    append_escaped(alloc, text, place.account.as_slice())
+}
+
+/// Adds `/v1/ACCOUNT?format=json&limit=N&marker=M`.
+fn append_account_listing(
+    alloc: Global,
+    text: &mut Bytes,
+    place: &Place,
+    limit: u32,
+    marker: &[u8],
+) -> Result<(), Memory>
+    ensures { OnOk result (text.new ≡ text.old ++ account_text place.now ++ listing_text limit marker.now) }
+{
+    append_account(alloc, text, place)?;
+    append_listing(alloc, text, limit, marker)
+}
+
+/// Adds `/v1/ACCOUNT/CONTAINER`.
+fn append_container(
+    alloc: Global,
+    text: &mut Bytes,
+    place: &Place,
+    container: &Bytes,
+) -> Result<(), Memory>
+    ensures { OnOk result (text.new ≡ text.old ++ container_text place.now container.now) }
+{
+    append_account(alloc, text, place)?;
+    text.append(b"/")?;
+    append_escaped(alloc, text, container.as_slice())
+}
+
+/// Adds `/v1/ACCOUNT/CONTAINER/NAME`.
+fn append_object(
+    alloc: Global,
+    text: &mut Bytes,
+    place: &Place,
+    container: &Bytes,
+    name: &Bytes,
+) -> Result<(), Memory>
+    ensures { OnOk result (text.new ≡ text.old ++ object_text place.now container.now name.now) }
+{
+    append_container(alloc, text, place, container)?;
+    text.append(b"/")?;
+    let name = encode_path(alloc, name.as_slice())?;
+    text.append(name.as_slice())
+}
+
+/// Adds `?format=json&limit=N&marker=M`.
+fn append_listing(alloc: Global, text: &mut Bytes, limit: u32, marker: &[u8]) -> Result<(), Memory>
+    ensures { OnOk result (text.new ≡ text.old ++ listing_text limit marker.now) }
+{
+    text.append(b"?format=json&limit=")?;
+    append_decimal(text, u64::from(limit))?;
+    text.append(b"&marker=")?;
+    append_escaped(alloc, text, marker)
+}
+
+/// Adds bytes, each escaped but the unreserved.
+fn append_escaped(alloc: Global, text: &mut Bytes, bytes: &[u8]) -> Result<(), Memory>
+    ensures { OnOk result (text.new ≡ text.old ++ escaped_all bytes.now) }
+{
+    let escaped = encode_all(alloc, bytes)?;
+    text.append(escaped.as_slice())
+}

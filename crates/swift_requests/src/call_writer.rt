@@ -1,0 +1,197 @@
+//! Calls written.
+ghost use Rattle.std.specs.Prelude.{◌≡◌, ◌++◌, IfOk, OnOk, codes, decimal};
+ghost use Rattle.http1.specs.Head.{print_header, print_headers};
+ghost use Rattle.swift_calls.specs.Step.{Fit};
+ghost use Rattle.swift_requests.specs.Place.{IsPlace};
+ghost use Rattle.swift_requests.specs.Calls.{SpellsRequest};
+ghost use Rattle.swift_requests.specs.CallText.{method_text, body_of, line_text, call_fields, own_fields, readers_field, range_field, range_fields, call_text};
+ghost use Rattle.swift_replies.specs.AnswerText.{readers_text, created_fields, meta_fields};
+
+use crate::Place;
+use crate::call_target::append_target;
+use gate_base::{Bytes, Memory};
+use http_answers::append_decimal;
+use std::alloc::Global;
+use swift_calls::{ReadList, SwiftRequest};
+
+/// Room for most heads, so that no body is moved as its text grows.
+const HEAD_ROOM: usize = 1024;
+
+/// The request of a call at the place: one whole message that spells the call, with the place's host and token and the
+/// length of its body, which is copied once. The call is within the limits of a store, and so the head has less than
+/// 16,384 bytes and fewer than 100 fields.
+pub fn write_call(alloc: Global, place: &Place, call: &SwiftRequest) -> Result<Bytes, Memory>
+    requires place { IsPlace place.now }
+    requires fit { Fit call.now }
+    ensures text { IfOk result (λ bytes. bytes ≡ call_text place.now call.now) }
+    ensures spells { IfOk result (λ bytes. SpellsRequest place.now call.now bytes) }
+{
+    let body = body_of(call);
+    let mut text = Bytes::with_room(alloc, body.len().saturating_add(HEAD_ROOM))?;
+    append_line(alloc, &mut text, place, call)?;
+    append_fields(&mut text, place, call)?;
+    text.append(b"\r\n")?;
+    text.append(body)?;
+    Ok(text)
+}
+
+fn body_of(call: &SwiftRequest) -> &[u8]
+    ensures { result.now ≡ body_of call.now }
+{
+    match call {
+        SwiftRequest::PutObject { body, .. } => body.as_slice(),
+        _ => b"",
+    }
+}
+
+fn method_text(call: &SwiftRequest) -> &'static [u8]
+    ensures { result.now ≡ method_text call.now }
+{
+    match call {
+        SwiftRequest::ListContainers { .. } => b"GET",
+        SwiftRequest::HeadContainer { .. } => b"HEAD",
+        SwiftRequest::PutContainer { .. } => b"PUT",
+        SwiftRequest::PostContainer { .. } => b"POST",
+        SwiftRequest::DeleteContainer { .. } => b"DELETE",
+        SwiftRequest::ListNames { .. } => b"GET",
+        SwiftRequest::PutObject { .. } => b"PUT",
+        SwiftRequest::HeadObject { .. } => b"HEAD",
+        SwiftRequest::GetObject { .. } => b"GET",
+        SwiftRequest::DeleteObject { .. } => b"DELETE",
+    }
+}
+
+/// Adds the request line.
+fn append_line(
+    alloc: Global,
+    text: &mut Bytes,
+    place: &Place,
+    call: &SwiftRequest,
+) -> Result<(), Memory>
+    ensures { OnOk result (text.new ≡ text.old ++ line_text place.now call.now) }
+{
+    text.append(method_text(call))?;
+    text.append(b" ")?;
+    append_target(alloc, text, place, call)?;
+    text.append(b" HTTP/1.1\r\n")
+}
+
+/// Adds the header fields.
+fn append_fields(text: &mut Bytes, place: &Place, call: &SwiftRequest) -> Result<(), Memory>
+    ensures { OnOk result (text.new ≡ text.old ++ print_headers (call_fields place.now call.now)) }
+{
+    append_field(text, b"Host", place.host.as_slice())?;
+    append_field(text, b"X-Auth-Token", place.token.as_slice())?;
+    append_own(text, call)?;
+    append_number(text, b"Content-Length", body_of(call).len() as u64)
+}
+
+/// Adds a field.
+fn append_field(text: &mut Bytes, name: &[u8], value: &[u8]) -> Result<(), Memory>
+    ensures { OnOk result (text.new ≡ text.old ++ print_header (name.now, value.now)) }
+{
+    text.append(name)?;
+    text.append(b": ")?;
+    text.append(value)?;
+    text.append(b"\r\n")
+}
+
+/// Adds a field whose value is a number.
+fn append_number(text: &mut Bytes, name: &[u8], number: u64) -> Result<(), Memory>
+    ensures { OnOk result (text.new ≡ text.old ++ print_header (name.now, decimal number)) }
+{
+    text.append(name)?;
+    text.append(b": ")?;
+    append_decimal(text, number)?;
+    text.append(b"\r\n")
+}
+
+/// Adds the fields of the call's own.
+fn append_own(text: &mut Bytes, call: &SwiftRequest) -> Result<(), Memory>
+    ensures { OnOk result (text.new ≡ text.old ++ print_headers (own_fields call.now)) }
+{
+    match call {
+        SwiftRequest::PutContainer {
+            readers,
+            created,
+            ..
+        } => {
+            append_readers(text, *readers)?;
+            append_created(text, *created)
+        }
+        SwiftRequest::PostContainer { readers, .. } => append_readers(text, *readers),
+        SwiftRequest::PutObject {
+            content_type,
+            meta,
+            ..
+        } => {
+            append_field(text, b"Content-Type", content_type.as_slice())?;
+            append_meta(text, meta.as_slice())
+        }
+        SwiftRequest::GetObject { range, .. } => append_range(text, *range),
+        _ => Ok(()),
+    }
+}
+
+fn append_readers(text: &mut Bytes, readers: ReadList) -> Result<(), Memory>
+    ensures { OnOk result (text.new ≡ text.old ++ print_header (readers_field readers)) }
+{
+    append_field(text, b"X-Container-Read", readers_text(readers))
+}
+
+fn readers_text(readers: ReadList) -> &'static [u8]
+    ensures { result.now ≡ readers_text readers }
+{
+    match readers {
+        ReadList::Nobody => b"",
+        ReadList::Everybody => b".r:*,.rlistings",
+    }
+}
+
+fn append_created(text: &mut Bytes, created: Option<u64>) -> Result<(), Memory>
+    ensures { OnOk result (text.new ≡ text.old ++ print_headers (created_fields created)) }
+{
+    match created {
+        Some(moment) => append_number(text, b"X-Container-Meta-S3-Created", moment),
+        None => Ok(()),
+    }
+}
+
+fn append_range(text: &mut Bytes, range: Option<(u64, u64)>) -> Result<(), Memory>
+    ensures { OnOk result (text.new ≡ text.old ++ print_headers (range_fields range)) }
+{
+    match range {
+        Some((first, last)) => append_places(text, first, last),
+        None => Ok(()),
+    }
+}
+
+fn append_places(text: &mut Bytes, first: u64, last: u64) -> Result<(), Memory>
+    ensures { OnOk result (text.new ≡ text.old ++ print_header (range_field first last)) }
+{
+    text.append(b"Range: bytes=")?;
+    append_decimal(text, first)?;
+    text.append(b"-")?;
+    append_decimal(text, last)?;
+    text.append(b"\r\n")
+}
+
+/// Adds the pieces of metadata, each under its index.
+fn append_meta(text: &mut Bytes, pieces: &[Bytes]) -> Result<(), Memory>
+    ensures { OnOk result (text.new ≡ text.old ++ print_headers (meta_fields 0 pieces.now)) }
+{
+    'pieces: for (index, piece) in pieces.iter().enumerate() {
+        append_piece(text, index as u64, piece.as_slice())?;
+    }
+    Ok(())
+}
+
+fn append_piece(text: &mut Bytes, index: u64, piece: &[u8]) -> Result<(), Memory>
+    ensures { OnOk result (text.new ≡ text.old ++ print_header (codes "X-Object-Meta-S3-" ++ decimal index, piece.now)) }
+{
+    text.append(b"X-Object-Meta-S3-")?;
+    append_decimal(text, index)?;
+    text.append(b": ")?;
+    text.append(piece)?;
+    text.append(b"\r\n")
+}

@@ -1,0 +1,134 @@
+//! The queries of listings.
+ghost use Rattle.std.specs.Prelude.{◌≡◌, IfOk, option_and_then, option_map};
+ghost use Rattle.swift_requests.specs.Paths.{has_more, value_named, first_value, last_value, values_named};
+ghost use Rattle.swift_requests.specs.Calls.{account_names, container_names, containers_listing, names_listing, is_json, limit_of};
+
+use crate::paths::unescaped;
+use gate_base::{Bytes, Memory, cut};
+use http_answers::plain_number;
+use std::alloc::Global;
+use swift_calls::SwiftRequest;
+
+/// The most names that are asked for at once.
+const MOST_NAMES: u64 = 1000;
+
+/// The listing of containers that a query asks for: `format=json&limit=N&marker=M`.
+pub(crate) fn containers_listing(
+    alloc: Global,
+    query: &[u8],
+) -> Result<Option<SwiftRequest>, Memory>
+    ensures { IfOk result (λ call. call ≡ option_and_then containers_listing (values_named account_names query.now)) }
+{
+    let Some((format, rest)) = first_value(alloc, query, b"format")? else {
+        return Ok(None);
+    };
+    let Some((limit, rest)) = first_value(alloc, rest, b"limit")? else {
+        return Ok(None);
+    };
+    let Some(marker) = last_value(alloc, rest, b"marker")? else {
+        return Ok(None);
+    };
+    if !is_json(format.as_slice()) {
+        return Ok(None);
+    }
+    match limit_of(limit.as_slice()) {
+        Some(limit) => Ok(Some(SwiftRequest::ListContainers { marker, limit })),
+        None => Ok(None),
+    }
+}
+
+/// The listing of a container's objects that a query asks for: `format=json&limit=N&marker=M&prefix=P`.
+pub(crate) fn names_listing(
+    alloc: Global,
+    container: Bytes,
+    query: &[u8],
+) -> Result<Option<SwiftRequest>, Memory>
+    ensures { IfOk result (λ call. call ≡ option_and_then (names_listing container) (values_named container_names query.now)) }
+{
+    let Some((format, rest)) = first_value(alloc, query, b"format")? else {
+        return Ok(None);
+    };
+    let Some((limit, rest)) = first_value(alloc, rest, b"limit")? else {
+        return Ok(None);
+    };
+    let Some((marker, rest)) = first_value(alloc, rest, b"marker")? else {
+        return Ok(None);
+    };
+    let Some(prefix) = last_value(alloc, rest, b"prefix")? else {
+        return Ok(None);
+    };
+    if !is_json(format.as_slice()) {
+        return Ok(None);
+    }
+    match limit_of(limit.as_slice()) {
+        Some(limit) => Ok(Some(SwiftRequest::ListNames {
+            container,
+            prefix,
+            marker,
+            limit,
+        })),
+        None => Ok(None),
+    }
+}
+
+/// The value of the first piece, which has the name, and what follows its `&`.
+fn first_value<'a>(
+    alloc: Global,
+    text: &'a [u8],
+    name: &[u8],
+) -> Result<Option<(Bytes, &'a [u8])>, Memory>
+    ensures { IfOk result (λ found. option_map (λ first. (first.0, first.1.now)) found ≡ first_value name.now text.now) }
+{
+    if !has_more(text) {
+        return Ok(None);
+    }
+    let (piece, rest) = cut(text, b'&');
+    match value_named(alloc, piece, name)? {
+        Some(value) => Ok(Some((value, rest))),
+        None => Ok(None),
+    }
+}
+
+/// The value of the last piece, which has the name.
+fn last_value(alloc: Global, text: &[u8], name: &[u8]) -> Result<Option<Bytes>, Memory>
+    ensures { IfOk result (λ value. value ≡ last_value name.now text.now) }
+{
+    if has_more(text) {
+        return Ok(None);
+    }
+    value_named(alloc, text, name)
+}
+
+/// The value of a piece `name=value` that has the name.
+fn value_named(alloc: Global, piece: &[u8], name: &[u8]) -> Result<Option<Bytes>, Memory>
+    ensures { IfOk result (λ value. value ≡ value_named name.now piece.now) }
+{
+    let (found, value) = cut(piece, b'=');
+    if found == name {
+        unescaped(alloc, value)
+    } else {
+        Ok(None)
+    }
+}
+
+fn has_more(text: &[u8]) -> bool
+    ensures { result ≡ has_more text.now }
+{
+    text.iter().any(|byte| *byte == b'&')
+}
+
+fn is_json(text: &[u8]) -> bool
+    ensures { result ≡ is_json text.now }
+{
+    text == b"json".as_slice()
+}
+
+/// How many names are asked for: 1000 at most.
+fn limit_of(text: &[u8]) -> Option<u32>
+    ensures { result ≡ limit_of text.now }
+{
+    match plain_number(text) {
+        Some(limit) if limit <= MOST_NAMES => Some(limit as u32),
+        _ => None,
+    }
+}

@@ -1,5 +1,0 @@
-use Rattle.swift_wire.proofs.MetaLemmas.{HasRead}
-use Rattle.swift_wire.proofs.fields.meta_in.Given as goal
-
-abbrev pub invariant-pieces : goal.invariant-pieces
-invariant-pieces l = HasRead l.headers l.pieces l.index

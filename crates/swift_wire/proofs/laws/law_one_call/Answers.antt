@@ -1,5 +1,0 @@
-use Rattle.swift_wire.proofs.SpellLemmas.{one_call, one_request}
-use Rattle.swift_wire.proofs.laws.law_one_call.Goals as goal
-
-pub returns : goal.returns
-returns c = record { message = one_call; bytes = one_request }
