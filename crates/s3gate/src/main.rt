@@ -20,7 +20,7 @@ use std::process::ExitCode;
 use std::{env, fs, io};
 use swift_calls::Swift;
 use swift_client::{SwiftClient, TcpLink, memory_store, over_tcp};
-use swift_wire::{Place, is_place};
+use swift_requests::{Place, is_place};
 
 /// The exit status where memory ran out before the run began.
 const MEMORY: u8 = 5;
@@ -31,6 +31,13 @@ const SETUP: u8 = 9;
 
 /// How many seconds a client may be silent, where `S3GATE_IDLE` doesn't say.
 const USUAL_IDLE: u64 = 60;
+
+/// How many MiB are read ahead of clients or kept to be sent to them in all, where `S3GATE_AHEAD` doesn't say, and at most.
+const USUAL_AHEAD: u64 = 64;
+
+const MOST_AHEAD: u64 = 65_536;
+
+const MEBIBYTE: u64 = 1_048_576;
 
 /// How many seconds the store may be silent, where `S3GATE_STORE_TIMEOUT` doesn't say: longer than a Swift proxy waits for
 /// its own servers.
@@ -50,25 +57,65 @@ fn main(rt: HostRuntime) -> ExitCode {
     }
 }
 
-/// A run over the line that the first word asks for.
+/// A run by the words and the key text.
 fn start(rt: &HostRuntime) -> io::Result<u8> {
     let keys = key_text(rt)?;
+    start_by(rt, keys.as_str())
+}
+
+fn start_by(rt: &HostRuntime, keys: &str) -> io::Result<u8> {
     let words = words(rt)?;
-    if begins_with(&words, b"serve") {
-        let mut line = clients(rt)?;
-        let mut store = swift_store(rt)?;
-        run_over(rt, &words, keys.as_str(), &mut line, &mut store)
+    start_with(rt, &words, keys)
+}
+
+/// A run over the line that the first word asks for.
+fn start_with(rt: &HostRuntime, words: &[String], keys: &str) -> io::Result<u8> {
+    if begins_with(words, b"serve") {
+        serve(rt, words, keys)
     } else {
-        let Ok(mut store) = memory_store(rt.alloc()) else {
-            return Ok(MEMORY);
-        };
-        if begins_with(&words, b"session") {
-            let mut line = StdLine::new(rt.clone()?);
-            run_over(rt, &words, keys.as_str(), &mut line, &mut store)
-        } else {
-            let mut line = InputLine::new(rt.clone()?);
-            run_over(rt, &words, keys.as_str(), &mut line, &mut store)
-        }
+        stay(rt, words, keys)
+    }
+}
+
+/// A run over the clients that come, and the Swift store. Replies that are kept for slow clients are sent before it ends; the status
+/// is that of the run, as no client's failure has one.
+fn serve(rt: &HostRuntime, words: &[String], keys: &str) -> io::Result<u8> {
+    let mut line = clients(rt)?;
+    let status = serve_on(rt, words, keys, &mut line);
+    let _ = line.finish();
+    status
+}
+
+fn serve_on(
+    rt: &HostRuntime,
+    words: &[String],
+    keys: &str,
+    line: &mut TcpLine<HostRuntime>,
+) -> io::Result<u8> {
+    let mut store = swift_store(rt)?;
+    run_over(rt, words, keys, line, &mut store)
+}
+
+/// A run over the standard streams, and a store in memory.
+fn stay(rt: &HostRuntime, words: &[String], keys: &str) -> io::Result<u8> {
+    match memory_store(rt.alloc()) {
+        Ok(mut store) => stay_on(rt, words, keys, &mut store),
+        Err(_) => Ok(MEMORY),
+    }
+}
+
+fn stay_on<W: Swift>(
+    rt: &HostRuntime,
+    words: &[String],
+    keys: &str,
+    store: &mut W,
+) -> io::Result<u8> {
+    if begins_with(words, b"session") {
+        let mut line = StdLine::new(rt.clone()?);
+        run_over(rt, words, keys, &mut line, store)
+    } else {
+        let mut line = InputLine::new(rt.clone()?);
+        run_over(rt, words, keys, &mut line, store)
     }
 }
 
@@ -104,17 +151,24 @@ fn key_text(rt: &HostRuntime) -> io::Result<String> {
 
 /// The clients that come to the place which the environment names. How many of them are served is said by the words.
 fn clients(rt: &HostRuntime) -> io::Result<TcpLine<HostRuntime>> {
-    let limit = seconds(rt, "S3GATE_IDLE", USUAL_IDLE)?;
+    let limit = number(rt, "S3GATE_IDLE", USUAL_IDLE, LONGEST)?;
+    let ahead = ahead(rt)?;
     let Some(place) = variable(rt, "S3GATE_LISTEN")? else {
         return Err(io::Error::from(ErrorKind::InvalidInput));
     };
     let listener = TcpListener::bind(rt, place.as_str())?;
-    TcpLine::new(rt, rt.alloc(), listener, limit, None)
+    TcpLine::new(rt.clone()?, rt.alloc(), listener, limit, None, ahead)
+}
+
+/// How many bytes are read ahead or kept to be sent, at most.
+fn ahead(rt: &HostRuntime) -> io::Result<usize> {
+    let count = number(rt, "S3GATE_AHEAD", USUAL_AHEAD, MOST_AHEAD)?;
+    Ok(count.saturating_mul(MEBIBYTE) as usize)
 }
 
 /// The Swift store that the environment names. The first call connects to it.
 fn swift_store(rt: &HostRuntime) -> io::Result<SwiftClient<TcpLink<HostRuntime>>> {
-    let limit = seconds(rt, "S3GATE_STORE_TIMEOUT", USUAL_SILENCE)?;
+    let limit = number(rt, "S3GATE_STORE_TIMEOUT", USUAL_SILENCE, LONGEST)?;
     let place = Place {
         host: text(rt, "S3GATE_STORE")?,
         account: text(rt, "S3GATE_ACCOUNT")?,
@@ -129,13 +183,13 @@ fn swift_store(rt: &HostRuntime) -> io::Result<SwiftClient<TcpLink<HostRuntime>>
     }
 }
 
-/// A limit of time: the seconds that the environment says, or else the usual ones.
-fn seconds(rt: &HostRuntime, name: &str, usual: u64) -> io::Result<u64> {
+/// The number that the environment says, from 1 to the most that there may be, or else the usual one.
+fn number(rt: &HostRuntime, name: &str, usual: u64, most: u64) -> io::Result<u64> {
     let Some(text) = variable(rt, name)? else {
         return Ok(usual);
     };
     match text.as_str().parse::<u64>() {
-        Ok(seconds) if 1 <= seconds && seconds <= LONGEST => Ok(seconds),
+        Ok(number) if 1 <= number && number <= most => Ok(number),
         _ => Err(io::Error::from(ErrorKind::InvalidInput)),
     }
 }

@@ -1,6 +1,10 @@
 //! The outside world over sockets: connections that a listener accepts, as a line.
 #![tactic(auto)]
 
+mod client;
+mod crowd;
+mod front;
+mod places;
 mod tcp_line;
 mod watch;
 

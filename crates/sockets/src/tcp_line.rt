@@ -1,70 +1,51 @@
-//! Connections that a listener accepts, as a line. It tells nothing of their bytes.
-ghost use Rattle.std.specs.Prelude.{◌≡◌, ◌≤◌, ◌<◌, ◌+◌, ◌-◌, ◌^◌, false, length, is_some, IfOk, None};
+//! Connections that a listener accepts, side by side, as a line. It tells nothing of their bytes.
+ghost use Rattle.std.specs.Prelude.{◌≡◌, ◌≤◌, ◌<◌, ◌+◌, ◌-◌, ◌^◌, false, length, IfOk, None};
 ghost use Rattle.std.specs.Option.{unwrap_or};
 ghost use Rattle.std.proofs.Common.{sym, true≢false};
 ghost use Rattle.std.proofs.Math.Nat.{le-add_left};
 ghost use Rattle.gate_base.specs.Causes.{Rose};
 ghost use Rattle.gate_base.specs.Line.{silent_line};
 
-use crate::watch::{Ready, Watch};
+use crate::crowd::Crowd;
 use gate_base::{CALL_LIMIT, Counted, Failed, Line, NoCount};
 use std::alloc::Global;
 use std::io;
-use std::io::{ErrorKind, Read, Write};
-use std::net::{Net, OpenListener, OpenStream, Shutdown};
-use std::os::fd::AsRawFd;
-use std::time::Duration;
-
-/// How long a new connection may be silent while other clients wait, in seconds: its first request is on the way.
-const GRACE: u64 = 1;
+use std::io::ErrorKind;
+use std::net::Net;
+use std::time::{Clock, Duration};
 
 /// How an interim answer begins. The request goes on behind it.
 const INTERIM: &[u8] = b"HTTP/1.1 1";
 
-/// How many clients in a row may be lost while they are accepted.
-const LOSSES: u32 = 100;
-
-/// How many reads drop what a client still sends when its connection ends, of how many bytes each: 16 MiB together.
-const DROPS: u32 = 4096;
-
-const DROP_SIZE: usize = 4096;
-
-/// How many milliseconds the client may be silent meanwhile.
-const DROP_SILENCE: u64 = 200;
-
-/// Where the open connection stands.
-#[derive(Clone, Copy, Debug, PartialEq, Eq)]
-enum Phase {
-    /// Nothing was asked of it yet.
-    Fresh,
-    /// Nothing was read since the last reply.
-    Idle,
-    /// Bytes of a request were read, and no reply was written since.
-    Busy,
-    /// It came to its end, gave way to another client, or failed. Nothing more is read.
-    Over,
-}
-
-/// Connections that a listener accepts, served in turn.
+/// Connections that a listener accepts, side by side in one thread. All who wait are accepted, up to 900; the others stay in the
+/// listener's queue until one of those leaves, or has been idle for a second and gives its place away.
 ///
-/// While another client waits to be accepted, a connection ends as soon as it is idle: nothing was read since its last
-/// reply. One on which nothing was ever read may be silent for a second first, as its request is on the way. While
-/// nobody waits, either may be silent for the limit of time. A connection that is ended so reads as one at its end,
-/// and no count of faults rises.
+/// `next` gives the one that has had a whole request for the longest time, so a silent or a slow client delays nobody. After a
+/// reply a connection whose next request isn't there gives way to one that has one: `read` gives 0, and it stays connected. When its
+/// next request has come, `next` gives it again, as one more connection.
 ///
-/// Within a request a connection is never ended for others. A client that is silent there for the limit of time, or
-/// takes none of a reply for so long, is a fault.
+/// Requests are read ahead, head and body, and of a reply what a client doesn't take at once is kept and sent while others are
+/// served. All that together has a bound. Past it the request that began first is given before it is there whole, and a write
+/// waits until its client has taken it. A request whose end the line doesn't know is given at once too, and its connection
+/// doesn't give way but ends: one with a transfer coding, another expectation than `100-continue`, a head over 16,384 bytes, or a
+/// body over 16,777,216.
 ///
-/// When a connection ends on the gateway's side, what the client still sends is dropped until it ends too, is silent
-/// for 0.2 seconds, or has sent 16 MiB. Closed at once, bytes that come late would destroy the last reply on its way.
+/// A client that expects `100 Continue` is sent that by the line, once its head is there and its body isn't. The same bytes, written
+/// later, are then passed over.
+///
+/// A connection on which nothing moves for the limit of time ends, and so does one whose head takes longer in all. That is a fault
+/// where a part of its request was given, or a write waits for it; between two requests, and while one is read ahead or a reply
+/// that was kept is sent, it is none. A write that succeeds has its bytes sent or kept.
+///
+/// When a connection is closed, its writing side ends once what is kept for it is sent. What it still sends is dropped meanwhile, while
+/// others are served: at most 16 MiB, and until it is silent for 0.2 seconds. Closed at once, bytes that come late would destroy
+/// the last reply on its way.
 #[derive(Drop)]
 pub struct TcpLine<R: Net> {
-    listener: R::Listener,
-    stream: Option<R::Stream>,
-    watch: Watch,
+    crowd: Crowd<R>,
+    connected: bool,
     /// The limit of time in seconds, above 0.
     limit: u64,
-    phase: Phase,
     /// How many connections may still begin.
     left: u64,
     spent: u64,
@@ -73,18 +54,21 @@ pub struct TcpLine<R: Net> {
     other_faults: u64,
 }
 
-impl<R: Net> TcpLine<R> {
+impl<R: Net + Clock + Drop> TcpLine<R> {
     /// A line of the clients of a listener, with no connection open yet. `limit` is the limit of time, in seconds. At
-    /// most so many `connections` begin, and without that number as many as there are clients.
+    /// most so many `connections` begin, and without that number as many as clients ask for; one that gave way and comes again is
+    /// one more. `ahead` is how many bytes are read ahead or kept to be sent in all. One client's may go 2 MiB past it, and the
+    /// buffers that hold them may be twice as large.
     ///
     /// A limit of 0 is `ErrorKind::InvalidInput`, and want of memory `ErrorKind::OutOfMemory`. Any other error is the
     /// system's, which can't wait for the listener.
     pub fn new(
-        rt: &R,
+        rt: R,
         alloc: Global,
         listener: R::Listener,
         limit: u64,
         connections: Option<u64>,
+        ahead: usize,
     ) -> io::Result<TcpLine<R>>
         ensures line { IfOk result (λ line. ⟦<TcpLine<R> as Line<NoCount>>⟧.model line ≡ silent_line false 0 0) }
         ensures limit { IfOk result (λ line. (line.limit ≡ limit) × (0 < limit)) }
@@ -93,13 +77,10 @@ impl<R: Net> TcpLine<R> {
         if limit == 0 {
             return Err(io::Error::from(ErrorKind::InvalidInput));
         }
-        let watch = Watch::new(rt, alloc, listener.as_raw_fd())?;
         Ok(TcpLine {
-            listener,
-            stream: None,
-            watch,
+            crowd: Crowd::new(rt, alloc, listener, Duration::from_secs(limit), ahead)?,
+            connected: false,
             limit,
-            phase: Phase::Over,
             left: connections.unwrap_or(u64::MAX),
             spent: 0,
             next_faults: 0,
@@ -107,108 +88,18 @@ impl<R: Net> TcpLine<R> {
         })
     }
 
-    /// The next client. One that went away while it waited is passed over, so that it can't end the line.
-    fn accept(&self) -> io::Result<R::Stream> {
-        let mut last = io::Error::from(ErrorKind::Other);
-        for _loss in 0..LOSSES {
-            match self.accept_one() {
-                Ok(stream) => return Ok(stream),
-                Err(error) => last = error,
-            }
-        }
-        Err(last)
-    }
-
-    /// The next client, with its limits of time, and watched.
-    fn accept_one(&self) -> io::Result<R::Stream> {
-        let (stream, _) = self.listener.accept()?;
-        let limit = Some(Duration::from_secs(self.limit));
-        stream.set_nodelay(true)?;
-        stream.set_read_timeout(limit)?;
-        stream.set_write_timeout(limit)?;
-        self.watch.begin(stream.as_raw_fd())?;
-        Ok(stream)
-    }
-
-    /// Whether bytes, the client's end or an error come on the open connection before it has to end. It may wait for
-    /// so many seconds.
-    fn comes(&mut self, seconds: u64) -> io::Result<bool>
-        ensures same { self.new ≡ record self.old { watch = self.new.watch } }
-    {
-        let source = match &self.stream {
-            Some(stream) => stream.as_raw_fd(),
-            None => return Ok(false),
-        };
-        let limit = Duration::from_secs(seconds);
-        Ok(self.watch.wait(source, limit)? == Ready::Stream)
-    }
-
-    /// Whether bytes or the client's end come on the open connection within the grace of a new one.
-    fn comes_in_grace(&self) -> io::Result<bool> {
-        let Some(stream) = &self.stream else {
-            return Ok(false);
-        };
-        stream.set_read_timeout(Some(Duration::from_secs(GRACE)))?;
-        let comes = stream.peek(&mut [0]).is_ok();
-        stream.set_read_timeout(Some(Duration::from_secs(self.limit)))?;
-        Ok(comes)
-    }
-
-    /// Whether the open connection is read on, after the wait that its phase allows.
-    fn goes_on(&mut self) -> io::Result<bool>
-        ensures same { self.new ≡ record self.old { watch = self.new.watch } }
-    {
-        match self.phase {
-            Phase::Fresh => Ok(
-                self.comes_in_grace()? || self.comes(self.limit.saturating_sub(GRACE))?,
-            ),
-            Phase::Idle => self.comes(self.limit),
-            Phase::Busy => Ok(true),
-            Phase::Over => Ok(false),
-        }
-    }
-
-    /// The bytes that come next. None where the connection is at its end, or has to end.
-    fn receive(&mut self, buf: &mut [u8]) -> io::Result<usize>
-        ensures within { IfOk result (λ count. count ≤ length buf.old) }
-        ensures open { is_some self.new.stream ≡ is_some self.old.stream }
-        ensures same { self.new ≡ record self.old { stream = self.new.stream; watch = self.new.watch } }
-    {
-        if !self.goes_on()? {
-            return Ok(0);
-        }
-        match &mut self.stream {
-            Some(stream) => stream.read(buf),
-            None => Ok(0),
-        }
-    }
-
-    fn send(&mut self, bytes: &[u8]) -> io::Result<()>
-        ensures open { is_some self.new.stream ≡ is_some self.old.stream }
-        ensures same { self.new ≡ record self.old { stream = self.new.stream } }
-    {
-        match &mut self.stream {
-            Some(stream) => stream.write_all(bytes),
-            None => Ok(()),
-        }
-    }
-
-    /// Ends the open connection. Where the client sends no more, there is nothing to wait for.
-    fn end(&mut self)
-        ensures { self.new ≡ record self.old { stream = None } }
-    {
-        if let Some(stream) = self.stream.take() {
-            if self.phase != Phase::Over {
-                let _ = drop_rest(stream);
-            }
-        }
+    /// Sends what is kept for slow clients, and ends all connections; for the end of the program, since nothing is sent behind the last
+    /// call. It takes as long as the slowest of them, each at most the limit of time without taking anything.
+    ///
+    /// The error is the system's, which can't wait for the clients. What was kept is lost then.
+    pub fn finish(&mut self) -> io::Result<()> {
+        self.crowd.finish()
     }
 
     fn fail(&mut self) -> Failed
         ensures faults { Rose (self.old.other_faults + self.old.next_faults) (self.new.other_faults + self.new.next_faults) }
-        ensures same { self.new ≡ record self.old { phase = self.new.phase; other_faults = self.new.other_faults } }
+        ensures same { self.new ≡ record self.old { other_faults = self.new.other_faults } }
     {
-        self.phase = Phase::Over;
         self.other_faults = self.other_faults.saturating_add(1);
         Failed
     }
@@ -223,24 +114,24 @@ impl<R: Net> TcpLine<R> {
     }
 }
 
-impl<R: Net, C: Counted> Line<C> for TcpLine<R> {
-    ghost model = { λ line. record (silent_line (is_some line.stream) (line.other_faults + line.next_faults) line.spent) { next_faults = line.next_faults } };
+impl<R: Net + Clock + Drop, C: Counted> Line<C> for TcpLine<R> {
+    ghost model = { λ line. record (silent_line line.connected (line.other_faults + line.next_faults) line.spent) { next_faults = line.next_faults } };
 
     ghost is_line = { λ line. record { one_for_each = λ observable. absurd (true≢false (sym observable)); next_within = le-add_left line.next_faults line.other_faults } };
 
-    /// Waits for the next client as long as it takes. False once as many connections began as may.
+    /// Waits for the next request as long as it takes. False once as many connections began as may.
     fn next(&mut self) -> Result<bool, Failed> {
-        self.end();
+        self.connected = false;
+        self.crowd.end();
         if self.left == 0 {
             return Ok(false);
         }
         if self.spent >= CALL_LIMIT {
             return Err(self.fail_next());
         }
-        match self.accept() {
-            Ok(stream) => {
-                self.stream = Some(stream);
-                self.phase = Phase::Fresh;
+        match self.crowd.next() {
+            Ok(()) => {
+                self.connected = true;
                 self.left -= 1;
                 self.spent += 1;
                 Ok(true)
@@ -253,13 +144,9 @@ impl<R: Net, C: Counted> Line<C> for TcpLine<R> {
         if self.spent >= CALL_LIMIT {
             return Err(self.fail());
         }
-        match self.receive(buf) {
-            Ok(0) => {
-                self.phase = Phase::Over;
-                Ok(0)
-            }
+        match self.crowd.receive(buf) {
+            Ok(0) => Ok(0),
             Ok(count) => {
-                self.phase = Phase::Busy;
                 self.spent += 1;
                 Ok(count)
             }
@@ -269,31 +156,14 @@ impl<R: Net, C: Counted> Line<C> for TcpLine<R> {
 
     /// A reply makes the connection idle, an interim answer doesn't.
     fn write(&mut self, _store: &C, bytes: &[u8]) -> Result<(), Failed> {
-        match self.send(bytes) {
-            Ok(()) => {
-                if self.phase != Phase::Over && !bytes.starts_with(INTERIM) {
-                    self.phase = Phase::Idle;
-                }
-                Ok(())
-            }
+        match self.crowd.send(bytes, !bytes.starts_with(INTERIM)) {
+            Ok(()) => Ok(()),
             Err(_) => Err(self.fail()),
         }
     }
 
     fn close(&mut self) {
-        self.end();
+        self.connected = false;
+        self.crowd.end();
     }
-}
-
-/// Ends a stream on this side, and drops what the client still sends before it is closed.
-fn drop_rest<S: Read + OpenStream + Drop>(mut stream: S) -> io::Result<()> {
-    stream.shutdown(Shutdown::Write)?;
-    stream.set_read_timeout(Some(Duration::from_millis(DROP_SILENCE)))?;
-    let mut buf = [0; DROP_SIZE];
-    for _read in 0..DROPS {
-        if stream.read(&mut buf)? == 0 {
-            return Ok(());
-        }
-    }
-    Ok(())
 }

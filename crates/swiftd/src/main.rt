@@ -24,6 +24,13 @@ const USUAL_IDLE: u64 = 60;
 /// The most that `SWIFTD_IDLE` may say: a day.
 const LONGEST_IDLE: u64 = 86_400;
 
+/// How many MiB are read ahead of clients or kept to be sent to them in all, where `SWIFTD_AHEAD` doesn't say, and at most.
+const USUAL_AHEAD: u64 = 64;
+
+const MOST_AHEAD: u64 = 65_536;
+
+const MEBIBYTE: u64 = 1_048_576;
+
 fn main(rt: HostRuntime) -> ExitCode {
     match start(&rt) {
         Ok(status) => ExitCode::from(status),
@@ -44,9 +51,17 @@ fn start(rt: &HostRuntime) -> io::Result<u8> {
             Err(_) => Ok(MEMORY),
         }
     } else {
-        let mut line = clients(rt)?;
-        run_over(rt, &words, &mut line)
+        serve(rt, &words)
     }
+}
+
+/// A run over the clients that come. What is kept for slow ones is sent before it ends; the status is that of the run, as no client's
+/// failure has one.
+fn serve(rt: &HostRuntime, words: &[String]) -> io::Result<u8> {
+    let mut line = clients(rt)?;
+    let status = run_over(rt, words, &mut line);
+    let _ = line.finish();
+    status
 }
 
 fn run_over<N: Line<NoCount>>(rt: &HostRuntime, words: &[String], line: &mut N) -> io::Result<u8> {
@@ -57,21 +72,28 @@ fn run_over<N: Line<NoCount>>(rt: &HostRuntime, words: &[String], line: &mut N) 
 
 /// The clients that come to the place which the environment names. How many of them are served is said by the words.
 fn clients(rt: &HostRuntime) -> io::Result<TcpLine<HostRuntime>> {
-    let limit = idle_limit(rt)?;
+    let limit = number(rt, "SWIFTD_IDLE", USUAL_IDLE, LONGEST_IDLE)?;
+    let ahead = ahead(rt)?;
     let Some(place) = variable(rt, "SWIFTD_LISTEN")? else {
         return Err(io::Error::from(ErrorKind::InvalidInput));
     };
     let listener = TcpListener::bind(rt, place.as_str())?;
-    TcpLine::new(rt, rt.alloc(), listener, limit, None)
+    TcpLine::new(rt.clone()?, rt.alloc(), listener, limit, None, ahead)
 }
 
-/// How many seconds a client may be silent.
-fn idle_limit(rt: &HostRuntime) -> io::Result<u64> {
-    let Some(text) = variable(rt, "SWIFTD_IDLE")? else {
-        return Ok(USUAL_IDLE);
+/// How many bytes are read ahead or kept to be sent, at most.
+fn ahead(rt: &HostRuntime) -> io::Result<usize> {
+    let count = number(rt, "SWIFTD_AHEAD", USUAL_AHEAD, MOST_AHEAD)?;
+    Ok(count.saturating_mul(MEBIBYTE) as usize)
+}
+
+/// The number that the environment says, from 1 to the most that there may be, or else the usual one.
+fn number(rt: &HostRuntime, name: &str, usual: u64, most: u64) -> io::Result<u64> {
+    let Some(text) = variable(rt, name)? else {
+        return Ok(usual);
     };
     match text.as_str().parse::<u64>() {
-        Ok(seconds) if 1 <= seconds && seconds <= LONGEST_IDLE => Ok(seconds),
+        Ok(number) if 1 <= number && number <= most => Ok(number),
         _ => Err(io::Error::from(ErrorKind::InvalidInput)),
     }
 }

@@ -1,0 +1,647 @@
+//! One client that is connected: what came of it, and what it has not taken yet.
+ghost use Rattle.std.specs.Prelude.{◌≤◌, length, IfOk};
+
+use crate::front::{Front, HEAD_LIMIT, find_front};
+use std::alloc::{AllocError, Global};
+use std::io;
+use std::io::{ErrorKind, Read, Write};
+use std::net::{OpenStream, Shutdown};
+use std::time::Duration;
+
+/// The bytes that one read asks for.
+const PIECE: usize = 65_536;
+
+/// And while a head is sought.
+const HEAD_PIECE: usize = 4_096;
+
+/// How many reads or writes are made on one client before others have their turn.
+const TURNS: usize = 32;
+
+/// A larger room is given back once it is empty, so that clients that only stay connected hold little.
+const KEPT: usize = 8_192;
+
+/// How many bytes are dropped of a client whose connection ends.
+const DROPS: usize = 16_777_216;
+
+/// How many milliseconds such a client may be silent.
+const DROP_SILENCE: u64 = 200;
+
+/// What asks for a body.
+const INTERIM: &[u8] = b"HTTP/1.1 100 Continue\r\n\r\n";
+
+#[derive(Clone, Copy, Debug, PartialEq, Eq)]
+pub(crate) enum Phase {
+    /// It waits for a turn: nothing of a request was given yet.
+    Waits,
+    /// A request of it was given, and has no reply yet.
+    Served,
+    /// It has its last reply, which may still be on its way.
+    Closing,
+}
+
+/// What becomes of a client that was attended.
+#[derive(Clone, Copy)]
+pub(crate) enum After {
+    /// There is more to do at once. No report comes of what a stream has already been found ready for.
+    GoesOn,
+    /// It sends more, for which there is no room.
+    Full,
+    /// Nothing is to be done before a report comes, or that moment.
+    Rests(Duration),
+    /// It is done with.
+    Gone,
+}
+
+/// Why a client that is served gives no bytes.
+#[derive(Clone, Copy)]
+pub(crate) enum Lack {
+    /// It came to its end.
+    End,
+    /// It failed or was silent for the limit, in the middle of its request.
+    Fault,
+    /// The rest of its request may come for so long.
+    Rest(Duration),
+    /// Its next request may come for so long.
+    Next(Duration),
+}
+
+#[derive(Drop)]
+pub(crate) struct Client<S> {
+    stream: S,
+    phase: Phase,
+    /// What came and was not given, from `given` on.
+    came: Vec<u8>,
+    given: usize,
+    /// In how many bytes of `came` no end of a head was found.
+    sought: usize,
+    /// How many bytes the request at the front has, 0 while it isn't known, and how many of them are to be given.
+    size: usize,
+    left: usize,
+    asks: bool,
+    /// Whether the line has asked for the body in the gateway's place.
+    offered: bool,
+    /// Whether its requests have ends that are known; and where they haven't, whether it is in the middle of one.
+    framed: bool,
+    busy: bool,
+    /// Whether it can be given.
+    ready: bool,
+    /// What is kept to be sent, from `sent` on.
+    unsent: Vec<u8>,
+    sent: usize,
+    /// What the system reported, and no refusal took back.
+    readable: bool,
+    writable: bool,
+    /// Its end came, or it failed.
+    over: bool,
+    failed: bool,
+    shut: bool,
+    dropped: usize,
+    /// When it last sent anything, when it last took anything or began to be sent anything, and when its request began.
+    heard: Duration,
+    took: Duration,
+    pub(crate) began: Duration,
+    /// Whether it stands in the queue of those that are ready, and in that of those to be attended.
+    pub(crate) queued: bool,
+    pub(crate) stirred: bool,
+    /// How many of its bytes are counted as held.
+    pub(crate) counted: usize,
+}
+
+impl<S: Read + Write + OpenStream + Drop> Client<S> {
+    pub(crate) fn new(alloc: Global, stream: S, now: Duration) -> Client<S> {
+        Client {
+            stream,
+            phase: Phase::Waits,
+            came: Vec::new(alloc),
+            given: 0,
+            sought: 0,
+            size: 0,
+            left: 0,
+            asks: false,
+            offered: false,
+            framed: true,
+            busy: false,
+            ready: false,
+            unsent: Vec::new(alloc),
+            sent: 0,
+            readable: true,
+            writable: true,
+            over: false,
+            failed: false,
+            shut: false,
+            dropped: 0,
+            heard: now,
+            took: now,
+            began: now,
+            queued: false,
+            stirred: false,
+            counted: 0,
+        }
+    }
+
+    /// How many bytes it holds.
+    pub(crate) fn held(&self) -> usize {
+        self.came.len().saturating_add(self.unsent.len())
+    }
+
+    /// When it last sent or took anything.
+    pub(crate) fn last(&self) -> Duration {
+        if self.heard < self.took {
+            self.took
+        } else {
+            self.heard
+        }
+    }
+
+    /// Whether it is silent between two requests.
+    pub(crate) fn is_idle(&self) -> bool {
+        self.phase == Phase::Waits && self.came.is_empty() && self.unsent.is_empty()
+    }
+
+    /// Whether the request at its front is known, and a part of it is there.
+    pub(crate) fn is_part(&self) -> bool {
+        self.phase == Phase::Waits && self.size != 0 && !self.ready
+    }
+
+    /// Whether it can be given now. While bytes are kept for it, it can't: its replies stay in order, and are not more than one.
+    pub(crate) fn is_next(&self) -> bool {
+        self.phase == Phase::Waits && self.ready && self.unsent.is_empty()
+    }
+
+    /// Notes what the system reported of its stream.
+    pub(crate) fn mark(&mut self, readable: bool, writable: bool) {
+        self.readable = self.readable || readable;
+        self.writable = self.writable || writable;
+    }
+
+    /// Sends what is kept, and reads ahead or drops what comes. `full` says that there is no room to read ahead.
+    pub(crate) fn attend(&mut self, now: Duration, limit: Duration, full: bool) -> After {
+        self.flush(now);
+        let gone = match self.phase {
+            Phase::Waits => {
+                if full && self.holds_part() {
+                    return self.stall(now, limit);
+                }
+                self.read_ahead(now, full)
+            }
+            Phase::Served => false,
+            Phase::Closing => self.leave(now),
+        };
+        if gone {
+            After::Gone
+        } else {
+            self.rest(now, limit)
+        }
+    }
+
+    /// Whether it has bytes of a request, and more of them are to be read.
+    fn holds_part(&self) -> bool {
+        !self.came.is_empty() && !self.ready && !self.over && self.readable
+    }
+
+    /// It waits for room. Only a head has a limit meanwhile.
+    fn stall(&self, now: Duration, limit: Duration) -> After {
+        if self.size == 0 && self.began.saturating_add(limit) <= now {
+            After::Gone
+        } else {
+            After::Full
+        }
+    }
+
+    /// Reads ahead. Where there is no room that is one small piece, so that a short request is there whole. True once nothing can
+    /// come of it.
+    fn read_ahead(&mut self, now: Duration, full: bool) -> bool {
+        let turns = if full { 1 } else { TURNS };
+        if self.hear(turns, now).is_err() {
+            self.fail();
+        }
+        self.ask_for_body(now);
+        self.over && (self.failed || !self.ready && self.unsent.is_empty())
+    }
+
+    fn rest(&self, now: Duration, limit: Duration) -> After {
+        let end = self.deadline(limit);
+        if end <= now {
+            After::Gone
+        } else if self.goes_on() {
+            After::GoesOn
+        } else {
+            After::Rests(end)
+        }
+    }
+
+    /// Reads what comes, until the request at the front is there.
+    fn hear(&mut self, turns: usize, now: Duration) -> Result<(), AllocError> {
+        for _turn in 0..turns {
+            if self.ready || self.over || !self.readable {
+                return Ok(());
+            }
+            if self.came.is_empty() {
+                self.began = now;
+            }
+            self.hear_piece(now)?;
+            self.judge();
+        }
+        Ok(())
+    }
+
+    fn hear_piece(&mut self, now: Duration) -> Result<(), AllocError> {
+        let came = self.came.len();
+        let room = self.room();
+        self.came.resize(came.saturating_add(room), 0)?;
+        let start = came.min(self.came.len());
+        let got = self.stream.read(&mut self.came[start..]);
+        let count = self.note(got, now);
+        self.came.truncate(came.saturating_add(count));
+        Ok(())
+    }
+
+    /// How many bytes are asked for.
+    fn room(&self) -> usize {
+        if self.size == 0 {
+            HEAD_PIECE
+        } else {
+            PIECE.min(self.size.saturating_sub(self.came.len())).max(1)
+        }
+    }
+
+    /// How many bytes came, with what that says of the stream.
+    fn note(&mut self, got: io::Result<usize>, now: Duration) -> usize {
+        match got {
+            Ok(0) => {
+                self.over = true;
+                0
+            }
+            Ok(count) => {
+                self.heard = now;
+                count
+            }
+            Err(error) => {
+                match error.kind() {
+                    ErrorKind::WouldBlock => self.readable = false,
+                    ErrorKind::Interrupted => {}
+                    _ => {
+                        self.over = true;
+                        self.failed = true;
+                    }
+                }
+                0
+            }
+        }
+    }
+
+    /// What stands at the front, by all that came. A body that its client ended is given, for that gets an answer; half a head isn't.
+    fn judge(&mut self) {
+        if self.came.is_empty() {
+            return;
+        }
+        if self.size == 0 && self.has_line() {
+            self.find();
+        }
+        if self.size != 0 && (self.over || self.came.len() >= self.size) {
+            self.ready = true;
+        }
+    }
+
+    /// Whether more was read that may end a head: a line end, or as much as no head may have.
+    fn has_line(&self) -> bool {
+        self.came.len() >= HEAD_LIMIT
+            || self.came[self.sought.min(self.came.len())..].contains(&b'\n')
+    }
+
+    fn find(&mut self) {
+        self.sought = self.came.len();
+        match find_front(&self.came) {
+            Front::Part => {}
+            Front::Request { size, asks } => {
+                self.size = size;
+                self.asks = asks;
+            }
+            Front::Open => {
+                self.framed = false;
+                self.ready = true;
+            }
+        }
+    }
+
+    /// Asks for the body of a request whose client waits to be asked, as the gateway would: once, and behind what is kept to be sent.
+    fn ask_for_body(&mut self, now: Duration) {
+        if !self.asks || self.offered || self.ready || self.over || !self.unsent.is_empty() {
+            return;
+        }
+        self.took = now;
+        if let Ok(count) = self.send(INTERIM, now) {
+            self.offered = true;
+            if self.keep(&INTERIM[count.min(INTERIM.len())..]).is_err() {
+                self.fail();
+            }
+        }
+    }
+
+    /// Whether these bytes were sent already.
+    fn is_offered(&self, bytes: &[u8]) -> bool {
+        self.offered && bytes == INTERIM
+    }
+
+    /// It is given.
+    pub(crate) fn begin(&mut self) {
+        self.phase = Phase::Served;
+        self.busy = true;
+        self.ready = false;
+        self.queued = false;
+        if self.size == 0 {
+            self.framed = false;
+        }
+        self.left = self.size;
+    }
+
+    /// Bytes of the request that is given: of those that came, and else from the stream. 0 where there is none now.
+    pub(crate) fn give(&mut self, buf: &mut [u8], now: Duration) -> usize
+        ensures { result ≤ length buf.old }
+    {
+        let most = self.most(buf.len());
+        let count = most.min(self.came.len().saturating_sub(self.given));
+        if count > 0 {
+            let start = self.given.min(self.came.len() - count);
+            buf[..count].copy_from_slice(&self.came[start..start + count]);
+            self.given = start.saturating_add(count);
+            self.busy = true;
+            self.left = self.left.saturating_sub(count);
+            if self.given == self.came.len() {
+                self.empty();
+            }
+            return count;
+        }
+        if self.over || !self.readable || most == 0 {
+            return 0;
+        }
+        let got = self.stream.read(&mut buf[..most]);
+        let count = self.note(got, now).min(most);
+        self.left = self.left.saturating_sub(count);
+        self.busy = self.busy || count > 0;
+        count
+    }
+
+    /// How many bytes may be given into so much room.
+    fn most(&self, room: usize) -> usize
+        ensures { result ≤ room }
+    {
+        if self.phase != Phase::Served {
+            0
+        } else if self.framed {
+            room.min(self.left)
+        } else {
+            room
+        }
+    }
+
+    fn empty(&mut self) {
+        self.given = 0;
+        if self.came.capacity() > KEPT {
+            let alloc = *self.came.allocator();
+            self.came = Vec::new(alloc);
+        } else {
+            self.came.truncate(0);
+        }
+    }
+
+    /// It was replied to. What stands behind the request is its next.
+    pub(crate) fn replied(&mut self, now: Duration) {
+        self.busy = false;
+        if !self.framed || self.left != 0 {
+            return;
+        }
+        let rest = self.came.len().saturating_sub(self.given);
+        self.came.copy_within(self.given.min(self.came.len()).., 0);
+        self.came.truncate(rest);
+        self.given = 0;
+        self.sought = 0;
+        self.size = 0;
+        self.asks = false;
+        self.offered = false;
+        self.phase = Phase::Waits;
+        self.ready = false;
+        self.began = now;
+        self.judge();
+    }
+
+    /// Whether nothing more of its request is to come.
+    fn is_given(&self) -> bool {
+        if self.framed {
+            self.left == 0
+        } else {
+            !self.busy
+        }
+    }
+
+    /// Whether the ends of its requests are known, so that it can give way to another client.
+    pub(crate) fn is_framed(&self) -> bool {
+        self.framed
+    }
+
+    /// Why it gives nothing now. It may be silent for the limit.
+    pub(crate) fn lack(&self, now: Duration, limit: Duration) -> Lack {
+        let given = self.is_given();
+        let end = self.silent_end(limit);
+        if self.ready || !self.over && now < end {
+            let wait = end.saturating_sub(now);
+            if given {
+                Lack::Next(wait)
+            } else {
+                Lack::Rest(wait)
+            }
+        } else if given || self.over && !self.failed {
+            Lack::End
+        } else {
+            Lack::Fault
+        }
+    }
+
+    /// When it has been silent for the limit, or for a head too long.
+    fn silent_end(&self, limit: Duration) -> Duration {
+        if self.phase == Phase::Waits {
+            self.deadline(limit)
+        } else {
+            self.last().saturating_add(limit)
+        }
+    }
+
+    /// Bytes are to be sent: from now on it may take nothing for the limit of time.
+    pub(crate) fn begin_sending(&mut self, now: Duration) {
+        if self.unsent.is_empty() {
+            self.took = now;
+        }
+    }
+
+    /// When it has taken nothing for the limit of time.
+    pub(crate) fn last_taking(&self, limit: Duration) -> Duration {
+        self.took.saturating_add(limit)
+    }
+
+    /// How many bytes it takes at once, or are kept for it, where they are at most so many.
+    pub(crate) fn put(&mut self, bytes: &[u8], room: usize, now: Duration) -> io::Result<usize> {
+        if self.is_offered(bytes) {
+            return Ok(bytes.len());
+        }
+        let count = self.take(bytes, now)?;
+        let rest = &bytes[count.min(bytes.len())..];
+        if rest.len() <= room && self.keep(rest).is_ok() {
+            Ok(bytes.len())
+        } else {
+            Ok(count)
+        }
+    }
+
+    /// How many bytes it takes at once. None while others are kept for it.
+    fn take(&mut self, bytes: &[u8], now: Duration) -> io::Result<usize> {
+        self.flush(now);
+        if self.failed {
+            return Err(io::Error::from(ErrorKind::BrokenPipe));
+        }
+        if self.unsent.is_empty() {
+            self.send(bytes, now)
+        } else {
+            Ok(0)
+        }
+    }
+
+    fn send(&mut self, bytes: &[u8], now: Duration) -> io::Result<usize> {
+        let mut count = 0usize;
+        for _turn in 0..TURNS {
+            if !self.writable || count >= bytes.len() {
+                break;
+            }
+            let put = self.stream.write(&bytes[count..]);
+            count = count.saturating_add(self.note_put(put, now));
+        }
+        if self.failed {
+            return Err(io::Error::from(ErrorKind::BrokenPipe));
+        }
+        Ok(count.min(bytes.len()))
+    }
+
+    /// How many bytes it took, with what that says of the stream.
+    fn note_put(&mut self, put: io::Result<usize>, now: Duration) -> usize {
+        match put {
+            Ok(0) => {
+                self.fail();
+                0
+            }
+            Ok(count) => {
+                self.took = now;
+                count
+            }
+            Err(error) => {
+                match error.kind() {
+                    ErrorKind::WouldBlock => self.writable = false,
+                    ErrorKind::Interrupted => {}
+                    _ => self.fail(),
+                }
+                0
+            }
+        }
+    }
+
+    /// Sends of what is kept what it takes at once.
+    fn flush(&mut self, now: Duration) {
+        for _turn in 0..TURNS {
+            if !self.writable || self.sent >= self.unsent.len() {
+                break;
+            }
+            let put = self.stream.write(&self.unsent[self.sent..]);
+            let count = self.note_put(put, now);
+            self.sent = self.sent.saturating_add(count);
+        }
+        if self.failed || self.sent >= self.unsent.len() {
+            self.forget_unsent();
+        }
+    }
+
+    fn forget_unsent(&mut self) {
+        if !self.unsent.is_empty() {
+            self.sent = 0;
+            let alloc = *self.unsent.allocator();
+            self.unsent = Vec::new(alloc);
+        }
+    }
+
+    fn fail(&mut self) {
+        self.over = true;
+        self.failed = true;
+        self.writable = false;
+    }
+
+    /// Keeps bytes to be sent later.
+    fn keep(&mut self, bytes: &[u8]) -> Result<(), AllocError> {
+        self.unsent.extend_from_slice(bytes)
+    }
+
+    /// It gets nothing more than what is kept for it.
+    pub(crate) fn close(&mut self, now: Duration) {
+        self.phase = Phase::Closing;
+        self.ready = false;
+        self.heard = now;
+        self.size = 0;
+        self.empty();
+    }
+
+    /// Ends it from this side once all is sent, and drops what it still sends. True once there is no more to wait for.
+    fn leave(&mut self, now: Duration) -> bool {
+        if self.failed {
+            return true;
+        }
+        if !self.unsent.is_empty() {
+            return false;
+        }
+        if !self.shut {
+            self.shut = true;
+            self.heard = now;
+            if self.stream.shutdown(Shutdown::Write).is_err() {
+                return true;
+            }
+        }
+        self.drop_rest(now)
+    }
+
+    fn drop_rest(&mut self, now: Duration) -> bool {
+        let mut buf = [0; 4096];
+        for _turn in 0..TURNS {
+            if self.over || self.dropped > DROPS {
+                return true;
+            }
+            if !self.readable {
+                return false;
+            }
+            let got = self.stream.read(&mut buf);
+            let count = self.note(got, now);
+            self.dropped = self.dropped.saturating_add(count);
+        }
+        self.over
+    }
+
+    /// When it is given up, if nothing comes or goes before. Who is served, or waits for a turn, isn't: those are not the silent ones.
+    fn deadline(&self, limit: Duration) -> Duration {
+        if self.phase == Phase::Closing && self.shut {
+            self.heard
+                .saturating_add(Duration::from_millis(DROP_SILENCE))
+        } else if !self.unsent.is_empty() {
+            self.last_taking(limit)
+        } else if self.ready || self.phase == Phase::Served {
+            Duration::MAX
+        } else if self.size == 0 && !self.came.is_empty() {
+            self.began.saturating_add(limit)
+        } else {
+            self.last().saturating_add(limit)
+        }
+    }
+
+    /// Whether more of it is to be done at once.
+    fn goes_on(&self) -> bool {
+        let hears = match self.phase {
+            Phase::Waits => !self.ready,
+            Phase::Served => false,
+            Phase::Closing => self.shut,
+        };
+        hears && self.readable && !self.over || self.writable && !self.unsent.is_empty()
+    }
+}

@@ -1,0 +1,540 @@
+//! The clients of a listener, side by side: which of them has a request, and what waits to be sent.
+ghost use Rattle.std.specs.Prelude.{◌≤◌, length, IfOk};
+
+use crate::client::{After, Client, Lack};
+use crate::places::Places;
+use crate::watch::{LISTENER, Watch};
+use std::alloc::Global;
+use std::collections::VecDeque;
+use std::io;
+use std::io::ErrorKind;
+use std::net::{Net, OpenListener, OpenStream};
+use std::os::fd::AsRawFd;
+use std::time::{Clock, Duration};
+
+/// How many clients are accepted before those that are there are looked at again.
+const ACCEPTS: usize = 256;
+
+/// How many milliseconds a client is silent before it gives way to one that has no place.
+const GRACE: u64 = 1_000;
+
+/// How many milliseconds pass between two looks at all clients, and how long a listener rests that failed.
+const REST: u64 = 100;
+
+/// How many times in a row the listener may fail while nobody is connected.
+const LOSSES: u32 = 100;
+
+/// One thread reads ahead of all clients and sends what is kept for them, while one of them is served.
+///
+/// Work goes by two queues: who is to be attended, and who has a whole request. An entry may be outdated, for a client that
+/// was served or ended meanwhile; then it is passed over. Only every `REST` are all clients looked at, for their times.
+#[derive(Drop)]
+pub(crate) struct Crowd<R: Net> {
+    rt: R,
+    alloc: Global,
+    listener: R::Listener,
+    watch: Watch,
+    places: Places<R::Stream>,
+    ready: VecDeque<usize>,
+    stirred: VecDeque<usize>,
+    /// The place of the client that is served.
+    open: Option<usize>,
+    /// Whether the listener may have clients, and whether they are still taken.
+    waiting: bool,
+    ending: bool,
+    losses: u32,
+    limit: Duration,
+    /// How many bytes are read ahead or wait to be sent, at most, and how many do. `full` says that a client waits for room.
+    most: usize,
+    held: usize,
+    full: bool,
+    now: Duration,
+    /// When all clients are looked at next, though nothing comes.
+    due: Duration,
+}
+
+impl<R: Net + Clock + Drop> Crowd<R> {
+    pub(crate) fn new(
+        rt: R,
+        alloc: Global,
+        listener: R::Listener,
+        limit: Duration,
+        most: usize,
+    ) -> io::Result<Crowd<R>> {
+        listener.set_nonblocking(true)?;
+        let now = rt.monotonic()?;
+        let watch = Watch::new(&rt, alloc, listener.as_raw_fd())?;
+        Ok(Crowd {
+            rt,
+            alloc,
+            listener,
+            watch,
+            places: Places::new(alloc),
+            ready: VecDeque::new(alloc),
+            stirred: VecDeque::new(alloc),
+            open: None,
+            waiting: true,
+            ending: false,
+            losses: 0,
+            limit,
+            most,
+            held: 0,
+            full: false,
+            now,
+            due: now,
+        })
+    }
+
+    /// Waits until a client has a request, which is then served. The one that is served now ends.
+    pub(crate) fn next(&mut self) -> io::Result<()> {
+        self.end();
+        self.look(Duration::ZERO)?;
+        for _wait in 0..u64::MAX {
+            if let Some(place) = self.choose() {
+                self.begin(place);
+                return Ok(());
+            }
+            if self.losses >= LOSSES {
+                self.losses = 0;
+                return Err(io::Error::from(ErrorKind::Other));
+            }
+            self.look(Duration::MAX)?;
+        }
+        Err(io::Error::from(ErrorKind::Other))
+    }
+
+    /// The place of the client that has had a request for the longest time. Where others wait for room it is the one whose request
+    /// began first, so that it makes room.
+    fn choose(&mut self) -> Option<usize> {
+        if self.full && self.held >= self.most {
+            if let Some(place) = self.places.oldest_part(self.now) {
+                return Some(place);
+            }
+        }
+        self.first_ready()
+    }
+
+    fn first_ready(&mut self) -> Option<usize> {
+        for _entry in 0..self.ready.len() {
+            let place = match self.ready.front() {
+                Some(place) => *place,
+                None => return None,
+            };
+            if self.is_next(place) {
+                return Some(place);
+            }
+            let _ = self.ready.pop_front();
+        }
+        None
+    }
+
+    fn is_next(&self, place: usize) -> bool {
+        match self.places.get(place) {
+            Some(client) => client.queued && client.is_next(),
+            None => false,
+        }
+    }
+
+    fn begin(&mut self, place: usize) {
+        self.open = Some(place);
+        if let Some(client) = self.places.get_mut(place) {
+            client.begin();
+        }
+    }
+
+    /// Bytes of the client that is served, or none: it came to its end, or gives way to another client that has a request,
+    /// and comes again.
+    pub(crate) fn receive(&mut self, buf: &mut [u8]) -> io::Result<usize>
+        ensures { IfOk result (λ count. count ≤ length buf.old) }
+    {
+        for _wait in 0..u64::MAX {
+            let Some(place) = self.open else {
+                return Ok(0);
+            };
+            let count = self.give(place, buf);
+            if count > 0 {
+                return Ok(count);
+            }
+            if self.is_at_end(place)? {
+                return Ok(0);
+            }
+        }
+        Ok(0)
+    }
+
+    fn give(&mut self, place: usize, buf: &mut [u8]) -> usize
+        ensures { result ≤ length buf.old }
+    {
+        let count = match self.places.get_mut(place) {
+            Some(client) => client.give(buf, self.now),
+            None => 0,
+        };
+        self.count(place);
+        count
+    }
+
+    /// Whether the client that is served has nothing more to give. Else its bytes may have come, after a wait.
+    fn is_at_end(&mut self, place: usize) -> io::Result<bool> {
+        let lack = match self.places.get(place) {
+            Some(client) => client.lack(self.now, self.limit),
+            None => Lack::End,
+        };
+        match lack {
+            Lack::End => Ok(true),
+            Lack::Fault => Err(io::Error::from(ErrorKind::TimedOut)),
+            Lack::Rest(wait) => {
+                self.look(wait)?;
+                Ok(false)
+            }
+            Lack::Next(wait) => self.gives_way(place, wait),
+        }
+    }
+
+    /// Whether a client that has no request at hand gives way to one that has.
+    fn gives_way(&mut self, place: usize, wait: Duration) -> io::Result<bool> {
+        match self.choose() {
+            Some(first) if first == place => {
+                self.begin(place);
+                Ok(false)
+            }
+            Some(_) => {
+                self.park(place);
+                Ok(true)
+            }
+            None => {
+                self.look(wait)?;
+                Ok(false)
+            }
+        }
+    }
+
+    /// It stays connected, though it isn't served. Where the ends of its requests aren't known it can't, and ends.
+    fn park(&mut self, place: usize) {
+        let framed = match self.places.get(place) {
+            Some(client) => client.is_framed(),
+            None => false,
+        };
+        if framed {
+            self.open = None;
+        }
+    }
+
+    /// Sends bytes to the client that is served, or keeps what it doesn't take at once. `last` says that they end a reply.
+    pub(crate) fn send(&mut self, bytes: &[u8], last: bool) -> io::Result<()> {
+        let Some(place) = self.open else {
+            return Ok(());
+        };
+        self.begin_sending(place)?;
+        let mut rest = bytes;
+        for _wait in 0..u64::MAX {
+            let count = self.put(place, rest)?;
+            rest = &rest[count.min(rest.len())..];
+            if rest.is_empty() {
+                break;
+            }
+            self.wait_for_taking(place)?;
+        }
+        if last {
+            self.replied(place);
+        }
+        Ok(())
+    }
+
+    fn begin_sending(&mut self, place: usize) -> io::Result<()> {
+        self.now = self.rt.monotonic()?;
+        if let Some(client) = self.places.get_mut(place) {
+            client.begin_sending(self.now);
+        }
+        Ok(())
+    }
+
+    /// How many bytes a client takes at once, or are kept for it.
+    fn put(&mut self, place: usize, bytes: &[u8]) -> io::Result<usize> {
+        let room = self.most.saturating_sub(self.held);
+        let now = self.now;
+        let count = match self.places.get_mut(place) {
+            Some(client) => client.put(bytes, room, now)?,
+            None => bytes.len(),
+        };
+        self.count(place);
+        Ok(count)
+    }
+
+    fn wait_for_taking(&mut self, place: usize) -> io::Result<()> {
+        let end = match self.places.get(place) {
+            Some(client) => client.last_taking(self.limit),
+            None => Duration::ZERO,
+        };
+        let left = end.saturating_sub(self.now);
+        if left.is_zero() {
+            return Err(io::Error::from(ErrorKind::TimedOut));
+        }
+        self.look(left)
+    }
+
+    /// The report of its next request, or of its end, may have come already: so it is attended at once.
+    fn replied(&mut self, place: usize) {
+        if let Some(client) = self.places.get_mut(place) {
+            client.replied(self.now);
+        }
+        self.attend(place);
+    }
+
+    /// Ends the client that is served. What is kept is sent first.
+    pub(crate) fn end(&mut self) {
+        if let Some(place) = self.open.take() {
+            self.close(place);
+        }
+    }
+
+    fn close(&mut self, place: usize) {
+        if let Some(client) = self.places.get_mut(place) {
+            client.close(self.now);
+        }
+        self.attend(place);
+    }
+
+    /// Sends what is kept, and ends all clients. One that takes nothing for the limit of time is given up. Nobody is accepted any more.
+    pub(crate) fn finish(&mut self) -> io::Result<()> {
+        self.now = self.rt.monotonic()?;
+        self.open = None;
+        self.ending = true;
+        for place in 0..self.places.len() {
+            self.close(place);
+        }
+        for _wait in 0..u64::MAX {
+            if self.places.are_empty() {
+                return Ok(());
+            }
+            self.look(Duration::from_millis(REST))?;
+        }
+        Ok(())
+    }
+
+    /// Waits for whatever comes first, at most so long, and does what is due with each client of which something came.
+    fn look(&mut self, wait: Duration) -> io::Result<()> {
+        let wait = self.wait_within(wait);
+        self.watch.wait(wait)?;
+        self.now = self.rt.monotonic()?;
+        self.mark();
+        if self.waiting && !self.ending {
+            self.accept();
+        }
+        self.attend_stirred();
+        if self.due <= self.now {
+            self.attend_all();
+        }
+        Ok(())
+    }
+
+    /// No wait is longer than until the next look at all clients, which keeps the system's own limit of a wait.
+    fn wait_within(&self, wait: Duration) -> Duration {
+        if self.stirred.is_empty() {
+            wait.min(self.due.saturating_sub(self.now))
+        } else {
+            Duration::ZERO
+        }
+    }
+
+    /// Notes what the system reported.
+    fn mark(&mut self) {
+        for event in self.watch.events.iter() {
+            let place = event.token().0;
+            let failed = event.is_error() || event.is_read_closed();
+            if place == LISTENER {
+                self.waiting = true;
+            } else if let Some(client) = self.places.get_mut(place) {
+                client.mark(event.is_readable() || failed, event.is_writable() || failed);
+                if !client.stirred && self.stirred.push_back(place).is_ok() {
+                    client.stirred = true;
+                }
+            }
+        }
+    }
+
+    /// Attends those of whom something came. Who isn't done after that has its next turn behind the others.
+    fn attend_stirred(&mut self) {
+        for _entry in 0..self.stirred.len() {
+            if let Some(place) = self.stirred.pop_front() {
+                if let Some(client) = self.places.get_mut(place) {
+                    client.stirred = false;
+                }
+                self.attend(place);
+            }
+        }
+    }
+
+    /// Attends all clients, which ends those whose time is over, and goes on with those that waited for room.
+    fn attend_all(&mut self) {
+        self.full = false;
+        self.due = self.now.saturating_add(self.limit);
+        for place in 0..self.places.len() {
+            self.attend(place);
+        }
+        self.due = self.due.max(self.rested());
+        if self.waiting || self.full {
+            self.due = self.rested();
+        }
+    }
+
+    /// The end of a rest that begins now.
+    fn rested(&self) -> Duration {
+        self.now.saturating_add(Duration::from_millis(REST))
+    }
+
+    /// Does what is due with one client.
+    fn attend(&mut self, place: usize) {
+        let full = self.held >= self.most;
+        let after = match self.places.get_mut(place) {
+            Some(client) => client.attend(self.now, self.limit, full),
+            None => return,
+        };
+        self.count(place);
+        match after {
+            After::GoesOn => self.stir(place),
+            After::Full => self.full = true,
+            After::Rests(end) => self.due = self.due.min(end),
+            After::Gone => {
+                if self.open != Some(place) {
+                    self.forget(place);
+                }
+            }
+        }
+        self.line_up(place);
+    }
+
+    /// Counts anew what a client holds. Where that makes room, those who wait for it go on soon.
+    fn count(&mut self, place: usize) {
+        if let Some(client) = self.places.get_mut(place) {
+            let held = client.held();
+            self.held = self
+                .held
+                .saturating_sub(client.counted)
+                .saturating_add(held);
+            client.counted = held;
+        }
+        self.make_room();
+    }
+
+    fn make_room(&mut self) {
+        if self.full && self.held < self.most {
+            self.due = self.now;
+        }
+    }
+
+    /// It is attended in the next look, or without memory for that in the next look at all.
+    fn stir(&mut self, place: usize) {
+        if let Some(client) = self.places.get_mut(place) {
+            if !client.stirred {
+                client.stirred = true;
+                if self.stirred.push_back(place).is_err() {
+                    client.stirred = false;
+                    self.due = self.now;
+                }
+            }
+        }
+    }
+
+    /// A client that can be given stands in the queue of those, once.
+    fn line_up(&mut self, place: usize) {
+        if let Some(client) = self.places.get_mut(place) {
+            if client.is_next() && !client.queued {
+                client.queued = true;
+                if self.ready.push_back(place).is_err() {
+                    client.queued = false;
+                    self.due = self.now;
+                }
+            }
+        }
+    }
+
+    fn forget(&mut self, place: usize) {
+        if let Some(client) = self.places.get(place) {
+            self.held = self.held.saturating_sub(client.counted);
+            self.places.empty(place);
+        }
+        self.make_room();
+    }
+
+    /// Accepts the clients that wait, as far as there are places.
+    fn accept(&mut self) {
+        for _client in 0..ACCEPTS {
+            if !self.has_room() {
+                return self.rest();
+            }
+            match self.listener.accept() {
+                Ok((stream, _)) => {
+                    self.losses = 0;
+                    let _ = self.welcome(stream);
+                }
+                Err(error) => {
+                    if self.stops(error.kind()) {
+                        return;
+                    }
+                }
+            }
+        }
+        self.rest();
+    }
+
+    /// Whether no more clients are accepted now, by an error of the listener. One that went away while it waited is passed over.
+    fn stops(&mut self, error: ErrorKind) -> bool {
+        match error {
+            ErrorKind::WouldBlock => self.waiting = false,
+            ErrorKind::ConnectionAborted | ErrorKind::Interrupted => return false,
+            _ => {
+                self.lose();
+                self.rest();
+            }
+        }
+        true
+    }
+
+    /// The listener has clients still, and no report comes of them: it is tried again a little later.
+    fn rest(&mut self) {
+        self.due = self.due.min(self.rested());
+    }
+
+    /// Whether there is a place for one more client: an empty one, or that of the one that has been idle the longest.
+    fn has_room(&mut self) -> bool {
+        if !self.places.has_room() {
+            self.forget_idlest();
+        }
+        self.places.has_room()
+    }
+
+    fn forget_idlest(&mut self) -> bool {
+        let grace = Duration::from_millis(GRACE);
+        match self.places.idlest(self.now.saturating_sub(grace)) {
+            Some(place) if self.open != Some(place) => {
+                self.forget(place);
+                true
+            }
+            _ => false,
+        }
+    }
+
+    /// The listener failed. Where clients are connected their descriptors may be what it wants: the one that has been idle the longest
+    /// gives way. Where nobody is connected it is a loss.
+    fn lose(&mut self) {
+        if !self.forget_idlest() && self.places.are_empty() {
+            self.losses = self.losses.saturating_add(1);
+        }
+    }
+
+    /// A client that can't be watched is lost.
+    fn welcome(&mut self, stream: R::Stream) -> io::Result<()> {
+        stream.set_nonblocking(true)?;
+        stream.set_nodelay(true)?;
+        let source = stream.as_raw_fd();
+        let place = self.places.take()?;
+        self.places
+            .fill(place, Client::new(self.alloc, stream, self.now));
+        if self.watch.add_stream(source, place).is_err() {
+            self.places.empty(place);
+            return Err(io::Error::from(ErrorKind::Other));
+        }
+        self.stir(place);
+        Ok(())
+    }
+}
