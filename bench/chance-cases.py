@@ -1,7 +1,7 @@
 #!/usr/bin/env python3
 """Writes cases of requests by chance, over two buckets with three keys, with what each is to be answered.
 
-    bench/chance-cases.py > crates/conversations/data/chance.txt
+    bench/chance-cases.py > crates/cases/data/chance.txt
 
 The requests come from a generator with a fixed seed, and the replies from the small model below, which knows only what this
 profile says of twelve operations: status, code or ETag, and how many calls of the store each makes (docs/PROFILE.md). Nothing is
@@ -154,13 +154,21 @@ def case(chance, name):
         body = ".".join(str(number) for number in range(chance.randrange(40)))
         given += request_lines(act, bucket, path, body, turn, acl, is_signed)
         reply = service.answer(act, bucket, key, body, MOMENT + turn, acl, is_signed)
-        wanted.append(f"reply 1 {service.calls} {reply}")
+        wanted.append(f"= piece 1 {service.calls} {reply}")
     clock = " ".join(str(MOMENT + turn) for turn in range(REQUESTS))
-    left = [
-        f"container {name} {'everybody' if bucket.is_open else 'nobody'} {bucket.made} {len(bucket.objects)}"
-        for name, bucket in sorted(service.buckets.items())
-    ]
-    return [f"case {name}", "pieces 1000", f"clock {clock}", "connection", *given, "status 0", *wanted, *(left or ["containers none"])]
+    etags = " ".join(str(turn) for turn, line in enumerate(wanted, 1) if line.endswith('"'))
+    told = ["brief", f"etags {etags}", "tell left"]
+    return [f"case {name}", "pieces 1000", f"clock {clock}", *told, "connection", *given, "= status 0", *wanted, *left(service.buckets)]
+
+
+def left(buckets):
+    """What is left on the store, as it is told."""
+    names = ", ".join(f'"{name}"' for name in sorted(buckets))
+    lines = [f"= left [{names}]"]
+    for _, bucket in sorted(buckets.items()):
+        readers = "Everybody" if bucket.is_open else "Nobody"
+        lines += [f"= Readers {{ readers: {readers}, created: Some({bucket.made}) }}", f"= objects {len(bucket.objects)}"]
+    return lines
 
 
 def main():

@@ -1,7 +1,7 @@
 #!/usr/bin/env python3
 """Writes cases of object listings by chance, each walked to its end in its version, with the whole reply to each page.
 
-    bench/listing-cases.py > crates/conversations/data/listings-chance.txt
+    bench/listing-cases.py > crates/cases/data/listings-chance.txt
 
 The keys, prefixes, delimiters and markers come from a generator with a fixed seed, and the replies from the small model below,
 which knows only what this profile says of listings (docs/PROFILE.md): keys roll up first, then the marker is looked at, then
@@ -140,17 +140,17 @@ def case(bucket, objects, asked, number):
         given += [f"> GET {target} HTTP/1.1", ">~", ">"]
         data = body.encode()
         wanted += [
-            f"piece 1 {(turn + 1) * (1 if asked.max == 0 else 2)}",
-            "< HTTP/1.1 200 OK",
-            "< Date: Fri, 24 May 2013 00:00:00 GMT",
-            f"< x-amz-request-id: {2 * turn + 1:032x}",
-            "< Content-Type: application/xml",
-            f"< Content-Length: {len(data)}",
-            "<",
+            f"= piece 1 {(turn + 1) * (1 if asked.max == 0 else 2)}",
+            "= < HTTP/1.1 200 OK",
+            "= < Date: Fri, 24 May 2013 00:00:00 GMT",
+            f"= < x-amz-request-id: {2 * turn + 1:032x}",
+            "= < Content-Type: application/xml",
+            f"= < Content-Length: {len(data)}",
+            "= <",
         ]
         first, _, rest = body.partition("\n")
-        wanted += [f"<n {first}", f"<. {rest}"]
-    return [f"case listings by chance, {bucket}, {number}", "pieces 1000", "connection", *given, "status 0", *wanted, ""]
+        wanted += [f"= <n {first}", f"= <. {rest}"]
+    return [f"case listings by chance, {bucket}, {number}", "pieces 1000", "connection", *given, "= status 0", *wanted, ""]
 
 
 def setup(chance, bucket, objects):
@@ -160,7 +160,7 @@ def setup(chance, bucket, objects):
         content = objects[key]
         lines += [f"> PUT /{bucket}/{quote(key, safe='/')} HTTP/1.1", ">~", f"> Content-Length: {len(content)}", ">"]
         lines += [f">. {content.decode()}"] if content else []
-    return lines + [""]
+    return lines + ["= served", ""]
 
 
 def main():

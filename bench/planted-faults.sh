@@ -1,10 +1,11 @@
 #!/usr/bin/env bash
-# Whether the cases of `conversations` see what they are there to see: plants one fault after another in a copy of the
-# crates, runs `conversations` on it without a proof, and says whether a case differed.
+# Whether the cases see what they are there to see: plants one fault after another in a copy of the crates, runs the program
+# `cases` on it without a proof, and says whether it printed something else than its `stdout` has for these files.
 #
-#   bench/planted-faults.sh [WORD]    only the faults whose name has the word
+#   bench/planted-faults.sh [WORD]     only the faults whose name has the word; some two minutes of processor a fault
+#   bench/planted-faults.sh --texts    only whether the text of each fault stands in its file, which takes no time
 #
-# It is no part of the gate: some two minutes of processor a fault. The status is 1 where a fault went unseen.
+# The status is 1 where a fault went unseen, or its text isn't there.
 set -euo pipefail
 cd "$(dirname "$0")/.."
 exec python3 - "$@" <<'PYTHON'
@@ -20,53 +21,83 @@ FAULTS = [
     ("swift_calls account_at: one call early", "swift_calls/src/replay.rt", 1, "for entry in &self.log[..k as usize] {", "for entry in &self.log[..(k as usize).saturating_sub(1)] {", ["sweeps.txt"]),
     ("swift_calls go: a lost reply leaves the account", "swift_calls/src/replay.rt", 1, "                let _lost = serve(alloc, account, &self.request)?;", "                let _lost = self.request.copy()?;"),
     ("planner get_within: another code for a missing key", "planner/src/objects.rt", 1, "Code::NoSuchKey", "Code::NoSuchBucket"),
-    ("planner get_bytes: a call repeated", "planner/src/objects.rt", 1, "    match recovery::get_object(state, bucket, key) {", "    let _ = recovery::get_object(state, bucket, key);\n    match recovery::get_object(state, bucket, key) {"),
+    ("planner delete_object: a call repeated", "planner/src/objects.rt", 1, "    delete_from(state, bucket, key)\n", "    let _ = head_bucket(state, &bucket)?;\n    delete_from(state, bucket, key)\n"),
     ("planner reply_of: a failed call is a refusal", "planner/src/operation.rt", 1, "Err(PlanFault::Failed) => Reply::Refused(Code::ServiceUnavailable)", "Err(PlanFault::Failed) => Reply::Refused(Code::AccessDenied)"),
     ("recovery put_request: metadata dropped", "recovery/src/object.rt", 1, "pack(alloc, meta)?", "pack(alloc, &Meta::new(alloc))?"),
     ("recovery tag_text: another moment", "recovery/src/object.rt", 1, "        moment,\n        id: None,", "        moment: moment / 2,\n        id: None,"),
     ("recovery make_bucket: the bucket has no moment", "recovery/src/bucket.rt", 1, "created: Some(moment)", "created: None"),
-    ("gateway closing: HTTP/1.0 stays open", "gateway/src/closing.rt", 1, "message.old || close_header", "close_header"),
+    ("http_wire closes: HTTP/1.0 stays open", "http_wire/src/closing.rt", 1, "message.old || close_header", "close_header", ["http_wire.txt", "buckets.txt"]),
+    ("http_wire take_message: the interim line after the body", "http_wire/src/take.rt", 1, "    offer(&message, size, line, store)?;\n    if !take_body(pending, partial, spans.len, size, line, store)? {", "    let taken = take_body(pending, partial, spans.len, size, line, store)?;\n    offer(&message, size, line, store)?;\n    if !taken {", ["interim.txt"]),
+    ("gateway answer: a reply before the call", "gateway/src/serve.rt", 1, "    match handle_request(alloc, store, known, service, line, clock, draws, received) {", "    if line.write(&*store, b\"HTTP/1.1 200 OK\\r\\n\").is_err() {\n        return Some(Ended::LineFailed);\n    }\n    match handle_request(alloc, store, known, service, line, clock, draws, received) {"),
+    ("swift_store serve: no token is looked at", "swift_store/src/store.rt", 1, "if !has_token(place, &message) {", "if false {", ["store_cmd.txt"]),
+    ("swift_store hand_by: a lost request is applied", "swift_store/src/store_link.rt", 1, "Outcome::LostBefore => Ok(true),", "Outcome::LostBefore => store.hand(request, answer),"),
+    ("swift_store exchange: nothing is lost", "swift_store/src/store_link.rt", 1, "let outcome = self.outcome(number);", "let outcome = Outcome::Answered;"),
     ("gateway next_label: the id is the second draw", "gateway/src/label.rt", 1, "    let request_id = draws.draw();\n    let draw = draws.draw();", "    let draw = draws.draw();\n    let request_id = draws.draw();"),
     ("gateway write_reply: HEAD has a body", "gateway/src/write.rt", 1, "print_reply(alloc, reply, label, method, resource, closing)", "print_reply(alloc, reply, label, b\"GET\", resource, closing)"),
-    ("s3_bodies made: another Location", "s3_bodies/src/pages.rt", 1, "Bytes::from_slice(alloc, b\"/\")?", "Bytes::from_slice(alloc, b\"\")?"),
-    ("s3_bodies add_head: Accept-Ranges dropped", "s3_bodies/src/object.rt", 1, "    add_header(alloc, headers, b\"Accept-Ranges\", b\"bytes\")?;\n", ""),
-    ("s3_bodies common: another order of headers", "s3_bodies/src/pages.rt", 1, "    add_header(alloc, &mut headers, b\"Date\", &date)?;\n    add_header(alloc, &mut headers, b\"x-amz-request-id\", &id)?;", "    add_header(alloc, &mut headers, b\"x-amz-request-id\", &id)?;\n    add_header(alloc, &mut headers, b\"Date\", &date)?;"),
-    ("s3_bodies quoted: an ETag without its quotes", "s3_bodies/src/texts.rt", 1, "Bytes::from_slice(alloc, b\"\\\"\")?", "Bytes::from_slice(alloc, b\"\")?"),
+    ("s3_pages made: another Location", "s3_pages/src/pages.rt", 1, "Bytes::from_slice(alloc, b\"/\")?", "Bytes::from_slice(alloc, b\"\")?"),
+    ("s3_pages add_head: Accept-Ranges dropped", "s3_pages/src/object.rt", 1, "    add_header(alloc, headers, b\"Accept-Ranges\", b\"bytes\")?;\n", ""),
+    ("s3_pages common: another order of headers", "s3_pages/src/pages.rt", 1, "    add_header(alloc, &mut headers, b\"Date\", &date)?;\n    add_header(alloc, &mut headers, b\"x-amz-request-id\", &id)?;", "    add_header(alloc, &mut headers, b\"x-amz-request-id\", &id)?;\n    add_header(alloc, &mut headers, b\"Date\", &date)?;"),
+    ("s3_pages quoted: an ETag without its quotes", "s3_pages/src/texts.rt", 1, "Bytes::from_slice(alloc, b\"\\\"\")?", "Bytes::from_slice(alloc, b\"\")?"),
 ]
 
 # The files of cases that are run, which are those that take least time without a proof.
 FILES = ["buckets.txt", "objects.txt", "faults.txt"]
 
 
-def tried(room, file, number, old, new, files=FILES):
-    """The last lines of a run of conversations over the crates with the fault in them."""
-    path = f"{room}/crates/{file}"
-    text = open(path, encoding="utf-8").read()
+def expected(files):
+    """What the program is to print for these files, as the crate's stdout has it."""
+    parts, name = {}, None
+    for line in open("crates/cases/stdout", encoding="utf-8"):
+        if line.startswith("file "):
+            name = line[5:].rstrip("\n")
+            parts[name] = []
+        parts[name].append(line)
+    return "".join(line for name in files for line in parts[name])
+
+
+def places_of(top, file, number, old):
+    """The text of a file, cut at a text, if that stands there so many times."""
+    text = open(f"{top}/{file}", encoding="utf-8").read()
     places = text.split(old)
-    if len(places) <= number:
-        return None, f"the text isn't there: {old.splitlines()[0]}"
+    return (text, places) if len(places) > number else (text, None)
+
+
+def tried(room, file, number, old, new, files=FILES):
+    """Whether a run of the cases over the crates with the fault in them prints something else, and what is said of it."""
+    path = f"{room}/crates/{file}"
+    text, places = places_of(f"{room}/crates", file, number, old)
+    if places is None:
+        return False, f"the text isn't there: {old.splitlines()[0]}"
     with open(path, "w", encoding="utf-8") as it:
         it.write(old.join(places[:number]) + new + old.join(places[number:]))
-    folder = f"{room}/crates/conversations"
+    folder = f"{room}/crates/cases"
     data = [word for name in files for word in ("--data", f"{name}=data/{name}")]
     ran = subprocess.run(["rt", "try", "--seconds", "300", *data, "--", *files], cwd=folder, stdin=subprocess.DEVNULL, capture_output=True, text=True, errors="replace")
     with open(path, "w", encoding="utf-8") as it:
         it.write(text)
-    lines = (ran.stdout + ran.stderr).splitlines()
-    counts = [line for line in lines if line.startswith("cases ")]
-    # With a mismatch it ends with 1, and with 2 where a case can't be tried at all.
-    return any(f"status={status}" in line for status in (1, 2) for line in lines), counts[0] if counts else (lines or ["no answer"])[0]
+    if not ran.stdout.startswith("file "):
+        return False, f"no run: {(ran.stderr or ran.stdout).strip().splitlines()[-1:]}"
+    due, came = expected(files).splitlines(), ran.stdout.splitlines()
+    for number, (one, other) in enumerate(zip(due + [""], came + [""])):
+        if one != other:
+            return True, f"line {number + 1}: {one[:60]} | {other[:60]}"
+    return False, "nothing differs"
 
 
 def main():
-    word = sys.argv[1] if len(sys.argv) > 1 else ""
+    words = sys.argv[1:]
+    if words == ["--texts"]:
+        missing = [name for name, file, number, old, *_ in FAULTS if places_of("crates", file, number, old)[1] is None]
+        for name in missing:
+            print(f"the text of this fault isn't there: {name}")
+        sys.exit(1 if missing else 0)
     unseen = 0
     with tempfile.TemporaryDirectory() as room:
         shutil.copytree("crates", f"{room}/crates", ignore=shutil.ignore_patterns("out"))
         shutil.copy("crates.txt", room)
         os.mkdir(f"{room}/.git")
         for name, *fault in FAULTS:
-            if word in name:
+            if not words or words[0] in name:
                 seen, said = tried(room, *fault)
                 unseen += not seen
                 print(f"{'seen' if seen else 'UNSEEN'}  {name}: {said}", flush=True)

@@ -1,5 +1,5 @@
-//! The notation of case files, which the programs `conversations` and `vectors` share: how the lines of a case give bytes,
-//! and how its lines say which bytes are wanted. `docs/TESTING.md` has it for those who write cases.
+//! The notation of case files, which the programs `cases` and `vectors` share: how the lines of a case give bytes, and, in those of
+//! `vectors`, how lines say which bytes are wanted. `docs/TESTING.md` has it for those who write cases.
 #![tactic(auto)]
 
 mod escapes;

@@ -1,31 +1,10 @@
-//! Tests that must be code: stores that answer what is forbidden, the real adapters over a runtime in memory, generic
-//! functions over types that tell nothing, and a copy of each type of plain data.
+//! Tests that must be code: the line and the link over sockets, and a system whose clock and chance fail.
 #![tactic(auto)]
 
 #[cfg(test)]
 mod adapters;
 #[cfg(test)]
-mod copies;
-#[cfg(test)]
-mod copies_of_lists;
-#[cfg(test)]
-mod copies_of_s3;
-#[cfg(test)]
-mod copies_of_swift;
-#[cfg(test)]
-mod many_keys;
-#[cfg(test)]
-mod odd_stores;
-#[cfg(test)]
-mod own_line;
-#[cfg(test)]
-mod own_outside;
-#[cfg(test)]
-mod own_store;
-#[cfg(test)]
-mod runs;
-#[cfg(test)]
-mod runtime;
+mod loopback;
 #[cfg(test)]
 mod tcp_line;
 #[cfg(test)]

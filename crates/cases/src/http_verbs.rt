@@ -1,0 +1,44 @@
+//! Verbs of HTTP's messages and pages, and of signatures. Bytes are those of the lines `>`, and a request is read from them as
+//! from a connection.
+//!
+//! `messages [SIZES]` tells the first three messages of a connection, and before each what was written while it was read; where
+//! one ends the reader, those alone. They are read in pieces of 65,536 bytes, and again in pieces of each of the sizes (1, 2, 3
+//! and 7 where none is given), alone and behind another request: what these tell is the same, or else it is told too.
+//! `lengths [SIZES]` does so too, and tells of a request how many headers and how many bytes of a body it has.
+//! `front SIZE CALL` tells the first message in pieces of one size, while the line's call of that number fails: `next` is the
+//! first call, the reads and writes follow; 0 is none.
+//! `page STATUS METHOD END NAME VALUE` prints a page with that header and with the bytes as its body; END is `open` or `close`.
+//! `memory METHOD` is the reply where memory runs out.
+//!
+//! The keys are that of the Amazon S3 API Reference's examples, and the region is `us-east-1`. `verify MOMENT` tells who sent
+//! the first request, or why it isn't taken, at a moment in seconds since the beginning of 1970. `canonical NAMES PAYLOAD` is
+//! its canonical request, with `;` between the signed names. `is-date-time TEXT` tells whether a time has the form of one.
+//! `hmac KEY` is the code of the bytes by a key in hexadecimal digits. `secret ID` is the secret of an id, by a copy of the keys
+//! that the bytes give. `first [CALL]` signs the first request of a line, while its call of that number fails, and
+//! `first-of-none` one of a line of no connection.
+mod fronts;
+mod pages;
+mod signatures;
+pub(crate) mod talk;
+
+use case_text::Fault;
+use std::alloc::Global;
+
+/// Tells what a verb gives. `false` where this file has no such verb: then nothing is told.
+pub(crate) fn answer_http(
+    alloc: Global,
+    verb: &str,
+    text: &str,
+    given: &[u8],
+    told: &mut String,
+) -> Result<bool, Fault> {
+    match verb {
+        "messages" => fronts::messages(alloc, text, given, false, told)?,
+        "lengths" => fronts::messages(alloc, text, given, true, told)?,
+        "front" => fronts::front(alloc, text, given, told)?,
+        "page" => pages::page(alloc, text, given, told)?,
+        "memory" => pages::memory(alloc, text, told)?,
+        _ => return signatures::answer(alloc, verb, text, given, told),
+    }
+    Ok(true)
+}
