@@ -19,10 +19,10 @@ use Rattle.recovery.specs.declared.fault.PlanFault.TheVariants.{Failed, Memory, 
 use Rattle.recovery.specs.declared.state.Known.{Known}
 use Rattle.recovery.specs.declared.state.Known.TheVariants.{Settled, Unsure}
 use Rattle.recovery.specs.Fault.{CausesFault}
-use Rattle.recovery.specs.Stutters.{Stutters, OldBefore, LastFailed, was_lost}
+use Rattle.recovery.specs.Stutters.{Stutters, OldBefore, LastFailed}
 use Rattle.recovery.specs.Calls.{Bound, always, by_account, amount, IsWithin, Met, Grows, GivenOf, Given, Keeps, Tells, Asks, Commits, CommitsUntold, Writes, Changes, Any}
 use Rattle.recovery.specs.Answers.{steps_of, is_old_if_failed, is_old_if_out_of_memory, OldIf, machine, unavailable, memory, ends_by_commit, beside_of, nothing_beside, SaysBeside}
-use Rattle.recovery.proofs.lemmas.Agree.{quiet_agree, passes_still, passes_at_once, passes_once, answers_after}
+use Rattle.recovery.proofs.lemmas.Agree.{last_within, quiet_agree, passes_still, passes_at_once, passes_once, answers_after}
 use Rattle.recovery.proofs.lemmas.Causes.{due_cause}
 use Rattle.recovery.proofs.lemmas.Faults.{err_is}
 use Rattle.recovery.proofs.lemmas.Idle.{none_made, goes_trans, grows_none}
@@ -30,8 +30,8 @@ use Rattle.planner.specs.Plan.{reply_of, IsOwnReply, EndsPlan, ended, CausesEnd,
 use Rattle.planner.proofs.Replies.{rose_of, steady_of, consistent_of, showable_of}
 
 -- quiet calls leave the old state at each number
-old_quiet : {h : History} {p q : ℕ} → Stutters h p q → OldBefore h p q
-old_quiet quiet = λ k from to. quiet.same k from (omega arith)
+old_quiet : {h : History} {p n q : ℕ} → n ≤ q + 1 → Stutters h p q → OldBefore h p n
+old_quiet within quiet = λ k from to. quiet.same k from (omega arith)
 
 -- so it is where that is asked for
 old_if : (t : Bool) (h : History) (p q : ℕ) → OldBefore h p q → OldIf t h p q
@@ -41,10 +41,10 @@ old_if false h p q old = tt
 module _ (settings : Settings) (h : History) (p q : ℕ) (op : Op) (label : Label) where
   -- quiet calls, and one failed
   quiet_failed : Stutters h p q → LastFailed h p q → EndsPlan settings h p q op label (Err Failed)
-  quiet_failed quiet failed = record {
+  quiet_failed quiet failed = let within = last_within failed in record {
     committed = p;
     takes = 0;
-    answers = record { passes = passes_still quiet; by = unavailable refl failed (old_if (is_old_if_failed op) h p q (old_quiet quiet)) };
+    answers = record { passes = passes_still quiet; by = unavailable refl failed (old_if (is_old_if_failed op) h p (failed.last + 1) (old_quiet (omega arith) quiet)) };
     consistent = λ e. cc;
   }
 
@@ -53,7 +53,7 @@ module _ (settings : Settings) (h : History) (p q : ℕ) (op : Op) (label : Labe
   quiet_memory quiet = record {
     committed = p;
     takes = 0;
-    answers = record { passes = passes_still quiet; by = memory refl (old_if (is_old_if_out_of_memory op) h p q (old_quiet quiet)) };
+    answers = record { passes = passes_still quiet; by = memory refl (old_if (is_old_if_out_of_memory op) h p q (old_quiet (omega arith) quiet)) };
     consistent = λ e. cc;
   }
 
@@ -80,26 +80,27 @@ module _ (settings : Settings) (h : History) (p q : ℕ) (op : Op) (label : Labe
     stepped : (told : T) → Commits h p q (S told) → S3Step settings (s3_state (h.account_at p)) op label (reply told) (s3_state (h.account_at q))
     stepped told done = step told (s3_state (h.account_at q)) done.made
 
-    old_before : {told : T} → Commits h p q (S told) → OldBefore h p q
-    old_before done = λ k from to. let next = done.next in done.quiet.same k from (omega arith)
+    old_before : {told : T} {n : ℕ} (done : Commits h p q (S told)) → n ≤ done.last + 1 → OldBefore h p n
+    old_before done within = λ k from to. done.quiet.same k from (omega arith)
 
     last_lost : {told : T} → Commits h p q (S told) → Rose (h.faults_at p) (h.faults_at q) → LastFailed h p q
-    last_lost done rose = let ordered = done.quiet.ordered in was_lost done.last ordered done.next done.no_fault (subst (λ n. Rose n (h.faults_at q)) (sym done.no_fault) rose)
+    last_lost done rose = record { last = done.last; after_p = done.quiet.ordered; no_fault = done.no_fault; fails = inl (done.next, subst (λ n. Rose n (h.faults_at q)) (sym done.no_fault) rose) }
 
     commit_failed : CommitsUntold h p q S → Rose (h.faults_at p) (h.faults_at q) → EndsPlan settings h p q op label (Err Failed)
+    unfolding last_lost
     commit_failed (told, done) rose = record {
       committed = q;
       takes = steps_of op;
-      answers = record { passes = passes_once done (stepped told done); by = unavailable refl (last_lost done rose) (old_if (is_old_if_failed op) h p q (old_before done)) };
+      answers = record { passes = passes_once done (stepped told done); by = unavailable refl (last_lost done rose) (old_if (is_old_if_failed op) h p (done.last + 1) (old_before done (omega arith))) };
       consistent = λ e. cc;
     }
 
     write_memory : Stutters h p q ⊎ CommitsUntold h p q S → EndsPlan settings h p q op label (Err Memory)
     write_memory (inl quiet) = quiet_memory quiet
-    write_memory (inr (told, done)) = record {
+    write_memory (inr (told, done)) = let next = done.next in record {
       committed = q;
       takes = steps_of op;
-      answers = record { passes = passes_once done (stepped told done); by = memory refl (old_if (is_old_if_out_of_memory op) h p q (old_before done)) };
+      answers = record { passes = passes_once done (stepped told done); by = memory refl (old_if (is_old_if_out_of_memory op) h p q (old_before done (omega arith))) };
       consistent = λ e. cc;
     }
 
@@ -183,6 +184,10 @@ cause_of false before now end cause = λ is. subst (CausesFault before now) is c
 pub met_settled : {given : SwiftAccount → Type 0} {h : History} → Met (GivenOf given) h → Met IsSettled h
 met_settled met = record { observable = met.observable; sound = met.sound; has = met.has.settled }
 
+-- what calls ask is given, where what is given of the plan says it
+pub met_within : {given asked : SwiftAccount → Type 0} {h : History} → ((tree : SwiftAccount) → given tree → asked tree) → Met (GivenOf given) h → Met (GivenOf asked) h
+met_within gives met = record { observable = met.observable; sound = met.sound; has = record { settled = met.has.settled; is = gives _ met.has.is } }
+
 -- after calls that left the state the rest of a plan begins on an account of which is given what it asks
 met_after : {asked given rest : SwiftAccount → Type 0} {T : Type 0} {Q : SwiftAccount → SwiftAccount → T → Type 0} {n : Bound} {a b : History} {value : T} → Asks n a b asked Q (Ok value)
     → (Met (GivenOf given) a → Met asked a) → (given (present a) → Q (present a) (present b) value → rest (present b)) → Met (GivenOf given) a → Met (GivenOf rest) b
@@ -222,14 +227,14 @@ module _ {settings : Settings} {given : SwiftAccount → Type 0} {op : Op} {labe
     knows = λ observable settled is. settled;
   })
 
-  module _ {T : Type 0} {P : State → T → Type 0} {a b : History} (m : Bound) (within : IsWider m most) where
+  module _ {T : Type 0} {P : State → T → Type 0} {asked : SwiftAccount → Type 0} {a b : History} (m : Bound) (within : IsWider m most) (under : Met (GivenOf given) a → Met asked a) where
     -- the calls told nothing, and their fault is handed on
-    pub calls_in_vain : {fault : PlanFault} → Asks m a b IsSettled (Tells P) (Err fault) → (end : Result Reply PlanFault) → IsErrAnd end (λ e. e ≡ fault) → Plans most a b settings (GivenOf given) op label Settled end
+    pub calls_in_vain : {fault : PlanFault} → Asks m a b asked (Tells P) (Err fault) → (end : Result Reply PlanFault) → IsErrAnd end (λ e. e ≡ fault) → Plans most a b settings (GivenOf given) op label Settled end
     calls_in_vain {fault = fault} asks end is = subst (Plans most a b settings (GivenOf given) op label Settled) (sym (err_is end fault is)) (record {
-      grows = grows_more within met_settled asks.grows;
+      grows = grows_more within under asks.grows;
       cause = cause_of (ends_by_commit op) a.faults b.faults (Err fault) (cause_same fault asks.cause);
       own = tt;
-      effect = λ met. not_read settings b a.called b.called op label (Tells P) fault (asks.effect (met_settled met));
+      effect = λ met. not_read settings b a.called b.called op label (Tells P) fault (asks.effect (under met));
       knows = λ observable settled is. asks.settled observable settled;
     })
       where
@@ -239,14 +244,14 @@ module _ {settings : Settings} {given : SwiftAccount → Type 0} {op : Op} {labe
         cause_same Inconsistent cause = cause
 
     -- by what they told the plan ends
-    pub calls_end : {value : T} (told : T) → value ≡ told → (end : Result Reply PlanFault) → Asks m a b IsSettled (Tells P) (Ok value) → IfOk end IsOwnReply → end ≢ Err Failed
+    pub calls_end : {value : T} (told : T) → value ≡ told → (end : Result Reply PlanFault) → Asks m a b asked (Tells P) (Ok value) → IfOk end IsOwnReply → end ≢ Err Failed
         → ((tree : SwiftAccount) → given tree → P (s3_state tree) told → (reply : Reply) × (end ≡ Ok reply) × S3Step settings (s3_state tree) op label reply (s3_state tree)) → Plans most a b settings (GivenOf given) op label Settled end
     calls_end told is end asks own no_failure step = record {
-      grows = grows_more within met_settled asks.grows;
+      grows = grows_more within under asks.grows;
       cause = cause_of (ends_by_commit op) a.faults b.faults end (due_cause a.faults b.faults end asks.cause no_failure);
       own = own;
       effect = λ met.
-          let reads = asks.effect (met_settled met) in
+          let reads = asks.effect (under met) in
           let from : b.account_at a.called ≡ present a = (asks.grows.on.kept met.observable).accounts a.called (omega arith) in
           let does = step _ (subst given (sym from) met.has.is) (subst (P (s3_state (b.account_at a.called))) is reads.2.of_state) in
           subst (EndsPlan settings b a.called b.called op label) (sym does.1) (quiet_step settings b a.called b.called op label does.0 reads.0 does.2);
@@ -256,11 +261,11 @@ module _ {settings : Settings} {given : SwiftAccount → Type 0} {op : Op} {labe
   -- the same of one call
   module _ {T : Type 0} {P : State → T → Type 0} {a b : History} (within : IsWider (always 1) most) where
     pub told_nothing : {fault : PlanFault} → Asks (always 1) a b IsSettled (Tells P) (Err fault) → (end : Result Reply PlanFault) → IsErrAnd end (λ e. e ≡ fault) → Plans most a b settings (GivenOf given) op label Settled end
-    told_nothing asks end is = calls_in_vain (always 1) within asks end is
+    told_nothing asks end is = calls_in_vain (always 1) within met_settled asks end is
 
     pub ends_by : {value : T} (told : T) → value ≡ told → (end : Result Reply PlanFault) → Asks (always 1) a b IsSettled (Tells P) (Ok value) → IfOk end IsOwnReply → end ≢ Err Failed
         → ((tree : SwiftAccount) → given tree → P (s3_state tree) told → (reply : Reply) × (end ≡ Ok reply) × S3Step settings (s3_state tree) op label reply (s3_state tree)) → Plans most a b settings (GivenOf given) op label Settled end
-    ends_by told is end asks own no_failure step = calls_end (always 1) within told is end asks own no_failure step
+    ends_by told is end asks own no_failure step = calls_end (always 1) within met_settled told is end asks own no_failure step
 
     -- what it told is answered
     pub answers : {value : T} (told : T) → value ≡ told → (reply : Reply) → Asks (always 1) a b IsSettled (Tells P) (Ok value) → IsOwnReply reply
@@ -309,19 +314,16 @@ module _ {settings : Settings} {given : SwiftAccount → Type 0} {op : Op} {labe
       → ((told : T) → IsOwnReply (reply told)) → ((tree : SwiftAccount) → given tree → given' tree) → ((tree : SwiftAccount) (told : T) (new : State) → given tree → S told (s3_state tree) new → S3Step settings (s3_state tree) op label (reply told) new)
       → Plans most a b settings (GivenOf given) op label Settled (ended end reply)
   commits {T = T} {given' = given'} {S = S} {a = a} {b = b} {end = end} reply within changes own gives step = record {
-    grows = grows_more within met_given changes.grows;
+    grows = grows_more within (met_within gives) changes.grows;
     cause = cause_of (ends_by_commit op) a.faults b.faults (ended end reply) (cause_ended end changes.cause);
     own = own_ended end;
     effect = λ met.
         let from : b.account_at a.called ≡ present a = (changes.grows.on.kept met.observable).accounts a.called (omega arith) in
         let here : given (b.account_at a.called) = subst given (sym from) met.has.is in
-        is_written settings b a.called b.called op label S reply (λ told new does. step _ told new here does) end (changes.effect (met_given met));
+        is_written settings b a.called b.called op label S reply (λ told new does. step _ told new here does) end (changes.effect (met_within gives met));
     knows = λ observable settled is. changes.settled observable settled;
   }
     where
-      met_given : Met (GivenOf given) a → Met (GivenOf given') a
-      met_given met = record { observable = met.observable; sound = met.sound; has = record { settled = met.has.settled; is = gives _ met.has.is } }
-
       cause_ended : (end : Result T PlanFault) → CausesFault a.faults b.faults end → CausesFault a.faults b.faults (ended end reply)
       cause_ended (Ok done) cause = cause
       cause_ended (Err Failed) cause = cause
@@ -372,3 +374,9 @@ none_beside (op.GetObject bucket key range conditions) = refl
 none_beside (op.HeadObject bucket key range conditions) = refl
 none_beside (op.DeleteObject bucket key) = refl
 none_beside (op.GetObjectAcl bucket key) = refl
+none_beside (op.ListUploads bucket prefix key_marker id_marker max) = refl
+none_beside (op.CreateUpload bucket key acl content_type meta) = refl
+none_beside (op.UploadPart bucket key id number body) = refl
+none_beside (op.ListParts bucket key id marker max) = refl
+none_beside (op.CompleteUpload bucket key id list) = refl
+none_beside (op.AbortUpload bucket key id) = refl

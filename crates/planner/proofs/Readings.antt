@@ -7,6 +7,7 @@ use Rattle.std.proofs.lemmas.Bool.{cond-true, eq-eqb}
 use Rattle.std.proofs.lemmas.Bool.Decides.{nat_tests}
 use Rattle.std.proofs.lemmas.List.{length-drop, length-take-le}
 use Rattle.std.proofs.Math.Seq.{take-length}
+use Rattle.gate_base.specs.declared.caller.Caller.{Caller}
 use Rattle.s3_names.specs.declared.acl.Acl.{Acl}
 use Rattle.s3_machine.specs.declared.code.Code.TheVariants.{AccessDenied, NoSuchBucket, NoSuchKey}
 use Rattle.s3_machine.specs.declared.code.Code.TheVariants as code
@@ -28,7 +29,7 @@ use Rattle.s3_machine.proofs.lemmas.Reading.{IsWithin, Fits, judged_fits}
 use Rattle.s3_machine.proofs.lemmas.StepLemmas.{get_without_bucket, head_without_bucket, get_denied, head_denied, get_without_key, head_without_key, step_read, step_headed}
 use Rattle.swift_calls.specs.Bodies.{ranged}
 use Rattle.upload_records.specs.Native.{object_at}
-use Rattle.recovery.specs.Calls.{TellsBucket, TellsObject, TellsBytes, bytes_in}
+use Rattle.recovery.specs.Calls.{TellsBucket, TellsObject, TellsBytes, HasObject, bytes_in}
 use Rattle.recovery.specs.Interpret.{IsShownHead}
 use Rattle.recovery.specs.declared.fault.PlanFault.TheVariants.{Inconsistent}
 use Rattle.planner.specs.Objects.{TellsReadable, headed_reply, part_end, range_of}
@@ -55,6 +56,10 @@ part_by bytes span true within =
     let first : nat_lt span.from (length bytes) ≡ true = grind (arith, nat_tests) in
     let last : min (span.from + span.length - 1 + 1) (length bytes) - span.from ≡ span.length = omega (arith, ends, filled) in
     cond-true _ _ _ first ∙ ap (λ n. Some (take n (drop span.from bytes))) last
+
+-- the object that is there has the ETag and the size of its head
+pub has_told : {bucket key etag : List ℕ} {caller : Caller} {list : Acl} {head : ObjectHead} {state : State} → etag ≡ head.etag → TellsReadable bucket key caller list head state → HasObject bucket key etag head.size state
+has_told {head = head} is readable = (head, readable.there, sym is, refl)
 
 module _ (settings : Settings) (state : State) (bucket key : List ℕ) (range : Option Range) (conditions : Conditions) (label : Label) where
   -- the bucket is missing

@@ -5,14 +5,13 @@ use Rattle.s3_machine.specs.declared.code.Code.TheVariants.{InconsistentStore, S
 use Rattle.s3_machine.specs.declared.operation.Label.{Label}
 use Rattle.s3_machine.specs.declared.operation.Settings.{Settings}
 use Rattle.s3_machine.specs.declared.operation.Op.{Op}
-use Rattle.s3_machine.specs.declared.operation.Op.TheVariants as op
 use Rattle.s3_machine.specs.declared.operation.Reply.{Reply}
 use Rattle.s3_machine.specs.declared.operation.Reply.TheVariants.{Refused, Memory}
 use Rattle.s3_machine.specs.Shown.{IsShowable}
 use Rattle.swift_calls.specs.Account.{SwiftAccount}
 use Rattle.swift_calls.specs.History.{History, present}
 use Rattle.upload_records.specs.Native.{IsSettled}
-use Rattle.recovery.specs.Answers.{Answers, ends_by_commit, beside_of, SaysBeside}
+use Rattle.recovery.specs.Answers.{Answers, ends_by_commit, may_leave_unsure, beside_of, SaysBeside}
 use Rattle.recovery.specs.Calls.{Bound, Met, Grows}
 use Rattle.recovery.specs.Settling.{IsKnown}
 use Rattle.recovery.specs.declared.state.Known.{Known}
@@ -62,28 +61,12 @@ pub record Plans (most : Bound) (old new : History) (settings : Settings) (given
   pub effect : Met given old → EndsPlan settings new old.called new.called op label end
   pub knows : IsTrue old.observable → IsSettled (present old) → IsKnown after (present new)
 
--- whether a completion may be sealed after the operation: after none of those that are built
-abbrev pub may_leave_unsure : Op → Bool
-may_leave_unsure op.ListBuckets = false
-may_leave_unsure (op.CreateBucket bucket acl) = false
-may_leave_unsure (op.DeleteBucket bucket) = false
-may_leave_unsure (op.HeadBucket bucket) = false
-may_leave_unsure (op.GetLocation bucket) = false
-may_leave_unsure (op.GetBucketAcl bucket) = false
-may_leave_unsure (op.PutBucketAcl bucket acl) = false
-may_leave_unsure (op.ListObjects bucket asked) = false
-may_leave_unsure (op.PutObject bucket key acl content_type meta body) = false
-may_leave_unsure (op.GetObject bucket key range conditions) = false
-may_leave_unsure (op.HeadObject bucket key range conditions) = false
-may_leave_unsure (op.DeleteObject bucket key) = false
-may_leave_unsure (op.GetObjectAcl bucket key) = false
-
 -- an operation was answered on a settled store, of which this is known after it
 pub record Answered (most : Bound) (old new : History) (settings : Settings) (op : Op) (label : Label) (known : Known) (reply : Reply) : Type 0 where
   pub grows : Grows most IsSettled old new
   pub showable : IsShowable reply
   pub unavailable : reply ≡ Refused ServiceUnavailable → Rose old.faults new.faults
-  pub unsure : known ≡ Unsure → may_leave_unsure op ≡ true
+  pub unsure : known ≡ Unsure → may_leave_unsure op reply ≡ true
   pub steady : ends_by_commit op ≡ true → reply ≢ Refused ServiceUnavailable → new.faults ≡ old.faults
   pub effect : Met IsSettled old → (t : ℕ) × (takes : ℕ) × Answers settings new old.called t new.called op label takes reply
   pub beside : Met IsSettled old → SaysBeside (beside_of op) label new old.called new.called reply

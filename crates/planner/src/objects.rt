@@ -208,7 +208,8 @@ fn get_span<W: Swift>(
         (Given (TellsReadable bucket key label.caller list head)) (GetObject bucket key range conditions.now) label known.Settled result }
 {
     let asked = range_of(span, partial);
-    let Some(body) = recovery::get_object(state, bucket, key, asked)? else {
+    let told = recovery::get_object(state, bucket, key, head.etag.as_slice(), head.size, asked)?;
+    let Some(body) = told else {
         return Err(PlanFault::Inconsistent);
     };
     part(head, span, partial, body)

@@ -1,12 +1,13 @@
 -- What the calls of an operation amounted to where none of them failed is so over the history in which no call failed.
-use Rattle.std.specs.Prelude.{◌≤◌, ℕ, Bool, true, false}
+use Rattle.std.specs.Prelude.{◌≡◌, ◌⊎◌, ◌≤◌, ◌+◌, ℕ, Bool, true, false}
 use Rattle.std.proofs.Common.{inl, inr, arith}
+use Rattle.gate_base.specs.Causes.{Rose}
 use Rattle.s3_machine.specs.declared.operation.Label.{Label}
 use Rattle.s3_machine.specs.declared.operation.Settings.{Settings}
 use Rattle.s3_machine.specs.declared.operation.Op.{Op}
 use Rattle.s3_machine.specs.declared.operation.Reply.{Reply}
-use Rattle.swift_calls.specs.History.{History, FaultFree}
-use Rattle.recovery.specs.Stutters.{Stutters, calm, LastFailed, was_lost, had_none}
+use Rattle.swift_calls.specs.History.{History, budget, FaultFree}
+use Rattle.recovery.specs.Stutters.{Stutters, calm, LastFailed}
 use Rattle.recovery.specs.Answers.{Passes, is_old_if_out_of_memory, OldIf, AnswersBy, machine, unavailable, memory, Answers}
 
 -- the accounts are the same, and quiet calls and steps speak of them alone
@@ -18,8 +19,11 @@ passes_calm passes = record { after_p = passes.after_p; up_to_q = passes.up_to_q
 
 -- where no call failed, the last one didn't
 pub none_failed : {h : History} {b c p q : ℕ} → FaultFree h b c → b ≤ p → p ≤ q → q ≤ c → LastFailed h p q → ⊥
-none_failed {q = q} none from order to (was_lost last after_p next quiet rose) = none last q (omega arith) (omega arith) to (inl rose)
-none_failed {q = q} none from order to (had_none spent quiet same) = none q q (omega arith) (omega arith) to (inr spent)
+none_failed {h = h} {b = b} {q = q} none from order to failed = let after_p = failed.after_p in by failed.last (omega arith) failed.fails
+  where
+    by : (last : ℕ) → b ≤ last → ((q ≡ last + 1) × Rose (h.faults_at last) (h.faults_at q)) ⊎ ((q ≡ last) × (budget ≤ last)) → ⊥
+    by last after_b (inl (next, rose)) = none last q after_b (omega arith) to (inl rose)
+    by last after_b (inr (same, spent)) = none q q (omega arith) (omega arith) to (inr (omega arith))
 
 -- a state that is the old one is so
 old_if_calm : (t : Bool) (h : History) (p q : ℕ) → OldIf t h p q → OldIf t (calm h) p q

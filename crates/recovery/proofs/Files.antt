@@ -1,5 +1,6 @@
 -- What the calls on an object's file tell of the object, and do to it.
-use Rattle.std.proofs.lemmas.Bool.{and_from, le-leb}
+use Rattle.std.proofs.lemmas.Bool.{and_from, eq-eqb, le-leb}
+use Rattle.std.proofs.lemmas.Option.{same_Some}
 use Rattle.std.specs.Prelude.{◌≡◌, ◌<◌, ◌≤◌, ℕ, ◌&&◌, cond, nat_le, List, length, bytes_eq, true, Option, Some, None, Ok, Err, is_some}
 use Rattle.std.specs.Option.{option_and_then, option_map}
 use Rattle.std.specs.FinMap.{get}
@@ -29,20 +30,20 @@ use Rattle.swift_marks.specs.Pack.{pack_of}
 use Rattle.swift_marks.proofs.lemmas.TagLaws.{tag_text_reads}
 use Rattle.swift_marks.proofs.lemmas.PackLaws.{pack_unpacks}
 use Rattle.upload_records.specs.Layout.{segments_name}
-use Rattle.upload_records.specs.Native.{SameGateway, IsSettled, s3_state}
+use Rattle.upload_records.specs.Native.{SameGateway, object_at, IsSettled, s3_state}
 use Rattle.upload_records.specs.Consistent.{IsConsistent, IsPlainObject, in_one_piece, IsStored}
 use Rattle.upload_records.specs.Laws.{ChangesBy, FindsObject, file_put, object_in}
 use Rattle.upload_records.proofs.lemmas.Buckets.{s3_state_there}
 use Rattle.upload_records.proofs.lemmas.Objects.{plain_object, found, object_put, object_gone}
 use Rattle.upload_records.proofs.lemmas.Off.{same_put_file, same_delete_file}
 use Rattle.upload_records.proofs.lemmas.Settled.{unsealed_of, settled_same}
-use Rattle.recovery.specs.Calls.{TellsBucket, TellsObject, TellsBytes, acl_of_bucket, bytes_in, Any, Becomes, HasBucket, puts_object, drops_object}
+use Rattle.recovery.specs.Calls.{Given, TellsBucket, TellsObject, TellsBytes, HasObject, acl_of_bucket, bytes_in, Any, Becomes, HasBucket, puts_object, drops_object}
 use Rattle.recovery.specs.declared.fault.PlanFault.TheVariants.{Inconsistent}
-use Rattle.recovery.specs.Interpret.{known, head_by, head_due, bytes_due, stored_due, gone_due, plain_tag, put_of}
+use Rattle.recovery.specs.Interpret.{known, head_by, head_due, is_unchanged, bytes_due, stored_due, gone_due, plain_tag, put_of}
 use Rattle.recovery.proofs.Etags.{etag_agrees}
 use Rattle.recovery.proofs.Fits.{has_a_pack, tag_has_text}
 use Rattle.recovery.proofs.Names.{object_name}
-use Rattle.recovery.proofs.One.{IsReading, Effect, IsWriting}
+use Rattle.recovery.proofs.One.{IsReadingOf, IsReading, Effect, IsWriting}
 
 -- ---- HEAD and GET
 
@@ -51,9 +52,18 @@ plain_agrees : (body : List ℕ) → length body ≤ most_body_bytes → bytes_e
 plain_agrees body sized = and_from _ _ (etag_agrees body) (le-leb (length body) most_body_bytes sized)
 
 -- the bytes of a range, of which there may be none
-part_due : (head : StoredHead) (part : Option (List ℕ)) → bytes_due (part_reply head part) ≡ Ok part
-part_due head None = refl
-part_due head (Some bytes) = refl
+part_due : (etag : List ℕ) (size : ℕ) (head : StoredHead) (part : Option (List ℕ)) → is_unchanged etag size head ≡ true → bytes_due etag size (part_reply head part) ≡ Ok part
+part_due etag size head None same = refl
+part_due etag size head (Some bytes) same = ap (λ t. cond t (Ok (Some bytes)) (Err Inconsistent)) same
+
+-- an object that is put in one piece has the ETag and the size of its file
+plain_unchanged : (file : SwiftObject) (plain : IsPlainObject file) (etag : List ℕ) (size : ℕ) (head : ObjectHead) → head_of (object_in plain) ≡ head → head.etag ≡ etag → head.size ≡ size
+    → is_unchanged etag size (bodies.head_of file) ≡ true
+plain_unchanged file plain etag size head is same_etag same_size =
+    let tagged : body_etag plain.bytes ≡ etag = ap (λ (h : ObjectHead). h.etag) is ∙ same_etag in
+    let sized : length plain.bytes ≡ size = ap (λ (h : ObjectHead). h.size) is ∙ same_size in
+    (λ i. is_unchanged etag size (bodies.head_of (record { content_type = file.content_type; meta = file.meta; content = plain.own i })))
+    ∙ and_from _ _ (subst (λ e. bytes_eq (etag_text plain.bytes) e ≡ true) tagged (etag_agrees plain.bytes)) (eq-eqb (length plain.bytes) size sized)
 
 module _ (tree : SwiftAccount) (bucket key : List ℕ) where
   head_told_by : (o : Option SwiftObject) → FindsObject tree bucket key o → (reply : SwiftReply) → reply ≡ head_reply o
@@ -67,14 +77,22 @@ module _ (tree : SwiftAccount) (bucket key : List ℕ) where
     ap (option_map head_of) (is ∙ sym reads ∙ plain_object (files tree (segments_name bucket)) key file plain),
   )
 
-  bytes_told_by : (range : Option (ℕ × ℕ)) (o : Option SwiftObject) → FindsObject tree bucket key o → (reply : SwiftReply) → reply ≡ get_reply (find_object tree) range o
-      → (told : Option (List ℕ)) × (bytes_due reply ≡ Ok told) × TellsBytes bucket key range (s3_state tree) told
-  bytes_told_by range None none reply e = (None, ap bytes_due e, ap (λ o. option_and_then (ranged range) (option_map bytes_in o)) none)
-  bytes_told_by range (Some file) (in_one_piece keyed plain, o, reads, is) reply e = (
-    ranged range plain.bytes,
-    ap bytes_due e ∙ (λ i. bytes_due (body_reply (bodies.head_of file) range (bytes_of (find_object tree) (plain.own i)))) ∙ part_due (bodies.head_of file) (ranged range plain.bytes),
-    ap (λ o. option_and_then (ranged range) (option_map bytes_in o)) (is ∙ sym reads ∙ plain_object (files tree (segments_name bucket)) key file plain),
-  )
+  module _ (etag : List ℕ) (size : ℕ) (has : HasObject bucket key etag size (s3_state tree)) where
+    -- the file of the object that is there
+    file_unchanged : (file : SwiftObject) (plain : IsPlainObject file) → object_at (get (s3_state tree) bucket) key ≡ Some (object_in plain) → is_unchanged etag size (bodies.head_of file) ≡ true
+    file_unchanged file plain is = plain_unchanged file plain etag size has.0 (same_Some _ _ (sym (ap (option_map head_of) is) ∙ has.1)) has.2 has.3
+
+    bytes_told_by : (range : Option (ℕ × ℕ)) (o : Option SwiftObject) → FindsObject tree bucket key o → (reply : SwiftReply) → reply ≡ get_reply (find_object tree) range o
+        → (told : Option (List ℕ)) × (bytes_due etag size reply ≡ Ok told) × TellsBytes bucket key range (s3_state tree) told
+    bytes_told_by range None none reply e = (None, ap (bytes_due etag size) e, ap (λ o. option_and_then (ranged range) (option_map bytes_in o)) none)
+    bytes_told_by range (Some file) (in_one_piece keyed plain, o, reads, is) reply e =
+        let there = is ∙ sym reads ∙ plain_object (files tree (segments_name bucket)) key file plain in (
+          ranged range plain.bytes,
+          ap (bytes_due etag size) e
+              ∙ (λ i. bytes_due etag size (body_reply (bodies.head_of file) range (bytes_of (find_object tree) (plain.own i))))
+              ∙ part_due etag size (bodies.head_of file) (ranged range plain.bytes) (file_unchanged file plain there),
+          ap (λ o. option_and_then (ranged range) (option_map bytes_in o)) there,
+        )
 
 module _ (tree : SwiftAccount) (container name bucket key : List ℕ) (named : container ≡ bucket) (under : name ≡ key) (is : is_bucket bucket ≡ true) (sound : IsConsistent tree) (settled : IsSettled tree) where
   same_file : find_object tree container name ≡ find_object tree bucket key
@@ -83,10 +101,10 @@ module _ (tree : SwiftAccount) (container name bucket key : List ℕ) (named : c
   head_tells : (reply : SwiftReply) → reply ≡ (swift_step (HeadObject container name) tree).reply → (told : Option ObjectHead) × (head_due reply ≡ Ok told) × TellsObject bucket key (s3_state tree) told
   head_tells reply replied = head_told_by tree bucket key (find_object tree bucket key) (found tree bucket key is sound (unsealed_of settled)) reply (replied ∙ ap head_reply same_file)
 
-  get_tells : (range : Option (ℕ × ℕ)) (reply : SwiftReply) → reply ≡ (swift_step (GetObject container name range) tree).reply
-      → (told : Option (List ℕ)) × (bytes_due reply ≡ Ok told) × TellsBytes bucket key range (s3_state tree) told
-  get_tells range reply replied =
-      bytes_told_by tree bucket key range (find_object tree bucket key) (found tree bucket key is sound (unsealed_of settled)) reply (replied ∙ ap (get_reply (find_object tree) range) same_file)
+  get_tells : (etag : List ℕ) (size : ℕ) → HasObject bucket key etag size (s3_state tree) → (range : Option (ℕ × ℕ)) (reply : SwiftReply) → reply ≡ (swift_step (GetObject container name range) tree).reply
+      → (told : Option (List ℕ)) × (bytes_due etag size reply ≡ Ok told) × TellsBytes bucket key range (s3_state tree) told
+  get_tells etag size has range reply replied =
+      bytes_told_by tree bucket key etag size has range (find_object tree bucket key) (found tree bucket key is sound (unsealed_of settled)) reply (replied ∙ ap (get_reply (find_object tree) range) same_file)
 
 module _ {container name bucket key : List ℕ} (named : container ≡ bucket) (under : name ≡ key) (is : is_bucket bucket ≡ true) where
   -- HEAD of an object's file tells of its head
@@ -96,11 +114,12 @@ module _ {container name bucket key : List ℕ} (named : container ≡ bucket) (
     tells = λ tree sound settled reply replied. head_tells tree container name bucket key named under is sound settled reply replied;
   }
 
-  -- GET of it tells of its bytes, or of those of a range
-  pub get_reads : {range : Option (ℕ × ℕ)} → IsReading (GetObject container name range) bytes_due (TellsBytes bucket key range)
-  get_reads {range = range} = record {
+  -- GET of it tells of its bytes, or of those of a range, where the object has the ETag and the size that HEAD told
+  pub get_reads : {etag : List ℕ} {size : ℕ} {range : Option (ℕ × ℕ)}
+      → IsReadingOf (Given (HasObject bucket key etag size)) (GetObject container name range) (bytes_due etag size) (λ tree. TellsBytes bucket key range (s3_state tree))
+  get_reads {etag = etag} {size = size} {range = range} = record {
     leaves = λ tree. refl;
-    tells = λ tree sound settled reply replied. get_tells tree container name bucket key named under is sound settled range reply replied;
+    tells = λ tree sound given reply replied. get_tells tree container name bucket key named under is sound given.settled etag size given.is range reply replied;
   }
 
 -- ---- PUT

@@ -22,5 +22,6 @@ pub mod Pages
 pub mod Put
 pub mod Settling
 pub mod Taken
+pub mod Unchanged
 pub mod Walk
 pub mod lemmas

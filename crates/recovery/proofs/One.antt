@@ -20,7 +20,7 @@ use Rattle.recovery.specs.declared.fault.PlanFault.TheVariants as fault
 use Rattle.recovery.specs.Fault.{plan_fault, CausesFault}
 use Rattle.recovery.specs.Interpret.{Gives}
 use Rattle.recovery.specs.Listing.{TellsOf}
-use Rattle.recovery.specs.Stutters.{LastFailed, was_lost, had_none}
+use Rattle.recovery.specs.Stutters.{LastFailed}
 use Rattle.recovery.specs.Calls.{Bound, always, GoesOn, Met, Grows, GivenOf, Keeps, Tells, Asks, Commits, Writes, Changes}
 use Rattle.recovery.proofs.lemmas.Causes.{due_cause}
 use Rattle.recovery.proofs.lemmas.Faults.{err_is}
@@ -117,10 +117,10 @@ stays_settled {old = old} {new = new} {request = request} {result = result} leav
 -- ---- a call that failed
 
 pub lost_last : {h : History} {p q : ℕ} {request : SwiftRequest} → Lost h p q request → LastFailed h p q
-lost_last {p = p} c = was_lost p (omega arith) c.next refl c.rose
+lost_last {p = p} c = record { last = p; after_p = omega arith; no_fault = refl; fails = inl (c.next, c.rose) }
 
 pub spent_last : {h : History} {p q : ℕ} → budget ≤ p → q ≡ p → LastFailed h p q
-spent_last {h = h} spent same = had_none (omega arith) (ap h.faults_at same) (ap (λ k. s3_state (h.account_at k)) same)
+spent_last {p = p} spent same = record { last = p; after_p = omega arith; no_fault = refl; fails = inr (same, spent) }
 
 -- ---- a call that tells of the account
 
@@ -200,13 +200,13 @@ asks_state : {T : Type 0} {P : State → T → Type 0} {most : Bound} {old new :
 asks_state {P = P} {old = old} {new = new} {result = result} asks = record { grows = asks.grows; cause = asks.cause; effect = λ met. tells_state P new old.called new.called result (asks.effect met); settled = asks.settled }
 
 -- it was not answered
-pub asked_in_vain : {T : Type 0} {old new : History} {request : SwiftRequest} {due : SwiftReply → Result T PlanFault} {P : State → T → Type 0} {fault : SwiftFault} → IsReading request due P
-    → Calls old new request (Err fault) → (result : Result T PlanFault) → IsErrAnd result (λ e. e ≡ plan_fault fault) → Asks (always 1) old new IsSettled (Tells P) result
+pub asked_in_vain : {T : Type 0} {given : SwiftAccount → Type 0} {old new : History} {request : SwiftRequest} {due : SwiftReply → Result T PlanFault} {P : State → T → Type 0} {fault : SwiftFault} → IsReadingOf given request due (λ tree. P (s3_state tree))
+    → Calls old new request (Err fault) → (result : Result T PlanFault) → IsErrAnd result (λ e. e ≡ plan_fault fault) → Asks (always 1) old new given (Tells P) result
 asked_in_vain reading calls result is = asks_state (asked_of_in_vain reading calls result is)
 
 -- it was answered
-pub asked : {T : Type 0} {old new : History} {request : SwiftRequest} {due : SwiftReply → Result T PlanFault} {P : State → T → Type 0} {reply : SwiftReply} → IsReading request due P
-    → Calls old new request (Ok reply) → (result : Result T PlanFault) → Gives result (due reply) → result ≢ Err fault.Failed → Asks (always 1) old new IsSettled (Tells P) result
+pub asked : {T : Type 0} {given : SwiftAccount → Type 0} {old new : History} {request : SwiftRequest} {due : SwiftReply → Result T PlanFault} {P : State → T → Type 0} {reply : SwiftReply} → IsReadingOf given request due (λ tree. P (s3_state tree))
+    → Calls old new request (Ok reply) → (result : Result T PlanFault) → Gives result (due reply) → result ≢ Err fault.Failed → Asks (always 1) old new given (Tells P) result
 asked reading calls result gives own = asks_state (asked_of reading calls result gives own)
 
 -- ---- a call that may change the state

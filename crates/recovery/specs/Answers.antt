@@ -1,7 +1,8 @@
 -- What the calls of one operation may amount to. It stands between two numbers of calls, over an account that is
 -- consistent at the first. Source: this profile.
-use Rattle.std.specs.Prelude.{◌≡◌, ◌<◌, ◌≤◌, ◌⊎◌, ℕ, suc, ◌+◌, ◌/◌, ◌%◌, ◌^◌, Bool, true, false, List, [], ◌∷◌, ◌++◌, length, take, is_some, Option, None, Some}
-use Rattle.std.specs.FinMap.{get, len}
+use Rattle.std.specs.Prelude.{◌≡◌, ◌<◌, ◌≤◌, ◌⊎◌, ℕ, suc, ◌+◌, ◌*◌, ◌/◌, ◌%◌, ◌^◌, Bool, true, false, List, [], ◌∷◌, ◌++◌, length, take, is_some, Option, None, Some}
+use Rattle.std.specs.FinMap.{entries, get, len}
+use Rattle.std.specs.List.{filter}
 use Rattle.s3_machine.specs.declared.code.Code.TheVariants.{ServiceUnavailable}
 use Rattle.s3_machine.specs.declared.operation.Label.{Label}
 use Rattle.s3_machine.specs.declared.operation.Settings.{Settings}
@@ -20,14 +21,21 @@ use Rattle.s3_machine.specs.declared.operation.Op.TheVariants.{
   HeadObject,
   DeleteObject,
   GetObjectAcl,
+  ListUploads,
+  CreateUpload,
+  UploadPart,
+  ListParts,
+  CompleteUpload,
+  AbortUpload,
 }
 use Rattle.s3_machine.specs.declared.operation.Reply.{Reply}
 use Rattle.s3_machine.specs.declared.operation.Reply.TheVariants.{Refused, Memory, Gone}
+use Rattle.s3_machine.specs.Items.{begins}
 use Rattle.s3_machine.specs.State.{Bucket, Upload, State}
 use Rattle.s3_machine.specs.Step.{S3Step}
 use Rattle.swift_calls.specs.Account.{SwiftAccount, files}
 use Rattle.swift_calls.specs.History.{History, budget, FaultFree}
-use Rattle.swift_marks.specs.Number.{id_digits}
+use Rattle.s3_names.specs.Id.{id_digits}
 use Rattle.upload_records.specs.Layout.{uploads_name, segments_name}
 use Rattle.upload_records.specs.Native.{s3_state}
 use Rattle.upload_records.specs.Consistent.{IsConsistent}
@@ -51,6 +59,12 @@ parts_of (GetObject bucket key range conditions) = []
 parts_of (HeadObject bucket key range conditions) = []
 parts_of (DeleteObject bucket key) = []
 parts_of (GetObjectAcl bucket key) = []
+parts_of (ListUploads bucket prefix key_marker id_marker max) = []
+parts_of (CreateUpload bucket key acl content_type meta) = []
+parts_of (UploadPart bucket key id number body) = []
+parts_of (ListParts bucket key id marker max) = []
+parts_of (CompleteUpload bucket key id list) = []
+parts_of (AbortUpload bucket key id) = []
 
 -- how many steps the account takes for an operation: one for each of its parts, and one for the whole
 abbrev pub steps_of : Op → ℕ
@@ -83,8 +97,8 @@ pub record Passes (settings : Settings) (h : History) (p t q : ℕ) (op : Op) (l
 
 -- ---- what it is answered
 
--- whether the state is the old one at each number before the last, where the last call failed: of all but a deletion of many keys,
--- which may have deleted some by then
+-- whether the state is the old one at each number up to the call that failed: of all but a deletion of many keys, which may have
+-- deleted some by then
 abbrev pub is_old_if_failed : Op → Bool
 is_old_if_failed ListBuckets = true
 is_old_if_failed (CreateBucket bucket acl) = true
@@ -99,7 +113,14 @@ is_old_if_failed (GetObject bucket key range conditions) = true
 is_old_if_failed (HeadObject bucket key range conditions) = true
 is_old_if_failed (DeleteObject bucket key) = true
 is_old_if_failed (GetObjectAcl bucket key) = true
+is_old_if_failed (ListUploads bucket prefix key_marker id_marker max) = true
+is_old_if_failed (CreateUpload bucket key acl content_type meta) = true
+is_old_if_failed (UploadPart bucket key id number body) = true
+is_old_if_failed (ListParts bucket key id marker max) = true
+is_old_if_failed (CompleteUpload bucket key id list) = true
+is_old_if_failed (AbortUpload bucket key id) = true
 
+-- whether it is the old one there, where memory ran out: of all but AbortUpload, which deletes the parts once the upload is gone
 abbrev pub is_old_if_out_of_memory : Op → Bool
 is_old_if_out_of_memory ListBuckets = true
 is_old_if_out_of_memory (CreateBucket bucket acl) = true
@@ -114,6 +135,12 @@ is_old_if_out_of_memory (GetObject bucket key range conditions) = true
 is_old_if_out_of_memory (HeadObject bucket key range conditions) = true
 is_old_if_out_of_memory (DeleteObject bucket key) = true
 is_old_if_out_of_memory (GetObjectAcl bucket key) = true
+is_old_if_out_of_memory (ListUploads bucket prefix key_marker id_marker max) = true
+is_old_if_out_of_memory (CreateUpload bucket key acl content_type meta) = true
+is_old_if_out_of_memory (UploadPart bucket key id number body) = true
+is_old_if_out_of_memory (ListParts bucket key id marker max) = true
+is_old_if_out_of_memory (CompleteUpload bucket key id list) = true
+is_old_if_out_of_memory (AbortUpload bucket key id) = false
 
 -- the state is the old one at each number before q, if that is asked for
 abbrev pub OldIf : Bool → History → ℕ → ℕ → Type 0
@@ -124,7 +151,7 @@ OldIf false h p q = Unit {0}
 -- word that memory ran out
 pub data AnswersBy (settings : Settings) (h : History) (p q : ℕ) (op : Op) (label : Label) (takes : ℕ) (reply : Reply) : Type 0 where
   machine : takes ≡ steps_of op → S3Step settings (s3_state (h.account_at p)) op label reply (s3_state (h.account_at q)) → AnswersBy settings h p q op label takes reply
-  unavailable : reply ≡ Refused ServiceUnavailable → LastFailed h p q → OldIf (is_old_if_failed op) h p q → AnswersBy settings h p q op label takes reply
+  unavailable : reply ≡ Refused ServiceUnavailable → (failed : LastFailed h p q) → OldIf (is_old_if_failed op) h p (failed.last + 1) → AnswersBy settings h p q op label takes reply
   memory : reply ≡ Memory → OldIf (is_old_if_out_of_memory op) h p q → AnswersBy settings h p q op label takes reply
 
 -- and the state goes through the steps that are taken, consistent at each number; t is the operation's commit point
@@ -179,6 +206,12 @@ beside_of (GetObject bucket key range conditions) = nothing_beside
 beside_of (HeadObject bucket key range conditions) = nothing_beside
 beside_of (DeleteObject bucket key) = nothing_beside
 beside_of (GetObjectAcl bucket key) = nothing_beside
+beside_of (ListUploads bucket prefix key_marker id_marker max) = nothing_beside
+beside_of (CreateUpload bucket key acl content_type meta) = nothing_beside
+beside_of (UploadPart bucket key id number body) = nothing_beside
+beside_of (ListParts bucket key id marker max) = nothing_beside
+beside_of (CompleteUpload bucket key id list) = nothing_beside
+beside_of (AbortUpload bucket key id) = nothing_beside
 
 -- the calls from p to q, by which an operation was answered, leave the account so
 abbrev pub SaysBeside : Beside → Label → History → ℕ → ℕ → Reply → Type 0
@@ -208,6 +241,17 @@ NeverUnavailable = (settings : Settings) (h : History) (p q : ℕ) (op : Op) (la
 abbrev pub pages : ℕ → ℕ
 pages names = names / 1000 + 1
 
+-- how many records, and how many segments, stand beside a bucket
+abbrev pub records_of : SwiftAccount → List ℕ → ℕ
+records_of tree bucket = len (files tree (uploads_name bucket))
+
+abbrev pub segments_of : SwiftAccount → List ℕ → ℕ
+segments_of tree bucket = len (files tree (segments_name bucket))
+
+-- how many of the segments are named by this id
+abbrev pub named_by : SwiftAccount → List ℕ → List ℕ → ℕ
+named_by tree bucket id = length (filter (λ entry. begins (id ++ (47 ∷ [])) entry.0) (entries (files tree (segments_name bucket))))
+
 -- the greatest number of calls of an operation, by the account as it began
 abbrev pub most_calls : Op → SwiftAccount → Bound
 most_calls ListBuckets tree = by_account (pages (len tree) + len (s3_state tree))
@@ -223,6 +267,12 @@ most_calls (GetObject bucket key range conditions) tree = always 3
 most_calls (HeadObject bucket key range conditions) tree = always 2
 most_calls (DeleteObject bucket key) tree = always 2
 most_calls (GetObjectAcl bucket key) tree = always 2
+most_calls (ListUploads bucket prefix key_marker id_marker max) tree = by_account (1 + pages (records_of tree bucket) + records_of tree bucket)
+most_calls (CreateUpload bucket key acl content_type meta) tree = by_account (2 + 2 * (records_of tree bucket + segments_of tree bucket + 1))
+most_calls (UploadPart bucket key id number body) tree = always 3
+most_calls (ListParts bucket key id marker max) tree = by_account (2 + pages (named_by tree bucket id))
+most_calls (CompleteUpload bucket key id list) tree = by_account (6 + pages (named_by tree bucket id))
+most_calls (AbortUpload bucket key id) tree = by_account (3 + pages (named_by tree bucket id) + named_by tree bucket id)
 
 -- whether no call follows the one that commits, so that none fails under a reply of the service
 abbrev pub ends_by_commit : Op → Bool
@@ -239,6 +289,34 @@ ends_by_commit (GetObject bucket key range conditions) = true
 ends_by_commit (HeadObject bucket key range conditions) = true
 ends_by_commit (DeleteObject bucket key) = true
 ends_by_commit (GetObjectAcl bucket key) = true
+ends_by_commit (ListUploads bucket prefix key_marker id_marker max) = true
+ends_by_commit (CreateUpload bucket key acl content_type meta) = true
+ends_by_commit (UploadPart bucket key id number body) = true
+ends_by_commit (ListParts bucket key id marker max) = true
+ends_by_commit (CompleteUpload bucket key id list) = false
+ends_by_commit (AbortUpload bucket key id) = false
+
+-- whether a completion may be sealed after the operation, by its reply: after CompleteUpload alone, which seals it
+abbrev pub may_leave_unsure : Op → Reply → Bool
+may_leave_unsure ListBuckets reply = false
+may_leave_unsure (CreateBucket bucket acl) reply = false
+may_leave_unsure (DeleteBucket bucket) reply = false
+may_leave_unsure (HeadBucket bucket) reply = false
+may_leave_unsure (GetLocation bucket) reply = false
+may_leave_unsure (GetBucketAcl bucket) reply = false
+may_leave_unsure (PutBucketAcl bucket acl) reply = false
+may_leave_unsure (ListObjects bucket asked) reply = false
+may_leave_unsure (PutObject bucket key acl content_type meta body) reply = false
+may_leave_unsure (GetObject bucket key range conditions) reply = false
+may_leave_unsure (HeadObject bucket key range conditions) reply = false
+may_leave_unsure (DeleteObject bucket key) reply = false
+may_leave_unsure (GetObjectAcl bucket key) reply = false
+may_leave_unsure (ListUploads bucket prefix key_marker id_marker max) reply = false
+may_leave_unsure (CreateUpload bucket key acl content_type meta) reply = false
+may_leave_unsure (UploadPart bucket key id number body) reply = false
+may_leave_unsure (ListParts bucket key id marker max) reply = false
+may_leave_unsure (CompleteUpload bucket key id list) reply = true
+may_leave_unsure (AbortUpload bucket key id) reply = false
 
 -- the greatest number of calls by which a store is settled, by the account as it began
 abbrev pub most_settling : SwiftAccount → Bound

@@ -1,5 +1,5 @@
 -- What the calls of an operation mean for the S3 state: some leave it and tell of it, and one changes it. Source: this profile.
-use Rattle.std.specs.Prelude.{◌≡◌, ◌⊎◌, ◌≤◌, ℕ, ◌+◌, Bool, true, false, IsTrue, is_some, List, Option, None, Some, Result, Ok, Err}
+use Rattle.std.specs.Prelude.{◌≡◌, ◌⊎◌, ◌≤◌, ℕ, ◌+◌, Bool, true, false, IsTrue, is_some, List, Option, None, Some, IfSome, Result, Ok, Err, IfOk}
 use Rattle.std.specs.Option.{option_and_then, option_map}
 use Rattle.std.specs.FinMap.{get, insert, remove}
 use Rattle.gate_base.specs.Causes.{Rose}
@@ -9,9 +9,11 @@ use Rattle.s3_names.specs.declared.acl.Acl.{Acl}
 use Rattle.s3_machine.specs.declared.operation.ObjectHead.{ObjectHead}
 use Rattle.s3_machine.specs.State.{Object, Bucket, State}
 use Rattle.s3_machine.specs.Step.{new_bucket, is_bare, with_acl, new_object, head_of, put_object, drop_object}
-use Rattle.swift_calls.specs.Account.{SwiftAccount}
+use Rattle.swift_calls.specs.Account.{SwiftAccount, find_object}
 use Rattle.swift_calls.specs.Bodies.{ranged}
+use Rattle.swift_calls.specs.Bodies as bodies
 use Rattle.swift_calls.specs.History.{History, present, Extends}
+use Rattle.swift_calls.specs.declared.heads.StoredHead.{StoredHead}
 use Rattle.upload_records.specs.Native.{object_at, IsSettled, s3_state}
 use Rattle.upload_records.specs.Consistent.{IsConsistent}
 use Rattle.recovery.specs.declared.bucket.Dropped.{Dropped}
@@ -140,6 +142,21 @@ bytes_in object = object.bytes
 -- the bytes of an object, or those of a range by its first and its last, if the object is there and has one of them
 abbrev pub TellsBytes : List ℕ → List ℕ → Option (ℕ × ℕ) → State → Option (List ℕ) → Type 0
 TellsBytes bucket key range state told = option_and_then (ranged range) (option_map bytes_in (object_at (get state bucket) key)) ≡ told
+
+-- the object is there, with this ETag and this size
+abbrev pub HasObject : List ℕ → List ℕ → List ℕ → ℕ → State → Type 0
+HasObject bucket key etag size state = (head : ObjectHead) × TellsObject bucket key state (Some head) × (head.etag ≡ etag) × (head.size ≡ size)
+
+-- an object of a container is there, with this ETag and this size
+abbrev pub IsStoredAs : SwiftAccount → List ℕ → List ℕ → List ℕ → ℕ → Type 0
+IsStoredAs tree container name etag size =
+    (head : StoredHead) × (option_map bodies.head_of (find_object tree container name) ≡ Some head) × (head.etag ≡ etag) × (head.size ≡ size)
+
+-- where the store is observable, bytes are given of an object with this ETag and this size alone, whether its account is
+-- consistent or not
+abbrev pub GivesUnchanged : History → List ℕ → List ℕ → List ℕ → ℕ → Result (Option (List ℕ)) PlanFault → Type 0
+GivesUnchanged h bucket key etag size result =
+    IsTrue h.observable → IfOk result (λ given. IfSome given (λ bytes. IsStoredAs (present h) bucket key etag size))
 
 -- nothing is given, of a state or of an account
 abbrev pub Any : {A : Type 0} → A → Type 0

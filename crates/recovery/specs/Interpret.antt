@@ -1,6 +1,6 @@
 -- What an answer of the store comes to, by the call that it answers. Over a consistent account no other answer comes than
 -- one that tells of the state. Source: Object Storage API v1 and this profile.
-use Rattle.std.specs.Prelude.{◌≡◌, ◌⊎◌, ◌<◌, ◌^◌, ℕ, Bool, true, false, cond, not, ◌&&◌, nat_le, List, bytes_eq, Option, None, Some, is_none, Result, Ok, Err}
+use Rattle.std.specs.Prelude.{◌≡◌, ◌⊎◌, ◌<◌, ◌==◌, ◌^◌, ℕ, Bool, true, false, cond, if◌then◌else◌, not, ◌&&◌, nat_le, List, bytes_eq, Option, None, Some, is_none, Result, Ok, Err}
 use Rattle.gate_base.specs.Told.{moment_limit}
 use Rattle.gate_base.specs.declared.page.Pair.{Pair}
 use Rattle.s3_names.specs.declared.acl.Acl.{Acl}
@@ -62,12 +62,16 @@ head_due (Head head) = known (head_from head)
 head_due NotFound = Ok None
 head_due _ = Err fault.Inconsistent
 
--- GET of an object's file, or of a range of it, of which it may have no byte
-abbrev pub bytes_due : SwiftReply → Result (Option (List ℕ)) PlanFault
-bytes_due (Bytes head body) = Ok (Some body)
-bytes_due Unsatisfiable = Ok None
-bytes_due NotFound = Ok None
-bytes_due _ = Err fault.Inconsistent
+-- whether a file has this ETag and this size
+abbrev pub is_unchanged : List ℕ → ℕ → StoredHead → Bool
+is_unchanged etag size head = bytes_eq head.etag etag && (head.size == size)
+
+-- GET of an object's file, or of a range of it, of which it may have no byte: HEAD told this ETag and this size of the file
+abbrev pub bytes_due : List ℕ → ℕ → SwiftReply → Result (Option (List ℕ)) PlanFault
+bytes_due etag size (Bytes head body) = if is_unchanged etag size head then Ok (Some body) else Err fault.Inconsistent
+bytes_due etag size Unsatisfiable = Ok None
+bytes_due etag size NotFound = Ok None
+bytes_due etag size _ = Err fault.Inconsistent
 
 -- PUT of an object's file whose bytes have this ETag: the store has them with the same
 abbrev pub stored_due : List ℕ → SwiftReply → Result (Unit {0}) PlanFault

@@ -1,6 +1,6 @@
 -- What the calls between two numbers do to the S3 state: nothing, or the last of them failed. Each definition takes the
 -- history first. Source: this profile.
-use Rattle.std.specs.Prelude.{◌≡◌, ◌<◌, ◌≤◌, ℕ, ◌+◌}
+use Rattle.std.specs.Prelude.{◌≡◌, ◌⊎◌, ◌<◌, ◌≤◌, ℕ, ◌+◌}
 use Rattle.gate_base.specs.Causes.{Rose}
 use Rattle.swift_calls.specs.History.{History, budget}
 use Rattle.upload_records.specs.Native.{s3_state}
@@ -21,7 +21,10 @@ abbrev pub calm : History → History
 calm h = record h { faults_at = λ k. 0 }
 
 -- a call failed, and no earlier one from p on did: it was the last before q, and the count of faults rose with it; or no call
--- was left for it, and the state stayed
-pub data LastFailed (h : History) (p q : ℕ) : Type 0 where
-  was_lost : (last : ℕ) → p ≤ last → q ≡ last + 1 → h.faults_at last ≡ h.faults_at p → Rose (h.faults_at last) (h.faults_at q) → LastFailed h p q
-  had_none : budget ≤ q → h.faults_at q ≡ h.faults_at p → s3_state (h.account_at q) ≡ s3_state (h.account_at p) → LastFailed h p q
+-- was left for it
+pub record LastFailed (h : History) (p q : ℕ) : Type 0 where
+  -- the number of calls before it
+  pub last : ℕ
+  pub after_p : p ≤ last
+  pub no_fault : h.faults_at last ≡ h.faults_at p
+  pub fails : ((q ≡ last + 1) × Rose (h.faults_at last) (h.faults_at q)) ⊎ ((q ≡ last) × (budget ≤ last))

@@ -1,6 +1,7 @@
 //! What an answer of the store comes to.
 ghost use Rattle.std.specs.Prelude.{◌≡◌, ◌≢◌, Err, IfOk};
 ghost use Rattle.recovery.specs.Interpret.{Gives, agrees, bucket_due, bytes_due, dropped_due, gone_due, head_due, head_from, known, IsShownHead, made_due, set_due, stored_due};
+ghost use Rattle.swift_calls.specs.declared.calls.SwiftReply.TheVariants as answer;
 ghost use Rattle.recovery.specs.declared.fault.PlanFault.TheVariants as fault;
 
 use crate::{Dropped, PlanFault};
@@ -73,16 +74,37 @@ fn agrees(head: &StoredHead, tag: &Tag) -> bool
         && head.size <= MOST_BODY_BYTES
 }
 
-/// The answer to GET of an object's file, or of a range of it, of which it may have no byte.
-pub(crate) fn bytes_in(reply: SwiftReply) -> Result<Option<Bytes>, PlanFault>
-    ensures due { result ≡ bytes_due reply }
+/// The answer to GET of an object's file, or of a range of it, of which it may have no byte. HEAD told this ETag and this
+/// size of the file.
+pub(crate) fn bytes_in(
+    reply: SwiftReply,
+    etag: &[u8],
+    size: u64,
+) -> Result<Option<Bytes>, PlanFault>
+    ensures due { result ≡ bytes_due etag.now size reply }
     ensures own { result ≢ Err fault.Failed }
 {
     match reply {
-        SwiftReply::Bytes { body, .. } => Ok(Some(body)),
+        SwiftReply::Bytes { head, body } => unchanged(&head, body, etag, size),
         SwiftReply::Unsatisfiable | SwiftReply::NotFound => Ok(None),
         _ => Err(PlanFault::Inconsistent),
     }
+}
+
+/// The bytes that a GET told with this head, where HEAD told the same ETag and the same size.
+fn unchanged(
+    head: &StoredHead,
+    body: Bytes,
+    etag: &[u8],
+    size: u64,
+) -> Result<Option<Bytes>, PlanFault>
+    ensures due { result ≡ bytes_due etag.now size (answer.Bytes head.now body) }
+    ensures own { result ≢ Err fault.Failed }
+{
+    if head.etag.as_slice() != etag || head.size != size {
+        return Err(PlanFault::Inconsistent);
+    }
+    Ok(Some(body))
 }
 
 /// The answer to PUT of an object's file whose bytes have this ETag: the store has them with the same.

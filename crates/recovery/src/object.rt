@@ -11,7 +11,7 @@ ghost use Rattle.swift_marks.specs.Tag.{has_text, tag_text};
 ghost use Rattle.s3_names.specs.Meta.{names_ascend};
 ghost use Rattle.recovery.specs.Interpret.{IsShownHead, plain_tag, put_of};
 ghost use Rattle.upload_records.specs.Native.{IsSettled};
-ghost use Rattle.recovery.specs.Calls.{always, Any, Asks, Becomes, Changes, Given, HasBucket, Tells, TellsBytes, TellsObject, drops_object, puts_object};
+ghost use Rattle.recovery.specs.Calls.{always, Any, Asks, Becomes, Changes, Given, GivesUnchanged, HasBucket, HasObject, Tells, TellsBytes, TellsObject, drops_object, puts_object};
 ghost use Rattle.recovery.specs.Lent.{Stays};
 
 use crate::interpret::{bytes_in, gone_in, head_in, stored_in};
@@ -48,21 +48,26 @@ pub fn head_object<W: Swift>(
 }
 
 /// The bytes of an object, or those of a range, by GET of its file (Object Storage API v1, "Get object content and
-/// metadata"). A range has the number of its first byte and that of its last, which may be past the end of the object. `None`
-/// where the object is missing, or has no byte of the range. At most one call, and the S3 state stays. The faults are those
-/// of [`head_object`].
+/// metadata"), of which HEAD told this ETag and this size in bytes. A range has the number of its first byte and that of its
+/// last, which may be past the end of the object. `None` where the object is missing, or has no byte of the range. At most
+/// one call, and the S3 state stays. Failed comes only where the store's count of faults rose; Memory where memory ran out;
+/// Inconsistent where the answer has another ETag or another size, and never over an observable consistent account whose
+/// object has these.
 #[tactic(auto, using(crate::proofs::Names::container_name, crate::proofs::Names::object_name))]
 pub fn get_object<W: Swift>(
     state: &mut Settled<'_, W>,
     bucket: Bytes,
     key: Bytes,
+    etag: &[u8],
+    size: u64,
     range: Option<(u64, u64)>,
 ) -> Result<Option<Bytes>, PlanFault>
     requires name { is_bucket bucket ≡ true }
     requires key { is_key key ≡ true }
     requires range { IfSome range IsRange }
     ensures stays { Stays state.old state.new }
-    ensures asks { Asks (always 1) (W.history state.old.store.now) (W.history state.new.store.now) IsSettled (Tells (TellsBytes bucket key range)) result }
+    ensures asks { Asks (always 1) (W.history state.old.store.now) (W.history state.new.store.now) (Given (HasObject bucket key etag.now size)) (Tells (TellsBytes bucket key range)) result }
+    ensures unchanged { GivesUnchanged (W.history state.old.store.now) bucket key etag.now size result }
 {
     let reply = ask(
         state.store,
@@ -72,7 +77,7 @@ pub fn get_object<W: Swift>(
             range,
         },
     )?;
-    bytes_in(reply)
+    bytes_in(reply, etag, size)
 }
 
 /// Puts an object into a bucket that is there, by PUT of its file (Object Storage API v1, "Create or replace object"):

@@ -9,3 +9,4 @@ pub mod Reading
 pub mod Shown
 pub mod State
 pub mod Step
+pub mod Uploads

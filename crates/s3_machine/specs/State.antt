@@ -34,12 +34,13 @@ pub record Upload : Type 0 where
   pub started : ℕ
   pub parts : Numbers Part
 
--- what is kept of a completed upload, so that the same completion can be answered again
+-- what is kept of a completed upload, so that the same completion can be answered again; the moment is that of the completion
 pub record Completion : Type 0 where
   pub key : List ℕ
   pub list : List Listed
   pub etag : List ℕ
   pub started : ℕ
+  pub moment : ℕ
 
 -- objects stand under their keys; uploads and completions under the text of their id
 pub record Bucket : Type 0 where
@@ -76,9 +77,10 @@ upload_code = code_by (List ℕ × (List ℕ × (List Pair × (ℕ × Numbers Pa
     (λ p. record { key = p.0; content_type = p.1.0; meta = p.1.1.0; started = p.1.1.1.0; parts = p.1.1.1.1 }) (λ _. refl)
 
 abbrev pub completion_code : Coded Completion
-completion_code = code_by (List ℕ × (List Listed × (List ℕ × ℕ)))
-    (coded× (coded_list coded_ℕ) (coded× (coded_list listed.the_row.coded) (coded× (coded_list coded_ℕ) coded_ℕ)))
-    (λ c. (c.key, (c.list, (c.etag, c.started)))) (λ p. record { key = p.0; list = p.1.0; etag = p.1.1.0; started = p.1.1.1 }) (λ _. refl)
+completion_code = code_by (List ℕ × (List Listed × (List ℕ × (ℕ × ℕ))))
+    (coded× (coded_list coded_ℕ) (coded× (coded_list listed.the_row.coded) (coded× (coded_list coded_ℕ) (coded× coded_ℕ coded_ℕ))))
+    (λ c. (c.key, (c.list, (c.etag, (c.started, c.moment)))))
+    (λ p. record { key = p.0; list = p.1.0; etag = p.1.1.0; started = p.1.1.1.0; moment = p.1.1.1.1 }) (λ _. refl)
 
 abbrev pub bucket_code : Coded Bucket
 bucket_code = code_by (ℕ × (Acl × (Names Object × (Names Upload × Names Completion))))

@@ -1,6 +1,6 @@
 -- One step of the S3 service: what an operation is answered, and the state after it. The refusals are tried in
 -- the order given, and a refused step leaves the state. Source: Amazon S3 API Reference and this profile.
-use Rattle.std.specs.Prelude.{◌≡◌, ◌<◌, ◌≤◌, ◌==◌, ℕ, nat_eq, Bool, true, false, not, if◌then◌else◌, List, [], map, length, Option, Some, None, IfSome}
+use Rattle.std.specs.Prelude.{◌≡◌, ◌<◌, ◌≤◌, ◌^◌, ◌==◌, ℕ, nat_eq, bytes_eq, Bool, true, false, not, if◌then◌else◌, List, [], map, length, Option, Some, None, IfSome}
 use Rattle.std.specs.Option.{unwrap_or}
 use Rattle.std.specs.FinMap.{entries, get, insert, remove, empty, len}
 use Rattle.gate_base.specs.declared.caller.Caller.{Caller}
@@ -11,15 +11,20 @@ use Rattle.gate_base.specs.Told.{moment_limit}
 use Rattle.s3_names.specs.declared.acl.Acl.{Acl}
 use Rattle.s3_names.specs.declared.acl.Acl.TheVariants.{Private, PublicRead}
 use Rattle.s3_names.specs.Bucket.{is_bucket}
+use Rattle.s3_names.specs.Id.{id_digits}
 use Rattle.s3_names.specs.Key.{is_key}
 use Rattle.s3_machine.specs.declared.code.Code.{Code}
 use Rattle.s3_machine.specs.declared.code.Code.TheVariants.{
   AccessDenied,
   BucketAlreadyOwnedByYou,
   BucketNotEmpty,
+  EntityTooSmall,
+  InvalidPart,
+  InvalidPartOrder,
   InvalidRange,
   NoSuchBucket,
   NoSuchKey,
+  NoSuchUpload,
   NotImplemented,
   PreconditionFailed,
 }
@@ -50,7 +55,14 @@ use Rattle.s3_machine.specs.declared.operation.Op.TheVariants.{
   HeadObject,
   DeleteObject,
   GetObjectAcl,
+  ListUploads,
+  CreateUpload,
+  UploadPart,
+  ListParts,
+  CompleteUpload,
+  AbortUpload,
 }
+use Rattle.s3_machine.specs.declared.operation.Listed.{Listed}
 use Rattle.s3_machine.specs.declared.operation.ObjectHead.{ObjectHead}
 use Rattle.s3_machine.specs.declared.operation.Reply.{Reply}
 use Rattle.s3_machine.specs.declared.operation.Reply.TheVariants as reply
@@ -58,7 +70,29 @@ use Rattle.s3_machine.specs.ETag.{body_etag}
 use Rattle.s3_machine.specs.Items.{items}
 use Rattle.s3_machine.specs.Limits.{is_content_type, is_listing_text, is_proper_meta, most_body_bytes, most_items, range_limit}
 use Rattle.s3_machine.specs.Reading.{judged, taken}
-use Rattle.s3_machine.specs.State.{Object, Bucket, State}
+use Rattle.s3_machine.specs.State.{Object, Part, Upload, Bucket, State}
+use Rattle.s3_machine.specs.Finish.{finished}
+use Rattle.s3_machine.specs.Uploads.{
+  most_parts,
+  IsPartNumber,
+  id_value,
+  new_upload,
+  open_upload,
+  drop_upload,
+  on_upload,
+  new_part,
+  with_part,
+  cut,
+  parts_above,
+  uploads_after,
+  rises,
+  chosen,
+  is_too_small,
+  kept_as,
+  upload_etag,
+  etag_in,
+  completed,
+}
 
 pub record Outcome : Type 0 where
   pub reply : Reply
@@ -231,6 +265,65 @@ listing_reply name asked listed = reply.Objects name asked (map item_of listed.0
 abbrev pub lists : State → Caller → List ℕ → Asked → Bucket → Outcome
 lists old caller name asked b = unless (not (may_read caller b.acl)) AccessDenied old (gives (listing_reply name asked (listing asked b.objects)) old)
 
+-- ---- uploads
+
+abbrev pub in_upload_by : Option Upload → List ℕ → State → (Upload → Outcome) → Outcome
+in_upload_by None key old f = refuses NoSuchUpload old
+in_upload_by (Some u) key old f = unless (not (bytes_eq u.key key)) NoSuchUpload old (f u)
+
+-- the open upload of the id in a bucket, which is of this key
+abbrev pub in_upload : State → List ℕ → List ℕ → (Upload → Outcome) → Bucket → Outcome
+in_upload old key id f b = in_upload_by (get b.uploads id) key old f
+
+-- ListUploads in a bucket
+abbrev pub uploads_reply : List ℕ → List ℕ → List ℕ → List ℕ → ℕ → Names Upload → Reply
+uploads_reply bucket prefix key_marker id_marker max uploads =
+    let listed = cut max (uploads_after prefix key_marker id_marker uploads) in
+    reply.Uploads bucket prefix key_marker id_marker max listed.0 listed.1
+
+abbrev pub lists_uploads : State → List ℕ → List ℕ → List ℕ → List ℕ → ℕ → Bucket → Outcome
+lists_uploads old bucket prefix key_marker id_marker max b = gives (uploads_reply bucket prefix key_marker id_marker max b.uploads) old
+
+-- CreateUpload in a bucket: an upload without parts under the new id
+abbrev pub starts : State → List ℕ → List ℕ → Option Acl → Upload → ℕ → Bucket → Outcome
+starts old bucket key acl u id b = unless (is_other_acl acl b.acl) NotImplemented old (gives (reply.Started bucket key id) (adjust bucket (open_upload (id_digits id) u) old))
+
+-- UploadPart in an upload: the part in place of what stands under its number
+abbrev pub puts_part : State → List ℕ → List ℕ → ℕ → Part → Upload → Outcome
+puts_part old bucket id number p u = gives (reply.Stored p.etag) (adjust bucket (on_upload id (with_part number p)) old)
+
+-- ListParts in an upload
+abbrev pub parts_reply : List ℕ → List ℕ → List ℕ → ℕ → ℕ → Upload → Reply
+parts_reply bucket key id marker max u =
+    let listed = cut max (parts_above marker u) in
+    reply.Parts bucket key (id_value id) marker max listed.0 listed.1
+
+abbrev pub lists_parts : State → List ℕ → List ℕ → List ℕ → ℕ → ℕ → Upload → Outcome
+lists_parts old bucket key id marker max u = gives (parts_reply bucket key id marker max u) old
+
+-- AbortUpload in an upload
+abbrev pub aborts : State → List ℕ → List ℕ → Upload → Outcome
+aborts old bucket id u = gives reply.Gone (adjust bucket (drop_upload id) old)
+
+-- CompleteUpload of an open upload, by the parts that its list chose
+abbrev pub completes_chosen : Settings → State → List ℕ → List ℕ → List Listed → ℕ → Upload → Option (List Part) → Outcome
+completes_chosen settings old bucket id list moment u None = refuses InvalidPart old
+completes_chosen settings old bucket id list moment u (Some parts) =
+    unless (is_too_small settings.least_part parts) EntityTooSmall old
+    (gives (reply.Completed bucket u.key (upload_etag (map etag_in parts))) (finished (completed bucket id u list parts moment) old))
+
+abbrev pub completes_open : Settings → State → List ℕ → List ℕ → List Listed → ℕ → Upload → Outcome
+completes_open settings old bucket id list moment u =
+    unless (not (rises list)) InvalidPartOrder old (completes_chosen settings old bucket id list moment u (chosen u.parts list))
+
+-- CompleteUpload in a bucket, by the ETag with which the same completion is kept: it is answered again, and changes nothing
+abbrev pub completes_by : Option (List ℕ) → Settings → State → List ℕ → List ℕ → List ℕ → List Listed → ℕ → Bucket → Outcome
+completes_by (Some etag) settings old bucket key id list moment b = gives (reply.Completed bucket key etag) old
+completes_by None settings old bucket key id list moment b = in_upload old key id (completes_open settings old bucket id list moment) b
+
+abbrev pub completes : Settings → State → List ℕ → List ℕ → List ℕ → List Listed → ℕ → Bucket → Outcome
+completes settings old bucket key id list moment b = completes_by (kept_as key list (get b.kept id)) settings old bucket key id list moment b
+
 -- ---- the step
 
 -- the step of each operation, with the id that a new upload gets
@@ -251,8 +344,22 @@ step settings old (HeadObject bucket key range conditions) label id =
     in_bucket old bucket (in_readable old label.caller key (reads old (headed range conditions)))
 step settings old (DeleteObject bucket key) label id = in_bucket old bucket (deletes old bucket key)
 step settings old (GetObjectAcl bucket key) label id = in_bucket old bucket (shows_object_acl old key)
+step settings old (ListUploads bucket prefix key_marker id_marker max) label id = in_bucket old bucket (lists_uploads old bucket prefix key_marker id_marker max)
+step settings old (CreateUpload bucket key acl content_type meta) label id =
+    in_bucket old bucket (starts old bucket key acl (new_upload key content_type meta label.moment) id)
+step settings old (UploadPart bucket key upload number body) label id =
+    in_bucket old bucket (in_upload old key upload (puts_part old bucket upload number (new_part label.moment body)))
+step settings old (ListParts bucket key upload marker max) label id = in_bucket old bucket (in_upload old key upload (lists_parts old bucket key upload marker max))
+step settings old (CompleteUpload bucket key upload list) label id = in_bucket old bucket (completes settings old bucket key upload list label.moment)
+step settings old (AbortUpload bucket key upload) label id = in_bucket old bucket (in_upload old key upload (aborts old bucket upload))
 
--- the id that the operation may give to a new upload
+-- an id of 128 bits that is neither open nor kept in the bucket
+pub record IsNewId (b : Bucket) (id : ℕ) : Type 0 where
+  pub fits : id < 2 ^ 128
+  pub closed : get b.uploads (id_digits id) ≡ None
+  pub forgotten : get b.kept (id_digits id) ≡ None
+
+-- the id that the operation may give to a new upload, where it opens one
 abbrev pub IsFree : State → Op → ℕ → Type 0
 IsFree old ListBuckets id = Unit {0}
 IsFree old (CreateBucket bucket acl) id = Unit {0}
@@ -267,6 +374,12 @@ IsFree old (GetObject bucket key range conditions) id = Unit {0}
 IsFree old (HeadObject bucket key range conditions) id = Unit {0}
 IsFree old (DeleteObject bucket key) id = Unit {0}
 IsFree old (GetObjectAcl bucket key) id = Unit {0}
+IsFree old (ListUploads bucket prefix key_marker id_marker max) id = Unit {0}
+IsFree old (CreateUpload bucket key acl content_type meta) id = (b : Bucket) → get old bucket ≡ Some b → is_other_acl acl b.acl ≡ false → IsNewId b id
+IsFree old (UploadPart bucket key upload number body) id = Unit {0}
+IsFree old (ListParts bucket key upload marker max) id = Unit {0}
+IsFree old (CompleteUpload bucket key upload list) id = Unit {0}
+IsFree old (AbortUpload bucket key upload) id = Unit {0}
 
 -- the service goes by this operation from the old state to the new one, and answers this
 pub record S3Step (settings : Settings) (old : State) (op : Op) (label : Label) (reply : Reply) (new : State) : Type 0 where
@@ -303,6 +416,18 @@ pub record IsProperAsked (asked : Asked) : Type 0 where
   pub token : IfSome asked.token (λ text. is_listing_text text ≡ true)
   pub few : asked.max ≤ most_items
 
+-- what uploads are listed by
+pub record IsProperUploads (with_prefix key id : List ℕ) (max : ℕ) : Type 0 where
+  pub prefix : is_listing_text with_prefix ≡ true
+  pub key_marker : is_listing_text key ≡ true
+  pub id_marker : is_listing_text id ≡ true
+  pub few : max ≤ most_items
+
+-- what a completion lists: at least one part, and no more than an upload has
+pub record IsProperList (list : List Listed) : Type 0 where
+  pub filled : 1 ≤ length list
+  pub few : length list ≤ most_parts
+
 -- an operation that keeps the limits of this profile, at a moment that a clock can give
 abbrev pub IsProperOp : Op → Type 0
 IsProperOp ListBuckets = Unit {0}
@@ -318,6 +443,12 @@ IsProperOp (GetObject bucket key range conditions) = IsPlace bucket key × IfSom
 IsProperOp (HeadObject bucket key range conditions) = IsPlace bucket key × IfSome range IsProperRange
 IsProperOp (DeleteObject bucket key) = IsPlace bucket key
 IsProperOp (GetObjectAcl bucket key) = IsPlace bucket key
+IsProperOp (ListUploads bucket prefix key_marker id_marker max) = (is_bucket bucket ≡ true) × IsProperUploads prefix key_marker id_marker max
+IsProperOp (CreateUpload bucket key acl content_type meta) = IsPlace bucket key × (is_content_type content_type ≡ true) × (is_proper_meta meta ≡ true)
+IsProperOp (UploadPart bucket key upload number body) = IsPlace bucket key × IsPartNumber number × (length body ≤ most_body_bytes)
+IsProperOp (ListParts bucket key upload marker max) = IsPlace bucket key × (max ≤ most_items)
+IsProperOp (CompleteUpload bucket key upload list) = IsPlace bucket key × IsProperList list
+IsProperOp (AbortUpload bucket key upload) = IsPlace bucket key
 
 abbrev pub IsProper : Op → Label → Type 0
 IsProper op label = IsProperOp op × (label.moment < moment_limit)

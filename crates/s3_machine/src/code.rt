@@ -5,6 +5,7 @@ use gate_base::{Copying, Memory};
 pub enum Code {
     AccessDenied,
     AuthorizationHeaderMalformed,
+    AuthorizationQueryParametersError,
     BadDigest,
     BucketAlreadyOwnedByYou,
     BucketNotEmpty,

@@ -17,8 +17,8 @@ pub use etag::body_etag;
 pub use items::{Asked, BucketItem, Item, ItemHead, PartItem, UploadItem, copy_option};
 pub use laws::{law_get_after_delete, law_get_after_put};
 pub use limits::{
-    MOST_BODY_BYTES, MOST_ITEMS, MOST_PARTS, RANGE_LIMIT, is_content_type, is_listing_text,
-    is_meta_name, is_meta_value, is_proper_meta,
+    GREATEST_PART_NUMBER, MOST_BODY_BYTES, MOST_ITEMS, MOST_PARTS, RANGE_LIMIT, is_content_type,
+    is_listing_text, is_meta_name, is_meta_value, is_proper_meta,
 };
 pub use operation::{Label, Listed, ObjectHead, Op, Reply, Settings};
 pub use reading::{Conditions, ETags, Judged, Range, Span, judge};

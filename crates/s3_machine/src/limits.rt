@@ -22,8 +22,11 @@ pub(crate) const MOST_META_BYTES: usize = 2048;
 /// The most items of one reply that lists.
 pub const MOST_ITEMS: u32 = 1000;
 
-/// The most parts of an upload (this profile; S3 has more).
+/// The most parts that a completion lists (this profile; S3 has more).
 pub const MOST_PARTS: usize = 1000;
+
+/// The greatest number of a part; the least is 1 (this profile; S3 has more).
+pub const GREATEST_PART_NUMBER: u32 = 1000;
 
 /// The least number of more than 18 digits, which no range has.
 pub const RANGE_LIMIT: u64 = 1_000_000_000_000_000_000;

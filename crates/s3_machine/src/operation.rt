@@ -54,7 +54,8 @@ impl Copying for Listed {
     }
 }
 
-/// The operations of Amazon S3 that are built. An access control list that isn't given is the bucket's.
+/// The operations of Amazon S3. An access control list that isn't given is the bucket's. The id of an upload is a text as it was
+/// given: one that is no open upload's is NoSuchUpload.
 #[derive(Debug, Drop)]
 pub enum Op {
     ListBuckets,
@@ -110,6 +111,45 @@ pub enum Op {
         bucket: Bytes,
         key: Bytes,
     },
+    ListUploads {
+        bucket: Bytes,
+        prefix: Bytes,
+        key_marker: Bytes,
+        id_marker: Bytes,
+        max: u32,
+    },
+    CreateUpload {
+        bucket: Bytes,
+        key: Bytes,
+        acl: Option<Acl>,
+        content_type: Bytes,
+        meta: Meta,
+    },
+    UploadPart {
+        bucket: Bytes,
+        key: Bytes,
+        id: Bytes,
+        number: u32,
+        body: Bytes,
+    },
+    ListParts {
+        bucket: Bytes,
+        key: Bytes,
+        id: Bytes,
+        marker: u32,
+        max: u32,
+    },
+    CompleteUpload {
+        bucket: Bytes,
+        key: Bytes,
+        id: Bytes,
+        list: List<Listed>,
+    },
+    AbortUpload {
+        bucket: Bytes,
+        key: Bytes,
+        id: Bytes,
+    },
 }
 
 impl Copying for Op {
@@ -159,6 +199,41 @@ impl Copying for Op {
             } => copy_head_object(bucket, key, *range, conditions),
             Op::DeleteObject { bucket, key } => copy_delete_object(bucket, key),
             Op::GetObjectAcl { bucket, key } => copy_get_object_acl(bucket, key),
+            Op::ListUploads {
+                bucket,
+                prefix,
+                key_marker,
+                id_marker,
+                max,
+            } => copy_list_uploads(bucket, prefix, key_marker, id_marker, *max),
+            Op::CreateUpload {
+                bucket,
+                key,
+                acl,
+                content_type,
+                meta,
+            } => copy_create_upload(bucket, key, *acl, content_type, meta),
+            Op::UploadPart {
+                bucket,
+                key,
+                id,
+                number,
+                body,
+            } => copy_upload_part(bucket, key, id, *number, body),
+            Op::ListParts {
+                bucket,
+                key,
+                id,
+                marker,
+                max,
+            } => copy_list_parts(bucket, key, id, *marker, *max),
+            Op::CompleteUpload {
+                bucket,
+                key,
+                id,
+                list,
+            } => copy_complete_upload(bucket, key, id, list),
+            Op::AbortUpload { bucket, key, id } => copy_abort_upload(bucket, key, id),
         }
     }
 }
@@ -239,6 +314,104 @@ fn copy_get_object_acl(bucket: &Bytes, key: &Bytes) -> Result<Op, Memory>
     Ok(Op::GetObjectAcl {
         bucket: bucket.copy()?,
         key: key.copy()?,
+    })
+}
+
+fn copy_list_uploads(
+    bucket: &Bytes,
+    prefix: &Bytes,
+    key_marker: &Bytes,
+    id_marker: &Bytes,
+    max: u32,
+) -> Result<Op, Memory>
+    ensures { IfOk result (λ op. op ≡ Op.ListUploads bucket.now prefix.now key_marker.now id_marker.now max) }
+{
+    Ok(Op::ListUploads {
+        bucket: bucket.copy()?,
+        prefix: prefix.copy()?,
+        key_marker: key_marker.copy()?,
+        id_marker: id_marker.copy()?,
+        max,
+    })
+}
+
+fn copy_create_upload(
+    bucket: &Bytes,
+    key: &Bytes,
+    acl: Option<Acl>,
+    content_type: &Bytes,
+    meta: &Meta,
+) -> Result<Op, Memory>
+    ensures { IfOk result (λ op. op ≡ Op.CreateUpload bucket.now key.now acl content_type.now meta.now) }
+{
+    Ok(Op::CreateUpload {
+        bucket: bucket.copy()?,
+        key: key.copy()?,
+        acl,
+        content_type: content_type.copy()?,
+        meta: meta.copy()?,
+    })
+}
+
+fn copy_upload_part(
+    bucket: &Bytes,
+    key: &Bytes,
+    id: &Bytes,
+    number: u32,
+    body: &Bytes,
+) -> Result<Op, Memory>
+    ensures { IfOk result (λ op. op ≡ Op.UploadPart bucket.now key.now id.now number body.now) }
+{
+    Ok(Op::UploadPart {
+        bucket: bucket.copy()?,
+        key: key.copy()?,
+        id: id.copy()?,
+        number,
+        body: body.copy()?,
+    })
+}
+
+fn copy_list_parts(
+    bucket: &Bytes,
+    key: &Bytes,
+    id: &Bytes,
+    marker: u32,
+    max: u32,
+) -> Result<Op, Memory>
+    ensures { IfOk result (λ op. op ≡ Op.ListParts bucket.now key.now id.now marker max) }
+{
+    Ok(Op::ListParts {
+        bucket: bucket.copy()?,
+        key: key.copy()?,
+        id: id.copy()?,
+        marker,
+        max,
+    })
+}
+
+fn copy_complete_upload(
+    bucket: &Bytes,
+    key: &Bytes,
+    id: &Bytes,
+    list: &List<Listed>,
+) -> Result<Op, Memory>
+    ensures { IfOk result (λ op. op ≡ Op.CompleteUpload bucket.now key.now id.now list.now) }
+{
+    Ok(Op::CompleteUpload {
+        bucket: bucket.copy()?,
+        key: key.copy()?,
+        id: id.copy()?,
+        list: list.copy()?,
+    })
+}
+
+fn copy_abort_upload(bucket: &Bytes, key: &Bytes, id: &Bytes) -> Result<Op, Memory>
+    ensures { IfOk result (λ op. op ≡ Op.AbortUpload bucket.now key.now id.now) }
+{
+    Ok(Op::AbortUpload {
+        bucket: bucket.copy()?,
+        key: key.copy()?,
+        id: id.copy()?,
     })
 }
 

@@ -1,14 +1,14 @@
 -- The pieces of a query, one after the other.
-use Rattle.std.proofs.Common.{◌≡◌, ℕ, ◌+◌, ◌<◌, ◌≤◌, Bool, true, false, cond, eqb, List, [], ◌∷◌, ◌++◌, length, filter, map, Ok, Err, append_assoc, append-nil, refl, ap, sym, ◌∙◌, inl, inr, arith, length-drop}
+use Rattle.std.proofs.Common.{◌≡◌, ℕ, ◌+◌, ◌<◌, ◌≤◌, Bool, true, false, cond, not, eqb, List, [], ◌∷◌, ◌++◌, length, filter, map, Ok, Err, append_assoc, append-nil, refl, ap, sym, ◌∙◌, inl, inr, arith, length-drop}
 use Rattle.std.specs.List.{list_all, slice_split, position_or_len, before_first, after_first}
-use Rattle.std.proofs.lemmas.Bool.{cases_lt, and_from, and_left, and_right}
+use Rattle.std.proofs.lemmas.Bool.{cases_lt, and_from, and_parts, and_left, and_right}
 use Rattle.std.proofs.lemmas.Bool.Decides.{nat_tests}
 use Rattle.std.proofs.lemmas.Grind.{common_steps}
 use Rattle.std.proofs.lemmas.List.Folds.{list_all-append}
 use Rattle.std.proofs.lemmas.List.Splits.{slice_split_first}
 use Rattle.gate_base.specs.declared.page.Pair.{Pair}
 use Rattle.s3_names.specs.declared.fault.NameFault.TheVariants.{NotUtf8}
-use Rattle.s3_names.specs.Query.{is_ampersand, is_filled, pieces, pair_of, is_text_pair, text_pairs}
+use Rattle.s3_names.specs.Query.{is_ampersand, is_filled, pieces, pair_of, is_text_pair, text_pairs, is_named, without}
 use Rattle.s3_names.proofs.lemmas.Dots.{slice_split_whole}
 
 pub pieces_nil : pieces [] ≡ []
@@ -91,3 +91,14 @@ filled_where n empty h e = grind (arith, nat_tests)
 
 pub none_where : (n : ℕ) (empty : Bool) → empty ≡ eqb n 0 → empty ≡ true → n ≡ 0
 none_where n empty h e = grind (arith, nat_tests)
+
+keeps_texts : (b : Bool) (pair : Pair) (kept : List Pair) → is_text_pair pair ≡ true → list_all is_text_pair kept ≡ true → list_all is_text_pair (cond (not b) (pair ∷ kept) kept) ≡ true
+keeps_texts true pair kept text texts = texts
+keeps_texts false pair kept text texts = and_from _ _ text texts
+
+-- what is kept of a query's pairs are texts
+pub kept_are_texts : (name : List ℕ) (pairs : List Pair) → list_all is_text_pair pairs ≡ true → list_all is_text_pair (without name pairs) ≡ true
+kept_are_texts name [] texts = refl
+kept_are_texts name (pair ∷ pairs) texts =
+    let parts = and_parts (is_text_pair pair) (list_all is_text_pair pairs) texts in
+    keeps_texts (is_named name pair) pair (without name pairs) parts.0 (kept_are_texts name pairs parts.1)

@@ -1,6 +1,7 @@
 pub mod Answer
 pub mod Bucket
 pub mod Escapes
+pub mod Id
 pub mod Key
 pub mod Laws
 pub mod Meta

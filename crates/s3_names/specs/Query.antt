@@ -2,6 +2,7 @@
 -- Reference, "Common request parameters"; what is skipped and what is refused is this profile.
 use Rattle.std.specs.Prelude.{ℕ, Bool, not, ◌&&◌, ◌||◌, ◌==◌, if◌then◌else◌, List, length, map, filter, Result, Ok, Err}
 use Rattle.std.specs.List.{list_all, list_any, slice_split, before_first, after_first}
+use Rattle.std.specs.Str.{bytes_eq}
 use Rattle.percent_encoding.specs.Percent.{percent_decode}
 use Rattle.gate_base.specs.declared.page.Pair.{Pair}
 use Rattle.s3_names.specs.declared.fault.NameFault.{NameFault}
@@ -46,3 +47,10 @@ text_pairs pairs = if list_all is_text_pair pairs then Ok pairs else Err NotUtf8
 -- the pairs in the order of the text; a bad escape anywhere goes before what is no text
 unfoldable pub query_of : List ℕ → Result (List Pair) NameFault
 query_of text = if list_any has_bad_side (pieces text) then Err BadEscape else text_pairs (map pair_of (pieces text))
+
+abbrev pub is_named : List ℕ → Pair → Bool
+is_named name pair = bytes_eq pair.name name
+
+-- the pairs of all other names, in their order
+abbrev pub without : List ℕ → List Pair → List Pair
+without name pairs = filter (λ pair. not (is_named name pair)) pairs

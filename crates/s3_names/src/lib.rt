@@ -1,11 +1,12 @@
 //! The names of Amazon S3 as this profile takes them: buckets and their canned access control lists, object keys,
-//! percent escapes, user metadata, queries and targets.
+//! percent escapes, user metadata, queries, targets and the ids of uploads.
 #![tactic(auto)]
 
 mod acl;
 mod bucket;
 mod escapes;
 mod fault;
+mod id;
 mod key;
 mod laws;
 mod meta;
@@ -17,8 +18,9 @@ pub use acl::Acl;
 pub use bucket::{BucketName, is_bucket};
 pub use escapes::{decode, encode_all, encode_path};
 pub use fault::NameFault;
+pub use id::{id_digits, id_of};
 pub use key::{Key, MOST_KEY_BYTES, is_key};
-pub use laws::law_with_pair;
+pub use laws::{law_id_reads_back, law_with_pair};
 pub use meta::Meta;
 pub use query::Query;
 pub use target::Target;

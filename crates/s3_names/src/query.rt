@@ -1,7 +1,7 @@
 ghost use Rattle.std.specs.Prelude.{◌≡◌, true, Err, IfOk, map};
 ghost use Rattle.std.specs.List.{list_all, list_any};
 ghost use Rattle.s3_names.specs.Answer.{Gives};
-ghost use Rattle.s3_names.specs.Query.{pieces, pair_of, has_bad_side, is_text_pair, text_pairs, query_of};
+ghost use Rattle.s3_names.specs.Query.{pieces, pair_of, has_bad_side, is_text_pair, text_pairs, query_of, is_named, without};
 
 use crate::NameFault;
 use crate::escapes::{has_bad_escape, unescape};
@@ -53,6 +53,15 @@ impl Query {
         ensures texts { list_all is_text_pair self.now ≡ true }
     {
         self.entries.as_slice()
+    }
+
+    /// The pairs of all other names, in their order.
+    pub fn without(&self, alloc: Global, name: &[u8]) -> Result<Query, Memory>
+        ensures { IfOk result (λ query. query ≡ without name.now self.now) }
+    {
+        Ok(Query {
+            entries: pairs_without(alloc, self.entries.as_slice(), name)?,
+        })
     }
 }
 
@@ -121,4 +130,22 @@ fn read_pairs(alloc: Global, text: &[u8]) -> Result<List<Pair>, NameFault>
         rest = behind;
     }
     Ok(pairs)
+}
+
+fn is_named(name: &[u8], pair: &Pair) -> bool
+    ensures { result ≡ is_named name.now pair.now }
+{
+    pair.name.as_slice() == name
+}
+
+fn pairs_without(alloc: Global, pairs: &[Pair], name: &[u8]) -> Result<List<Pair>, Memory>
+    ensures { IfOk result (λ kept. kept ≡ without name.now pairs.now) }
+{
+    let mut kept = List::new(alloc);
+    for pair in pairs {
+        if !is_named(name, pair) {
+            kept.push(pair.copy()?)?;
+        }
+    }
+    Ok(kept)
 }

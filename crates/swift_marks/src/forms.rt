@@ -20,8 +20,9 @@ pub(crate) fn is_content_type(text: &[u8]) -> bool
     is_field(text, LONGEST_TYPE)
 }
 
-/// 32 hexadecimal digits in lower case, and for an object of parts `-` and their number.
-pub(crate) fn is_etag(etag: &[u8]) -> bool
+/// Whether these bytes may be an ETag: 32 hexadecimal digits in lower case, and for an object of parts `-` and their number, from 1
+/// to 10,000 without leading zeros. It takes no memory.
+pub fn is_etag(etag: &[u8]) -> bool
     ensures { result ≡ is_etag etag.now }
 {
     if etag.len() < 32 {

@@ -9,6 +9,7 @@ mod packs;
 mod tag;
 
 pub use fault::MarkFault;
+pub use forms::is_etag;
 pub use laws::{
     law_etag_forms, law_metadata_has_one_pack, law_pack_is_small, law_pack_unpacks,
     law_tag_has_one_text, law_tag_is_field, law_tag_text_reads,

@@ -1,12 +1,14 @@
-//! Numbers in decimal and in hexadecimal.
+//! Numbers in decimal, and ids.
 ghost use Rattle.std.specs.Prelude.{◌≡◌, ◌&&◌, ◌++◌, true, nat_le, length, OnOk, decimal};
 ghost use Rattle.std.specs.List.{list_all};
 ghost use Rattle.std.specs.Str.Parse.{digits_value};
 ghost use Rattle.gate_base.specs.Ascii.{is_digit};
-ghost use Rattle.swift_marks.specs.Number.{number_of, is_lower_hex, id_digits, id_text, fits_id, id_of};
+ghost use Rattle.s3_names.specs.Id.{is_lower_hex};
+ghost use Rattle.swift_marks.specs.Number.{number_of, id_text, fits_id};
 
 use gate_base::{Bytes, Memory};
 use itoa::Buffer;
+use s3_names::id_digits;
 
 /// The most digits that are read: no number of so many is past a `u64`.
 const DIGITS: usize = 19;
@@ -77,29 +79,6 @@ pub(crate) fn append_id(text: &mut Bytes, id: Option<u128>) -> Result<(), Memory
     match id {
         Some(id) => text.append(&id_digits(id)),
         None => text.append(b"-"),
-    }
-}
-
-#[tactic(auto, unfolding(crate::specs::Number::id_digits))]
-fn id_digits(id: u128) -> [u8; 32]
-    ensures { result ≡ id_digits id }
-{
-    let mut digits = [0; 32];
-    if hex::encode_to_slice(id.to_be_bytes(), &mut digits).is_err() {
-        unreachable!();
-    }
-    digits
-}
-
-/// The id that 32 hexadecimal digits write; none for every other text.
-#[tactic(auto, unfolding(crate::specs::Number::id_of))]
-pub(crate) fn id_of(text: &[u8]) -> Option<u128>
-    ensures { result ≡ id_of text.now }
-{
-    let mut bytes = [0; 16];
-    match hex::decode_to_slice(text, &mut bytes) {
-        Ok(()) => Some(u128::from_be_bytes(bytes)),
-        Err(_) => None,
     }
 }
 

@@ -1,5 +1,5 @@
 -- What the calls of an operation amounted to is so in each later history too; and how two stretches are joined.
-use Rattle.std.specs.Prelude.{◌≡◌, ◌<◌, ◌≤◌, ℕ, Bool, cond, nat_lt, true, false, is_some, List}
+use Rattle.std.specs.Prelude.{◌≡◌, ◌⊎◌, ◌<◌, ◌≤◌, ◌+◌, ℕ, Bool, cond, nat_lt, true, false, is_some, List}
 use Rattle.std.specs.FinMap.{get}
 use Rattle.std.proofs.Common.{refl, sym, ap, subst, ◌∙◌, inl, inr, arith}
 use Rattle.std.proofs.lemmas.Bool.{cases_lt}
@@ -13,11 +13,11 @@ use Rattle.s3_machine.specs.declared.operation.Reply.TheVariants.{Memory, Gone}
 use Rattle.s3_machine.specs.State.{State}
 use Rattle.s3_machine.specs.Step.{S3Step}
 use Rattle.swift_calls.specs.Account.{files}
-use Rattle.swift_calls.specs.History.{History, Extends, FaultFree}
+use Rattle.swift_calls.specs.History.{History, budget, Extends, FaultFree}
 use Rattle.upload_records.specs.Layout.{segments_name}
 use Rattle.upload_records.specs.Native.{s3_state}
 use Rattle.upload_records.specs.Consistent.{IsConsistent}
-use Rattle.recovery.specs.Stutters.{Stutters, OldBefore, LastFailed, was_lost, had_none}
+use Rattle.recovery.specs.Stutters.{Stutters, OldBefore, LastFailed}
 use Rattle.recovery.specs.Calls.{Commits}
 use Rattle.recovery.specs.Answers.{steps_of, IsStage, before_step, after_step, Passes, is_old_if_failed, is_old_if_out_of_memory, OldIf, AnswersBy, machine, unavailable, memory, Answers, Beside, nothing_beside, opens_in, clears, upload_at, IsFirstFree, SaysBeside}
 
@@ -37,17 +37,33 @@ quiet_agree {p = p} kept quiet = record {
   sound = λ k from to. sound_at kept k to (quiet.sound k from to);
 }
 
-pub old_before_agree : {old new : History} {p q : ℕ} → Extends q old new → OldBefore old p q → OldBefore new p q
-old_before_agree {p = p} kept old = λ k from to. same_at kept k p (omega arith) (omega arith) (old k from to)
+-- at each number up to q
+pub old_before_agree : {old new : History} {p n q : ℕ} → n ≤ q + 1 → Extends q old new → OldBefore old p n → OldBefore new p n
+old_before_agree {p = p} within kept old = λ k from to. same_at kept k p (omega arith) (omega arith) (old k from to)
 
 rose_at : {old new : History} {q : ℕ} → Extends q old new → (j k : ℕ) → j ≤ q → k ≤ q → Rose (old.faults_at j) (old.faults_at k) → Rose (new.faults_at j) (new.faults_at k)
 rose_at {old = old} {new = new} kept j k from to rose = subst (λ n. Rose n (new.faults_at k)) (sym (kept.counts j from)) (subst (Rose (old.faults_at j)) (sym (kept.counts k to)) rose)
 
+-- the call that failed was the last one
+pub last_within : {h : History} {p q : ℕ} (failed : LastFailed h p q) → failed.last ≤ q
+last_within {h = h} {q = q} failed = by failed.last failed.fails
+  where
+    by : (last : ℕ) → ((q ≡ last + 1) × Rose (h.faults_at last) (h.faults_at q)) ⊎ ((q ≡ last) × (budget ≤ last)) → last ≤ q
+    by last (inl (next, rose)) = omega arith
+    by last (inr (same, spent)) = omega arith
+
 pub last_failed_agree : {old new : History} {p q : ℕ} → p ≤ q → Extends q old new → LastFailed old p q → LastFailed new p q
-last_failed_agree {p = p} {q = q} ordered kept (was_lost last after_p next quiet rose) =
-    was_lost last after_p next (kept.counts last (omega arith) ∙ quiet ∙ sym (kept.counts p ordered)) (rose_at kept last q (omega arith) (omega arith) rose)
-last_failed_agree {p = p} {q = q} ordered kept (had_none spent quiet same) =
-    had_none spent (kept.counts q (omega arith) ∙ quiet ∙ sym (kept.counts p ordered)) (same_at kept q p (omega arith) ordered same)
+last_failed_agree {old = old} {new = new} {p = p} {q = q} ordered kept failed = record {
+  last = failed.last;
+  after_p = failed.after_p;
+  no_fault = kept.counts failed.last (last_within failed) ∙ failed.no_fault ∙ sym (kept.counts p ordered);
+  fails = by failed.last (last_within failed) failed.fails;
+}
+  where
+    by : (last : ℕ) → last ≤ q → ((q ≡ last + 1) × Rose (old.faults_at last) (old.faults_at q)) ⊎ ((q ≡ last) × (budget ≤ last))
+        → ((q ≡ last + 1) × Rose (new.faults_at last) (new.faults_at q)) ⊎ ((q ≡ last) × (budget ≤ last))
+    by last within (inl (next, rose)) = inl (next, rose_at kept last q within (omega arith) rose)
+    by last within (inr spent) = inr spent
 
 -- over the same states
 step_at : {old old' new new' : State} (settings : Settings) (op : Op) (label : Label) (reply : Reply) → old ≡ old' → new ≡ new' → S3Step settings old op label reply new → S3Step settings old' op label reply new'
@@ -71,15 +87,17 @@ passes_agree {settings = settings} {p = p} {t = t} {q = q} {op = op} {label = la
       sound = λ k from to. sound_at kept k to (passes.sound k from to);
     }
 
-old_if_agree : (t : Bool) {old new : History} (p q : ℕ) → Extends q old new → OldIf t old p q → OldIf t new p q
-old_if_agree true p q kept old = old_before_agree kept old
-old_if_agree false p q kept old = tt
+old_if_agree : (t : Bool) {old new : History} (p n q : ℕ) → n ≤ q + 1 → Extends q old new → OldIf t old p n → OldIf t new p n
+old_if_agree true p n q within kept old = old_before_agree within kept old
+old_if_agree false p n q within kept old = tt
 
 answers_by_agree : {old new : History} {settings : Settings} {p q : ℕ} {op : Op} {label : Label} {takes : ℕ} {reply : Reply} → p ≤ q → Extends q old new → AnswersBy settings old p q op label takes reply → AnswersBy settings new p q op label takes reply
+unfolding last_failed_agree
 answers_by_agree {settings = settings} {p = p} {q = q} {op = op} {label = label} {reply = reply} ordered kept (machine all step) =
     machine all (step_at settings op label reply (ap s3_state (sym (kept.accounts p ordered))) (ap s3_state (sym (kept.accounts q (omega arith)))) step)
-answers_by_agree {p = p} {q = q} {op = op} ordered kept (unavailable is failed old) = unavailable is (last_failed_agree ordered kept failed) (old_if_agree (is_old_if_failed op) p q kept old)
-answers_by_agree {p = p} {q = q} {op = op} ordered kept (memory is old) = memory is (old_if_agree (is_old_if_out_of_memory op) p q kept old)
+answers_by_agree {p = p} {q = q} {op = op} ordered kept (unavailable is failed old) =
+    let within = last_within failed in unavailable is (last_failed_agree ordered kept failed) (old_if_agree (is_old_if_failed op) p (failed.last + 1) q (omega arith) kept old)
+answers_by_agree {p = p} {q = q} {op = op} ordered kept (memory is old) = memory is (old_if_agree (is_old_if_out_of_memory op) p q q (omega arith) kept old)
 
 pub answers_agree : {old new : History} {settings : Settings} {p t q : ℕ} {op : Op} {label : Label} {takes : ℕ} {reply : Reply} → Extends q old new → Answers settings old p t q op label takes reply → Answers settings new p t q op label takes reply
 answers_agree kept answers =
@@ -248,8 +266,10 @@ module _ {h : History} {p q : ℕ} (quiet : Stutters h p q) where
       ]
 
   pub failed_after : {r : ℕ} → h.faults_at q ≡ h.faults_at p → LastFailed h q r → LastFailed h p r
-  failed_after same (was_lost last after_q next still rose) = let ordered = quiet.ordered in was_lost last (omega arith) next (still ∙ same) rose
-  failed_after same (had_none spent still state) = had_none spent (still ∙ same) (state ∙ same_state)
+  failed_after same failed =
+      let ordered = quiet.ordered in
+      let after_q = failed.after_p in
+      record { last = failed.last; after_p = omega arith; no_fault = failed.no_fault ∙ same; fails = failed.fails }
 
   old_if_after : (t : Bool) (r : ℕ) → OldIf t h q r → OldIf t h p r
   old_if_after true r old = before_after old
@@ -263,8 +283,9 @@ module _ {settings : Settings} {h : History} {p q : ℕ} {op : Op} {label : Labe
   stage_after {n = n} stage = stage_at settings op label n (same_state quiet) refl stage
 
   by_after : {r takes : ℕ} {reply : Reply} → h.faults_at q ≡ h.faults_at p → AnswersBy settings h q r op label takes reply → AnswersBy settings h p r op label takes reply
+  unfolding failed_after
   by_after same (machine all step) = machine all (step_after step)
-  by_after {r = r} same (unavailable is failed old) = unavailable is (failed_after quiet same failed) (old_if_after quiet (is_old_if_failed op) r old)
+  by_after same (unavailable is failed old) = unavailable is (failed_after quiet same failed) (old_if_after quiet (is_old_if_failed op) (failed.last + 1) old)
   by_after {r = r} same (memory is old) = memory is (old_if_after quiet (is_old_if_out_of_memory op) r old)
 
   passes_after : {t r takes : ℕ} → Passes settings h q t r op label takes → Passes settings h p t r op label takes

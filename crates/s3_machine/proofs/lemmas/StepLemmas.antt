@@ -1,19 +1,24 @@
 -- Laws of the step, for the crates above: what each operation does by what is found in the state and in the bucket, and
 -- the replies that the machine never gives.
-use Rattle.std.specs.Prelude.{◌≡◌, ◌≢◌, ℕ, Bool, true, false, not, List, [], Option, Some, None, is_some}
-use Rattle.std.proofs.Common.{refl, sym, ap, subst, ◌∙◌, true≢false}
+use Rattle.std.specs.Prelude.{◌≡◌, ◌≢◌, ◌⊎◌, ℕ, Bool, true, false, not, bytes_eq, List, [], map, Option, Some, None, is_some}
+use Rattle.std.proofs.Common.{refl, sym, ap, subst, ◌∙◌, inl, inr, true≢false}
 use Rattle.std.specs.FinMap.{get, insert, remove}
 use Rattle.gate_base.specs.Maps.{adjust}
 use Rattle.gate_base.specs.declared.page.Pair.{Pair}
 use Rattle.s3_names.specs.declared.acl.Acl.{Acl}
+use Rattle.s3_names.specs.Id.{id_digits}
 use Rattle.s3_machine.specs.declared.code.Code.{Code}
 use Rattle.s3_machine.specs.declared.code.Code.TheVariants.{
   AccessDenied,
   BucketAlreadyOwnedByYou,
   BucketNotEmpty,
+  EntityTooSmall,
   InconsistentStore,
+  InvalidPart,
+  InvalidPartOrder,
   NoSuchBucket,
   NoSuchKey,
+  NoSuchUpload,
   NotImplemented,
   ServiceUnavailable,
 }
@@ -37,10 +42,17 @@ use Rattle.s3_machine.specs.declared.operation.Op.TheVariants.{
   HeadObject,
   DeleteObject,
   GetObjectAcl,
+  ListUploads,
+  CreateUpload,
+  UploadPart,
+  ListParts,
+  CompleteUpload,
+  AbortUpload,
 }
+use Rattle.s3_machine.specs.declared.operation.Listed.{Listed}
 use Rattle.s3_machine.specs.declared.operation.ObjectHead.{ObjectHead}
 use Rattle.s3_machine.specs.declared.operation.Reply.{Reply}
-use Rattle.s3_machine.specs.declared.operation.Reply.TheVariants.{Refused, Done, Made, Memory, Stored, Gone, Buckets, Location, AclOf}
+use Rattle.s3_machine.specs.declared.operation.Reply.TheVariants.{Refused, Done, Made, Memory, Stored, Gone, Buckets, Location, AclOf, Started, Completed}
 use Rattle.s3_machine.specs.declared.reading.Conditions.{Conditions}
 use Rattle.s3_machine.specs.declared.reading.Judged.{Judged}
 use Rattle.s3_machine.specs.declared.reading.Judged.TheVariants.{PreconditionFailed, NotModified, InvalidRange, Bytes}
@@ -48,7 +60,23 @@ use Rattle.s3_machine.specs.declared.reading.Range.{Range}
 use Rattle.s3_machine.specs.declared.reading.Span.{Span}
 use Rattle.s3_machine.specs.ETag.{body_etag}
 use Rattle.s3_machine.specs.Reading.{judged, taken}
-use Rattle.s3_machine.specs.State.{Object, Bucket, State}
+use Rattle.s3_machine.specs.State.{Object, Part, Upload, Bucket, State}
+use Rattle.s3_machine.specs.Finish.{finished}
+use Rattle.s3_machine.specs.Uploads.{
+  new_upload,
+  open_upload,
+  drop_upload,
+  on_upload,
+  new_part,
+  with_part,
+  rises,
+  chosen,
+  is_too_small,
+  kept_as,
+  upload_etag,
+  etag_in,
+  completed,
+}
 use Rattle.s3_machine.specs.Step.{
   Outcome,
   S3Step,
@@ -86,10 +114,23 @@ use Rattle.s3_machine.specs.Step.{
   shows_acl,
   sets_acl,
   shows_object_acl,
+  IsNewId,
+  in_upload_by,
+  in_upload,
+  lists_uploads,
+  starts,
+  puts_part,
+  parts_reply,
+  lists_parts,
+  aborts,
+  completes,
+  completes_by,
+  completes_open,
+  completes_chosen,
 }
 
 -- a step by what it comes to
-steps : {settings : Settings} {old : State} {op : Op} {label : Label} (reply : Reply) (new : State) (id : ℕ) → IsFree old op id
+pub steps : {settings : Settings} {old : State} {op : Op} {label : Label} (reply : Reply) (new : State) (id : ℕ) → IsFree old op id
     → step settings old op label id ≡ gives reply new → S3Step settings old op label reply new
 steps reply new id free e = record { id = id; free = free; replies = sym (ap (λ (o : Outcome). o.reply) e); goes = sym (ap (λ (o : Outcome). o.state) e) }
 
@@ -115,16 +156,16 @@ step_owned settings old bucket acl label e = steps _ _ 0 tt (creates_there old b
 
 -- ---- what an outcome comes to
 
-unless_true : (t : Bool) (code : Code) (old : State) (rest : Outcome) → t ≡ true → unless t code old rest ≡ refuses code old
+pub unless_true : (t : Bool) (code : Code) (old : State) (rest : Outcome) → t ≡ true → unless t code old rest ≡ refuses code old
 unless_true t code old rest e = ap (λ t. unless t code old rest) e
 
-unless_false : (t : Bool) (code : Code) (old : State) (rest : Outcome) → t ≡ false → unless t code old rest ≡ rest
+pub unless_false : (t : Bool) (code : Code) (old : State) (rest : Outcome) → t ≡ false → unless t code old rest ≡ rest
 unless_false t code old rest e = ap (λ t. unless t code old rest) e
 
-in_missing : (old : State) (bucket : List ℕ) → get old bucket ≡ None → (f : Bucket → Outcome) → in_bucket_by (get old bucket) old f ≡ refuses NoSuchBucket old
+pub in_missing : (old : State) (bucket : List ℕ) → get old bucket ≡ None → (f : Bucket → Outcome) → in_bucket_by (get old bucket) old f ≡ refuses NoSuchBucket old
 in_missing old bucket none f = ap (λ v. in_bucket_by v old f) none
 
-in_found : (old : State) (bucket : List ℕ) (b : Bucket) → get old bucket ≡ Some b → (f : Bucket → Outcome) → in_bucket_by (get old bucket) old f ≡ f b
+pub in_found : (old : State) (bucket : List ℕ) (b : Bucket) → get old bucket ≡ Some b → (f : Bucket → Outcome) → in_bucket_by (get old bucket) old f ≡ f b
 in_found old bucket b found f = ap (λ v. in_bucket_by v old f) found
 
 -- ---- the operations on buckets
@@ -274,6 +315,103 @@ module _ (settings : Settings) (old : State) (bucket key : List ℕ) (label : La
     pub step_gone : S3Step settings old (DeleteObject bucket key) label Gone (adjust bucket (drop_object key) old)
     step_gone = steps _ _ 0 tt (there (deletes old bucket key))
 
+-- ---- the operations on uploads
+
+-- an upload that is open in a bucket, of this key
+pub record HasUpload (old : State) (bucket key id : List ℕ) : Type 0 where
+  pub b : Bucket
+  pub u : Upload
+  pub in_bucket : get old bucket ≡ Some b
+  pub in_uploads : get b.uploads id ≡ Some u
+  pub of_key : bytes_eq u.key key ≡ true
+
+module _ (old : State) (key id : List ℕ) (f : Upload → Outcome) (b : Bucket) where
+  pub upload_none : get b.uploads id ≡ None → in_upload old key id f b ≡ refuses NoSuchUpload old
+  upload_none none = ap (λ v. in_upload_by v key old f) none
+
+  pub upload_other : (u : Upload) → get b.uploads id ≡ Some u → bytes_eq u.key key ≡ false → in_upload old key id f b ≡ refuses NoSuchUpload old
+  upload_other u there other = ap (λ v. in_upload_by v key old f) there ∙ unless_true _ _ _ _ (ap not other)
+
+  pub upload_there : (u : Upload) → get b.uploads id ≡ Some u → bytes_eq u.key key ≡ true → in_upload old key id f b ≡ f u
+  upload_there u there same = ap (λ v. in_upload_by v key old f) there ∙ unless_false _ _ _ _ (ap not same)
+
+module _ (settings : Settings) (old : State) (bucket key id : List ℕ) (label : Label) (has : HasUpload old bucket key id) where
+  within : (f : Upload → Outcome) → in_bucket_by (get old bucket) old (in_upload old key id f) ≡ f has.u
+  within f = in_found old bucket has.b has.in_bucket (in_upload old key id f) ∙ upload_there old key id f has.b has.u has.in_uploads has.of_key
+
+  pub step_part : (number : ℕ) (body : List ℕ)
+      → S3Step settings old (UploadPart bucket key id number body) label (Stored (body_etag body)) (adjust bucket (on_upload id (with_part number (new_part label.moment body))) old)
+  step_part number body = steps _ _ 0 tt (within (puts_part old bucket id number (new_part label.moment body)))
+
+  pub step_parts : (marker max : ℕ) → S3Step settings old (ListParts bucket key id marker max) label (parts_reply bucket key id marker max has.u) old
+  step_parts marker max = steps _ _ 0 tt (within (lists_parts old bucket key id marker max))
+
+  pub step_aborted : S3Step settings old (AbortUpload bucket key id) label Gone (adjust bucket (drop_upload id) old)
+  step_aborted = steps _ _ 0 tt (within (aborts old bucket id))
+
+  -- a completion by the parts that it lists
+  pub step_completed : (list : List Listed) (parts : List Part) → kept_as key list (get has.b.kept id) ≡ None → rises list ≡ true → chosen has.u.parts list ≡ Some parts
+      → is_too_small settings.least_part parts ≡ false
+      → S3Step settings old (CompleteUpload bucket key id list) label (Completed bucket has.u.key (upload_etag (map etag_in parts))) (finished (completed bucket id has.u list parts label.moment) old)
+  step_completed list parts kept ascends chose least = steps _ _ 0 tt (
+      in_found old bucket has.b has.in_bucket (completes settings old bucket key id list label.moment)
+      ∙ ap (λ v. completes_by v settings old bucket key id list label.moment has.b) kept
+      ∙ upload_there old key id (completes_open settings old bucket id list label.moment) has.b has.u has.in_uploads has.of_key
+      ∙ unless_false _ _ _ _ (ap not ascends)
+      ∙ ap (completes_chosen settings old bucket id list label.moment has.u) chose
+      ∙ unless_false _ _ _ _ least)
+
+module _ (settings : Settings) (old : State) (bucket : List ℕ) (label : Label) (b : Bucket) (found : get old bucket ≡ Some b) where
+  -- an upload is created under a new id
+  pub step_started : (key : List ℕ) (acl : Option Acl) (content_type : List ℕ) (meta : List Pair) (id : ℕ) → is_other_acl acl b.acl ≡ false → IsNewId b id
+      → S3Step settings old (CreateUpload bucket key acl content_type meta) label (Started bucket key id)
+      (adjust bucket (open_upload (id_digits id) (new_upload key content_type meta label.moment)) old)
+  step_started key acl content_type meta id e new =
+      steps _ _ id (λ other is given. let same : b ≡ other = cc in subst (λ b. IsNewId b id) same new)
+      (in_found old bucket b found (starts old bucket key acl (new_upload key content_type meta label.moment) id) ∙ unless_false _ _ _ _ e)
+
+  pub start_with_another_acl : (key : List ℕ) (acl : Option Acl) (content_type : List ℕ) (meta : List Pair) → is_other_acl acl b.acl ≡ true
+      → S3Step settings old (CreateUpload bucket key acl content_type meta) label (Refused NotImplemented) old
+  start_with_another_acl key acl content_type meta e =
+      steps _ _ 0 (λ other is given. let same : b ≡ other = cc in absurd (true≢false (sym e ∙ ap (λ (b : Bucket). is_other_acl acl b.acl) same ∙ given)))
+      (in_found old bucket b found (starts old bucket key acl (new_upload key content_type meta label.moment) 0) ∙ unless_true _ _ _ _ e)
+
+  -- a completion that is kept is answered again
+  pub step_repeated : (key id : List ℕ) (list : List Listed) (etag : List ℕ) → kept_as key list (get b.kept id) ≡ Some etag
+      → S3Step settings old (CompleteUpload bucket key id list) label (Completed bucket key etag) old
+  step_repeated key id list etag kept = steps _ _ 0 tt (
+      in_found old bucket b found (completes settings old bucket key id list label.moment)
+      ∙ ap (λ v. completes_by v settings old bucket key id list label.moment b) kept)
+
+-- ---- the replies of outcomes, for any property of replies
+
+module _ (P : Reply → Type 0) where
+  pub unless_has : (t : Bool) (code : Code) (old : State) (rest : Outcome) → P (Refused code) → P rest.reply → P (unless t code old rest).reply
+  unless_has true code old rest refused own = refused
+  unless_has false code old rest refused own = own
+
+  pub in_bucket_has : (v : Option Bucket) (old : State) (f : Bucket → Outcome) → P (Refused NoSuchBucket) → ((b : Bucket) → v ≡ Some b → P (f b).reply) → P (in_bucket_by v old f).reply
+  in_bucket_has None old f refused own = refused
+  in_bucket_has (Some b) old f refused own = own b refl
+
+  pub in_upload_has : (v : Option Upload) (key : List ℕ) (old : State) (f : Upload → Outcome) → P (Refused NoSuchUpload) → ((u : Upload) → v ≡ Some u → P (f u).reply) → P (in_upload_by v key old f).reply
+  in_upload_has None key old f refused own = refused
+  in_upload_has (Some u) key old f refused own = unless_has _ NoSuchUpload old (f u) refused (own u refl)
+
+  pub chosen_has : (v : Option (List Part)) (settings : Settings) (old : State) (bucket id : List ℕ) (list : List Listed) (moment : ℕ) (u : Upload)
+      → P (Refused InvalidPart) → P (Refused EntityTooSmall) → ((etag : List ℕ) → P (Completed bucket u.key etag)) → P (completes_chosen settings old bucket id list moment u v).reply
+  chosen_has None settings old bucket id list moment u missing small own = missing
+  chosen_has (Some parts) settings old bucket id list moment u missing small own = unless_has _ EntityTooSmall old _ small (own _)
+
+  pub completes_has : (v : Option (List ℕ)) (settings : Settings) (old : State) (bucket key id : List ℕ) (list : List Listed) (moment : ℕ) (b : Bucket)
+      → ((code : Code) → (code ≡ NoSuchUpload) ⊎ ((code ≡ InvalidPartOrder) ⊎ ((code ≡ InvalidPart) ⊎ (code ≡ EntityTooSmall))) → P (Refused code))
+      → ((name etag : List ℕ) → P (Completed bucket name etag)) → P (completes_by v settings old bucket key id list moment b).reply
+  completes_has (Some etag) settings old bucket key id list moment b refused own = own key etag
+  completes_has None settings old bucket key id list moment b refused own =
+      in_upload_has (get b.uploads id) key old (completes_open settings old bucket id list moment) (refused NoSuchUpload (inl refl))
+      (λ u there. unless_has (not (rises list)) InvalidPartOrder old (completes_chosen settings old bucket id list moment u (chosen u.parts list)) (refused InvalidPartOrder (inr (inl refl)))
+      (chosen_has (chosen u.parts list) settings old bucket id list moment u (refused InvalidPart (inr (inr (inl refl)))) (refused EntityTooSmall (inr (inr (inr refl)))) (own u.key)))
+
 -- ---- the replies of the machine
 
 -- a reply that tells of the machine alone, not of memory or of a store
@@ -379,6 +517,33 @@ module _ (old : State) (reply : Reply) where
   delete_reply None bucket key e = ((λ f. cc), (λ f. cc), (λ f. cc))
   delete_reply (Some b) bucket key e = ((λ f. cc), (λ f. cc), (λ f. cc))
 
+-- the replies of the operations on uploads
+module _ (old : State) where
+  lists_uploads_reply : (v : Option Bucket) (bucket prefix key_marker id_marker : List ℕ) (max : ℕ) → IsMachineReply (in_bucket_by v old (lists_uploads old bucket prefix key_marker id_marker max)).reply
+  lists_uploads_reply v bucket prefix key_marker id_marker max =
+      in_bucket_has IsMachineReply v old (lists_uploads old bucket prefix key_marker id_marker max) ((λ f. cc), (λ f. cc), (λ f. cc)) (λ b e. ((λ f. cc), (λ f. cc), (λ f. cc)))
+
+  starts_reply : (v : Option Bucket) (bucket key : List ℕ) (acl : Option Acl) (u : Upload) (id : ℕ) → IsMachineReply (in_bucket_by v old (starts old bucket key acl u id)).reply
+  starts_reply v bucket key acl u id =
+      in_bucket_has IsMachineReply v old (starts old bucket key acl u id) ((λ f. cc), (λ f. cc), (λ f. cc))
+      (λ b e. unless_has IsMachineReply (is_other_acl acl b.acl) NotImplemented old (gives (Started bucket key id) (adjust bucket (open_upload (id_digits id) u) old)) ((λ f. cc), (λ f. cc), (λ f. cc)) ((λ f. cc), (λ f. cc), (λ f. cc)))
+
+  upload_reply : (v : Option Bucket) (key id : List ℕ) (f : Upload → Outcome) → ((u : Upload) → IsMachineReply (f u).reply) → IsMachineReply (in_bucket_by v old (in_upload old key id f)).reply
+  upload_reply v key id f own =
+      in_bucket_has IsMachineReply v old (in_upload old key id f) ((λ f. cc), (λ f. cc), (λ f. cc))
+      (λ b e. in_upload_has IsMachineReply (get b.uploads id) key old f ((λ f. cc), (λ f. cc), (λ f. cc)) (λ u e. own u))
+
+  refused_code : (code : Code) → (code ≡ NoSuchUpload) ⊎ ((code ≡ InvalidPartOrder) ⊎ ((code ≡ InvalidPart) ⊎ (code ≡ EntityTooSmall))) → IsMachineReply (Refused code)
+  refused_code code (inl is) = ((λ f. cc), (λ f. cc), (λ f. cc))
+  refused_code code (inr (inl is)) = ((λ f. cc), (λ f. cc), (λ f. cc))
+  refused_code code (inr (inr (inl is))) = ((λ f. cc), (λ f. cc), (λ f. cc))
+  refused_code code (inr (inr (inr is))) = ((λ f. cc), (λ f. cc), (λ f. cc))
+
+  completes_reply : (v : Option Bucket) (settings : Settings) (bucket key id : List ℕ) (list : List Listed) (moment : ℕ) → IsMachineReply (in_bucket_by v old (completes settings old bucket key id list moment)).reply
+  completes_reply v settings bucket key id list moment =
+      in_bucket_has IsMachineReply v old (completes settings old bucket key id list moment) ((λ f. cc), (λ f. cc), (λ f. cc))
+      (λ b e. completes_has IsMachineReply (kept_as key list (get b.kept id)) settings old bucket key id list moment b refused_code (λ name etag. ((λ f. cc), (λ f. cc), (λ f. cc))))
+
 -- the machine itself never gives the reply of wanting memory, nor the two codes of the store below it
 pub machine_reply : (settings : Settings) (old : State) (op : Op) (label : Label) (reply : Reply) (new : State) → S3Step settings old op label reply new
     → (reply ≢ Memory) × (reply ≢ Refused ServiceUnavailable) × (reply ≢ Refused InconsistentStore)
@@ -395,3 +560,9 @@ machine_reply settings old (GetObject bucket key range conditions) label reply n
 machine_reply settings old (HeadObject bucket key range conditions) label reply new s = read_reply old reply (get old bucket) label key (headed range conditions) (headed_reply range conditions) s.replies
 machine_reply settings old (ListObjects bucket asked) label reply new s = list_reply old reply (get old bucket) label bucket asked s.replies
 machine_reply settings old (DeleteObject bucket key) label reply new s = delete_reply old reply (get old bucket) bucket key s.replies
+machine_reply settings old (ListUploads bucket prefix key_marker id_marker max) label reply new s = subst IsMachineReply (sym s.replies) (lists_uploads_reply old (get old bucket) bucket prefix key_marker id_marker max)
+machine_reply settings old (CreateUpload bucket key acl content_type meta) label reply new s = subst IsMachineReply (sym s.replies) (starts_reply old (get old bucket) bucket key acl (new_upload key content_type meta label.moment) s.id)
+machine_reply settings old (UploadPart bucket key id number body) label reply new s = subst IsMachineReply (sym s.replies) (upload_reply old (get old bucket) key id (puts_part old bucket id number (new_part label.moment body)) (λ u. ((λ f. cc), (λ f. cc), (λ f. cc))))
+machine_reply settings old (ListParts bucket key id marker max) label reply new s = subst IsMachineReply (sym s.replies) (upload_reply old (get old bucket) key id (lists_parts old bucket key id marker max) (λ u. ((λ f. cc), (λ f. cc), (λ f. cc))))
+machine_reply settings old (CompleteUpload bucket key id list) label reply new s = subst IsMachineReply (sym s.replies) (completes_reply old (get old bucket) settings bucket key id list label.moment)
+machine_reply settings old (AbortUpload bucket key id) label reply new s = subst IsMachineReply (sym s.replies) (upload_reply old (get old bucket) key id (aborts old bucket id) (λ u. ((λ f. cc), (λ f. cc), (λ f. cc))))

@@ -16,7 +16,8 @@ use Rattle.gate_base.specs.Told.{moment_limit}
 use Rattle.swift_marks.specs.Limits.{counted_name, counted_size, is_within_limits, is_printable_entry, is_kept_metadata}
 use Rattle.gate_base.specs.Ascii.{is_digit}
 use Rattle.gate_base.specs.Fields.{is_field, is_printable}
-use Rattle.swift_marks.specs.Number.{is_lower_hex, number_of, id_text, fits_id}
+use Rattle.s3_names.specs.Id.{is_lower_hex}
+use Rattle.swift_marks.specs.Number.{number_of, id_text, fits_id}
 use Rattle.swift_marks.specs.Pack.{entry_text, cut_in, bracketed, pack_of}
 use Rattle.swift_marks.specs.Tag.{is_content_type, is_part_count, is_parts_suffix, is_etag, has_text, tag_text}
 use Rattle.swift_marks.specs.declared.tag.Tag.{Tag}

@@ -9,12 +9,14 @@ use Rattle.std.proofs.lemmas.List.Folds.{list_all-append}
 use Rattle.std.proofs.lemmas.Slice.Eq.{bytes_eq-Decides}
 use Rattle.gate_base.specs.Told.{moment_limit}
 use Rattle.gate_base.specs.Ascii.{is_digit}
-use Rattle.swift_marks.specs.Number.{is_lower_hex, number_of, id_digits, id_text, id_of, fits_id}
+use Rattle.s3_names.specs.Id.{is_lower_hex, id_digits, id_of}
+use Rattle.swift_marks.specs.Number.{number_of, id_text, fits_id}
 use Rattle.swift_marks.specs.Tag.{is_content_type, is_part_count, is_parts_suffix, is_etag, has_text, tag_text, tag_parts, read_tag, is_equals, is_semicolon, is_dot}
 use Rattle.swift_marks.specs.declared.tag.Tag.{Tag}
 use Rattle.swift_marks.proofs.Cuts.{before_first_at, after_first_at, before_last_at, after_last_at}
 use Rattle.swift_marks.proofs.NumberLemmas.{number_of_decimal, decimal_has_digits}
-use Rattle.swift_marks.proofs.IdLemmas.{id_has_digits, id_of_text}
+use Rattle.s3_names.proofs.lemmas.Ids.{id_has_digits}
+use Rattle.swift_marks.proofs.IdLemmas.{id_of_text}
 
 -- the bytes of a stamp, but for its dots
 abbrev pub is_word : ℕ → Bool

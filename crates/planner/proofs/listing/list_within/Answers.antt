@@ -6,7 +6,7 @@ use Rattle.swift_calls.specs.History.{present}
 use Rattle.recovery.specs.Answers.{pages}
 use Rattle.recovery.specs.Calls.{by_account}
 use Rattle.planner.specs.Plan.{IsOwnReply}
-use Rattle.planner.proofs.Ends.{as_wide, needs_none, calls_in_vain, calls_end}
+use Rattle.planner.proofs.Ends.{as_wide, met_settled, needs_none, calls_in_vain, calls_end}
 use Rattle.planner.proofs.Listings.{items_are_own, list_refused, list_told}
 use Rattle.planner.proofs.listing.list_within.Goals as goal
 
@@ -16,11 +16,11 @@ returns-then-not-may_read-clause-plans g c = needs_none _ (search rules) (λ tre
 pub returns-in_err-listed-clause-plans : goal.returns-in_err-listed-clause-plans
 returns-in_err-listed-clause-plans g c =
     let most = by_account (pages (len (files (present (g.W.Swift.history c.args.state.now.store.now)) c.args.bucket))) in
-    calls_in_vain most (as_wide most) c.in_err-listed.ensures.asks _ c.from_residual.ensures.1
+    calls_in_vain most (as_wide most) met_settled c.in_err-listed.ensures.asks _ c.from_residual.ensures.1
 
 pub returns-clause-plans : goal.returns-clause-plans
 returns-clause-plans g c =
     let most = by_account (pages (len (files (present (g.W.Swift.history c.args.state.now.store.now)) c.args.bucket))) in
-    calls_end most (as_wide most) c.in_ok-listed.listed refl _ c.in_ok-listed.ensures.asks
+    calls_end most (as_wide most) met_settled c.in_ok-listed.listed refl _ c.in_ok-listed.ensures.asks
     (subst IsOwnReply (sym c.objects.ensures) (items_are_own _ _ _ c.in_ok-listed.ensures.dated)) (search rules)
     (λ tree there told. (_, ap Ok c.objects.ensures, list_told _ _ _ _ _ _ there (sym c.may_read.ensures ∙ c.if-not-may_read.false) _ told))

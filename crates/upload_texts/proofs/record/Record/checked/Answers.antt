@@ -1,0 +1,21 @@
+use Rattle.std.proofs.Common.{◌≡◌, ℕ, true, false, List, bytes_eq, Some, sym, ap, subst, ◌∙◌}
+use Rattle.std.proofs.lemmas.Slice.Eq.{bytes_eq-Decides}
+use Rattle.serde_json.specs.View.{view}
+use Rattle.upload_texts.specs.Records.{read_record}
+use Rattle.upload_texts.proofs.Answering.{record_refused}
+use Rattle.upload_texts.proofs.record.Record.checked.Goals as goal
+
+pub returns-then-not-has_text : goal.returns-then-not-has_text
+returns-then-not-has_text c =
+    record_refused c.args.bytes.now (view c.args.value.now) c.requires.parsed c.in_ok-found.found c.in_ok-found.ensures
+    (λ has. let never : true ≡ false = sym has ∙ sym c.has_text.ensures ∙ c.if-not-has_text.true in cc) c.requires.known
+
+pub returns-then-not-is_same : goal.returns-then-not-is_same
+returns-then-not-is_same c =
+    record_refused c.args.bytes.now (view c.args.value.now) c.requires.parsed c.in_ok-found.found c.in_ok-found.ensures
+    (λ has. ap (λ t. bytes_eq t c.args.bytes.now) (sym c.in_ok-text.ensures.text ∙ sym c.as_slice.ensures) ∙ sym c.is_same.ensures ∙ c.if-not-is_same.true) c.requires.known
+
+pub returns : goal.returns
+returns c =
+    let same = (bytes_eq-Decides c.as_slice.result.now c.args.bytes.now).0 (sym c.is_same.ensures ∙ c.if-not-is_same.false) in
+    subst (λ (t : List ℕ). read_record t ≡ Some c.in_ok-found.found) (sym c.as_slice.ensures ∙ same) c.in_ok-text.ensures.reads_back

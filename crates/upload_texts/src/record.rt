@@ -1,0 +1,305 @@
+//! Records of uploads.
+ghost use Rattle.std.specs.Prelude.{◌≡◌, IfOk, None, Ok, Some, true};
+ghost use Rattle.serde_json.specs.View.{view};
+ghost use Rattle.slo_manifest.specs.Manifest.{json_of};
+ghost use Rattle.upload_texts.specs.Places.{version_in};
+ghost use Rattle.upload_texts.specs.declared.record.Record.TheVariants.{Done, Open};
+ghost use Rattle.upload_texts.specs.Records.{done_in, done_value, has_record_text, moment_in, open_in, open_object, open_value, read_record, record_in, record_text, record_value, undated_value, dated_value, is_known_version, unless_known, ReadsRecord};
+
+use crate::forms::{is_dated, is_kept_content, is_kept_list, is_moment};
+use crate::places::{list_at, number_at, text_at, version_at};
+use crate::reading::{is_same, listed_in, meta_in, parse, unless_known};
+use crate::values::{listed_values, pair_values, text};
+use gate_base::{Bytes, Copying, List, Memory};
+use s3_machine::Listed;
+use s3_names::{Meta, is_key};
+use serde_json::{Value, json};
+use std::alloc::Global;
+use swift_marks::is_etag;
+
+/// What is kept of an upload beside its bucket, under its id. ETags stand without quotes; times are seconds since the
+/// beginning of 1970.
+#[derive(Debug, Drop)]
+pub enum Record {
+    /// It is open: the key, and what its object is to be put with.
+    Open {
+        key: Bytes,
+        content_type: Bytes,
+        meta: Meta,
+        started: u64,
+    },
+    /// It was completed with this list, at this moment where that is known.
+    Done {
+        key: Bytes,
+        list: List<Listed>,
+        etag: Bytes,
+        started: u64,
+        moment: Option<u64>,
+    },
+}
+
+/// Why a text is no record, or no sealed completion.
+#[derive(Clone, Copy, Debug, PartialEq, Eq)]
+pub enum RecordFault {
+    /// It is the text of none.
+    NotARecord,
+    /// It is an object whose `v` is another whole number than the versions that are read.
+    Version(u64),
+    /// Memory ran out.
+    Memory,
+}
+
+impl Copying for RecordFault {
+    fn copy(&self) -> Result<RecordFault, Memory>
+        ensures { result ≡ Ok self.now }
+    {
+        Ok(*self)
+    }
+}
+
+impl From<Memory> for RecordFault {
+    ghost use Rattle.upload_texts.specs.declared.record.RecordFault.{RecordFault};
+
+    ghost from_gives = { λ _ fault. fault ≡ RecordFault.Memory };
+
+    fn from(_: Memory) -> RecordFault {
+        RecordFault::Memory
+    }
+}
+
+impl Record {
+    /// The record that a text is. `Version` exactly where the text is an object whose `v` is a whole number below 2^64 other
+    /// than 1 and 2, and `NotARecord` for every other text that `write` doesn't give.
+    pub fn read(alloc: Global, bytes: &[u8]) -> Result<Record, RecordFault>
+        ensures { ReadsRecord bytes.now result }
+    {
+        match parse(alloc, bytes) {
+            Ok(value) => Record::versioned(alloc, bytes, &value),
+            Err(fault) => Err(fault),
+        }
+    }
+
+    /// The same of bytes whose JSON is this value.
+    fn versioned(alloc: Global, bytes: &[u8], value: &Value) -> Result<Record, RecordFault>
+        requires { json_of bytes.now ≡ Some (view value.now) }
+        ensures { ReadsRecord bytes.now result }
+    {
+        match unless_known(version_at(value)) {
+            Some(version) => Err(RecordFault::Version(version)),
+            None => Record::checked(alloc, bytes, value),
+        }
+    }
+
+    /// The same where the version is known.
+    fn checked(alloc: Global, bytes: &[u8], value: &Value) -> Result<Record, RecordFault>
+        requires parsed { json_of bytes.now ≡ Some (view value.now) }
+        requires known { unless_known is_known_version (version_in (view value.now)) ≡ None }
+        ensures { ReadsRecord bytes.now result }
+    {
+        let found = record_in(alloc, value)?;
+        if !found.has_text() {
+            return Err(RecordFault::NotARecord);
+        }
+        let text = found.write(alloc)?;
+        if !is_same(text.as_slice(), bytes) {
+            return Err(RecordFault::NotARecord);
+        }
+        Ok(found)
+    }
+
+    /// The one text of the record, which is read as it. It asks for a record that has one (`has_text`), and fails only where
+    /// memory runs out.
+    pub fn write(&self, alloc: Global) -> Result<Bytes, Memory>
+        requires { has_record_text self.now ≡ true }
+        ensures text { IfOk result (λ text. text ≡ record_text self.now) }
+        ensures reads_back { IfOk result (λ text. read_record text ≡ Some self.now) }
+    {
+        let value = self.value(alloc)?;
+        Ok(Bytes::from_vec(value.to_vec(alloc)?))
+    }
+
+    /// Whether the record has a text: its key, type, metadata, ETags, numbers and moments keep their limits, and a completion
+    /// lists at least one part, and at most as many as it may. It takes no memory.
+    #[tactic(auto, unfolding(crate::specs::Records::has_record_text))]
+    pub fn has_text(&self) -> bool
+        ensures { result ≡ has_record_text self.now }
+    {
+        match self {
+            Record::Open {
+                key,
+                content_type,
+                meta,
+                started,
+            } => {
+                is_key(key.as_slice())
+                    && is_kept_content(content_type.as_slice(), meta)
+                    && is_moment(*started)
+            }
+            Record::Done {
+                key,
+                list,
+                etag,
+                started,
+                moment,
+            } => {
+                is_key(key.as_slice())
+                    && is_kept_list(list.as_slice())
+                    && is_etag(etag.as_slice())
+                    && is_moment(*started)
+                    && is_dated(*moment)
+            }
+        }
+    }
+
+    fn value(&self, alloc: Global) -> Result<Value, Memory>
+        requires { has_record_text self.now ≡ true }
+        ensures { IfOk result (λ value. view value ≡ record_value self.now) }
+    {
+        match self {
+            Record::Open {
+                key,
+                content_type,
+                meta,
+                started,
+            } => open_value(alloc, key, content_type, meta, *started),
+            Record::Done {
+                key,
+                list,
+                etag,
+                started,
+                moment,
+            } => done_value(alloc, key, list, etag, *started, *moment),
+        }
+    }
+}
+
+#[tactic(auto, using(crate::proofs::Limits::open_key, crate::proofs::Limits::open_type, crate::proofs::Limits::open_pairs))]
+fn open_value(
+    alloc: Global,
+    key: &Bytes,
+    content_type: &Bytes,
+    meta: &Meta,
+    started: u64,
+) -> Result<Value, Memory>
+    requires { has_record_text (Open key.now content_type.now meta.now started) ≡ true }
+    ensures { IfOk result (λ value. view value ≡ open_value key.now content_type.now meta.now started) }
+{
+    let meta = Value::Array(pair_values(alloc, meta.pairs())?);
+    let key = text(key.as_slice());
+    let content_type = text(content_type.as_slice());
+    open_object(alloc, key, content_type, &meta, started)
+}
+
+fn open_object(
+    alloc: Global,
+    key: &str,
+    content_type: &str,
+    meta: &Value,
+    started: u64,
+) -> Result<Value, Memory>
+    ensures { IfOk result (λ value. view value ≡ open_object started key.now (view meta.now) content_type.now) }
+{
+    let version = 1u64;
+    Ok(
+        json!(in alloc; {"at": started, "key": key, "meta": meta, "state": "open", "type": content_type, "v": version})?,
+    )
+}
+
+#[tactic(auto, using(crate::proofs::Limits::done_key, crate::proofs::Limits::done_list, crate::proofs::Limits::done_etag))]
+fn done_value(
+    alloc: Global,
+    key: &Bytes,
+    list: &List<Listed>,
+    etag: &Bytes,
+    started: u64,
+    moment: Option<u64>,
+) -> Result<Value, Memory>
+    requires { has_record_text (Done key.now list.now etag.now started moment) ≡ true }
+    ensures { IfOk result (λ value. view value ≡ done_value key.now list.now etag.now started moment) }
+{
+    let list = Value::Array(listed_values(alloc, list.as_slice())?);
+    let key = text(key.as_slice());
+    let etag = text(etag.as_slice());
+    match moment {
+        Some(moment) => dated_value(alloc, key, &list, etag, started, moment),
+        None => undated_value(alloc, key, &list, etag, started),
+    }
+}
+
+fn undated_value(
+    alloc: Global,
+    key: &str,
+    list: &Value,
+    etag: &str,
+    started: u64,
+) -> Result<Value, Memory>
+    ensures { IfOk result (λ value. view value ≡ undated_value started etag.now key.now (view list.now)) }
+{
+    let version = 1u64;
+    Ok(
+        json!(in alloc; {"at": started, "etag": etag, "key": key, "list": list, "state": "done", "v": version})?,
+    )
+}
+
+fn dated_value(
+    alloc: Global,
+    key: &str,
+    list: &Value,
+    etag: &str,
+    started: u64,
+    moment: u64,
+) -> Result<Value, Memory>
+    ensures { IfOk result (λ value. view value ≡ dated_value started moment etag.now key.now (view list.now)) }
+{
+    let version = 2u64;
+    Ok(
+        json!(in alloc; {"at": started, "done": moment, "etag": etag, "key": key, "list": list, "state": "done", "v": version})?,
+    )
+}
+
+/// The record that stands in the places of a value, where that has a text.
+fn record_in(alloc: Global, value: &Value) -> Result<Record, Memory>
+    ensures { IfOk result (λ r. has_record_text (record_in (view value.now)) ≡ true → r ≡ record_in (view value.now)) }
+{
+    if text_at(value, "state").as_bytes() == b"open".as_slice() {
+        open_in(alloc, value)
+    } else {
+        done_in(alloc, value)
+    }
+}
+
+#[tactic(auto, using(crate::proofs::Limits::open_meta))]
+fn open_in(alloc: Global, value: &Value) -> Result<Record, Memory>
+    ensures { IfOk result (λ r. has_record_text (open_in (view value.now)) ≡ true → r ≡ open_in (view value.now)) }
+{
+    Ok(Record::Open {
+        key: Bytes::from_slice(alloc, text_at(value, "key").as_bytes())?,
+        content_type: Bytes::from_slice(alloc, text_at(value, "type").as_bytes())?,
+        meta: meta_in(alloc, list_at(value, "meta"))?,
+        started: number_at(value, "at"),
+    })
+}
+
+#[tactic(auto, using(crate::proofs::Limits::done_list))]
+fn done_in(alloc: Global, value: &Value) -> Result<Record, Memory>
+    ensures { IfOk result (λ r. has_record_text (done_in (view value.now)) ≡ true → r ≡ done_in (view value.now)) }
+{
+    Ok(Record::Done {
+        key: Bytes::from_slice(alloc, text_at(value, "key").as_bytes())?,
+        list: listed_in(alloc, list_at(value, "list"))?,
+        etag: Bytes::from_slice(alloc, text_at(value, "etag").as_bytes())?,
+        started: number_at(value, "at"),
+        moment: moment_in(value),
+    })
+}
+
+/// The moment of a completion, which version 1 doesn't have.
+fn moment_in(value: &Value) -> Option<u64>
+    ensures { result ≡ moment_in (view value.now) }
+{
+    if number_at(value, "v") == 1 {
+        None
+    } else {
+        Some(number_at(value, "done"))
+    }
+}

@@ -1,0 +1,295 @@
+//! A completion that is sealed.
+ghost use Rattle.std.specs.Prelude.{◌≡◌, ◌^◌, nat_lt, IfOk, None, OnOk, Some, true};
+ghost use Rattle.serde_json.specs.Data.{number, put as with_member, string, unsigned};
+ghost use Rattle.serde_json.specs.Find.{get};
+ghost use Rattle.serde_json.specs.View.{members_view, view};
+ghost use Rattle.slo_manifest.specs.Manifest.{json_of};
+ghost use Rattle.upload_texts.specs.Places.{text_in, version_in};
+ghost use Rattle.upload_texts.specs.Records.{unless_known};
+ghost use Rattle.s3_machine.specs.Uploads.{id_value};
+ghost use Rattle.upload_texts.specs.Sealed.{has_sealed_text, read_sealed, sealed_in, sealed_text, sealed_value, sealed_object, names_put, rest_put, is_first_version, ReadsSealed};
+
+use crate::forms::{is_kept_content, is_moment, is_sealed_list};
+use crate::places::{list_at, number_at, text_at, version_at};
+use crate::reading::{is_same, meta_in, parse, parts_in, unless_first};
+use crate::record::RecordFault;
+use crate::values::{pair_values, part_values, text};
+use gate_base::{Bytes, Copying, List, Memory};
+use s3_names::{Meta, id_digits, id_of, is_bucket, is_key};
+use serde_json::{Map, ToValue, Value, put};
+use std::alloc::Global;
+use swift_marks::is_etag;
+
+/// A part as a completion lists it: its number, its ETag without quotes and its size in bytes.
+#[derive(Debug, Drop)]
+pub struct SealedPart {
+    pub number: u32,
+    pub etag: Bytes,
+    pub size: u64,
+}
+
+impl Copying for SealedPart {
+    fn copy(&self) -> Result<SealedPart, Memory> {
+        Ok(SealedPart {
+            number: self.number,
+            etag: self.etag.copy()?,
+            size: self.size,
+        })
+    }
+}
+
+/// A completion that is decided and not yet finished: the bucket and the key of its object, the id of its upload, what the object
+/// is put with, its parts, and its ETag without quotes. Times are seconds since the beginning of 1970: `started` of the
+/// upload, `moment` of the completion.
+#[derive(Debug, Drop)]
+pub struct Sealed {
+    pub bucket: Bytes,
+    pub key: Bytes,
+    pub id: u128,
+    pub content_type: Bytes,
+    pub meta: Meta,
+    pub list: List<SealedPart>,
+    pub etag: Bytes,
+    pub started: u64,
+    pub moment: u64,
+}
+
+impl Sealed {
+    /// The sealed completion that a text is. `Version` exactly where the text is an object whose `v` is a whole number below 2^64
+    /// other than 1, and `NotARecord` for every other text that `write` doesn't give.
+    pub fn read(alloc: Global, bytes: &[u8]) -> Result<Sealed, RecordFault>
+        ensures { ReadsSealed bytes.now result }
+    {
+        match parse(alloc, bytes) {
+            Ok(value) => Sealed::versioned(alloc, bytes, &value),
+            Err(fault) => Err(fault),
+        }
+    }
+
+    /// The same of bytes whose JSON is this value.
+    fn versioned(alloc: Global, bytes: &[u8], value: &Value) -> Result<Sealed, RecordFault>
+        requires { json_of bytes.now ≡ Some (view value.now) }
+        ensures { ReadsSealed bytes.now result }
+    {
+        match unless_first(version_at(value)) {
+            Some(version) => Err(RecordFault::Version(version)),
+            None => Sealed::checked(alloc, bytes, value),
+        }
+    }
+
+    /// The same where the version is the first.
+    fn checked(alloc: Global, bytes: &[u8], value: &Value) -> Result<Sealed, RecordFault>
+        requires parsed { json_of bytes.now ≡ Some (view value.now) }
+        requires known { unless_known is_first_version (version_in (view value.now)) ≡ None }
+        ensures { ReadsSealed bytes.now result }
+    {
+        let found = sealed_in(alloc, value)?;
+        if !found.has_text() {
+            return Err(RecordFault::NotARecord);
+        }
+        let text = found.write(alloc)?;
+        if !is_same(text.as_slice(), bytes) {
+            return Err(RecordFault::NotARecord);
+        }
+        Ok(found)
+    }
+
+    /// The one text of the sealed completion, which is read as it. It asks for one that has a text (`has_text`), and fails only
+    /// where memory runs out.
+    pub fn write(&self, alloc: Global) -> Result<Bytes, Memory>
+        requires { has_sealed_text self.now ≡ true }
+        ensures text { IfOk result (λ text. text ≡ sealed_text self.now) }
+        ensures reads_back { IfOk result (λ text. read_sealed text ≡ Some self.now) }
+    {
+        let value = self.value(alloc)?;
+        Ok(Bytes::from_vec(value.to_vec(alloc)?))
+    }
+
+    /// Whether the sealed completion has a text: its bucket, key, type, metadata, ETags, numbers, sizes and moments keep their
+    /// limits, and it lists at least one part, and at most as many as it may. It takes no memory.
+    #[tactic(auto, unfolding(crate::specs::Sealed::has_sealed_text))]
+    pub fn has_text(&self) -> bool
+        ensures { result ≡ has_sealed_text self.now }
+    {
+        is_bucket(self.bucket.as_slice())
+            && is_key(self.key.as_slice())
+            && is_id(self.id)
+            && is_kept_content(self.content_type.as_slice(), &self.meta)
+            && is_sealed_list(self.list.as_slice())
+            && is_etag(self.etag.as_slice())
+            && is_moment(self.started)
+            && is_moment(self.moment)
+    }
+
+    #[tactic(auto, using(crate::proofs::Limits::sealed_bucket, crate::proofs::Limits::sealed_key, crate::proofs::Limits::sealed_type, crate::proofs::Limits::sealed_pairs, crate::proofs::Limits::sealed_parts, crate::proofs::Limits::sealed_etag, crate::proofs::Utf8::id_is_utf8))]
+    fn value(&self, alloc: Global) -> Result<Value, Memory>
+        requires { has_sealed_text self.now ≡ true }
+        ensures { IfOk result (λ value. view value ≡ sealed_value self.now) }
+    {
+        let list = Value::Array(part_values(alloc, self.list.as_slice())?);
+        let meta = Value::Array(pair_values(alloc, self.meta.pairs())?);
+        let id = id_digits(self.id);
+        let bucket = text(self.bucket.as_slice());
+        let etag = text(self.etag.as_slice());
+        let key = text(self.key.as_slice());
+        let content_type = text(self.content_type.as_slice());
+        let id = text(&id);
+        let (started, moment) = (self.started, self.moment);
+        object(
+            alloc,
+            moment,
+            bucket,
+            etag,
+            id,
+            key,
+            &list,
+            &meta,
+            started,
+            content_type,
+        )
+    }
+}
+
+fn object(
+    alloc: Global,
+    moment: u64,
+    bucket: &str,
+    etag: &str,
+    id: &str,
+    key: &str,
+    list: &Value,
+    meta: &Value,
+    started: u64,
+    content_type: &str,
+) -> Result<Value, Memory>
+    ensures { IfOk result (λ value. view value ≡ sealed_object moment bucket.now etag.now id.now key.now (view list.now) (view meta.now) started content_type.now) }
+{
+    let mut map = Map::new(alloc);
+    put_names(&mut map, alloc, moment, bucket, etag, id, key)?;
+    put_rest(&mut map, alloc, list, meta, started, content_type)?;
+    Ok(Value::Object(map))
+}
+
+fn put_names(
+    map: &mut Map<String, Value>,
+    alloc: Global,
+    moment: u64,
+    bucket: &str,
+    etag: &str,
+    id: &str,
+    key: &str,
+) -> Result<(), Memory>
+    ensures { OnOk result (members_view map.new.entries ≡ names_put moment bucket.now etag.now id.now key.now (members_view map.old.entries)) }
+{
+    put_number(map, alloc, "at", moment)?;
+    put_text(map, alloc, "bucket", bucket)?;
+    put_text(map, alloc, "etag", etag)?;
+    put_text(map, alloc, "id", id)?;
+    put_text(map, alloc, "key", key)
+}
+
+fn put_rest(
+    map: &mut Map<String, Value>,
+    alloc: Global,
+    list: &Value,
+    meta: &Value,
+    started: u64,
+    content_type: &str,
+) -> Result<(), Memory>
+    ensures { OnOk result (members_view map.new.entries ≡ rest_put (view list.now) (view meta.now) started content_type.now (members_view map.old.entries)) }
+{
+    put_value(map, alloc, "list", list)?;
+    put_value(map, alloc, "meta", meta)?;
+    put_number(map, alloc, "started", started)?;
+    put_text(map, alloc, "type", content_type)?;
+    put_number(map, alloc, "v", 1)
+}
+
+fn put_text(
+    map: &mut Map<String, Value>,
+    alloc: Global,
+    key: &str,
+    text: &str,
+) -> Result<(), Memory>
+    ensures { OnOk result (members_view map.new.entries ≡ with_member key.now (string text.now) (members_view map.old.entries)) }
+{
+    let value = text.to_value(alloc)?;
+    put(map, alloc, key, value)?;
+    Ok(())
+}
+
+fn put_value(
+    map: &mut Map<String, Value>,
+    alloc: Global,
+    key: &str,
+    value: &Value,
+) -> Result<(), Memory>
+    ensures { OnOk result (members_view map.new.entries ≡ with_member key.now (view value.now) (members_view map.old.entries)) }
+{
+    let value = value.to_value(alloc)?;
+    put(map, alloc, key, value)?;
+    Ok(())
+}
+
+fn put_number(
+    map: &mut Map<String, Value>,
+    alloc: Global,
+    key: &str,
+    count: u64,
+) -> Result<(), Memory>
+    ensures { OnOk result (members_view map.new.entries ≡ with_member key.now (number (unsigned count)) (members_view map.old.entries)) }
+{
+    put(map, alloc, key, Value::from(count))?;
+    Ok(())
+}
+
+/// Every id has its digits: it has 128 bits.
+fn is_id(id: u128) -> bool
+    ensures { result ≡ nat_lt id (2 ^ 128) }
+{
+    id <= u128::MAX
+}
+
+fn id_value(text: &[u8]) -> u128
+    ensures { result ≡ id_value text.now }
+{
+    match id_of(text) {
+        Some(id) => id,
+        None => 0,
+    }
+}
+
+fn bytes_at(alloc: Global, value: &Value, field: &str) -> Result<Bytes, Memory>
+    ensures { IfOk result (λ bytes. bytes ≡ text_in (get field.now (view value.now))) }
+{
+    Bytes::from_slice(alloc, text_at(value, field).as_bytes())
+}
+
+/// The sealed completion that stands in the places of a value, where that has a text.
+fn sealed_in(alloc: Global, value: &Value) -> Result<Sealed, Memory>
+    ensures { IfOk result (λ sealed. has_sealed_text (sealed_in (view value.now)) ≡ true → sealed ≡ sealed_in (view value.now)) }
+{
+    let pairs = list_at(value, "meta");
+    let parts = list_at(value, "list");
+    let digits = text_at(value, "id");
+    let id = id_value(digits.as_bytes());
+    let started = number_at(value, "started");
+    let moment = number_at(value, "at");
+    let bucket = bytes_at(alloc, value, "bucket")?;
+    let key = bytes_at(alloc, value, "key")?;
+    let content_type = bytes_at(alloc, value, "type")?;
+    let etag = bytes_at(alloc, value, "etag")?;
+    let meta = meta_in(alloc, pairs)?;
+    let list = parts_in(alloc, parts)?;
+    Ok(Sealed {
+        bucket,
+        key,
+        id,
+        content_type,
+        meta,
+        list,
+        etag,
+        started,
+        moment,
+    })
+}
