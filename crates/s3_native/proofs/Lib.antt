@@ -1,5 +1,2 @@
-pub mod Entries
 pub mod Listings
-pub mod Ordered
 pub mod Rolls
-pub mod Tables

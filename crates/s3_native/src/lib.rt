@@ -3,6 +3,5 @@
 
 mod listing;
 mod native;
-mod table;
 
 pub use native::Native;

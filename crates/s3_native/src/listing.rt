@@ -9,8 +9,8 @@ ghost use Rattle.s3_native.specs.Native.{added, shown, under};
 ghost use Rattle.s3_machine.specs.Step.{item_of, listed_key, listing, marker_of};
 
 use crate::native::NativeObject;
-use crate::table::Table;
 use gate_base::{Bytes, List, Memory};
+use name_table::Table;
 use s3_machine::{Asked, Item, ItemHead, copy_option};
 use std::alloc::Global;
 
@@ -64,70 +64,83 @@ fn row_end(prefix: &[u8], delimiter: &[u8], key: &[u8]) -> (usize, bool)
     }
 }
 
-impl Table<Option<ItemHead>> {
-    /// Adds a row under a text, unless one is there. Where memory runs out, the table is as before.
-    fn add(&mut self, text: &[u8], head: Option<ItemHead>) -> Result<(), Memory>
-        ensures { OnOk result (self.new ≡ added (text.now, head) self.old) }
-    {
-        if self.get(text).is_some() {
-            return Ok(());
-        }
-        self.put(text, head)
+/// Adds a row under a text, unless one is there. Where memory runs out, the rows are as before.
+fn add_row(
+    rows: &mut Table<Option<ItemHead>>,
+    text: &[u8],
+    head: Option<ItemHead>,
+) -> Result<(), Memory>
+    ensures { OnOk result (rows.new ≡ added (text.now, head) rows.old) }
+{
+    if rows.get(text).is_some() {
+        return Ok(());
     }
-
-    /// The items whose text is greater than the marker, in the order of the texts.
-    fn items_behind(&self, alloc: Global, marker: &[u8]) -> Result<List<Item>, Memory>
-        ensures { IfOk result (λ items. items ≡ map item_of (behind marker.now (entries self.now))) }
-    {
-        let mut items = List::new(alloc);
-        for (text, object) in &self.entries {
-            if marker.cmp(text.as_slice()).is_lt() {
-                items.push(Item {
-                    text: Bytes::from_slice(alloc, text)?,
-                    object: copy_option(object)?,
-                })?;
-            }
-        }
-        Ok(items)
-    }
+    rows.put(text, head)
 }
 
-impl Table<NativeObject> {
-    /// The items of a listing of these objects, and whether one is left over.
-    pub(crate) fn listing(&self, alloc: Global, asked: &Asked) -> Result<(List<Item>, bool), Memory>
-        ensures { IfOk result (λ listed. listed ≡ shown (listing asked.now self.now)) }
-    {
-        let rows = self.rows(alloc, asked.prefix.as_slice(), asked.delimiter.as_slice())?;
-        let items = rows.items_behind(alloc, marker_of(asked))?;
-        let max = asked.max as usize;
-        let truncated = is_cut(max, items.len());
-        Ok((first(items, max), truncated))
-    }
-
-    /// The rows of the keys that have the prefix.
-    fn rows(
-        &self,
-        alloc: Global,
-        prefix: &[u8],
-        delimiter: &[u8],
-    ) -> Result<Table<Option<ItemHead>>, Memory>
-        ensures { IfOk result (λ rows. rows ≡
-            from_entries {R = name_cmp} (map (row_of prefix.now delimiter.now) (with_prefix prefix.now (map listed_key (entries self.now))))) }
-    {
-        let mut rows = Table::new(alloc);
-        for (key, object) in &self.entries {
-            if begins(prefix, key) {
-                let (end, rolled) = row_end(prefix, delimiter, key);
-                let head = if rolled {
-                    None
-                } else {
-                    Some(object.item_head()?)
-                };
-                rows.add(&key[..end], head)?;
-            }
+/// The items whose text is greater than the marker, in the order of the texts.
+fn items_behind(
+    rows: &Table<Option<ItemHead>>,
+    alloc: Global,
+    marker: &[u8],
+) -> Result<List<Item>, Memory>
+    ensures { IfOk result (λ items. items ≡ map item_of (behind marker.now (entries rows.now))) }
+{
+    let mut items = List::new(alloc);
+    for (text, object) in rows.as_map() {
+        if marker.cmp(text.as_slice()).is_lt() {
+            items.push(Item {
+                text: Bytes::from_slice(alloc, text)?,
+                object: copy_option(object)?,
+            })?;
         }
-        Ok(rows)
     }
+    Ok(items)
+}
+
+/// The items of a listing of these objects, and whether one is left over.
+pub(crate) fn listed(
+    objects: &Table<NativeObject>,
+    alloc: Global,
+    asked: &Asked,
+) -> Result<(List<Item>, bool), Memory>
+    ensures { IfOk result (λ listed. listed ≡ shown (listing asked.now objects.now)) }
+{
+    let rows = rows(
+        objects,
+        alloc,
+        asked.prefix.as_slice(),
+        asked.delimiter.as_slice(),
+    )?;
+    let items = items_behind(&rows, alloc, marker_of(asked))?;
+    let max = asked.max as usize;
+    let truncated = is_cut(max, items.len());
+    Ok((first(items, max), truncated))
+}
+
+/// The rows of the keys that have the prefix.
+fn rows(
+    objects: &Table<NativeObject>,
+    alloc: Global,
+    prefix: &[u8],
+    delimiter: &[u8],
+) -> Result<Table<Option<ItemHead>>, Memory>
+    ensures { IfOk result (λ rows. rows ≡
+        from_entries {R = name_cmp} (map (row_of prefix.now delimiter.now) (with_prefix prefix.now (map listed_key (entries objects.now))))) }
+{
+    let mut rows = Table::new(alloc);
+    for (key, object) in objects.as_map() {
+        if begins(prefix, key) {
+            let (end, rolled) = row_end(prefix, delimiter, key);
+            let head = if rolled {
+                None
+            } else {
+                Some(object.item_head()?)
+            };
+            add_row(&mut rows, &key[..end], head)?;
+        }
+    }
+    Ok(rows)
 }
 
 /// Whether an item is left over, where any is asked for.

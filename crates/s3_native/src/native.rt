@@ -1,6 +1,7 @@
 //! The machine's running form: plain and slow, for tests.
-ghost use Rattle.std.specs.Prelude.{◌≡◌, IfOk, OnErr};
+ghost use Rattle.std.specs.Prelude.{◌≡◌, IfOk, OnErr, OnOk};
 ghost use Rattle.std.specs.FinMap.{empty};
+ghost use Rattle.gate_base.specs.Maps.{adjust};
 ghost use Rattle.s3_machine.specs.declared.operation.Op.TheVariants.{
   ListBuckets,
   CreateBucket,
@@ -16,10 +17,11 @@ ghost use Rattle.s3_machine.specs.declared.operation.Op.TheVariants.{
   DeleteObject,
   GetObjectAcl,
 };
-ghost use Rattle.s3_machine.specs.Step.{IsProper, S3Step, may_read, is_other_acl};
+ghost use Rattle.s3_machine.specs.Step.{IsProper, S3Step, bucket_items, drop_object, is_other_acl, may_read, put_object, with_acl};
 
-use crate::table::Table;
+use crate::listing::listed;
 use gate_base::{Bytes, Caller, Copying, List, Memory};
+use name_table::Table;
 use s3_machine::{
     Asked, BucketItem, Code, Conditions, Item, ItemHead, Judged, Label, ObjectHead, Op, Range,
     Reply, Settings, Span, body_etag, is_other_acl, judge, may_read,
@@ -236,7 +238,7 @@ impl NativeBucket {
     fn listing(&self, alloc: Global, asked: &Asked) -> Result<(List<Item>, bool), Memory>
         ensures { IfOk result (λ listed. listed ≡ shown (listing asked.now self.now.objects)) }
     {
-        self.objects.listing(alloc, asked)
+        listed(&self.objects, alloc, asked)
     }
 
     fn put(&mut self, key: &[u8], object: NativeObject) -> Result<(), Memory>
@@ -253,52 +255,54 @@ impl NativeBucket {
     }
 }
 
-impl Table<NativeBucket> {
-    ghost use Rattle.std.specs.Prelude.{OnOk};
-    ghost use Rattle.gate_base.specs.Maps.{adjust};
-    ghost use Rattle.s3_machine.specs.Step.{bucket_items, drop_object, put_object, with_acl};
-
-    /// Each bucket with the moment at which it was made, in the order of the names.
-    fn items(&self, alloc: Global) -> Result<List<BucketItem>, Memory>
-        ensures { IfOk result (λ items. items ≡ bucket_items self.now) }
-    {
-        let mut items = List::new(alloc);
-        for (name, bucket) in &self.entries {
-            items.push(BucketItem {
-                name: Bytes::from_slice(alloc, name)?,
-                created: bucket.created(),
-            })?;
-        }
-        Ok(items)
+/// Each bucket with the moment at which it was made, in the order of the names.
+fn bucket_items(buckets: &Table<NativeBucket>, alloc: Global) -> Result<List<BucketItem>, Memory>
+    ensures { IfOk result (λ items. items ≡ bucket_items buckets.now) }
+{
+    let mut items = List::new(alloc);
+    for (name, bucket) in buckets.as_map() {
+        items.push(BucketItem {
+            name: Bytes::from_slice(alloc, name)?,
+            created: bucket.created(),
+        })?;
     }
+    Ok(items)
+}
 
-    /// Replaces the access control list of a bucket, if it is there.
-    fn set_acl(&mut self, bucket: &[u8], acl: Acl)
-        ensures { self.new ≡ adjust bucket.now (with_acl acl) self.old }
-    {
-        if let Some(found) = self.entries.get_mut(bucket) {
-            found.set_acl(acl);
-        }
+/// Replaces the access control list of a bucket, if it is there.
+#[tactic(auto, using(name_table::proofs::lemmas::Tables::nothing_there))]
+fn set_acl(buckets: &mut Table<NativeBucket>, bucket: &[u8], acl: Acl)
+    ensures { buckets.new ≡ adjust bucket.now (with_acl acl) buckets.old }
+{
+    if let Some(found) = buckets.get_mut(bucket) {
+        found.set_acl(acl);
     }
+}
 
-    /// Puts an object into a bucket, in place of what stands under its key. Where memory runs out, all is as before.
-    fn put_object(&mut self, bucket: &[u8], key: &[u8], object: NativeObject) -> Result<(), Memory>
-        ensures ok { OnOk result (self.new ≡ adjust bucket.now (put_object key.now object) self.old) }
-        ensures err { OnErr result (self.new ≡ self.old) }
-    {
-        match self.entries.get_mut(bucket) {
-            Some(found) => found.put(key, object),
-            None => Ok(()),
-        }
+/// Puts an object into a bucket, in place of what stands under its key. Where memory runs out, all is as before.
+#[tactic(auto, using(name_table::proofs::lemmas::Tables::nothing_there))]
+fn put_object(
+    buckets: &mut Table<NativeBucket>,
+    bucket: &[u8],
+    key: &[u8],
+    object: NativeObject,
+) -> Result<(), Memory>
+    ensures ok { OnOk result (buckets.new ≡ adjust bucket.now (put_object key.now object) buckets.old) }
+    ensures err { OnErr result (buckets.new ≡ buckets.old) }
+{
+    match buckets.get_mut(bucket) {
+        Some(found) => found.put(key, object),
+        None => Ok(()),
     }
+}
 
-    /// Takes away the object of a key in a bucket, if there is one.
-    fn drop_object(&mut self, bucket: &[u8], key: &[u8])
-        ensures { self.new ≡ adjust bucket.now (drop_object key.now) self.old }
-    {
-        if let Some(found) = self.entries.get_mut(bucket) {
-            found.drop_at(key);
-        }
+/// Takes away the object of a key in a bucket, if there is one.
+#[tactic(auto, using(name_table::proofs::lemmas::Tables::nothing_there))]
+fn drop_object(buckets: &mut Table<NativeBucket>, bucket: &[u8], key: &[u8])
+    ensures { buckets.new ≡ adjust bucket.now (drop_object key.now) buckets.old }
+{
+    if let Some(found) = buckets.get_mut(bucket) {
+        found.drop_at(key);
     }
 }
 
@@ -374,13 +378,14 @@ impl Native {
             } => self.head_object(bucket, key, *range, conditions, label),
             Op::DeleteObject { bucket, key } => self.delete_object(bucket, key, label),
             Op::GetObjectAcl { bucket, key } => Ok(self.get_object_acl(bucket, key, label)),
+            _ => Err(Memory),
         }
     }
 
     fn list_buckets(&self, label: &Label) -> Result<Reply, Memory>
         ensures { IfOk result (λ reply. S3Step self.now.settings self.now.state ListBuckets label.now reply self.now.state) }
     {
-        Ok(Reply::Buckets(self.buckets.items(self.alloc)?))
+        Ok(Reply::Buckets(bucket_items(&self.buckets, self.alloc)?))
     }
 
     /// Where memory runs out, the state is as before.
@@ -451,7 +456,7 @@ impl Native {
         if self.buckets.get(bucket.as_slice()).is_none() {
             return Reply::Refused(Code::NoSuchBucket);
         }
-        self.buckets.set_acl(bucket.as_slice(), acl);
+        set_acl(&mut self.buckets, bucket.as_slice(), acl);
         Reply::Done
     }
 
@@ -509,8 +514,7 @@ impl Native {
         }
         let object = NativeObject::new(self.alloc, label.moment, content_type, meta, body)?;
         let etag = object.etag.copy()?;
-        self.buckets
-            .put_object(bucket.as_slice(), key.as_slice(), object)?;
+        put_object(&mut self.buckets, bucket.as_slice(), key.as_slice(), object)?;
         Ok(Reply::Stored { etag })
     }
 
@@ -568,7 +572,7 @@ impl Native {
         if self.buckets.get(bucket.as_slice()).is_none() {
             return Ok(Reply::Refused(Code::NoSuchBucket));
         }
-        self.buckets.drop_object(bucket.as_slice(), key.as_slice());
+        drop_object(&mut self.buckets, bucket.as_slice(), key.as_slice());
         Ok(Reply::Gone)
     }
 }

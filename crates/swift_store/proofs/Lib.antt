@@ -1,17 +1,11 @@
-pub mod Alone
 pub mod Calls
-pub mod Entries
-pub mod Handed
 pub mod Listing
-pub mod Logged
 pub mod MadeChanges
 pub mod MadeEntries
 pub mod MadeEtags
 pub mod MadeReplies
-pub mod Ordered
 pub mod Replying
 pub mod Served
 pub mod Shelves
-pub mod Tables
 pub mod Writing
 pub mod lemmas

@@ -22,13 +22,13 @@ use Rattle.gate_base.specs.Maps.{Names, name_cmp}
 use Rattle.gate_base.proofs.lemmas.Maps.{name_total, number_antisymmetric}
 use Rattle.gate_base.proofs.lemmas.Named.{both, first_of_two, second_of_two}
 use Rattle.swift_calls.specs.Step.{page, is_listed}
-use Rattle.swift_store.specs.Table.{entry_of, names_of}
+use Rattle.name_table.specs.Table.{entry_of, names_of}
 use Rattle.swift_calls.specs.Account.{SwiftObject}
 use Rattle.swift_calls.specs.Bodies.{item_of}
 use Rattle.swift_calls.specs.declared.heads.NameItem.{NameItem}
 use Rattle.swift_store.specs.Listing.{leading, entries_from, object_run}
 use Rattle.swift_store.specs.Shelf.{object_page}
-use Rattle.swift_store.proofs.Ordered.{entries_are}
+use Rattle.name_table.proofs.lemmas.Ordered.{entries_are}
 
 -- ---- runs
 

@@ -1,10 +1,7 @@
 pub mod Coded
-pub mod Handing
 pub mod Kept
 pub mod Listing
-pub mod Log
 pub mod Made
 pub mod MadeLaws
 pub mod Serving
 pub mod Shelf
-pub mod Table

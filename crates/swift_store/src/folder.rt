@@ -10,8 +10,8 @@ ghost use Rattle.swift_store.specs.Listing.{object_run};
 ghost use Rattle.swift_store.specs.Shelf.{container_head, container_page, object_page};
 
 use crate::kept::Kept;
-use crate::table::Table;
 use gate_base::{Bytes, List, Memory};
+use name_table::Table;
 use std::alloc::Global;
 use std::marker::Model;
 use std::ops::Bound;
@@ -76,7 +76,7 @@ impl Folder {
     ) -> Result<List<NameItem>, Memory>
         ensures { IfOk result (λ items. items ≡ object_page limit prefix.now marker.now self.now.files) }
     {
-        self.objects.page(alloc, prefix, marker, limit)
+        object_page(&self.objects, alloc, prefix, marker, limit)
     }
 
     fn set_head(&mut self, readers: ReadList, created: Option<u64>)
@@ -100,110 +100,113 @@ impl Folder {
     }
 }
 
-impl Table<Folder> {
-    /// Replaces the read list and the creation time of a container, if it is there.
-    pub(crate) fn set_head(&mut self, container: &[u8], readers: ReadList, created: Option<u64>)
-        ensures { self.new ≡ adjust container.now (with_head readers created) self.old }
-    {
-        if let Some(found) = self.entries.get_mut(container) {
-            found.set_head(readers, created);
-        }
-    }
-
-    /// Puts an object into a container, if it is there, in place of what stands under its name. Where memory runs out, all is
-    /// as before.
-    pub(crate) fn put_object(
-        &mut self,
-        container: &[u8],
-        name: &[u8],
-        object: Kept,
-    ) -> Result<(), Memory>
-        ensures ok { OnOk result (self.new ≡ put_file container.now name.now object self.old) }
-        ensures err { OnErr result (self.new ≡ self.old) }
-    {
-        match self.entries.get_mut(container) {
-            Some(found) => found.put(name, object),
-            None => Ok(()),
-        }
-    }
-
-    /// Takes away the object of a name in a container, if there is one.
-    pub(crate) fn drop_object(&mut self, container: &[u8], name: &[u8])
-        ensures { self.new ≡ remove_file container.now name.now self.old }
-    {
-        if let Some(found) = self.entries.get_mut(container) {
-            found.drop_at(name);
-        }
-    }
-
-    /// The names after the marker, at most so many. Only these are visited, and one more.
-    pub(crate) fn page(
-        &self,
-        alloc: Global,
-        marker: &[u8],
-        limit: usize,
-    ) -> Result<List<Bytes>, Memory>
-        ensures { IfOk result (λ names. names ≡ container_page limit marker.now self.now) }
-    {
-        let after = Vec::from_slice(alloc, marker)?;
-        let mut names = List::new(alloc);
-        for (name, _) in self
-            .entries
-            .range((Bound::Excluded(&after), Bound::Unbounded))
-        {
-            if names.len() == limit {
-                return Ok(names);
-            }
-            names.push(Bytes::from_slice(alloc, name)?)?;
-        }
-        Ok(names)
+/// Replaces the read list and the creation time of a container, if it is there.
+#[tactic(auto, using(name_table::proofs::lemmas::Tables::nothing_there))]
+pub(crate) fn set_head(
+    folders: &mut Table<Folder>,
+    container: &[u8],
+    readers: ReadList,
+    created: Option<u64>,
+)
+    ensures { folders.new ≡ adjust container.now (with_head readers created) folders.old }
+{
+    if let Some(found) = folders.get_mut(container) {
+        found.set_head(readers, created);
     }
 }
 
-impl Table<Kept> {
-    /// The objects after the marker whose names begin with the prefix, at most so many. Only these are visited, and one
-    /// more.
-    #[tactic(auto, using(crate::proofs::Listing::items_from_prefix, crate::proofs::Listing::items_from_marker))]
-    fn page(
-        &self,
-        alloc: Global,
-        prefix: &[u8],
-        marker: &[u8],
-        limit: usize,
-    ) -> Result<List<NameItem>, Memory>
-        ensures { IfOk result (λ items. items ≡ object_page limit prefix.now marker.now self.now) }
-    {
-        if prefix.cmp(marker).is_gt() {
-            let from = Vec::from_slice(alloc, prefix)?;
-            let items = self.run(alloc, prefix, Bound::Included(&from), limit)?;
-            Ok(items)
-        } else {
-            let after = Vec::from_slice(alloc, marker)?;
-            let items = self.run(alloc, prefix, Bound::Excluded(&after), limit)?;
-            Ok(items)
-        }
+/// Puts an object into a container, if it is there, in place of what stands under its name. Where memory runs out, all is
+/// as before.
+#[tactic(auto, using(name_table::proofs::lemmas::Tables::nothing_there))]
+pub(crate) fn put_object(
+    folders: &mut Table<Folder>,
+    container: &[u8],
+    name: &[u8],
+    object: Kept,
+) -> Result<(), Memory>
+    ensures ok { OnOk result (folders.new ≡ put_file container.now name.now object folders.old) }
+    ensures err { OnErr result (folders.new ≡ folders.old) }
+{
+    match folders.get_mut(container) {
+        Some(found) => found.put(name, object),
+        None => Ok(()),
     }
+}
 
-    /// The objects from a place on as far as their names begin with the prefix, at most so many.
-    fn run(
-        &self,
-        alloc: Global,
-        prefix: &[u8],
-        start: Bound<&Vec<u8>>,
-        limit: usize,
-    ) -> Result<List<NameItem>, Memory>
-        ensures { IfOk result (λ items. items ≡ object_run limit prefix.now (bound_map (λ x. x.now.items) start.entry) self.now) }
+/// Takes away the object of a name in a container, if there is one.
+#[tactic(auto, using(name_table::proofs::lemmas::Tables::nothing_there))]
+pub(crate) fn drop_object(folders: &mut Table<Folder>, container: &[u8], name: &[u8])
+    ensures { folders.new ≡ remove_file container.now name.now folders.old }
+{
+    if let Some(found) = folders.get_mut(container) {
+        found.drop_at(name);
+    }
+}
+
+/// The names after the marker, at most so many. Only these are visited, and one more.
+pub(crate) fn container_page(
+    folders: &Table<Folder>,
+    alloc: Global,
+    marker: &[u8],
+    limit: usize,
+) -> Result<List<Bytes>, Memory>
+    ensures { IfOk result (λ names. names ≡ container_page limit marker.now folders.now) }
+{
+    let after = Vec::from_slice(alloc, marker)?;
+    let mut names = List::new(alloc);
+    for (name, _) in folders
+        .as_map()
+        .range((Bound::Excluded(&after), Bound::Unbounded))
     {
-        let mut items = List::new(alloc);
-        for (name, object) in self.entries.range((start, Bound::Unbounded)) {
-            if items.len() == limit {
-                return Ok(items);
-            }
-            if !name.starts_with(prefix) {
-                return Ok(items);
-            }
-            items.push(object.item(alloc, name)?)?;
+        if names.len() == limit {
+            return Ok(names);
         }
+        names.push(Bytes::from_slice(alloc, name)?)?;
+    }
+    Ok(names)
+}
+
+/// The objects after the marker whose names begin with the prefix, at most so many. Only these are visited, and one more.
+#[tactic(auto, using(crate::proofs::Listing::items_from_prefix, crate::proofs::Listing::items_from_marker))]
+fn object_page(
+    objects: &Table<Kept>,
+    alloc: Global,
+    prefix: &[u8],
+    marker: &[u8],
+    limit: usize,
+) -> Result<List<NameItem>, Memory>
+    ensures { IfOk result (λ items. items ≡ object_page limit prefix.now marker.now objects.now) }
+{
+    if prefix.cmp(marker).is_gt() {
+        let from = Vec::from_slice(alloc, prefix)?;
+        let items = run(objects, alloc, prefix, Bound::Included(&from), limit)?;
+        Ok(items)
+    } else {
+        let after = Vec::from_slice(alloc, marker)?;
+        let items = run(objects, alloc, prefix, Bound::Excluded(&after), limit)?;
         Ok(items)
     }
+}
+
+/// The objects from a place on as far as their names begin with the prefix, at most so many.
+fn run(
+    objects: &Table<Kept>,
+    alloc: Global,
+    prefix: &[u8],
+    start: Bound<&Vec<u8>>,
+    limit: usize,
+) -> Result<List<NameItem>, Memory>
+    ensures { IfOk result (λ items. items ≡ object_run limit prefix.now (bound_map (λ x. x.now.items) start.entry) objects.now) }
+{
+    let mut items = List::new(alloc);
+    for (name, object) in objects.as_map().range((start, Bound::Unbounded)) {
+        if items.len() == limit {
+            return Ok(items);
+        }
+        if !name.starts_with(prefix) {
+            return Ok(items);
+        }
+        items.push(object.item(alloc, name)?)?;
+    }
+    Ok(items)
 }

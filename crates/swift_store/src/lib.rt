@@ -7,17 +7,13 @@ mod folder;
 mod kept;
 mod laws;
 mod map_shelf;
-mod reading;
 mod replies;
 mod shelf;
 mod shelf_ref;
 mod store;
-mod store_link;
-mod table;
 
 pub use faults::StoreFault;
 pub use laws::{law_has_spelling, law_stays_made};
 pub use map_shelf::MapShelf;
 pub use shelf::Shelf;
-pub use store::{Store, serve};
-pub use store_link::{OverShelf, StoreLink};
+pub use store::serve;

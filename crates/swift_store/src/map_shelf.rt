@@ -5,11 +5,11 @@ ghost use Rattle.std.proofs.Props.{props};
 ghost use Rattle.swift_calls.specs.Account.{find_object};
 ghost use Rattle.swift_store.specs.Made.{IsMade};
 
-use crate::folder::Folder;
+use crate::folder::{Folder, container_page, drop_object, put_object, set_head};
 use crate::kept::Kept;
-use crate::table::Table;
 use crate::{Shelf, StoreFault};
 use gate_base::{Bytes, Copying, List};
+use name_table::Table;
 use std::alloc::Global;
 use swift_calls::{NameItem, ReadList, Stored, StoredHead};
 
@@ -51,7 +51,7 @@ impl Shelf for MapShelf {
     ghost made = { λ s observable. s.made };
 
     fn containers(&mut self, marker: &[u8], limit: u32) -> Result<List<Bytes>, StoreFault> {
-        Ok(self.folders.page(self.alloc, marker, limit as usize)?)
+        Ok(container_page(&self.folders, self.alloc, marker, limit as usize)?)
     }
 
     #[tactic(auto, using(crate::proofs::Shelves::moment_found))]
@@ -77,7 +77,7 @@ impl Shelf for MapShelf {
         created: Option<u64>,
     ) -> Result<(), StoreFault> {
         if self.folders.get(name).is_some() {
-            self.folders.set_head(name, readers, created);
+            set_head(&mut self.folders, name, readers, created);
         } else {
             self.folders
                 .put(name, Folder::new(self.alloc, readers, created))?;
@@ -129,12 +129,12 @@ impl Shelf for MapShelf {
     fn put(&mut self, container: &[u8], object: Stored, etag: Bytes) -> Result<(), StoreFault> {
         let name = object.name.copy()?;
         let object = Kept::new(object, etag);
-        Ok(self.folders.put_object(container, name.as_slice(), object)?)
+        Ok(put_object(&mut self.folders, container, name.as_slice(), object)?)
     }
 
     fn remove(&mut self, container: &[u8], name: &[u8]) -> Result<bool, StoreFault> {
         let there = self.object(container, name).is_some();
-        self.folders.drop_object(container, name);
+        drop_object(&mut self.folders, container, name);
         Ok(there)
     }
 }

@@ -1,17 +1,13 @@
-//! A store of one account: requests in, answers out.
-ghost use Rattle.std.specs.Prelude.{◌≡◌, ◌<◌, ◌^◌, [], ◌++◌, length, false, IsTrue, IfOk, OnErr};
-ghost use Rattle.gate_base.specs.Causes.{RisesIf};
+//! Requests in, answers out.
+ghost use Rattle.std.specs.Prelude.{◌≡◌, ◌++◌, IsTrue, IfOk, OnErr};
 ghost use Rattle.swift_calls.specs.Step.{Fit, swift_step};
 ghost use Rattle.swift_calls.specs.declared.calls.SwiftRequest.{SwiftRequest};
 ghost use Rattle.swift_replies.specs.AnswerText.{answer_text, refusal};
-ghost use Rattle.swift_requests.specs.Calls.{SpellsRequest};
 ghost use Rattle.swift_requests.specs.Place.{IsPlace};
-ghost use Rattle.swift_store.specs.Handing.{Hands};
 ghost use Rattle.swift_store.specs.Shelf.{ShelfKeeps, Writes};
 ghost use Rattle.swift_store.specs.Serving.{Answers, Served, TagsBody};
 
 use crate::effects::apply;
-use crate::reading::message_in;
 use crate::replies::reply_to;
 use crate::{Shelf, StoreFault};
 use gate_base::{Bytes, Memory};
@@ -139,63 +135,5 @@ pub fn serve<S: Shelf>(
         }
         Err(WireFault::Memory) => Err(StoreFault::Memory),
         Err(WireFault::NotAnAnswer) => unreachable!(),
-    }
-}
-
-/// A store of one account over a shelf.
-#[derive(Drop)]
-pub struct Store<S: Shelf> {
-    pub(crate) shelf: S,
-    pub(crate) place: Place,
-    pub(crate) alloc: Global,
-    ghost valid: { IsPlace place },
-}
-
-impl<S: Shelf> Store<S> {
-    /// A store of the place's account. It takes no memory.
-    pub fn new(alloc: Global, shelf: S, place: Place) -> Store<S>
-        requires { IsPlace place }
-        ensures shelf { result.shelf ≡ shelf }
-        ensures place { result.place ≡ place }
-    {
-        Store {
-            shelf,
-            place,
-            alloc,
-        }
-    }
-
-    /// Appends the answer to one message, as [`serve`] does.
-    pub fn serve(&mut self, message: Message, out: &mut Bytes) -> Result<(), StoreFault>
-        ensures place { self.new.place ≡ self.old.place }
-        ensures keeps { ShelfKeeps (S.model self.old.shelf) result (S.model self.new.shelf) }
-        ensures served { Served (S.model self.old.shelf).observable self.old.place message (S.model self.old.shelf).account (S.model self.new.shelf).account out.old out.new result }
-    {
-        serve(self.alloc, &self.place, &mut self.shelf, message, out)
-    }
-
-    /// Appends the answer to the bytes of a request, as [`serve`] does where they are one whole message, and else `400 Bad
-    /// Request`. True where the shelf failed, and then nothing is appended.
-    pub(crate) fn hand(&mut self, bytes: &[u8], out: &mut Bytes) -> Result<bool, Memory>
-        ensures place { self.new.place ≡ self.old.place }
-        ensures faults { IfOk result (λ lost. RisesIf lost (S.model self.old.shelf).faults (S.model self.new.shelf).faults) }
-        ensures sure { IsTrue (S.model self.old.shelf).sure → IsTrue (S.model self.new.shelf).sure }
-        ensures never { IsTrue (S.model self.old.shelf).sure → IfOk result (λ lost. lost ≡ false) }
-        ensures observable { IsTrue (S.model self.old.shelf).observable → IsTrue (S.model self.new.shelf).observable }
-        ensures same { IsTrue (S.model self.old.shelf).observable → OnErr result ((S.model self.new.shelf).account ≡ (S.model self.old.shelf).account) }
-        ensures hands { out.old ≡ [] → length out.new < 2 ^ 63 → IsTrue (S.model self.old.shelf).observable → (call : SwiftRequest) → Fit call
-            → SpellsRequest self.old.place call bytes.now → Hands call (S.model self.old.shelf).account (S.model self.new.shelf).account out.new result }
-    {
-        match message_in(self.alloc, bytes)? {
-            Some(message) => match self.serve(message, out) {
-                Ok(()) => Ok(false),
-                Err(StoreFault::Failed) => Ok(true),
-                Err(StoreFault::Memory) => Err(Memory),
-            },
-            None => {
-                *out = refused(self.alloc, out, 400)?;
-                Ok(false)
-            }
-        }
     }
 }

@@ -1,6 +1,0 @@
-use Rattle.std.proofs.Common.{◌∙◌}
-use Rattle.swift_store.proofs.Tables.{table_get}
-use Rattle.swift_store.proofs.table.Table.get.Goals as goal
-
-pub returns : goal.returns
-returns g c = c.get.ensures.value ∙ table_get c.self.inside.entries.entries c.args.self.now c.self.view_is c.args.name.now
