@@ -1,5 +1,5 @@
 -- What was sent of the interim line while a request was read.
-use Rattle.std.proofs.Common.{◌≡◌, ℕ, inl, inr, true, List, [], ◌++◌, subst, ◌∙◌}
+use Rattle.std.proofs.Common.{◌≡◌, ℕ, inl, inr, Bool, true, List, [], ◌++◌, Result, Ok, Err, subst, ◌∙◌}
 use Rattle.gate_base.specs.declared.outside.Piece.{Piece}
 use Rattle.gate_base.specs.Transcript.{Transcript}
 use Rattle.httparse.specs.declared.spans.HeaderSpan.{HeaderSpan}
@@ -11,7 +11,7 @@ use Rattle.http_wire.specs.declared.message.ReadFault.{ReadFault}
 use Rattle.http_wire.specs.declared.message.ReadFault.TheVariants.{Failed, Memory}
 use Rattle.http_wire.specs.declared.advance.Found.TheVariants.{Head}
 use Rattle.http_wire.specs.FirstMessage.{HasHead, HasNoHead, message_of}
-use Rattle.http_wire.specs.Interim.{is_owed, OwesInterim, SendsInterim, MaySendInterim, CutsInterim, SendsOnFault}
+use Rattle.http_wire.specs.Interim.{is_owed, OwesInterim, SendsInterim, MaySendInterim, CutsInterim, SendsOn, SendsOnFault}
 use Rattle.http_wire.specs.Seen.{window, IsFound}
 use Rattle.http_wire.proofs.FirstMessageLemmas.{whole_head}
 use Rattle.http_wire.proofs.lemmas.OwedLemmas.{owed_by_head, none_owed}
@@ -66,10 +66,12 @@ none_sent came more all connection at old new is none e = inr (none_owed all (su
 pub empty_has_none : (bytes more : List ℕ) → bytes ≡ [] → more ≡ [] → HasNoHead (bytes ++ more)
 empty_has_none bytes more none end h n has = not_empty (bytes ++ more) h n has (λ i. none i ++ end i)
 
--- the line was sent where it is owed, and then the body was not read
-pub then_fails : (message head : Message) (at : ℕ) (old middle new : Transcript) (fault : ReadFault) → message ≡ head
-    → SendsInterim (is_owed message ≡ true) old.begun at old.sent middle.sent → new.sent ≡ middle.sent → SendsOnFault (is_owed head ≡ true) at old fault new
-then_fails message head at old middle new Failed is (inl (p, e)) s = inr (subst (λ (m : Message). is_owed m ≡ true) is p, 25, s ∙ e)
-then_fails message head at old middle new Failed is (inr (n, e)) s = inl (s ∙ e)
-then_fails message head at old middle new Memory is (inl (p, e)) s = inr (subst (λ (m : Message). is_owed m ≡ true) is p, s ∙ e)
-then_fails message head at old middle new Memory is (inr (n, e)) s = inl (s ∙ e)
+-- the line was sent where it is owed, and then the body was read or not
+pub then_reads : (P : Type 0) (at : ℕ) (old middle new : Transcript) (result : Result Bool ReadFault)
+    → SendsInterim P old.begun at old.sent middle.sent → new.sent ≡ middle.sent → SendsOn P at old result new
+then_reads P at old middle new (Ok whole) (inl (p, e)) s = inl (p, s ∙ e)
+then_reads P at old middle new (Ok whole) (inr (n, e)) s = inr (n, s ∙ e)
+then_reads P at old middle new (Err Failed) (inl (p, e)) s = inr (p, 25, s ∙ e)
+then_reads P at old middle new (Err Failed) (inr (n, e)) s = inl (s ∙ e)
+then_reads P at old middle new (Err Memory) (inl (p, e)) s = inr (p, s ∙ e)
+then_reads P at old middle new (Err Memory) (inr (n, e)) s = inl (s ∙ e)

@@ -56,10 +56,14 @@ pub(crate) fn advance<N: Line<C>, C: Counted>(
     requires open { IsTrue (N.model line.old).is_open }
     requires room { 8192 ≤ length headers.old }
     ensures reads { OnlyReads (is_failed_read result) (N.model line.old) (N.model line.new) }
-    ensures weight { weight (N.model line.new).spent pending.new.items ≤ weight (N.model line.old).spent pending.old.items }
-    ensures kept { IsTrue (N.model line.old).observable → pending.new.items ++ (N.model line.new).transcript.rest ≡ pending.old.items ++ (N.model line.old).transcript.rest }
+    ensures weight { weight (N.model line.new).spent pending.new.items
+        ≤ weight (N.model line.old).spent pending.old.items }
+    ensures kept { IsTrue (N.model line.old).observable
+        → pending.new.items ++ (N.model line.new).transcript.rest
+        ≡ pending.old.items ++ (N.model line.old).transcript.rest }
     ensures found { IfOk result (IsFound pending.new.items headers.new) }
-    ensures at_end { IsTrue (N.model line.old).observable → IfOk result (λ found. AtEnd found (N.model line.new).transcript.rest) }
+    ensures at_end { IsTrue (N.model line.old).observable
+        → IfOk result (λ found. AtEnd found (N.model line.new).transcript.rest) }
 {
     let mut seen = 0;
     'come: loop {

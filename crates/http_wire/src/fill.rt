@@ -18,13 +18,18 @@ pub(crate) fn fill<N: Line<C>, C: Counted>(
 ) -> Result<usize, ReadFault>
     requires { IsTrue (N.model line.old).is_open }
     ensures reads { OnlyReads (is_failed_read result) (N.model line.old) (N.model line.new) }
-    ensures weight { weight (N.model line.new).spent pending.new.items ≤ weight (N.model line.old).spent pending.old.items }
+    ensures weight { weight (N.model line.new).spent pending.new.items
+        ≤ weight (N.model line.old).spent pending.old.items }
     ensures falls { IfOk result (λ count. 0 < count
-        → weight (N.model line.new).spent pending.new.items < weight (N.model line.old).spent pending.old.items) }
+        → weight (N.model line.new).spent pending.new.items
+        < weight (N.model line.old).spent pending.old.items) }
     ensures same { IfOk result (λ count. count ≡ 0 → pending.new.items ≡ pending.old.items) }
     ensures grows { length pending.old.items ≤ length pending.new.items }
-    ensures kept { IsTrue (N.model line.old).observable → pending.new.items ++ (N.model line.new).transcript.rest ≡ pending.old.items ++ (N.model line.old).transcript.rest }
-    ensures at_end { IsTrue (N.model line.old).observable → IfOk result (λ count. count ≡ 0 → (N.model line.new).transcript.rest ≡ []) }
+    ensures kept { IsTrue (N.model line.old).observable
+        → pending.new.items ++ (N.model line.new).transcript.rest
+        ≡ pending.old.items ++ (N.model line.old).transcript.rest }
+    ensures at_end { IsTrue (N.model line.old).observable
+        → IfOk result (λ count. count ≡ 0 → (N.model line.new).transcript.rest ≡ []) }
 {
     let came = pending.len();
     pending.resize(came + READ_SIZE, 0)?;
@@ -51,14 +56,18 @@ pub(crate) fn read_room<N: Line<C>, C: Counted>(
     requires open { IsTrue (N.model line.old).is_open }
     requires room { came < length bytes.old.items }
     ensures reads { OnlyReads (is_failed_read result) (N.model line.old) (N.model line.new) }
-    ensures spends { IfOk result (λ count. 0 < count → Spends (N.model line.old).spent (N.model line.new).spent) }
+    ensures spends { IfOk result (λ count. 0 < count
+        → Spends (N.model line.old).spent (N.model line.new).spent) }
     ensures length { length bytes.new.items ≡ length bytes.old.items }
     ensures within { IfOk result (λ count. came + count ≤ length bytes.old.items) }
     ensures front { take came bytes.new.items ≡ take came bytes.old.items }
     ensures kept { IsTrue (N.model line.old).observable → IfOk result (λ count.
-        take (came + count) bytes.new.items ++ (N.model line.new).transcript.rest ≡ take came bytes.old.items ++ (N.model line.old).transcript.rest) }
-    ensures kept_err { IsTrue (N.model line.old).observable → OnErr result ((N.model line.new).transcript.rest ≡ (N.model line.old).transcript.rest) }
-    ensures at_end { IsTrue (N.model line.old).observable → IfOk result (λ count. count ≡ 0 → (N.model line.new).transcript.rest ≡ []) }
+        take (came + count) bytes.new.items ++ (N.model line.new).transcript.rest
+        ≡ take came bytes.old.items ++ (N.model line.old).transcript.rest) }
+    ensures kept_err { IsTrue (N.model line.old).observable
+        → OnErr result ((N.model line.new).transcript.rest ≡ (N.model line.old).transcript.rest) }
+    ensures at_end { IsTrue (N.model line.old).observable
+        → IfOk result (λ count. count ≡ 0 → (N.model line.new).transcript.rest ≡ []) }
 {
     match line.read(&mut bytes[came..]) {
         Ok(count) => Ok(count),

@@ -22,10 +22,14 @@ pub(crate) fn offer<N: Line<C>, C: Counted>(
     requires open { IsTrue (N.model line.old).is_open }
     requires judged { judge message.now ≡ Ok size }
     ensures writes { OnlyWrites (is_err result) (N.model line.old) (N.model line.new) }
-    ensures sent { IsTrue (N.model line.old).observable → OnOk result (SendsInterim (is_owed message.now ≡ true)
-        (N.model line.old).transcript.begun (C.called store.now) (N.model line.old).transcript.sent (N.model line.new).transcript.sent) }
-    ensures sent_err { IsTrue (N.model line.old).observable → OnErr result (CutsInterim (is_owed message.now ≡ true)
-        (N.model line.old).transcript.begun (C.called store.now) (N.model line.old).transcript.sent (N.model line.new).transcript.sent) }
+    ensures sent { IsTrue (N.model line.old).observable
+        → OnOk result (SendsInterim (is_owed message.now ≡ true)
+        (N.model line.old).transcript.begun (C.called store.now)
+        (N.model line.old).transcript.sent (N.model line.new).transcript.sent) }
+    ensures sent_err { IsTrue (N.model line.old).observable
+        → OnErr result (CutsInterim (is_owed message.now ≡ true)
+        (N.model line.old).transcript.begun (C.called store.now)
+        (N.model line.old).transcript.sent (N.model line.new).transcript.sent) }
 {
     if expects(message) && 0 < size {
         return line.write(store, INTERIM);

@@ -21,7 +21,8 @@ pub fn joined(alloc: Global, separator: u8, pieces: &[Bytes]) -> Result<Bytes, M
 
 /// Adds the pieces, each with the separator before it.
 fn append_others(text: &mut Bytes, separator: u8, others: &[Bytes]) -> Result<(), Memory>
-    ensures { OnOk result (text.new ≡ text.old ++ flat_map (λ piece. separator ∷ piece) others.now) }
+    ensures { OnOk result
+        (text.new ≡ text.old ++ flat_map (λ piece. separator ∷ piece) others.now) }
 {
     for piece in others {
         text.push(separator)?;

@@ -147,7 +147,8 @@ pub(crate) fn message_at(
     spans: &RequestSpans,
 ) -> Result<Message, Memory>
     requires { IsRequestWithin bytes.now headers.now spans.now }
-    ensures { IfOk result (λ message. (h : RequestHead) → IsRequestAt bytes.now headers.now spans.now h → message ≡ message_of h) }
+    ensures { IfOk result (λ message. (h : RequestHead)
+        → IsRequestAt bytes.now headers.now spans.now h → message ≡ message_of h) }
 {
     Ok(Message {
         method: text_at(alloc, bytes, spans.method)?,

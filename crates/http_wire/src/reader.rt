@@ -75,22 +75,28 @@ impl Reader {
 
         // A loop over requests ends.
         ensures falls { OnRequest result
-            (weight (N.model line.new).spent self.new.bytes < weight (N.model line.old).spent self.old.bytes) }
+            (weight (N.model line.new).spent self.new.bytes
+            < weight (N.model line.old).spent self.old.bytes) }
 
         // After any answer but a request it has ended, and then it gives End and touches nothing.
         ensures ends { self.new.ended ≡ ends result }
-        ensures ended { self.old.ended ≡ true → (result ≡ Ok Got.End) × (line.new ≡ line.old) × (self.new ≡ self.old) }
+        ensures ended { self.old.ended ≡ true → (result ≡ Ok Got.End)
+            × (line.new ≡ line.old) × (self.new ≡ self.old) }
 
         // Where the line is observable: the answer is the front of all that is left, read or not.
-        ensures effect { IsTrue (N.model line.old).observable → IfOk result (λ got. GivesFirstMessage
-            self.old (self.old.bytes ++ (N.model line.old).transcript.rest) got self.new (self.new.bytes ++ (N.model line.new).transcript.rest)) }
+        ensures effect { IsTrue (N.model line.old).observable
+            → IfOk result (λ got. GivesFirstMessage
+            self.old (self.old.bytes ++ (N.model line.old).transcript.rest) got
+            self.new (self.new.bytes ++ (N.model line.new).transcript.rest)) }
         ensures effect_err { IsTrue (N.model line.old).observable → OnErr result
-            (self.new.bytes ++ (N.model line.new).transcript.rest ≡ self.old.bytes ++ (N.model line.old).transcript.rest) }
+            (self.new.bytes ++ (N.model line.new).transcript.rest
+            ≡ self.old.bytes ++ (N.model line.old).transcript.rest) }
         ensures place_err { OnErr result (self.new.place ≡ self.old.place) }
 
         // And the interim line was sent where it is owed, and nothing else.
         ensures sent { self.old.ended ≡ false → IsTrue (N.model line.old).observable
-            → SendsOn (OwesInterim (self.old.bytes ++ (N.model line.old).transcript.rest)) (C.called store.now) (N.model line.old).transcript result (N.model line.new).transcript }
+            → SendsOn (OwesInterim (self.old.bytes ++ (N.model line.old).transcript.rest))
+            (C.called store.now) (N.model line.old).transcript result (N.model line.new).transcript }
     {
         if self.over {
             return Ok(Got::End);

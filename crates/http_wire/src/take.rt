@@ -1,10 +1,11 @@
 //! A whole head with its body.
-ghost use Rattle.std.specs.Prelude.{true, false, ◌≡◌, ◌≤◌, ◌<◌, ◌+◌, ◌++◌, [], length, take, drop, IsTrue, IfOk, OnErr};
+ghost use Rattle.std.specs.Prelude.{true, false, ◌≡◌, ◌≤◌, ◌<◌, ◌+◌, ◌++◌, [], length, take, drop, IsTrue, IfOk, Ok, OnErr};
 ghost use Rattle.gate_base.specs.Line.{LineServes, OnlyReads};
 ghost use Rattle.httparse.specs.Grammar.{RequestHead};
 ghost use Rattle.httparse.specs.Spans.{IsRequestAt, IsRequestWithin};
-ghost use Rattle.http_wire.specs.FirstMessage.{is_head, message_of};
+ghost use Rattle.http_wire.specs.FirstMessage.{is_head, judge, message_of};
 ghost use Rattle.http_wire.specs.Interim.{is_owed, SendsOn};
+ghost use Rattle.http_wire.specs.declared.take.Taken.TheVariants.{Not};
 ghost use Rattle.http_wire.specs.Seen.{window};
 ghost use Rattle.http_wire.specs.Taken.{BodyFrom, OnWhole, TakenFrom};
 ghost use Rattle.http_wire.specs.Reading.{is_failed_read};
@@ -61,25 +62,53 @@ pub(crate) fn take_message<N: Line<C>, C: Counted>(
     let mut message = message_at(alloc, window(pending), lines, spans)?;
     let size = match judge(&message) {
         Ok(size) => size,
-        Err(kind) => {
-            return Ok(Taken::Not {
-                kind,
-                head: is_head(&message),
-            });
-        }
+        Err(kind) => return Ok(not_taken(kind, &message)),
     };
-    offer(&message, size, line, store)?;
-    if !take_body(pending, partial, spans.len, size, line, store)? {
-        return Ok(Taken::Not {
-            kind: Kind::ShortBody,
-            head: is_head(&message),
-        });
+    if !take_offered(pending, partial, &message, spans.len, size, line, store)? {
+        return Ok(not_taken(Kind::ShortBody, &message));
     }
     message.body = Bytes::from_vec(replace(partial, Vec::new(alloc)));
     Ok(Taken::Whole {
         message,
         size: spans.len + size,
     })
+}
+
+/// The request of this head is refused.
+fn not_taken(kind: Kind, message: &Message) -> Taken
+    ensures { result ≡ Not kind (is_head message.now.method) }
+{
+    Taken::Not {
+        kind,
+        head: is_head(message),
+    }
+}
+
+/// Writes the interim line, where the head asks for it, and then moves the body into `body`, as [`take_body`] does.
+fn take_offered<N: Line<C>, C: Counted>(
+    pending: &mut Vec<u8>,
+    body: &mut Vec<u8>,
+    message: &Message,
+    start: usize,
+    size: usize,
+    line: &mut N,
+    store: &C,
+) -> Result<bool, ReadFault>
+    requires open { IsTrue (N.model line.old).is_open }
+    requires judged { judge message.now ≡ Ok size }
+    requires within { start ≤ length pending.old.items }
+    requires none { body.old.items ≡ [] }
+    ensures line { LineServes (is_failed_read result) (N.model line.old) (N.model line.new) }
+    ensures sent { IsTrue (N.model line.old).observable
+        → SendsOn (is_owed message.now ≡ true) (C.called store.now) (N.model line.old).transcript result (N.model line.new).transcript }
+    ensures fewer { IfOk result (λ whole. IsTrue whole → length pending.new.items + start ≤ length pending.old.items) }
+    ensures effect { IsTrue (N.model line.old).observable → IfOk result (λ whole.
+        BodyFrom (pending.old.items ++ (N.model line.old).transcript.rest) start size whole body.new.items pending.new.items (N.model line.new).transcript.rest) }
+    ensures effect_err { IsTrue (N.model line.old).observable → OnErr result
+        ((pending.new.items ++ body.new.items) ++ (N.model line.new).transcript.rest ≡ pending.old.items ++ (N.model line.old).transcript.rest) }
+{
+    offer(message, size, line, store)?;
+    take_body(pending, body, start, size, line, store)
 }
 
 fn is_head(message: &Message) -> bool

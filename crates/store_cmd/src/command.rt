@@ -1,16 +1,20 @@
 //! A whole run.
-ghost use Rattle.std.specs.Prelude.{◌≡◌, IfOk, None};
+ghost use Rattle.std.specs.Prelude.{◌≡◌, Bool, IsTrue, IfOk, None, Some};
+ghost use Rattle.http_service.specs.Running.{LineServesAll};
 ghost use Rattle.swift_requests.specs.Place.{IsPlace};
+ghost use Rattle.store_cmd.specs.Connection.{RunTrace};
 ghost use Rattle.store_cmd.specs.Report.{Reports, code_of, line_of};
-ghost use Rattle.store_cmd.specs.Run.{Performs, Runs, place_by};
+ghost use Rattle.store_cmd.specs.Run.{Performs, Runs, place_by, run_cursor};
 ghost use Rattle.store_cmd.specs.Words.{asked_of};
 ghost use Rattle.store_cmd.specs.declared.status.Status.{Status as how};
 
+use crate::lent_store::LentStore;
 use crate::refusals::Refusals;
-use crate::session::serve_all;
+use crate::setup::Setup;
 use crate::status::Status;
 use crate::words::{Asked, WordsFault, read_words};
 use gate_base::{Bytes, Line, Memory, NoCount, Sink};
+use http_service::{Stopped, serve_all};
 use std::alloc::Global;
 use swift_requests::Place;
 use swift_store::Shelf;
@@ -79,13 +83,49 @@ fn perform<N: Line<NoCount>, S: Shelf>(
         (S.model shelf.old) (S.model shelf.new) }
 {
     let most = asked.connections;
-    let Ok(place) = place_of(alloc, asked) else {
+    let Ok(setup) = setup_of(alloc, asked) else {
         return Status::Memory;
     };
-    let Ok(refusals) = Refusals::new(alloc) else {
-        return Status::Memory;
-    };
-    serve_all(alloc, &place, &refusals, most, shelf, line)
+    match serve_from(alloc, most, &setup, shelf, line) {
+        Stopped::Done => Status::Done,
+        Stopped::Line => Status::Line,
+    }
+}
+
+/// Serves as many connections as `most` says, or until there is none, from the shelf.
+fn serve_from<N: Line<NoCount>, S: Shelf>(
+    alloc: Global,
+    most: u64,
+    setup: &Setup,
+    shelf: &mut S,
+    line: &mut N,
+) -> Stopped
+    ensures line { LineServesAll (Some most) result (N.model line.old) (N.model line.new) }
+    ensures serves { (told : Bool) → (IsTrue told → IsTrue (S.model shelf.old).observable) → IsTrue (N.model line.old).observable
+        → RunTrace told setup.now.place (run_cursor (N.model line.old) (S.model shelf.old)) (run_cursor (N.model line.new) (S.model shelf.new)) }
+{
+    let none = NoCount;
+    serve_all(
+        alloc,
+        Some(most),
+        &mut LentStore {
+            alloc,
+            setup,
+            shelf,
+            none,
+        },
+        line,
+    )
+}
+
+/// What the store needs beside its shelf.
+fn setup_of(alloc: Global, asked: Asked) -> Result<Setup, Memory>
+    requires { IsPlace (place_by asked) }
+    ensures { IfOk result (λ setup. setup.place ≡ place_by asked) }
+{
+    let refusals = Refusals::new(alloc)?;
+    let place = place_of(alloc, asked)?;
+    Ok(Setup { place, refusals })
 }
 
 /// The place of the store.

@@ -2,16 +2,13 @@
 #![tactic(auto)]
 
 mod command;
-mod ended;
 mod laws;
+mod lent_store;
 mod refusals;
-mod serve;
-mod session;
+mod service;
+mod setup;
 mod status;
 mod words;
 
 pub use command::run_store;
-pub use ended::Ended;
 pub use laws::{law_failed_is_counted, law_no_more_than_faults};
-pub use refusals::Refusals;
-pub use serve::serve_connection;

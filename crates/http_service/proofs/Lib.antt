@@ -1,0 +1,6 @@
+pub mod Counting
+pub mod Faulty
+pub mod Looping
+pub mod Runs
+pub mod Stepping
+pub mod lemmas

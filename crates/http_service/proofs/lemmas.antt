@@ -1,0 +1,2 @@
+pub mod NoneFaulty
+pub mod Within
