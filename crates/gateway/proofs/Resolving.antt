@@ -1,8 +1,8 @@
 -- A message as it is resolved.
-use Rattle.std.proofs.Common.{◌≡◌, ◌≢◌, ℕ, Bool, true, false, cond, List, [], Option, None, Some, Result, Ok, Err, IfErr, codes, refl, sym, ap}
+use Rattle.std.proofs.Common.{◌≡◌, ◌≢◌, ℕ, Bool, true, false, cond, List, [], Option, None, Some, Result, Ok, Err, IfErr, codes, refl, sym, ap, subst}
 use Rattle.gate_base.specs.declared.caller.Caller.{Caller}
 use Rattle.gate_base.specs.declared.caller.Caller.TheVariants.{Owner, Anonymous}
-use Rattle.s3_machine.specs.declared.code.Code.TheVariants.{AccessDenied, AuthorizationHeaderMalformed, InvalidAccessKeyId, InvalidRequest, InvalidURI, NotImplemented, RequestTimeTooSkewed, SignatureDoesNotMatch, XAmzContentSHA256Mismatch}
+use Rattle.s3_machine.specs.declared.code.Code.TheVariants.{AccessDenied, AuthorizationHeaderMalformed, AuthorizationQueryParametersError, InvalidAccessKeyId, InvalidRequest, InvalidURI, NotImplemented, RequestTimeTooSkewed, SignatureDoesNotMatch, XAmzContentSHA256Mismatch}
 use Rattle.s3_machine.specs.declared.operation.Settings.{Settings}
 use Rattle.s3_names.specs.declared.fault.NameFault.{NameFault}
 use Rattle.s3_names.specs.declared.target.Target.{Target}
@@ -15,6 +15,12 @@ use Rattle.sigv4.specs.declared.keys.AccessKey.{AccessKey}
 use Rattle.sigv4.specs.declared.refusal.Refusal.{Refusal}
 use Rattle.sigv4.specs.declared.refusal.Refusal.TheVariants as signature
 use Rattle.sigv4.specs.Verdict.{has_wrong_scope, leaves_unsigned, lacks_date, time_of, is_streaming, lacks_payload_hash, signature_differs, expected, payload_differs, claim_of, judged_with, judged, caller_or_refusal, Gives}
+use Rattle.presign.specs.declared.claim.Claim.{Claim}
+use Rattle.presign.specs.declared.refusal.QueryRefusal.{QueryRefusal}
+use Rattle.presign.specs.declared.refusal.QueryRefusal.TheVariants as url
+use Rattle.presign.specs.Claim.{claim_of as query_claim_of}
+use Rattle.presign.specs.Parameters.{is_presigned}
+use Rattle.presign.specs.Verdict as presigned
 use Rattle.sigv4.specs.Keys.{secret_of}
 use Rattle.sigv4.specs.Moment.{is_skewed}
 use Rattle.gateway.specs.declared.ended.Ended.TheVariants as ended
@@ -22,7 +28,7 @@ use Rattle.gateway.specs.declared.resolved.ResolvedRequest.{ResolvedRequest}
 use Rattle.s3_requests.specs.declared.meant.Meant.{Meant}
 use Rattle.s3_requests.specs.declared.meant.Meant.TheVariants.{Refused, Memory}
 use Rattle.gateway.specs.declared.service.Service.{Service}
-use Rattle.gateway.specs.Request.{raw_path, end_after, refused_by, admitted, caller_or_anonymous, caller_of, Verdict, by_header, verdict_at, Verifies, resolve_target, request_of, refused_request, code_of}
+use Rattle.gateway.specs.Request.{raw_path, end_after, refused_by, refused_by_query, admitted, asked_target, caller_or_anonymous, caller_of, Verdict, by_header, by_query, verdict_at, Verifies, resolve_target, request_of, refused_request, code_of}
 use Rattle.gateway.specs.ResolvedRequest.{Is}
 use Rattle.s3_requests.specs.Proper.{IsProperCode, IsProperMeant}
 use Rattle.s3_requests.proofs.lemmas.Proper.{is_store_fault, proper_code, meaning_known, meaning_proper}
@@ -97,6 +103,13 @@ refused_caller means due verifies known = sym (ap caller_or_anonymous (verifies 
 pub refused_verifies : (refusal : Refusal) (due : Result Caller Refusal) → Gives (Err refusal) due → Verifies (by_header due) (Err (refused_by refusal))
 refused_verifies refusal due gives = λ known. ap by_header (gives_refusal refusal due gives known)
 
+-- what verifying one way gives, where that is the way
+pub verified_first : (p : Bool) (first second given : Verdict) → p ≡ true → Verifies first given → Verifies (cond p first second) given
+verified_first p first second given e verifies = subst (λ q. Verifies (cond q first second) given) (sym e) verifies
+
+pub verified_second : (p : Bool) (first second given : Verdict) → p ≡ false → Verifies second given → Verifies (cond p first second) given
+verified_second p first second given e verifies = subst (λ q. Verifies (cond q first second) given) (sym e) verifies
+
 pub refused_proper : (refusal : Refusal) → IsProperMeant (refused_by refusal)
 refused_proper signature.HeaderMalformed = proper_code AuthorizationHeaderMalformed refl
 refused_proper signature.UnknownKey = proper_code InvalidAccessKeyId refl
@@ -110,6 +123,64 @@ refused_proper (signature.SignatureDiffers hash) = proper_code SignatureDoesNotM
 refused_proper signature.PayloadDiffers = proper_code XAmzContentSHA256Mismatch refl
 refused_proper signature.Memory = tt
 
+-- ---- signatures in the query
+
+query_known_if : (b : Bool) (refusal : QueryRefusal) (rest : Result Caller QueryRefusal) → refusal ≢ url.Memory → rest ≢ Err url.Memory → cond b (Err refusal) rest ≢ Err url.Memory
+query_known_if true refusal rest one others = λ e. one (let same : refusal ≡ url.Memory = cc in same)
+query_known_if false refusal rest one others = others
+
+query_secret_known : (secret : Option (List ℕ)) (region : List ℕ) (message : Message) (target : Target) (moment : ℕ) (claim : Claim)
+    → presigned.judged_with secret region message target moment claim ≢ Err url.Memory
+query_secret_known None region message target moment claim = λ e. cc
+query_secret_known (Some secret) region message target moment claim =
+    query_known_if (has_wrong_scope region claim.by) url.WrongScope _ (λ e. cc)
+    (query_known_if (presigned.leaves_unsigned claim.by.names message.headers) url.UnsignedHeader _ (λ e. cc)
+    (query_known_if (is_streaming message.headers) url.Streaming _ (λ e. cc)
+    (query_known_if (presigned.is_out_of_time claim moment) url.OutOfTime _ (λ e. cc)
+    (query_known_if (signature_differs claim.by (presigned.expected secret region message target claim)) (url.SignatureDiffers (presigned.expected secret region message target claim).canonical_hash) (Ok Owner) (λ e. cc) (λ e. cc)))))
+
+query_judged_known : (keys : List AccessKey) (region : List ℕ) (message : Message) (target : Target) (moment : ℕ) (claim : Option Claim)
+    → presigned.judged keys region message target moment claim ≢ Err url.Memory
+query_judged_known keys region message target moment None = λ e. cc
+query_judged_known keys region message target moment (Some claim) = query_secret_known (secret_of claim.by.id keys) region message target moment claim
+
+owner_or_refusal_known : (keys : List AccessKey) (region : List ℕ) (message : Message) (target : Target) (moment : ℕ) → presigned.owner_or_refusal keys region message target moment ≢ Err url.Memory
+unfolding presigned.owner_or_refusal
+owner_or_refusal_known keys region message target moment = query_judged_known keys region message target moment (query_claim_of message.headers target.query)
+
+query_refusal_known : (refusal : QueryRefusal) → refusal ≢ url.Memory → refused_by_query refusal ≢ Memory
+query_refusal_known url.QueryMalformed other = λ e. cc
+query_refusal_known url.UnknownKey other = λ e. cc
+query_refusal_known url.WrongScope other = λ e. cc
+query_refusal_known url.UnsignedHeader other = λ e. cc
+query_refusal_known url.Streaming other = λ e. cc
+query_refusal_known url.OutOfTime other = λ e. cc
+query_refusal_known (url.SignatureDiffers hash) other = λ e. cc
+query_refusal_known url.Memory other = absurd (other refl)
+
+query_gives : (refusal : QueryRefusal) (due : Result Caller QueryRefusal) → presigned.Gives (Err refusal) due → refused_by_query refusal ≢ Memory → due ≡ Err refusal
+query_gives url.QueryMalformed due gives known = gives
+query_gives url.UnknownKey due gives known = gives
+query_gives url.WrongScope due gives known = gives
+query_gives url.UnsignedHeader due gives known = gives
+query_gives url.Streaming due gives known = gives
+query_gives url.OutOfTime due gives known = gives
+query_gives (url.SignatureDiffers hash) due gives known = gives
+query_gives url.Memory due gives known = absurd (known refl)
+
+pub query_verifies : (refusal : QueryRefusal) (due : Result Caller QueryRefusal) → presigned.Gives (Err refusal) due → Verifies (by_query due) (Err (refused_by_query refusal))
+query_verifies refusal due gives = λ known. ap by_query (query_gives refusal due gives known)
+
+pub query_proper : (refusal : QueryRefusal) → IsProperMeant (refused_by_query refusal)
+query_proper url.QueryMalformed = proper_code AuthorizationQueryParametersError refl
+query_proper url.UnknownKey = proper_code InvalidAccessKeyId refl
+query_proper url.WrongScope = proper_code AuthorizationQueryParametersError refl
+query_proper url.UnsignedHeader = proper_code AccessDenied refl
+query_proper url.Streaming = proper_code NotImplemented refl
+query_proper url.OutOfTime = proper_code AccessDenied refl
+query_proper (url.SignatureDiffers hash) = proper_code SignatureDoesNotMatch refl
+query_proper url.Memory = tt
+
 -- ---- messages
 
 -- a refusal is no lack of memory
@@ -117,19 +188,42 @@ header_known : (due : Result Caller Refusal) → due ≢ Err signature.Memory �
 header_known (Ok caller) known = λ e. cc
 header_known (Err refusal) known = λ e. refusal_known refusal (λ is. known (ap Err is)) (let same : refused_by refusal ≡ Memory = cc in same)
 
+query_is_known : (due : Result Caller QueryRefusal) → due ≢ Err url.Memory → by_query due ≢ Err Memory
+query_is_known (Ok caller) known = λ e. cc
+query_is_known (Err refusal) known = λ e. query_refusal_known refusal (λ is. known (ap Err is)) (let same : refused_by_query refusal ≡ Memory = cc in same)
+
+-- either way of verifying
+either : (P : Verdict → Type 0) (b : Bool) (in_query in_header : Verdict) → P in_query → P in_header → P (cond b in_query in_header)
+either P true in_query in_header p q = p
+either P false in_query in_header p q = q
+
 verdict_known : (service : Service) (moment : ℕ) (message : Message) (target : Target) → verdict_at service moment message target ≢ Err Memory
 verdict_known service moment message target =
-    header_known (caller_or_refusal service.keys service.settings.region message target moment) (caller_or_refusal_known service.keys service.settings.region message target moment)
+    let in_query = presigned.owner_or_refusal service.keys service.settings.region message target moment in
+    let in_header = caller_or_refusal service.keys service.settings.region message target moment in
+    either (λ verdict. verdict ≢ Err Memory)
+    (is_presigned target.query)
+    (by_query in_query)
+    (by_header in_header)
+    (query_is_known in_query (owner_or_refusal_known service.keys service.settings.region message target moment))
+    (header_known in_header (caller_or_refusal_known service.keys service.settings.region message target moment))
 
 header_proper : (due : Result Caller Refusal) → IfErr (by_header due) IsProperMeant
 header_proper (Ok caller) = tt
 header_proper (Err refusal) = refused_proper refusal
 
+query_is_proper : (due : Result Caller QueryRefusal) → IfErr (by_query due) IsProperMeant
+query_is_proper (Ok caller) = tt
+query_is_proper (Err refusal) = query_proper refusal
+
 verdict_proper : (service : Service) (moment : ℕ) (message : Message) (target : Target) → IfErr (verdict_at service moment message target) IsProperMeant
-verdict_proper service moment message target = header_proper (caller_or_refusal service.keys service.settings.region message target moment)
+verdict_proper service moment message target =
+    let in_query = presigned.owner_or_refusal service.keys service.settings.region message target moment in
+    let in_header = caller_or_refusal service.keys service.settings.region message target moment in
+    either (λ verdict. IfErr verdict IsProperMeant) (is_presigned target.query) (by_query in_query) (by_header in_header) (query_is_proper in_query) (header_proper in_header)
 
 admitted_known : (settings : Settings) (message : Message) (target : Target) (verdict : Verdict) → verdict ≢ Err Memory → admitted settings message target verdict ≢ Memory
-admitted_known settings message target (Ok caller) known = meaning_known settings message target caller
+admitted_known settings message target (Ok caller) known = meaning_known settings message (asked_target target) caller
 admitted_known settings message target (Err means) known = λ e. known (ap Err e)
 
 resolve_target_known : (service : Service) (moment : ℕ) (message : Message) (read : Result Target NameFault) → resolve_target service moment message read ≢ Memory
@@ -137,7 +231,7 @@ resolve_target_known service moment message (Ok target) = admitted_known service
 resolve_target_known service moment message (Err fault) = λ e. cc
 
 admitted_proper : (settings : Settings) (message : Message) (target : Target) (verdict : Verdict) → IfErr verdict IsProperMeant → IsProperMeant (admitted settings message target verdict)
-admitted_proper settings message target (Ok caller) proper = meaning_proper settings message target caller
+admitted_proper settings message target (Ok caller) proper = meaning_proper settings message (asked_target target) caller
 admitted_proper settings message target (Err means) proper = proper
 
 resolve_target_proper : (service : Service) (moment : ℕ) (message : Message) (read : Result Target NameFault) → IsProperMeant (resolve_target service moment message read)

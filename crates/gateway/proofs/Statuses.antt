@@ -1,7 +1,7 @@
 -- The statuses of the pages of replies.
 use Rattle.std.proofs.Common.{ℕ, Bool, true, false, List, refl}
 use Rattle.s3_machine.specs.declared.code.Code.{Code}
-use Rattle.s3_machine.specs.declared.code.Code.TheVariants.{AccessDenied, AuthorizationHeaderMalformed, BadDigest, BucketAlreadyOwnedByYou, BucketNotEmpty, EntityTooLarge, EntityTooSmall, IncompleteBody, InconsistentStore, InvalidAccessKeyId, InvalidArgument, InvalidBucketName, InvalidDigest, InvalidPart, InvalidPartOrder, InvalidRange, InvalidRequest, InvalidStorageClass, InvalidURI, KeyTooLongError, MalformedXML, MetadataTooLarge, MethodNotAllowed, MissingContentLength, NoSuchBucket, NoSuchKey, NoSuchUpload, NotImplemented, PreconditionFailed, RequestTimeTooSkewed, ServiceUnavailable, SignatureDoesNotMatch, XAmzContentSHA256Mismatch}
+use Rattle.s3_machine.specs.declared.code.Code.TheVariants.{AccessDenied, AuthorizationHeaderMalformed, AuthorizationQueryParametersError, BadDigest, BucketAlreadyOwnedByYou, BucketNotEmpty, EntityTooLarge, EntityTooSmall, IncompleteBody, InconsistentStore, InvalidAccessKeyId, InvalidArgument, InvalidBucketName, InvalidDigest, InvalidPart, InvalidPartOrder, InvalidRange, InvalidRequest, InvalidStorageClass, InvalidURI, KeyTooLongError, MalformedXML, MetadataTooLarge, MethodNotAllowed, MissingContentLength, NoSuchBucket, NoSuchKey, NoSuchUpload, NotImplemented, PreconditionFailed, RequestTimeTooSkewed, ServiceUnavailable, SignatureDoesNotMatch, XAmzContentSHA256Mismatch}
 use Rattle.s3_machine.specs.declared.operation.Label.{Label}
 use Rattle.s3_machine.specs.declared.operation.Reply.{Reply}
 use Rattle.s3_machine.specs.declared.operation.Reply.TheVariants.{Refused, Memory, Done, Gone, NotModified, Buckets, Made, Location, AclOf, Objects}
@@ -13,6 +13,7 @@ use Rattle.s3_pages.specs.Codes.{status_of}
 code_status : (code : Code) → IsReplyStatus (status_of code)
 code_status AccessDenied = refl
 code_status AuthorizationHeaderMalformed = refl
+code_status AuthorizationQueryParametersError = refl
 code_status BadDigest = refl
 code_status BucketAlreadyOwnedByYou = refl
 code_status BucketNotEmpty = refl

@@ -17,11 +17,10 @@ use Rattle.upload_records.specs.Native.{IsSettled}
 use Rattle.upload_records.specs.Consistent.{IsConsistent}
 use Rattle.recovery.specs.declared.state.Known.{Known}
 use Rattle.recovery.specs.declared.state.Known.TheVariants as known
-use Rattle.recovery.specs.Answers.{Answers, SaysBeside, beside_of, most_calls, most_settling, steps_of}
+use Rattle.recovery.specs.Answers.{Answers, SaysBeside, beside_of, most_calls, most_settling, steps_of, may_leave_unsure}
 use Rattle.recovery.specs.Calls.{GoesOn, Met, amount}
 use Rattle.recovery.specs.Settling.{IsKnown}
 use Rattle.recovery.specs.Stutters.{Stutters, LastFailed}
-use Rattle.planner.specs.Plan.{may_leave_unsure}
 use Rattle.http_wire.specs.FirstMessage.{is_head}
 use Rattle.http_wire.specs.Print.{memory_reply}
 use Rattle.gateway.specs.declared.ended.Ended.{Ended}
@@ -110,7 +109,7 @@ IsFault reply = (reply ≡ Refused ServiceUnavailable) ⊎ ((reply ≡ Refused I
 -- where the operation leaves it so
 pub record IsCaused (old new : StoreCursor) (op : Op) (reply : Reply) : Type 0 where
   pub unavailable : reply ≡ Refused ServiceUnavailable → Rose old.faults new.faults
-  pub unsure : new.known ≡ known.Unsure → ((old.known ≡ known.Unsure) × IsFault reply) ⊎ (may_leave_unsure op ≡ true)
+  pub unsure : new.known ≡ known.Unsure → ((old.known ≡ known.Unsure) × IsFault reply) ⊎ (may_leave_unsure op reply ≡ true)
 
 -- what is said of the reply to an operation, over an observable store: the store could not be settled; or it was, and the
 -- operation is answered, with no more calls than it may make

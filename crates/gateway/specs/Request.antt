@@ -1,10 +1,11 @@
 -- A request as it is answered, whether it was read as a message or refused before. Source: this profile.
-use Rattle.std.specs.Prelude.{◌≡◌, ◌≢◌, ℕ, Bool, cond, is_some, ◌==◌, List, [], Option, None, Some, Result, Ok, Err, codes}
+use Rattle.std.specs.Prelude.{◌≡◌, ◌≢◌, ℕ, Bool, cond, if◌then◌else◌, is_some, ◌==◌, List, [], Option, None, Some, Result, Ok, Err, codes}
 use Rattle.std.specs.List.{before_first}
 use Rattle.gate_base.specs.declared.caller.Caller.{Caller}
 use Rattle.gate_base.specs.declared.caller.Caller.TheVariants.{Anonymous}
 use Rattle.s3_machine.specs.declared.code.Code.{Code}
-use Rattle.s3_machine.specs.declared.code.Code.TheVariants.{AccessDenied, AuthorizationHeaderMalformed, EntityTooLarge, IncompleteBody}
+use Rattle.s3_machine.specs.declared.code.Code.TheVariants.{AccessDenied, AuthorizationHeaderMalformed, AuthorizationQueryParametersError}
+use Rattle.s3_machine.specs.declared.code.Code.TheVariants.{EntityTooLarge, IncompleteBody}
 use Rattle.s3_machine.specs.declared.code.Code.TheVariants.{InvalidAccessKeyId, InvalidRequest, InvalidURI, MissingContentLength, NotImplemented}
 use Rattle.s3_machine.specs.declared.code.Code.TheVariants.{RequestTimeTooSkewed, SignatureDoesNotMatch, XAmzContentSHA256Mismatch}
 use Rattle.s3_machine.specs.declared.operation.Label.{Label}
@@ -23,6 +24,10 @@ use Rattle.sigv4.specs.declared.refusal.Refusal.{Refusal}
 use Rattle.sigv4.specs.declared.refusal.Refusal.TheVariants.{HeaderMalformed, UnknownKey, WrongScope, UnsignedHeader, NoDate, Skewed, Streaming}
 use Rattle.sigv4.specs.declared.refusal.Refusal.TheVariants.{NoPayloadHash, SignatureDiffers, PayloadDiffers, Memory}
 use Rattle.sigv4.specs.Verdict.{caller_or_refusal}
+use Rattle.presign.specs.Parameters.{is_presigned, without_signature}
+use Rattle.presign.specs.Verdict.{owner_or_refusal}
+use Rattle.presign.specs.declared.refusal.QueryRefusal.{QueryRefusal}
+use Rattle.presign.specs.declared.refusal.QueryRefusal.TheVariants as url
 use Rattle.gateway.specs.declared.ended.Ended.{Ended}
 use Rattle.gateway.specs.declared.ended.Ended.TheVariants.{Closed, Refused}
 use Rattle.s3_requests.specs.declared.meant.Meant.{Meant}
@@ -63,6 +68,17 @@ refused_by (SignatureDiffers hash) = meant.Refused SignatureDoesNotMatch
 refused_by PayloadDiffers = meant.Refused XAmzContentSHA256Mismatch
 refused_by Memory = meant.Memory
 
+-- what a presigned request is answered whose signature is refused
+abbrev pub refused_by_query : QueryRefusal → Meant
+refused_by_query url.QueryMalformed = meant.Refused AuthorizationQueryParametersError
+refused_by_query url.UnknownKey = meant.Refused InvalidAccessKeyId
+refused_by_query url.WrongScope = meant.Refused AuthorizationQueryParametersError
+refused_by_query url.UnsignedHeader = meant.Refused AccessDenied
+refused_by_query url.Streaming = meant.Refused NotImplemented
+refused_by_query url.OutOfTime = meant.Refused AccessDenied
+refused_by_query (url.SignatureDiffers hash) = meant.Refused SignatureDoesNotMatch
+refused_by_query url.Memory = meant.Memory
+
 -- what the verification of a request comes to: who sent it, or what it is answered
 abbrev pub Verdict : Type 0
 Verdict = Result Caller Meant
@@ -71,10 +87,20 @@ abbrev pub by_header : Result Caller Refusal → Verdict
 by_header (Ok caller) = Ok caller
 by_header (Err refusal) = Err (refused_by refusal)
 
--- who sent a request at a moment: the owner, who signed it by one of the keys, an anonymous caller, or what it is answered where
--- its signature is refused
+abbrev pub by_query : Result Caller QueryRefusal → Verdict
+by_query (Ok caller) = Ok caller
+by_query (Err refusal) = Err (refused_by_query refusal)
+
+-- who sent a request at a moment, by the signature in its query where it is presigned, and else by the one in its header: the
+-- owner, who signed it by one of the keys, an anonymous caller, or what it is answered where its signature is refused
 abbrev pub verdict_at : Service → ℕ → Message → Target → Verdict
-verdict_at service moment message target = by_header (caller_or_refusal service.keys service.settings.region message target moment)
+verdict_at service moment message target =
+    if is_presigned target.query then by_query (owner_or_refusal service.keys service.settings.region message target moment)
+    else by_header (caller_or_refusal service.keys service.settings.region message target moment)
+
+-- the target as it asks for an operation: the names of a signature in the query don't count
+abbrev pub asked_target : Target → Target
+asked_target target = if is_presigned target.query then record target { query = without_signature target.query } else target
 
 -- what verifying gave is what it comes to; where memory ran out it may say nothing
 abbrev pub Verifies : Verdict → Verdict → Type 0
@@ -83,7 +109,7 @@ Verifies due (Err means) = means ≢ meant.Memory → due ≡ Err means
 
 -- what a request means by who sent it
 abbrev pub admitted : Settings → Message → Target → Verdict → Meant
-admitted settings message target (Ok caller) = meaning_of settings message target caller
+admitted settings message target (Ok caller) = meaning_of settings message (asked_target target) caller
 admitted settings message target (Err means) = means
 
 -- who sent a request, an anonymous caller where its signature is refused

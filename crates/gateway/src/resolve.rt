@@ -1,20 +1,24 @@
 //! How a request is resolved: a message that was read, or one that was refused before it was understood.
-ghost use Rattle.std.specs.Prelude.{◌≡◌, ◌≢◌, false, cond, codes, [], Some, position, IfSome, IfErr, ◌<◌, length};
+ghost use Rattle.std.specs.Prelude.{◌≡◌, ◌≢◌, false, cond, codes, [], Some, position, IfSome, IfOk, IfErr, ◌<◌, length, true};
 ghost use Rattle.gate_base.specs.declared.caller.Caller.TheVariants.{Anonymous as anonymous};
 ghost use Rattle.s3_names.specs.Target.{target_of};
-ghost use Rattle.s3_requests.specs.Meaning.{KeepsFront};
+ghost use Rattle.s3_requests.specs.Meaning.{KeepsFront, meaning_of};
+ghost use Rattle.sigv4.specs.Verdict.{caller_or_refusal};
+ghost use Rattle.presign.specs.Parameters.{is_presigned};
+ghost use Rattle.presign.specs.Verdict.{owner_or_refusal};
 ghost use Rattle.gateway.specs.ResolvedRequest.{Is};
 ghost use Rattle.s3_requests.specs.Proper.{IsProperMeant};
-ghost use Rattle.gateway.specs.Request.{raw_path, end_after, resolve_target, admitted, caller_of, caller_or_anonymous, verdict_at, Verifies, refused_by, request_of, refused_request, asks_of, end_of, code_of, is_question_mark};
+ghost use Rattle.gateway.specs.Request.{raw_path, end_after, resolve_target, admitted, asked_target, caller_of, caller_or_anonymous, by_header, by_query, verdict_at, Verifies, refused_by, refused_by_query, request_of, refused_request, asks_of, end_of, code_of, is_question_mark};
 ghost use Rattle.gateway.specs.Serving.{is_failed_step};
 ghost use Rattle.gateway.specs.declared.ended.Ended.TheVariants as ended;
 ghost use Rattle.s3_requests.specs.declared.meant.Meant.TheVariants as variant;
 
 use crate::received::Received;
 use crate::{Ended, ResolvedRequest, Service};
-use gate_base::Caller;
+use gate_base::{Caller, Memory};
 use http_wire::{Kind, Message, closes};
-use s3_machine::Code;
+use presign::{QueryRefusal, is_presigned, verify_query, without_signature};
+use s3_machine::{Code, Settings};
 use s3_names::{NameFault, Target};
 use s3_requests::{Meant, meaning};
 use sigv4::{Refusal, verify};
@@ -95,7 +99,7 @@ fn understand(alloc: Global, service: &Service, message: &mut Message, moment: u
     ensures keeps { KeepsFront message.entry.now message.exit.now }
 {
     match Target::read(alloc, message.target.as_slice()) {
-        Ok(target) => authenticate(alloc, service, message, &target, moment),
+        Ok(target) => authenticate(alloc, service, message, target, moment),
         Err(NameFault::Memory) => unknown(),
         Err(
             NameFault::BadBucket
@@ -113,18 +117,18 @@ fn authenticate(
     alloc: Global,
     service: &Service,
     message: &mut Message,
-    target: &Target,
+    target: Target,
     moment: u64,
 ) -> Understood
     ensures proper { IsProperMeant result.means }
-    ensures means { result.means ≢ variant.Memory → result.means ≡ admitted service.now.settings message.entry.now target.now (verdict_at service.now moment message.entry.now target.now) }
-    ensures caller { result.means ≢ variant.Memory → result.caller ≡ caller_or_anonymous (verdict_at service.now moment message.entry.now target.now) }
+    ensures means { result.means ≢ variant.Memory → result.means ≡ admitted service.now.settings message.entry.now target (verdict_at service.now moment message.entry.now target) }
+    ensures caller { result.means ≢ variant.Memory → result.caller ≡ caller_or_anonymous (verdict_at service.now moment message.entry.now target) }
     ensures keeps { KeepsFront message.entry.now message.exit.now }
 {
-    match verified(alloc, service, message, target, moment) {
+    match verified(alloc, service, message, &target, moment) {
         Ok(caller) => Understood {
             caller,
-            means: meaning(alloc, message, target, &caller, &service.settings),
+            means: admit(alloc, message, target, &caller, &service.settings),
         },
         Err(means) => Understood {
             caller: Caller::Anonymous,
@@ -133,8 +137,37 @@ fn authenticate(
     }
 }
 
-/// Who sent a request, or what it is answered whose signature is refused.
-#[tactic(auto, using(crate::proofs::Resolving::refused_verifies, crate::proofs::Resolving::refused_proper))]
+/// What a request of that caller means. The names of a signature in the query don't count.
+fn admit(
+    alloc: Global,
+    message: &mut Message,
+    target: Target,
+    caller: &Caller,
+    settings: &Settings,
+) -> Meant
+    ensures value { result ≢ variant.Memory → result ≡ meaning_of settings.now message.entry.now (asked_target target) caller.now }
+    ensures proper { IsProperMeant result }
+    ensures keeps { KeepsFront message.entry.now message.exit.now }
+{
+    match asked_target(alloc, target) {
+        Ok(target) => meaning(alloc, message, &target, caller, settings),
+        Err(_) => Meant::Memory,
+    }
+}
+
+fn asked_target(alloc: Global, target: Target) -> Result<Target, Memory>
+    ensures { IfOk result (λ asked. asked ≡ asked_target target) }
+{
+    if !is_presigned(&target) {
+        return Ok(target);
+    }
+    let query = without_signature(alloc, &target.query)?;
+    Ok(Target { query, ..target })
+}
+
+/// Who sent a request, or what it is answered whose signature is refused: that in its query where it is presigned, and else
+/// that in its header.
+#[tactic(auto, using(crate::proofs::Resolving::verified_first, crate::proofs::Resolving::verified_second))]
 fn verified(
     alloc: Global,
     service: &Service,
@@ -143,6 +176,43 @@ fn verified(
     moment: u64,
 ) -> Result<Caller, Meant>
     ensures verdict { Verifies (verdict_at service.now moment message.now target.now) result }
+    ensures proper { IfErr result IsProperMeant }
+{
+    if is_presigned(target) {
+        verified_by_query(alloc, service, message, target, moment)
+    } else {
+        verified_by_header(alloc, service, message, target, moment)
+    }
+}
+
+#[tactic(auto, using(crate::proofs::Resolving::query_verifies, crate::proofs::Resolving::query_proper))]
+fn verified_by_query(
+    alloc: Global,
+    service: &Service,
+    message: &Message,
+    target: &Target,
+    moment: u64,
+) -> Result<Caller, Meant>
+    requires { is_presigned target.now.query ≡ true }
+    ensures verdict { Verifies (by_query (owner_or_refusal service.now.keys service.now.settings.region message.now target.now moment)) result }
+    ensures proper { IfErr result IsProperMeant }
+{
+    let region = service.settings.region.as_slice();
+    match verify_query(alloc, &service.keys, region, message, target, moment) {
+        Ok(caller) => Ok(caller),
+        Err(refusal) => Err(refused_by_query(refusal)),
+    }
+}
+
+#[tactic(auto, using(crate::proofs::Resolving::refused_verifies, crate::proofs::Resolving::refused_proper))]
+fn verified_by_header(
+    alloc: Global,
+    service: &Service,
+    message: &Message,
+    target: &Target,
+    moment: u64,
+) -> Result<Caller, Meant>
+    ensures verdict { Verifies (by_header (caller_or_refusal service.now.keys service.now.settings.region message.now target.now moment)) result }
     ensures proper { IfErr result IsProperMeant }
 {
     let region = service.settings.region.as_slice();
@@ -168,6 +238,24 @@ fn refused_by(refusal: Refusal) -> Meant
         Refusal::SignatureDiffers(_) => Meant::Refused(Code::SignatureDoesNotMatch),
         Refusal::PayloadDiffers => Meant::Refused(Code::XAmzContentSHA256Mismatch),
         Refusal::Memory => Meant::Memory,
+    }
+}
+
+/// What a presigned request is answered whose signature is refused.
+fn refused_by_query(refusal: QueryRefusal) -> Meant
+    ensures { result ≡ refused_by_query refusal }
+{
+    match refusal {
+        QueryRefusal::QueryMalformed | QueryRefusal::WrongScope => {
+            Meant::Refused(Code::AuthorizationQueryParametersError)
+        }
+        QueryRefusal::UnknownKey => Meant::Refused(Code::InvalidAccessKeyId),
+        QueryRefusal::UnsignedHeader | QueryRefusal::OutOfTime => {
+            Meant::Refused(Code::AccessDenied)
+        }
+        QueryRefusal::Streaming => Meant::Refused(Code::NotImplemented),
+        QueryRefusal::SignatureDiffers(_) => Meant::Refused(Code::SignatureDoesNotMatch),
+        QueryRefusal::Memory => Meant::Memory,
     }
 }
 

@@ -5,6 +5,7 @@ use Rattle.s3_machine.specs.declared.code.Code.{Code}
 use Rattle.s3_machine.specs.declared.code.Code.TheVariants.{
   AccessDenied,
   AuthorizationHeaderMalformed,
+  AuthorizationQueryParametersError,
   BadDigest,
   BucketAlreadyOwnedByYou,
   BucketNotEmpty,
@@ -42,6 +43,7 @@ use Rattle.s3_machine.specs.declared.code.Code.TheVariants.{
 abbrev pub name_of : Code → List ℕ
 name_of AccessDenied = codes "AccessDenied"
 name_of AuthorizationHeaderMalformed = codes "AuthorizationHeaderMalformed"
+name_of AuthorizationQueryParametersError = codes "AuthorizationQueryParametersError"
 name_of BadDigest = codes "BadDigest"
 name_of BucketAlreadyOwnedByYou = codes "BucketAlreadyOwnedByYou"
 name_of BucketNotEmpty = codes "BucketNotEmpty"
@@ -78,6 +80,7 @@ name_of XAmzContentSHA256Mismatch = codes "XAmzContentSHA256Mismatch"
 abbrev pub status_of : Code → ℕ
 status_of AccessDenied = 403
 status_of AuthorizationHeaderMalformed = 400
+status_of AuthorizationQueryParametersError = 400
 status_of BadDigest = 400
 status_of BucketAlreadyOwnedByYou = 409
 status_of BucketNotEmpty = 409
@@ -114,6 +117,7 @@ status_of XAmzContentSHA256Mismatch = 400
 abbrev pub message_of : Code → List ℕ
 message_of AccessDenied = codes "Access denied."
 message_of AuthorizationHeaderMalformed = codes "The authorization header is malformed."
+message_of AuthorizationQueryParametersError = codes "The query's signature parameters are malformed."
 message_of BadDigest = codes "The Content-MD5 differs from the body."
 message_of BucketAlreadyOwnedByYou = codes "You own this bucket already."
 message_of BucketNotEmpty = codes "The bucket is not empty."

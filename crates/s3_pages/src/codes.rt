@@ -12,6 +12,7 @@ pub fn status(code: Code) -> u16
     match code {
         Code::AccessDenied => 403,
         Code::AuthorizationHeaderMalformed => 400,
+        Code::AuthorizationQueryParametersError => 400,
         Code::BadDigest => 400,
         Code::BucketAlreadyOwnedByYou => 409,
         Code::BucketNotEmpty => 409,
@@ -53,6 +54,7 @@ pub fn name(code: Code) -> &'static [u8]
     match code {
         Code::AccessDenied => b"AccessDenied",
         Code::AuthorizationHeaderMalformed => b"AuthorizationHeaderMalformed",
+        Code::AuthorizationQueryParametersError => b"AuthorizationQueryParametersError",
         Code::BadDigest => b"BadDigest",
         Code::BucketAlreadyOwnedByYou => b"BucketAlreadyOwnedByYou",
         Code::BucketNotEmpty => b"BucketNotEmpty",
@@ -94,6 +96,9 @@ pub fn message(code: Code) -> &'static [u8]
     match code {
         Code::AccessDenied => b"Access denied.",
         Code::AuthorizationHeaderMalformed => b"The authorization header is malformed.",
+        Code::AuthorizationQueryParametersError => {
+            b"The query's signature parameters are malformed."
+        }
         Code::BadDigest => b"The Content-MD5 differs from the body.",
         Code::BucketAlreadyOwnedByYou => b"You own this bucket already.",
         Code::BucketNotEmpty => b"The bucket is not empty.",

@@ -40,6 +40,7 @@ use Rattle.sigv4.specs.declared.authorization.Authorization.{Authorization}
 abbrev pub is_comma : ℕ → Bool
 is_comma byte = byte == 44
 
+-- `;`
 abbrev pub is_semicolon : ℕ → Bool
 is_semicolon byte = byte == 59
 

@@ -77,8 +77,11 @@ pair_text pair = pair.name ++ 61 ∷ [] ++ pair.value
 abbrev pub canonical_query : List Pair → List ℕ
 canonical_query pairs = join_with_byte 38 (map pair_text (ordered (map escaped_pair pairs)))
 
--- the request as it is signed, with these names signed and this hash of its body
+-- a request of this method, path, query and headers as it is signed, with these names signed and this hash of its body
+unfoldable pub canonical_of : List ℕ → List ℕ → List Pair → List Pair → List (List ℕ) → List ℕ → List ℕ
+canonical_of method path query headers names payload = join_with_byte 10
+    (method ∷ escaped_path path ∷ canonical_query query ∷ canonical_headers headers names ∷ join_with_byte 59 names ∷ payload ∷ [])
+
+-- the same of a message and its target
 unfoldable pub canonical_text : Message → Target → List (List ℕ) → List ℕ → List ℕ
-canonical_text message target names payload = join_with_byte 10
-    (message.method ∷ escaped_path target.path ∷ canonical_query target.query ∷ canonical_headers message.headers names
-    ∷ join_with_byte 59 names ∷ payload ∷ [])
+canonical_text message target names payload = canonical_of message.method target.path target.query message.headers names payload

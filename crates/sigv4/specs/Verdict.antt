@@ -32,6 +32,7 @@ claim_of headers =
 abbrev pub has_wrong_scope : List ℕ → Authorization → Bool
 has_wrong_scope region claim = not (bytes_eq claim.region region && bytes_eq claim.service (codes "s3"))
 
+-- the name is one of those
 abbrev pub is_among : List ℕ → List (List ℕ) → Bool
 is_among name names = list_any (λ other. bytes_eq other name) names
 
@@ -80,6 +81,7 @@ unfoldable pub expected : List ℕ → List ℕ → Message → Target → Autho
 expected secret region message target claim =
     signed_of secret (time_of message.headers) region (canonical_text message target claim.names (hash_of message.headers))
 
+-- the signature is another than that
 abbrev pub signature_differs : Authorization → Signed → Bool
 signature_differs claim due = not (bytes_eq claim.signature (encode_lower due.signature))
 

@@ -71,9 +71,10 @@ fn parts_of(alloc: Global, text: &[u8]) -> Result<Authorization, Memory>
     })
 }
 
-/// The texts between the semicolons.
+/// The signed names of a text that has `;` between each two, as they stand there: the texts between the semicolons, in
+/// whatever form. There is always one, of no byte where the text has none.
 #[tactic(auto, using(crate::proofs::AuthorizationLemmas::names_more, crate::proofs::AuthorizationLemmas::names_end, crate::proofs::AuthorizationLemmas::behind_is_shorter))]
-fn names_of(alloc: Global, text: &[u8]) -> Result<List<Bytes>, Memory>
+pub fn names_of(alloc: Global, text: &[u8]) -> Result<List<Bytes>, Memory>
     ensures { IfOk result (λ names. names ≡ slice_split is_semicolon text.now) }
 {
     let mut names = List::new(alloc);
@@ -125,8 +126,8 @@ fn credential_of(text: &[u8]) -> &[u8]
     behind(credential_section(text), 11)
 }
 
-/// The credential from behind its fourth slash on.
-fn behind_service(credential: &[u8]) -> &[u8]
+/// A credential `ID/DATE/REGION/SERVICE/aws4_request` from behind its fourth slash on, no byte where it has fewer.
+pub fn behind_service(credential: &[u8]) -> &[u8]
     ensures { result.now ≡ behind_service credential.now }
 {
     let (_, behind_id) = cut(credential, b'/');
@@ -161,7 +162,10 @@ fn skip_spaces(text: &[u8]) -> &[u8]
     rest
 }
 
-fn is_formed(parts: &Authorization) -> bool
+/// Whether each part has its form: the id, the date, the region and the service are one or more bytes of visible ASCII but
+/// `/` and `,`; the names are tokens without upper-case letters, one at least, in strictly ascending order; the signature
+/// has 64 lower-case hexadecimal digits.
+pub fn is_formed(parts: &Authorization) -> bool
     ensures { result ≡ is_formed parts.now }
 {
     is_part(parts.id.as_slice())

@@ -55,7 +55,8 @@ impl Index {
     pub(crate) fn add(&mut self, alloc: Global, keys: &[AccessKey], id: &[u8]) -> Result<(), Memory>
         requires finds { Finds self.old.places keys.now }
         requires fresh { list_any (has_id id.now) keys.now ≡ false }
-        ensures { OnOk result ((key : AccessKey) → key.id ≡ id.now → Finds self.new.places (keys.now ++ key ∷ [])) }
+        ensures { OnOk result ((key : AccessKey) → key.id ≡ id.now
+            → Finds self.new.places (keys.now ++ key ∷ [])) }
     {
         let key = Vec::from_slice(alloc, id)?;
         self.places.insert(key, keys.len())?;
@@ -63,7 +64,8 @@ impl Index {
     }
 
     pub(crate) fn copy(&self) -> Result<Index, Memory>
-        ensures { IfOk result (λ index. (keys : List AccessKey) → Finds self.now.places keys → Finds index.places keys) }
+        ensures { IfOk result (λ index. (keys : List AccessKey)
+            → Finds self.now.places keys → Finds index.places keys) }
     {
         Ok(Index {
             places: self.places.clone()?,

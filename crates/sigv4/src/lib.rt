@@ -13,10 +13,15 @@ mod request;
 mod signature;
 mod verdict;
 
+pub use authorization::{Authorization, behind_service, is_formed, names_of};
 pub use hash::hmac;
 pub use keys::{AccessKey, Keys, KeysFault};
 pub use laws::{law_authorization_read, law_query_ordered};
+pub use moment::{is_of_day, is_time, unix_seconds};
 pub use refusal::Refusal;
-pub use request::canonical;
-pub use signature::{Signed, is_date_time, sign};
-pub use verdict::{hash_of, time_of, verify};
+pub use request::{canonical, canonical_query, canonical_with};
+pub use signature::{Signed, date_of, is_date_time, sign};
+pub use verdict::{
+    has_wrong_scope, hash_of, is_among, is_streaming, must_be_signed, signature_differs, time_of,
+    verify,
+};

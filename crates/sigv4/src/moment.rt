@@ -39,7 +39,7 @@ pub fn is_of_day(time: &[u8], day: &[u8]) -> bool
 }
 
 /// The seconds between the beginning of 1970 and a time, no leap second counted.
-fn unix_seconds(time: &[u8]) -> u64
+pub fn unix_seconds(time: &[u8]) -> u64
     requires { is_time time.now ≡ true }
     ensures { result ≡ unix_seconds time.now }
 {

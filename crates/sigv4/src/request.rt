@@ -1,7 +1,7 @@
 ghost use Rattle.std.specs.Prelude.{◌≡◌, ◌==◌, ◌++◌, map, IfOk, OnOk};
 ghost use Rattle.http_wire.specs.Headers.{values_of};
 ghost use Rattle.gate_base.specs.Ascii.{is_blank};
-ghost use Rattle.sigv4.specs.Canonical.{skip_blanks, cut_blanks, begins_with_space, single_spaced, clean, canonical_header, canonical_headers, escaped_pair, pair_cmp, ordered, pair_text, canonical_query, canonical_text};
+ghost use Rattle.sigv4.specs.Canonical.{skip_blanks, cut_blanks, begins_with_space, single_spaced, clean, canonical_header, canonical_headers, escaped_pair, pair_cmp, ordered, pair_text, canonical_query, canonical_of, canonical_text};
 
 use gate_base::{Bytes, Copying, List, Memory, Pair};
 use http_wire::{Message, has_name, joined};
@@ -20,12 +20,29 @@ pub fn canonical(
     names: &[Bytes],
     payload: &[u8],
 ) -> Result<Bytes, Memory>
-    ensures { IfOk result (λ text. text ≡ canonical_text message.now target.now names.now payload.now) }
+    ensures { IfOk result (λ text.
+        text ≡ canonical_text message.now target.now names.now payload.now) }
+{
+    let path = target.path.as_slice();
+    canonical_with(alloc, message, path, target.query.pairs(), names, payload)
+}
+
+/// The same of a message, but for another path and query than those of its target.
+#[tactic(auto, unfolding(crate::specs::Canonical::canonical_of))]
+pub fn canonical_with(
+    alloc: Global,
+    message: &Message,
+    path: &[u8],
+    query: &[Pair],
+    names: &[Bytes],
+    payload: &[u8],
+) -> Result<Bytes, Memory>
+    ensures { IfOk result (λ text. text ≡ canonical_of message.now.method path.now query.now message.now.headers names.now payload.now) }
 {
     let parts = [
         message.method.copy()?,
-        encode_path(alloc, target.path.as_slice())?,
-        canonical_query(alloc, target.query.pairs())?,
+        encode_path(alloc, path)?,
+        canonical_query(alloc, query)?,
         canonical_headers(alloc, message.headers.as_slice(), names)?,
         joined(alloc, b';', names)?,
         Bytes::from_slice(alloc, payload)?,
@@ -136,7 +153,9 @@ fn single_spaced(alloc: Global, text: &[u8]) -> Result<Bytes, Memory>
     Ok(spaced)
 }
 
-fn canonical_query(alloc: Global, pairs: &[Pair]) -> Result<Bytes, Memory>
+/// The query of a canonical request: each pair `name=value` with both sides escaped, in the order of the escaped names and
+/// then of the escaped values, with `&` between each two.
+pub fn canonical_query(alloc: Global, pairs: &[Pair]) -> Result<Bytes, Memory>
     ensures { IfOk result (λ text. text ≡ canonical_query pairs.now) }
 {
     let pairs = ordered(alloc, pairs)?;

@@ -1,4 +1,4 @@
-ghost use Rattle.std.specs.Prelude.{◌≡◌, [], ◌∷◌, ◌++◌, true, IfOk, OnOk};
+ghost use Rattle.std.specs.Prelude.{◌≡◌, [], ◌∷◌, ◌++◌, true, bytes_eq, IfOk, OnOk};
 ghost use Rattle.std.specs.List.{list_all};
 ghost use Rattle.gate_base.specs.Ascii.{is_digit};
 ghost use Rattle.sigv4.specs.Sign.{is_date_time, date_of, scope_of, string_to_sign, signing_key, signature_of, signed_of};
@@ -29,7 +29,8 @@ pub fn sign(
     canonical: &[u8],
 ) -> Result<Signed, Memory>
     requires { is_date_time date_time.now ≡ true }
-    ensures { IfOk result (λ signed. signed ≡ signed_of secret.now date_time.now region.now canonical.now) }
+    ensures { IfOk result (λ signed.
+        signed ≡ signed_of secret.now date_time.now region.now canonical.now) }
 {
     let canonical_hash = Sha256::digest(canonical);
     let signature = signature_of(alloc, secret, date_time, region, &canonical_hash)?;
@@ -47,7 +48,8 @@ fn signature_of(
     hash: &[u8; 32],
 ) -> Result<[u8; 32], Memory>
     requires { is_date_time date_time.now ≡ true }
-    ensures { IfOk result (λ signature. signature ≡ signature_of secret.now date_time.now region.now hash.now) }
+    ensures { IfOk result (λ signature.
+        signature ≡ signature_of secret.now date_time.now region.now hash.now) }
 {
     let date = date_of(date_time);
     let scope = scope_of(alloc, date, region)?;
@@ -129,4 +131,15 @@ fn signing_key(alloc: Global, secret: &[u8], date: &[u8], region: &[u8]) -> Resu
     let of_region = hmac(&of_date, region);
     let of_service = hmac(&of_region, b"s3");
     Ok(hmac(&of_service, b"aws4_request"))
+}
+
+/// Whether two texts are the same. Where they are of one length, every byte of both is looked at, whatever the others are.
+pub(crate) fn are_same(left: &[u8], right: &[u8]) -> bool
+    ensures { result ≡ bytes_eq left.now right.now }
+{
+    let mut same = left.len() == right.len();
+    for (one, other) in left.iter().zip(right) {
+        same = (one == other) & same;
+    }
+    same
 }

@@ -6,7 +6,7 @@ ghost use Rattle.sigv4.specs.Verdict.{claim_of, has_wrong_scope, is_among, must_
 use crate::authorization::{Authorization, is_hex};
 use crate::moment::{is_of_day, is_skewed, is_time};
 use crate::request::canonical;
-use crate::signature::{Signed, sign};
+use crate::signature::{Signed, are_same, sign};
 use crate::{Keys, Refusal};
 use gate_base::{Bytes, Caller, Memory, Pair};
 use http_wire::{Message, first_value, has_header, has_name, has_one};
@@ -54,7 +54,8 @@ fn judge(
     moment: u64,
     claim: &Authorization,
 ) -> Result<Caller, Refusal>
-    ensures { Gives result (judged_with (secret_of claim.now.id keys.now) region.now message.now target.now moment claim.now) }
+    ensures { Gives result
+        (judged_with (secret_of claim.now.id keys.now) region.now message.now target.now moment claim.now) }
 {
     match keys.secret(claim.id.as_slice()) {
         Some(secret) => judge_with(alloc, secret, region, message, target, moment, claim),
@@ -72,7 +73,8 @@ fn judge_with(
     moment: u64,
     claim: &Authorization,
 ) -> Result<Caller, Refusal>
-    ensures { Gives result (first_refusal (reasons secret.now region.now message.now target.now moment claim.now)) }
+    ensures { Gives result
+        (first_refusal (reasons secret.now region.now message.now target.now moment claim.now)) }
 {
     let headers = message.headers.as_slice();
     if has_wrong_scope(region, claim) {
@@ -114,7 +116,8 @@ fn claim_of(alloc: Global, headers: &[Pair]) -> Result<Option<Authorization>, Me
     }
 }
 
-fn has_wrong_scope(region: &[u8], claim: &Authorization) -> bool
+/// Whether a credential is of another region, or of a service other than `s3`.
+pub fn has_wrong_scope(region: &[u8], claim: &Authorization) -> bool
     ensures { result ≡ has_wrong_scope region.now claim.now }
 {
     !(claim.region.as_slice() == region && claim.service.as_slice() == b"s3".as_slice())
@@ -139,13 +142,15 @@ fn is_left_out(claim: &Authorization, header: &Pair) -> bool
         && !is_among(header.name.as_slice(), claim.names.as_slice())
 }
 
-fn must_be_signed(name: &[u8]) -> bool
+/// Whether a header of this name, in lower case, has to be signed where it is there: `host` and each `x-amz-*`.
+pub fn must_be_signed(name: &[u8]) -> bool
     ensures { result ≡ must_be_signed name.now }
 {
     name == b"host".as_slice() || name.starts_with(b"x-amz-")
 }
 
-fn is_among(name: &[u8], names: &[Bytes]) -> bool
+/// Whether the name is one of those.
+pub fn is_among(name: &[u8], names: &[Bytes]) -> bool
     ensures { result ≡ is_among name.now names.now }
 {
     names.iter().any(|other| other.as_slice() == name)
@@ -172,7 +177,8 @@ pub fn hash_of(headers: &[Pair]) -> &[u8]
     first_value(headers, PAYLOAD)
 }
 
-fn is_streaming(headers: &[Pair]) -> bool
+/// Whether some `x-amz-content-sha256` says that the body comes in signed pieces: its value begins with `STREAMING-`.
+pub fn is_streaming(headers: &[Pair]) -> bool
     ensures { result ≡ is_streaming headers.now }
 {
     headers.iter().any(|header| announces_pieces(header))
@@ -208,7 +214,8 @@ fn expected(
     claim: &Authorization,
 ) -> Result<Signed, Memory>
     requires { lacks_date claim.now message.now.headers ≡ false }
-    ensures { IfOk result (λ due. due ≡ expected secret.now region.now message.now target.now claim.now) }
+    ensures { IfOk result (λ due.
+        due ≡ expected secret.now region.now message.now target.now claim.now) }
 {
     let headers = message.headers.as_slice();
     let text = canonical(
@@ -221,11 +228,12 @@ fn expected(
     sign(alloc, secret, time_of(headers), region, text.as_slice())
 }
 
-fn signature_differs(alloc: Global, claim: &Authorization, due: &Signed) -> Result<bool, Memory>
+/// Whether the signature that a request bears is another than the one that is due.
+pub fn signature_differs(alloc: Global, claim: &Authorization, due: &Signed) -> Result<bool, Memory>
     ensures { IfOk result (λ differs. differs ≡ signature_differs claim.now due.now) }
 {
     let digits = hex::encode(alloc, due.signature)?;
-    Ok(claim.signature.as_slice() != digits.as_bytes())
+    Ok(!are_same(claim.signature.as_slice(), digits.as_bytes()))
 }
 
 fn payload_differs(alloc: Global, message: &Message) -> Result<bool, Memory>

@@ -1,0 +1,4 @@
+pub mod Appends
+pub mod Digits
+pub mod Taken
+pub mod Times

@@ -1,0 +1,5 @@
+pub mod Claim
+pub mod Laws
+pub mod Parameters
+pub mod Url
+pub mod Verdict

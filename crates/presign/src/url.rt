@@ -1,0 +1,206 @@
+//! Presigned URLs.
+ghost use Rattle.std.specs.Prelude.{◌≡◌, ◌≤◌, ◌<◌, ◌++◌, ◌∷◌, [], true, false, IfOk, OnOk, codes, decimal};
+ghost use Rattle.hex.specs.Hex.{encode_lower};
+ghost use Rattle.gate_base.specs.declared.outside.TheConstants.{MOMENT_LIMIT as moment_limit};
+ghost use Rattle.http_wire.specs.Headers.{has_one as has_one_header};
+ghost use Rattle.sigv4.specs.Keys.{is_key};
+ghost use Rattle.sigv4.specs.Moment.{is_time};
+ghost use Rattle.sigv4.specs.Sign.{date_of};
+ghost use Rattle.presign.specs.Url.{has_signature_name, is_region, credential_for, scope_parameters, span_parameters, with_credential, signing_query, url_of, IsPresigned};
+
+use crate::parameters::{
+    ALGORITHM, CREDENTIAL, DATE, EXPIRES, SIGNATURE, SIGNED_HEADERS, has_parameter,
+};
+use crate::time::time_at;
+use crate::verdict::signed_text;
+use gate_base::{Bytes, Copying, List, Memory, Pair};
+use http_wire::Message;
+use itoa::Buffer;
+use s3_names::{Target, encode_path};
+use sigv4::{canonical_query, date_of, sign};
+use std::alloc::Global;
+
+/// Whether the query has one of the six names of a signature. It takes no memory.
+pub fn has_signature_name(target: &Target) -> bool
+    ensures { result ≡ has_signature_name target.now.query }
+{
+    let query = target.query.pairs();
+    has_parameter(query, ALGORITHM)
+        || has_parameter(query, CREDENTIAL)
+        || has_parameter(query, DATE)
+        || has_parameter(query, EXPIRES)
+        || has_parameter(query, SIGNED_HEADERS)
+        || has_parameter(query, SIGNATURE)
+}
+
+/// A presigned URL for the method and the `host` of a message and for this target, from its path on: whoever has it may send
+/// that request, with any body, from 900 seconds before the moment until `expires` seconds after it (Amazon S3 API Reference,
+/// "Authenticating requests: using query parameters"). `host` is the one header that is signed. The moment is in seconds since
+/// 1970; `expires` is a week at most; the region has 1 to 32 bytes of `a-z 0-9 -`. Only memory can run out.
+pub fn presign(
+    alloc: Global,
+    secret: &[u8],
+    id: &[u8],
+    region: &[u8],
+    message: &Message,
+    target: &Target,
+    moment: u64,
+    expires: u64,
+) -> Result<Bytes, Memory>
+    requires unsigned { has_signature_name target.now.query ≡ false }
+    requires host { has_one_header (codes "host") message.now.headers ≡ true }
+    requires key { is_key (record { id = id.now; secret = secret.now }) ≡ true }
+    requires region { is_region region.now ≡ true }
+    requires moment { moment < moment_limit }
+    requires least { 1 ≤ expires }
+    requires most { expires ≤ 604800 }
+    ensures { IfOk result (IsPresigned secret.now id.now region.now message.now target.now moment expires) }
+{
+    let time = time_at(moment);
+    let query = signing_query(alloc, id, region, &time, expires, target.query.pairs())?;
+    let path = target.path.as_slice();
+    url_of(
+        alloc,
+        secret,
+        region,
+        message,
+        path,
+        &time,
+        query.as_slice(),
+    )
+}
+
+/// The path and the query of the URL.
+#[tactic(auto, using(crate::proofs::Times::time_has_form), unfolding(crate::specs::Url::url_of))]
+fn url_of(
+    alloc: Global,
+    secret: &[u8],
+    region: &[u8],
+    message: &Message,
+    path: &[u8],
+    time: &[u8],
+    query: &[Pair],
+) -> Result<Bytes, Memory>
+    requires { is_time time.now ≡ true }
+    ensures { IfOk result (λ url. url ≡ url_of secret.now region.now message.now path.now time.now query.now) }
+{
+    let names = [Bytes::from_slice(alloc, b"host")?];
+    let text = signed_text(alloc, message, path, query, &names)?;
+    let signed = sign(alloc, secret, time, region, text.as_slice())?;
+    let mut url = encode_path(alloc, path)?;
+    url.push(b'?')?;
+    url.append(canonical_query(alloc, query)?.as_slice())?;
+    append_signature(alloc, &mut url, signed.signature)?;
+    Ok(url)
+}
+
+fn append_signature(alloc: Global, url: &mut Bytes, signature: [u8; 32]) -> Result<(), Memory>
+    ensures { OnOk result (url.new ≡ url.old ++ codes "&X-Amz-Signature=" ++ encode_lower signature) }
+{
+    url.append(b"&X-Amz-Signature=")?;
+    url.append(hex::encode(alloc, signature)?.as_bytes())
+}
+
+/// The query as it is signed.
+#[tactic(auto, unfolding(crate::specs::Url::signing_query))]
+fn signing_query(
+    alloc: Global,
+    id: &[u8],
+    region: &[u8],
+    time: &[u8],
+    expires: u64,
+    query: &[Pair],
+) -> Result<List<Pair>, Memory>
+    requires { is_time time.now ≡ true }
+    ensures { IfOk result (λ pairs. pairs ≡ signing_query id.now region.now time.now expires query.now) }
+{
+    let credential = credential_for(alloc, id, time, region)?;
+    let mut pairs = pairs_of(alloc, query)?;
+    add_parameters(alloc, &mut pairs, credential.as_slice(), time, expires)?;
+    Ok(pairs)
+}
+
+#[tactic(auto, using(crate::proofs::Appends::both_more))]
+fn add_parameters(
+    alloc: Global,
+    pairs: &mut List<Pair>,
+    credential: &[u8],
+    time: &[u8],
+    expires: u64,
+) -> Result<(), Memory>
+    ensures { OnOk result (pairs.new ≡ pairs.old ++ with_credential credential.now time.now expires) }
+{
+    let seconds = seconds_text(alloc, expires)?;
+    add_scope(alloc, pairs, credential, time)?;
+    add_span(alloc, pairs, seconds.as_slice())?;
+    Ok(())
+}
+
+fn seconds_text(alloc: Global, expires: u64) -> Result<Bytes, Memory>
+    ensures { IfOk result (λ text. text ≡ decimal expires) }
+{
+    let mut buffer = Buffer::new();
+    Bytes::from_slice(alloc, buffer.format(expires).as_bytes())
+}
+
+fn add_scope(
+    alloc: Global,
+    pairs: &mut List<Pair>,
+    credential: &[u8],
+    time: &[u8],
+) -> Result<(), Memory>
+    ensures { OnOk result (pairs.new ≡ pairs.old ++ scope_parameters credential.now time.now) }
+{
+    add(alloc, pairs, ALGORITHM, b"AWS4-HMAC-SHA256")?;
+    add(alloc, pairs, CREDENTIAL, credential)?;
+    add(alloc, pairs, DATE, time)?;
+    Ok(())
+}
+
+fn add_span(alloc: Global, pairs: &mut List<Pair>, seconds: &[u8]) -> Result<(), Memory>
+    ensures { OnOk result (pairs.new ≡ pairs.old ++ span_parameters seconds.now) }
+{
+    add(alloc, pairs, EXPIRES, seconds)?;
+    add(alloc, pairs, SIGNED_HEADERS, b"host")?;
+    Ok(())
+}
+
+fn add(alloc: Global, pairs: &mut List<Pair>, name: &[u8], value: &[u8]) -> Result<(), Memory>
+    ensures { OnOk result (pairs.new ≡ pairs.old ++ record { name = name.now; value = value.now } ∷ []) }
+{
+    let pair = Pair {
+        name: Bytes::from_slice(alloc, name)?,
+        value: Bytes::from_slice(alloc, value)?,
+    };
+    pairs.push(pair)
+}
+
+fn pairs_of(alloc: Global, query: &[Pair]) -> Result<List<Pair>, Memory>
+    ensures { IfOk result (λ pairs. pairs ≡ query.now) }
+{
+    let mut pairs = List::new(alloc);
+    for pair in query {
+        pairs.push(pair.copy()?)?;
+    }
+    Ok(pairs)
+}
+
+#[tactic(auto, using(crate::proofs::Times::time_has_form))]
+fn credential_for(alloc: Global, id: &[u8], time: &[u8], region: &[u8]) -> Result<Bytes, Memory>
+    requires { is_time time.now ≡ true }
+    ensures { IfOk result (λ credential. credential ≡ credential_for id.now (date_of time.now) region.now) }
+{
+    let mut credential = Bytes::from_slice(alloc, id)?;
+    append_scope(&mut credential, date_of(time), region)?;
+    Ok(credential)
+}
+
+fn append_scope(text: &mut Bytes, date: &[u8], region: &[u8]) -> Result<(), Memory>
+    ensures { OnOk result (text.new ≡ text.old ++ 47 ∷ [] ++ date.now ++ 47 ∷ [] ++ region.now ++ codes "/s3/aws4_request") }
+{
+    text.push(b'/')?;
+    text.append(date)?;
+    text.push(b'/')?;
+    text.append(region)?;
+    text.append(b"/s3/aws4_request")
+}
