@@ -1,27 +1,90 @@
 #!/usr/bin/env bash
 # Proves and builds s3gate and swiftd where that is still to be done; starts swiftd, the small store, and s3gate before it, both on
 # the loopback interface, with the example key; makes a bucket, puts an object there, lists it and gets it, by the `aws` command
-# where it is installed and else by curl; and serves on until it is stopped by Ctrl-C.
+# where it is installed and else by curl; and serves on until it is stopped by Ctrl-C or TERM, when it ends both. A line tells each crate
+# that is proved, and how many are left.
 #
 #   examples/serve.sh [PORT]
 #
-# s3gate listens at PORT, 8080 unless given, and swiftd at the next one.
+# s3gate listens at PORT, 8080 unless given, and swiftd at the next one; where one of them is taken nothing is started. The log
+# of s3gate stands on standard error.
 set -euo pipefail
+set -m # each job below is a process group of its own, and is ended as a whole
 port="${1:-8080}"
 cd "$(dirname "$0")/.."
-# Each is run once, to no effect: swiftd without words, which it refuses with status 2, and s3gate for a client that sends nothing.
-(cd crates/swiftd && rt run </dev/null >/dev/null || [ -x out/swiftd ])
-(cd crates/s3gate && env -u S3GATE_KEYS rt run -- session </dev/null)
+jobs=()
+log="$(mktemp)"
+finish() {
+    trap '' TERM INT
+    for job in "${jobs[@]}"; do kill -- "-$job" 2>/dev/null || true; done
+    wait
+    rm -f "$log"
+}
+trap finish EXIT
+trap 'exit 143' TERM
+trap 'exit 130' INT
+# Runs a command in a folder and waits for it, so that a signal is heeded at once.
+run_in() {
+    (cd "$1" && exec "${@:2}") </dev/null &
+    jobs=($!)
+    wait $! || return
+    jobs=()
+}
+is_taken() { (: <"/dev/tcp/127.0.0.1/$1") 2>/dev/null; }
+
+for it in "$port" "$((port + 1))"; do
+    if is_taken "$it"; then
+        echo "serve.sh: port $it is taken: name another, as in examples/serve.sh 9000" >&2
+        exit 1
+    fi
+done
+
+# The libraries that the two programs stand on, the lowest first, as crates.txt has them.
+mapfile -t crates < <(awk -F: '
+    /^[a-z]/ { split($1, word, " "); names[++count] = word[1]; uses[word[1]] = $2 }
+    function want(name, list, at, parts) {
+        if (!(name in uses) || name in wanted) return
+        wanted[name] = 1
+        list = split(uses[name], parts, " ")
+        for (at = 1; at <= list; at++) want(parts[at])
+    }
+    END {
+        want("swiftd"); want("s3gate")
+        for (at = 1; at <= count; at++) if (names[at] in wanted && names[at] != "swiftd" && names[at] != "s3gate") print names[at]
+    }' crates.txt)
+left=$((${#crates[@]} + 2))
+tell() { left=$((left - 1)); echo "$(date +%T) $1: $left left"; }
+quiet() { run_in "$@" >"$log" 2>&1 || { cat "$log" >&2; echo "serve.sh: $1 isn't proved" >&2; exit 1; }; }
+for it in "${crates[@]}"; do
+    tell "$it"
+    quiet "crates/$it" rt lib
+done
+# Each program is run once, to no effect: swiftd without words, which it refuses with status 2, and s3gate for a client that sends nothing.
+tell swiftd
+run_in crates/swiftd rt run >"$log" 2>&1 || [ -x crates/swiftd/out/swiftd ] || { cat "$log" >&2; exit 1; }
+tell s3gate
+quiet crates/s3gate env -u S3GATE_KEYS rt run -- session
+
 place="http://127.0.0.1:$port"
 store="127.0.0.1:$((port + 1))"
 read -r id secret <examples/keys.txt
-servers=()
-trap 'kill "${servers[@]}" 2>/dev/null || true' EXIT
-SWIFTD_LISTEN="$store" crates/swiftd/out/swiftd --token example --account example --connections 1000000000 &
-servers+=($!)
+# Waits until a port is listened at, by the server that was started for it.
+await() {
+    for _ in $(seq 50); do
+        kill -0 "$1" 2>/dev/null || break
+        if is_taken "$2"; then return; fi
+        sleep 0.1
+    done
+    echo "serve.sh: what should listen at port $2 has ended" >&2
+    exit 1
+}
+SWIFTD_LISTEN="$store" SWIFTD_LOG=off crates/swiftd/out/swiftd --token example --account example --connections 1000000000 &
+jobs+=($!)
+await $! "$((port + 1))"
 S3GATE_KEYS=examples/keys.txt S3GATE_LISTEN="127.0.0.1:$port" S3GATE_STORE="$store" S3GATE_ACCOUNT=example S3GATE_TOKEN=example \
     crates/s3gate/out/s3gate serve --connections 1000000000 &
-servers+=($!)
+jobs+=($!)
+await $! "$port"
 ask() {
     curl --silent --show-error --fail-with-body --retry 5 --retry-connrefused --retry-delay 1 --user "$id:$secret" \
         --aws-sigv4 aws:amz:us-east-1:s3 -H 'x-amz-content-sha256: UNSIGNED-PAYLOAD' "$@"
@@ -50,4 +113,4 @@ s3gate serves at $place, over swiftd at $store. In another shell:
 examples/clients has what boto3, rclone and s3cmd want. What is stored is gone when this ends. Before a real Swift, set
 S3GATE_STORE, S3GATE_ACCOUNT and S3GATE_TOKEN to its place, an account of its own and an owner's token (docs/OPERATING.md).
 END
-wait "${servers[@]}"
+wait

@@ -1,8 +1,10 @@
-//! Tests that must be code: the line and the link over sockets, and a system whose clock and chance fail.
+//! Tests that must be code: the line and the link over sockets, the lines of a log, and a system whose clock and chance fail.
 #![tactic(auto)]
 
 #[cfg(test)]
 mod adapters;
+#[cfg(test)]
+mod log_lines;
 #[cfg(test)]
 mod loopback;
 #[cfg(test)]

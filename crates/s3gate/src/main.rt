@@ -7,27 +7,38 @@
 //! which nothing is written back.
 #![tactic(auto)]
 
+mod faults;
 mod input;
 
+use crate::faults::{explain_refusal, told};
 use crate::input::InputLine;
-use gate_base::{Bytes, Line, RandomDraws, StdLine, StdSink, SystemClock};
+use environment::{
+    SetupFault, Why, field, listener, number, own, place_fault, switch, variable, words,
+};
+use gate_base::{Bytes, Copying, Line, RandomDraws, StdLine, StdSink, SystemClock};
 use gateway_cmd::run;
+use memory_swift::memory_store;
 use sockets::TcpLine;
-use std::env::VarError;
-use std::io::{ErrorKind, Write};
-use std::net::TcpListener;
+use std::fs;
+use std::io::ErrorKind;
 use std::process::ExitCode;
-use std::{env, fs, io};
 use swift_calls::Swift;
-use swift_client::{SwiftClient, TcpLink, memory_store, over_tcp};
+use swift_client::{SwiftClient, TcpLink, over_tcp};
 use swift_requests::{Place, is_place};
+use wire_log::{Log, LoggedLine, LoggedStore};
 
 /// The exit status where memory ran out before the run began.
 const MEMORY: u8 = 5;
 
-/// The exit status where the key file can't be read, where there is no place to listen at, or where the store's address,
-/// account or token isn't 1 to 1024 bytes of visible ASCII.
-const SETUP: u8 = 9;
+/// The variables whose faults have more than one place.
+const KEYS: &str = "S3GATE_KEYS";
+
+const LISTEN: &str = "S3GATE_LISTEN";
+
+const STORE: &str = "S3GATE_STORE";
+
+/// The exit status where the words or the key text are refused.
+const REFUSED: u8 = 2;
 
 /// How many seconds a client may be silent, where `S3GATE_IDLE` doesn't say.
 const USUAL_IDLE: u64 = 60;
@@ -46,30 +57,36 @@ const USUAL_SILENCE: u64 = 300;
 /// The most seconds of a limit of time: a day.
 const LONGEST: u64 = 86_400;
 
+/// The clients, with a log of their replies on standard error.
+type Clients = LoggedLine<TcpLine<HostRuntime>, StdSink, HostRuntime>;
+
+/// The Swift store, with a log of its failures on standard error.
+type Store = LoggedStore<SwiftClient<TcpLink<HostRuntime>>, StdSink, HostRuntime>;
+
 fn main(rt: HostRuntime) -> ExitCode {
     match start(&rt) {
         Ok(status) => ExitCode::from(status),
-        Err(error) if error.kind() == ErrorKind::OutOfMemory => ExitCode::from(MEMORY),
-        Err(_) => {
-            let _ = rt.stderr().write_all(b"s3gate: setup\n");
-            ExitCode::from(SETUP)
-        }
+        Err(fault) => ExitCode::from(told(&rt, fault)),
     }
 }
 
 /// A run by the words and the key text.
-fn start(rt: &HostRuntime) -> io::Result<u8> {
+fn start(rt: &HostRuntime) -> Result<u8, SetupFault> {
     let keys = key_text(rt)?;
     start_by(rt, keys.as_str())
 }
 
-fn start_by(rt: &HostRuntime, keys: &str) -> io::Result<u8> {
+fn start_by(rt: &HostRuntime, keys: &str) -> Result<u8, SetupFault> {
     let words = words(rt)?;
-    start_with(rt, &words, keys)
+    let status = start_with(rt, &words, keys)?;
+    if status == REFUSED {
+        explain_refusal(rt, &words, keys);
+    }
+    Ok(status)
 }
 
 /// A run over the line that the first word asks for.
-fn start_with(rt: &HostRuntime, words: &[String], keys: &str) -> io::Result<u8> {
+fn start_with(rt: &HostRuntime, words: &[String], keys: &str) -> Result<u8, SetupFault> {
     if begins_with(words, b"serve") {
         serve(rt, words, keys)
     } else {
@@ -79,10 +96,10 @@ fn start_with(rt: &HostRuntime, words: &[String], keys: &str) -> io::Result<u8> 
 
 /// A run over the clients that come, and the Swift store. Replies that are kept for slow clients are sent before it ends; the status
 /// is that of the run, as no client's failure has one.
-fn serve(rt: &HostRuntime, words: &[String], keys: &str) -> io::Result<u8> {
+fn serve(rt: &HostRuntime, words: &[String], keys: &str) -> Result<u8, SetupFault> {
     let mut line = clients(rt)?;
     let status = serve_on(rt, words, keys, &mut line);
-    let _ = line.finish();
+    let _ = line.into_line().finish();
     status
 }
 
@@ -90,14 +107,14 @@ fn serve_on(
     rt: &HostRuntime,
     words: &[String],
     keys: &str,
-    line: &mut TcpLine<HostRuntime>,
-) -> io::Result<u8> {
+    line: &mut Clients,
+) -> Result<u8, SetupFault> {
     let mut store = swift_store(rt)?;
     run_over(rt, words, keys, line, &mut store)
 }
 
 /// A run over the standard streams, and a store in memory.
-fn stay(rt: &HostRuntime, words: &[String], keys: &str) -> io::Result<u8> {
+fn stay(rt: &HostRuntime, words: &[String], keys: &str) -> Result<u8, SetupFault> {
     match memory_store(rt.alloc()) {
         Ok(mut store) => stay_on(rt, words, keys, &mut store),
         Err(_) => Ok(MEMORY),
@@ -109,12 +126,12 @@ fn stay_on<W: Swift>(
     words: &[String],
     keys: &str,
     store: &mut W,
-) -> io::Result<u8> {
+) -> Result<u8, SetupFault> {
     if begins_with(words, b"session") {
-        let mut line = StdLine::new(rt.clone()?);
+        let mut line = StdLine::new(own(rt)?);
         run_over(rt, words, keys, &mut line, store)
     } else {
-        let mut line = InputLine::new(rt.clone()?);
+        let mut line = InputLine::new(own(rt)?);
         run_over(rt, words, keys, &mut line, store)
     }
 }
@@ -125,10 +142,10 @@ fn run_over<N: Line<W>, W: Swift>(
     keys: &str,
     line: &mut N,
     store: &mut W,
-) -> io::Result<u8> {
-    let mut report = report_for(rt.clone()?, words);
-    let mut clock = SystemClock::new(rt.clone()?);
-    let mut draws = RandomDraws::new(rt.clone()?);
+) -> Result<u8, SetupFault> {
+    let mut report = report_for(own(rt)?, words);
+    let mut clock = SystemClock::new(own(rt)?);
+    let mut draws = RandomDraws::new(own(rt)?);
     Ok(run(
         rt.alloc(),
         words,
@@ -142,91 +159,101 @@ fn run_over<N: Line<W>, W: Swift>(
 }
 
 /// The text of the access keys: that of the file which the environment names, or none where it names no file.
-fn key_text(rt: &HostRuntime) -> io::Result<String> {
-    match variable(rt, "S3GATE_KEYS")? {
-        Some(path) => fs::read_to_string(rt, &path),
+fn key_text(rt: &HostRuntime) -> Result<String, SetupFault> {
+    match variable(rt, KEYS)? {
+        Some(path) if path.is_empty() => Err(SetupFault::Variable(KEYS, Why::Empty)),
+        Some(path) => read_keys(rt, path.as_str()),
         None => Ok(String::new(rt.alloc())),
     }
 }
 
+fn read_keys(rt: &HostRuntime, path: &str) -> Result<String, SetupFault> {
+    match fs::read_to_string(rt, path) {
+        Ok(text) => Ok(text),
+        Err(error) if error.kind() == ErrorKind::OutOfMemory => Err(SetupFault::Memory),
+        Err(error) => Err(SetupFault::Variable(KEYS, Why::of_file(error.kind()))),
+    }
+}
+
 /// The clients that come to the place which the environment names. How many of them are served is said by the words.
-fn clients(rt: &HostRuntime) -> io::Result<TcpLine<HostRuntime>> {
+///
+/// The listener is the first that is opened and stays. So where standard error is closed its number is the listener's, to which no
+/// line can be written, and never that of a client or of the store.
+fn clients(rt: &HostRuntime) -> Result<Clients, SetupFault> {
     let limit = number(rt, "S3GATE_IDLE", USUAL_IDLE, LONGEST)?;
     let ahead = ahead(rt)?;
-    let Some(place) = variable(rt, "S3GATE_LISTEN")? else {
-        return Err(io::Error::from(ErrorKind::InvalidInput));
-    };
-    let listener = TcpListener::bind(rt, place.as_str())?;
-    TcpLine::new(rt.clone()?, rt.alloc(), listener, limit, None, ahead)
+    let log = log(rt)?;
+    let line = tcp_line(rt, limit, ahead)?;
+    Ok(LoggedLine::new(line, log))
+}
+
+fn tcp_line(
+    rt: &HostRuntime,
+    limit: u64,
+    ahead: usize,
+) -> Result<TcpLine<HostRuntime>, SetupFault> {
+    let listener = listener(rt, LISTEN)?;
+    match TcpLine::new(own(rt)?, rt.alloc(), listener, limit, None, ahead) {
+        Ok(line) => Ok(line),
+        Err(error) if error.kind() == ErrorKind::OutOfMemory => Err(SetupFault::Memory),
+        Err(_) => Err(SetupFault::Variable(LISTEN, Why::CannotListen)),
+    }
 }
 
 /// How many bytes are read ahead or kept to be sent, at most.
-fn ahead(rt: &HostRuntime) -> io::Result<usize> {
+fn ahead(rt: &HostRuntime) -> Result<usize, SetupFault> {
     let count = number(rt, "S3GATE_AHEAD", USUAL_AHEAD, MOST_AHEAD)?;
     Ok(count.saturating_mul(MEBIBYTE) as usize)
 }
 
+/// A log on standard error, unless the environment ends it.
+fn log(rt: &HostRuntime) -> Result<Log<StdSink, HostRuntime>, SetupFault> {
+    let is_on = switch(rt, "S3GATE_LOG")?;
+    let sink = StdSink::error(own(rt)?);
+    Ok(Log::new(own(rt)?, rt.alloc(), sink, is_on))
+}
+
 /// The Swift store that the environment names. The first call connects to it.
-fn swift_store(rt: &HostRuntime) -> io::Result<SwiftClient<TcpLink<HostRuntime>>> {
+fn swift_store(rt: &HostRuntime) -> Result<Store, SetupFault> {
     let limit = number(rt, "S3GATE_STORE_TIMEOUT", USUAL_SILENCE, LONGEST)?;
-    let place = Place {
-        host: text(rt, "S3GATE_STORE")?,
-        account: text(rt, "S3GATE_ACCOUNT")?,
-        token: text(rt, "S3GATE_TOKEN")?,
-    };
+    let place = store_place(rt)?;
+    let name = place.host.copy()?;
+    let log = log(rt)?;
+    let store = store_at(rt, place, limit)?;
+    Ok(LoggedStore::new(store, log, name))
+}
+
+fn store_at(
+    rt: &HostRuntime,
+    place: Place,
+    limit: u64,
+) -> Result<SwiftClient<TcpLink<HostRuntime>>, SetupFault> {
     if !is_place(&place) {
-        return Err(io::Error::from(ErrorKind::InvalidInput));
+        return Err(SetupFault::Variable(STORE, Why::NotField));
     }
-    match over_tcp(rt.clone()?, rt.alloc(), place, limit) {
-        Ok(store) => Ok(store),
-        Err(_) => Err(io::Error::from(ErrorKind::OutOfMemory)),
-    }
+    Ok(over_tcp(own(rt)?, rt.alloc(), place, limit)?)
 }
 
-/// The number that the environment says, from 1 to the most that there may be, or else the usual one.
-fn number(rt: &HostRuntime, name: &str, usual: u64, most: u64) -> io::Result<u64> {
-    let Some(text) = variable(rt, name)? else {
-        return Ok(usual);
-    };
-    match text.as_str().parse::<u64>() {
-        Ok(number) if 1 <= number && number <= most => Ok(number),
-        _ => Err(io::Error::from(ErrorKind::InvalidInput)),
-    }
+/// Where the store is, and its account and token.
+fn store_place(rt: &HostRuntime) -> Result<Place, SetupFault> {
+    let host = store_host(rt)?;
+    let account = field(rt, "S3GATE_ACCOUNT")?;
+    let token = field(rt, "S3GATE_TOKEN")?;
+    Ok(Place {
+        host,
+        account,
+        token,
+    })
 }
 
-/// The bytes of a variable of the environment, none where it isn't there.
-fn text(rt: &HostRuntime, name: &str) -> io::Result<Bytes> {
-    let Some(text) = variable(rt, name)? else {
-        return Ok(Bytes::new(rt.alloc()));
-    };
-    match Bytes::from_slice(rt.alloc(), text.as_bytes()) {
-        Ok(bytes) => Ok(bytes),
-        Err(_) => Err(io::Error::from(ErrorKind::OutOfMemory)),
-    }
-}
-
-/// A variable of the environment, where it is there.
-fn variable(rt: &HostRuntime, name: &str) -> io::Result<Option<String>> {
-    match env::var(rt, name) {
-        Ok(text) => Ok(Some(text)),
-        Err(VarError::NotPresent) => Ok(None),
-        Err(VarError::NotUnicode) => Err(io::Error::from(ErrorKind::InvalidInput)),
-        Err(VarError::OutOfMemory) => Err(io::Error::from(ErrorKind::OutOfMemory)),
-    }
-}
-
-/// The words after the program's name. Words that are no text count as none, which are refused.
-fn words(rt: &HostRuntime) -> io::Result<Vec<String>> {
-    let mut words = Vec::new(rt.alloc());
-    match env::args(rt) {
-        Ok(all) => {
-            for word in all.skip(1) {
-                words.push(word)?;
-            }
-            Ok(words)
-        }
-        Err(error) if error.kind() == ErrorKind::OutOfMemory => Err(error),
-        Err(_) => Ok(words),
+fn store_host(rt: &HostRuntime) -> Result<Bytes, SetupFault> {
+    let host = field(rt, STORE)?;
+    match str::from_utf8(host.as_slice()) {
+        Ok(text) => match place_fault(text) {
+            Some(why) => Err(SetupFault::Variable(STORE, why)),
+            None => Ok(host),
+        },
+        Err(_) => Err(SetupFault::Variable(STORE, Why::NotText)),
     }
 }
 

@@ -70,7 +70,8 @@ impl<R: Net + Clock + Drop> TcpLine<R> {
         connections: Option<u64>,
         ahead: usize,
     ) -> io::Result<TcpLine<R>>
-        ensures line { IfOk result (λ line. ⟦<TcpLine<R> as Line<NoCount>>⟧.model line ≡ silent_line false 0 0) }
+        ensures line { IfOk result (λ line.
+            ⟦<TcpLine<R> as Line<NoCount>>⟧.model line ≡ silent_line false 0 0) }
         ensures limit { IfOk result (λ line. (line.limit ≡ limit) × (0 < limit)) }
         ensures connections { IfOk result (λ line. line.left ≡ unwrap_or connections (2 ^ 64 - 1)) }
     {
@@ -97,7 +98,8 @@ impl<R: Net + Clock + Drop> TcpLine<R> {
     }
 
     fn fail(&mut self) -> Failed
-        ensures faults { Rose (self.old.other_faults + self.old.next_faults) (self.new.other_faults + self.new.next_faults) }
+        ensures faults { Rose (self.old.other_faults + self.old.next_faults)
+            (self.new.other_faults + self.new.next_faults) }
         ensures same { self.new ≡ record self.old { other_faults = self.new.other_faults } }
     {
         self.other_faults = self.other_faults.saturating_add(1);
@@ -105,7 +107,8 @@ impl<R: Net + Clock + Drop> TcpLine<R> {
     }
 
     fn fail_next(&mut self) -> Failed
-        ensures faults { Rose (self.old.other_faults + self.old.next_faults) (self.new.other_faults + self.new.next_faults) }
+        ensures faults { Rose (self.old.other_faults + self.old.next_faults)
+            (self.new.other_faults + self.new.next_faults) }
         ensures next_faults { Rose self.old.next_faults self.new.next_faults }
         ensures same { self.new ≡ record self.old { next_faults = self.new.next_faults } }
     {

@@ -14,6 +14,7 @@ use std::mem::replace;
 use swift_calls::{Swift, SwiftFault, SwiftReply, SwiftRequest};
 use swift_replies::{WireFault, read_answer};
 use swift_requests::{Link, LinkFault, Place, write_call};
+use wire_log::{Cause, Explains, unread_cause};
 
 /// A Swift store over a link. Each call is one exchange, so its calls are those of the link.
 ///
@@ -113,6 +114,16 @@ impl<L: Link> Swift for SwiftClient<L> {
             Ok(()) => self.read(request),
             Err(LinkFault::Failed) => Err(SwiftFault::Failed),
             Err(LinkFault::Memory) => Err(SwiftFault::Memory),
+        }
+    }
+}
+
+impl<L: Link + Explains> Explains for SwiftClient<L> {
+    /// The link's cause, or else what the last answer that spelled nothing says.
+    fn cause(&self) -> Option<Cause> {
+        match self.link.cause() {
+            Some(cause) => Some(cause),
+            None => Some(unread_cause(self.unread.as_slice())),
         }
     }
 }

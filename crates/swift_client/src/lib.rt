@@ -8,5 +8,5 @@ mod receive;
 mod tcp_link;
 
 pub use client::SwiftClient;
-pub use made::{client_over, memory_store, over_tcp};
+pub use made::over_tcp;
 pub use tcp_link::TcpLink;

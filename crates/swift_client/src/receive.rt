@@ -1,5 +1,6 @@
 //! One answer read from a stream.
 ghost use Rattle.std.specs.Prelude.{◌≡◌, ◌≤◌, ◌<◌, ◌+◌, vec_len, IfOk};
+ghost use Rattle.std.specs.Io.{ReadsAtMost};
 
 use gate_base::Bytes;
 use http_answers::{Announced, read_front};
@@ -78,12 +79,26 @@ fn receive_some<S: Read>(stream: &mut S, answer: &mut Vec<u8>, most: usize) -> i
 {
     let came = answer.len();
     answer.resize(came + most, 0)?;
-    let count = stream.read(&mut answer[came..])?;
+    let count = read(stream, &mut answer[came..])?;
     answer.truncate(came + count);
     if count == 0 {
         return Err(io::Error::from(ErrorKind::UnexpectedEof));
     }
     Ok(count)
+}
+
+/// One read. Where a signal interrupts its wait it is made again, and the limit of time begins anew. A program that was stopped
+/// finds its wait interrupted when it goes on, and its answer may have come by then.
+fn read<S: Read>(stream: &mut S, buf: &mut [u8]) -> io::Result<usize>
+    ensures { ReadsAtMost result buf.new }
+{
+    for _interruption in 0..u64::MAX {
+        match stream.read(buf) {
+            Err(error) if error.kind() == ErrorKind::Interrupted => {}
+            got => return got,
+        }
+    }
+    Err(io::Error::from(ErrorKind::Interrupted))
 }
 
 /// How many bytes a head and a body have together. More than [`MOST`] is an error, so that a store which announces what no
@@ -105,7 +120,7 @@ fn receive_rest<S: Read>(stream: &mut S, answer: &mut Vec<u8>, size: usize) -> i
         if came == answer.len() {
             answer.resize(came + PIECE.min(size - came + 1), 0)?;
         }
-        let count = stream.read(&mut answer[came..])?;
+        let count = read(stream, &mut answer[came..])?;
         if count == 0 {
             return Err(io::Error::from(ErrorKind::UnexpectedEof));
         }

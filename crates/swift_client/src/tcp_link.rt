@@ -9,9 +9,10 @@ use gate_base::{Bytes, Counted};
 use std::alloc::Global;
 use std::io;
 use std::io::{ErrorKind, Write};
-use std::net::{Net, OpenStream, ToSocketAddrs};
+use std::net::{HostAddrs, Net, OpenStream, ToSocketAddrs};
 use std::time::Duration;
 use swift_requests::{Link, LinkFault};
+use wire_log::{Cause, Explains};
 
 /// Exchanges with the store at an address, one after the other, over a connection that is kept from one to the next.
 ///
@@ -21,7 +22,8 @@ use swift_requests::{Link, LinkFault};
 /// An exchange fails where the store can't be reached, where it ends the connection before its answer is whole, where the
 /// answer has a Transfer-Encoding, no length, or a head of more than 65,536 bytes, where bytes come behind the answer, and
 /// where the store lets the limit of time pass: while a connection is made, before it takes more of the request, or
-/// before it sends more of the answer. Then the connection is dropped. It is dropped too after an answer whose
+/// before it sends more of the answer. A wait that a signal interrupts is none of these: it begins again, and with it the
+/// limit. Where an exchange fails the connection is dropped. It is dropped too after an answer whose
 /// `Connection` says anything but `keep-alive`, or whose version is HTTP/1.0.
 #[derive(Drop)]
 pub struct TcpLink<R: Net> {
@@ -35,6 +37,8 @@ pub struct TcpLink<R: Net> {
     fresh: bool,
     calls: u64,
     faults: u64,
+    /// Why the last exchange failed; none where it didn't.
+    failing: Option<Cause>,
 }
 
 impl<R: Net + Drop> TcpLink<R> {
@@ -54,6 +58,7 @@ impl<R: Net + Drop> TcpLink<R> {
             fresh: false,
             calls: 0,
             faults: 0,
+            failing: None,
         }
     }
 
@@ -83,8 +88,8 @@ impl<R: Net + Drop> TcpLink<R> {
             return Err(io::Error::from(ErrorKind::InvalidInput));
         };
         let limit = Duration::from_secs(self.limit);
-        let mut last = io::Error::from(ErrorKind::InvalidInput);
-        for place in address.to_socket_addrs(&self.rt)? {
+        let mut last = io::Error::from(ErrorKind::NotFound);
+        for place in self.look_up(address)? {
             match self.rt.connect_timeout(place, limit) {
                 Ok(stream) => {
                     set_limits::<R>(&stream, self.limit)?;
@@ -94,6 +99,15 @@ impl<R: Net + Drop> TcpLink<R> {
             }
         }
         Err(last)
+    }
+
+    /// The places that an address names. An error of kind `NotFound` where it can't be looked up.
+    fn look_up(&self, address: &str) -> io::Result<HostAddrs> {
+        match address.to_socket_addrs(&self.rt) {
+            Ok(places) => Ok(places),
+            Err(error) if error.kind() == ErrorKind::OutOfMemory => Err(error),
+            Err(_) => Err(io::Error::from(ErrorKind::NotFound)),
+        }
     }
 
     /// A connection for an exchange: the one that is kept, where it may serve another, or a new one.
@@ -145,13 +159,42 @@ impl<R: Net + Drop> Link for TcpLink<R> {
     fn exchange(&mut self, request: &[u8], reply: &mut Bytes) -> Result<(), LinkFault> {
         self.calls += 1;
         match self.go(request, reply) {
-            Ok(()) => Ok(()),
+            Ok(()) => {
+                self.failing = None;
+                Ok(())
+            }
             Err(error) if error.kind() == ErrorKind::OutOfMemory => Err(LinkFault::Memory),
-            Err(_) => {
+            Err(error) => {
+                self.failing = Some(cause_of(&error, self.limit));
                 self.faults = self.faults.saturating_add(1);
                 Err(LinkFault::Failed)
             }
         }
+    }
+}
+
+impl<R: Net> Explains for TcpLink<R> {
+    /// None where the last exchange went well.
+    fn cause(&self) -> Option<Cause> {
+        self.failing
+    }
+}
+
+/// Why an exchange failed with that error, under a limit of time of so many seconds. A read or a write past it is `WouldBlock`, and
+/// connecting is a `TimedOut` that isn't the system's own.
+fn cause_of(error: &io::Error, limit: u64) -> Cause {
+    match error.kind() {
+        ErrorKind::NotFound => Cause::NotFound,
+        ErrorKind::ConnectionRefused => Cause::Refused,
+        ErrorKind::HostUnreachable | ErrorKind::NetworkUnreachable => Cause::Unreachable,
+        ErrorKind::WouldBlock => Cause::Silent(limit),
+        ErrorKind::TimedOut if error.raw_os_error().is_none() => Cause::Silent(limit),
+        ErrorKind::TimedOut => Cause::TimedOut,
+        ErrorKind::UnexpectedEof => Cause::Closed,
+        ErrorKind::ConnectionReset | ErrorKind::ConnectionAborted => Cause::Closed,
+        ErrorKind::BrokenPipe | ErrorKind::WriteZero => Cause::Closed,
+        ErrorKind::InvalidData => Cause::Unframed,
+        _ => Cause::Other,
     }
 }
 

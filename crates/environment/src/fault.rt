@@ -1,0 +1,124 @@
+//! Why a program can't begin.
+
+use gate_base::{Bytes, Memory};
+use itoa::Buffer;
+use std::alloc::Global;
+use std::io::{ErrorKind, Write};
+
+/// What is wrong with a variable, or with what it names.
+#[derive(Clone, Copy, Debug, PartialEq, Eq)]
+pub enum Why {
+    /// It isn't there, or has no byte.
+    Missing,
+    Empty,
+    /// It, or the file that it names, isn't UTF-8.
+    NotText,
+    /// It isn't 1 to 1024 bytes of visible ASCII.
+    NotField,
+    /// It isn't a number from 1 to this one.
+    NotNumber(u64),
+    /// It is neither `on` nor `off`.
+    NotSwitch,
+    /// It has a scheme, as `http://`, where a host and a port are wanted.
+    Scheme,
+    /// It doesn't end in a colon and a port, or has nothing before them.
+    NoPort,
+    NoHost,
+    /// The system's answers.
+    NotFound,
+    InUse,
+    Elsewhere,
+    Denied,
+    CannotListen,
+    NoFile,
+    Folder,
+    FileDenied,
+    Unreadable,
+}
+
+/// Why a program can't begin: memory ran out, or a variable won't do.
+#[derive(Clone, Copy, Debug, PartialEq, Eq)]
+pub enum SetupFault {
+    Memory,
+    Variable(&'static str, Why),
+}
+
+impl From<Memory> for SetupFault {
+    fn from(_: Memory) -> SetupFault {
+        SetupFault::Memory
+    }
+}
+
+impl Why {
+    /// The cause where a file can't be read.
+    pub fn of_file(kind: ErrorKind) -> Why {
+        match kind {
+            ErrorKind::NotFound => Why::NoFile,
+            ErrorKind::PermissionDenied => Why::FileDenied,
+            ErrorKind::IsADirectory => Why::Folder,
+            ErrorKind::InvalidData => Why::NotText,
+            _ => Why::Unreadable,
+        }
+    }
+
+    /// The cause where nothing can listen at a place.
+    pub fn of_listener(kind: ErrorKind) -> Why {
+        match kind {
+            ErrorKind::AddrInUse => Why::InUse,
+            ErrorKind::AddrNotAvailable => Why::Elsewhere,
+            ErrorKind::PermissionDenied => Why::Denied,
+            ErrorKind::Uncategorized => Why::NotFound,
+            _ => Why::CannotListen,
+        }
+    }
+
+    fn text(self) -> &'static [u8] {
+        match self {
+            Why::Missing => b"missing",
+            Why::Empty => b"empty",
+            Why::NotText => b"not UTF-8",
+            Why::NotField => b"not 1 to 1024 bytes of visible ASCII",
+            Why::NotNumber(_) => b"not a number from 1 to ",
+            Why::NotSwitch => b"neither on nor off",
+            Why::Scheme => b"has a scheme, where HOST:PORT is wanted",
+            Why::NoPort => b"no port, where HOST:PORT is wanted",
+            Why::NoHost => b"no host, where HOST:PORT is wanted",
+            Why::NotFound => b"cannot be looked up",
+            Why::InUse => b"address in use",
+            Why::Elsewhere => b"no address of this machine",
+            Why::Denied => b"permission denied",
+            Why::CannotListen => b"cannot be listened at",
+            Why::NoFile => b"cannot be read: no such file",
+            Why::Folder => b"cannot be read: a folder",
+            Why::FileDenied => b"cannot be read: permission denied",
+            Why::Unreadable => b"cannot be read",
+        }
+    }
+}
+
+/// The line that says why, with its end: the variable's name, a colon, and the cause. Nothing of the variable's text is in it.
+pub fn setup_line(alloc: Global, name: &str, why: Why) -> Result<Bytes, Memory> {
+    let mut line = Bytes::from_slice(alloc, name.as_bytes())?;
+    append_why(&mut line, why)?;
+    line.append(b"\n")?;
+    Ok(line)
+}
+
+fn append_why(line: &mut Bytes, why: Why) -> Result<(), Memory> {
+    line.append(b": ")?;
+    line.append(why.text())?;
+    if let Why::NotNumber(most) = why {
+        let mut digits = Buffer::new();
+        return line.append(digits.format(most).as_bytes());
+    }
+    Ok(())
+}
+
+/// Writes that the program can't begin, and why, to standard error: that line first, and then the one that says why.
+pub fn report_setup(rt: &HostRuntime, line: &[u8], name: &str, why: Why) {
+    let mut output = rt.stderr();
+    let _ = output.write_all(line);
+    if let Ok(second) = setup_line(rt.alloc(), name, why) {
+        let _ = output.write_all(second.as_slice());
+    }
+}

@@ -1,0 +1,62 @@
+//! Where the lines of a log go, and the time.
+
+use gate_base::{Bytes, Memory, Sink};
+use std::alloc::Global;
+use std::time::{Clock, Duration};
+
+/// A log on a sink. A line that finds no memory isn't written, and what becomes of one that is isn't asked.
+#[derive(Drop)]
+pub struct Log<K, R> {
+    rt: R,
+    alloc: Global,
+    sink: K,
+    is_on: bool,
+}
+
+impl<K: Sink, R: Clock> Log<K, R> {
+    /// A log on that sink. One that isn't on writes nothing, and never reads the clock.
+    pub fn new(rt: R, alloc: Global, sink: K, is_on: bool) -> Log<K, R> {
+        Log {
+            rt,
+            alloc,
+            sink,
+            is_on,
+        }
+    }
+
+    pub(crate) fn is_on(&self) -> bool {
+        self.is_on
+    }
+
+    pub(crate) fn alloc(&self) -> Global {
+        self.alloc
+    }
+
+    /// The moment, in milliseconds since the beginning of 1970; 0 where the clock can't be read.
+    pub(crate) fn moment(&self) -> u64 {
+        match self.rt.since_1970() {
+            Ok(time) => milliseconds(time),
+            Err(_) => 0,
+        }
+    }
+
+    /// Milliseconds on a clock that never goes back; 0 where it can't be read.
+    pub(crate) fn ticks(&self) -> u64 {
+        match self.rt.monotonic() {
+            Ok(time) => milliseconds(time),
+            Err(_) => 0,
+        }
+    }
+
+    /// Writes one line, by one call.
+    pub(crate) fn put(&mut self, line: Result<Bytes, Memory>) {
+        if let Ok(line) = line {
+            let _ = self.sink.put(line.as_slice());
+        }
+    }
+}
+
+fn milliseconds(time: Duration) -> u64 {
+    let part = time.subsec_millis() as u64;
+    time.as_secs().saturating_mul(1000).saturating_add(part)
+}

@@ -1,0 +1,107 @@
+//! A store whose failures are logged.
+ghost use Rattle.std.specs.Prelude.{◌≡◌};
+
+use crate::cause::{Cause, Explains, append_cause};
+use crate::log::Log;
+use crate::moment::moment_text;
+use gate_base::{Bytes, Counted, Memory, Sink};
+use std::alloc::Global;
+use std::time::Clock;
+use swift_calls::{Swift, SwiftFault, SwiftReply, SwiftRequest};
+
+/// A store over another, which does whatever that one does, and logs the first call that fails, each failed one with another cause
+/// than the last, and the first that is answered again.
+#[derive(Drop)]
+pub struct LoggedStore<W, K, R> {
+    store: W,
+    log: Log<K, R>,
+    /// Where the store is, as the log names it.
+    place: Bytes,
+    /// Why the last call failed; none where it was answered.
+    failing: Option<Cause>,
+}
+
+impl<W, K: Sink, R: Clock> LoggedStore<W, K, R> {
+    /// The store, which the log names by that place.
+    pub fn new(store: W, log: Log<K, R>, place: Bytes) -> LoggedStore<W, K, R>
+        ensures { result.store ≡ store }
+    {
+        LoggedStore {
+            store,
+            log,
+            place,
+            failing: None,
+        }
+    }
+
+    /// The last call was answered, or failed for that cause.
+    fn note(&mut self, failing: Option<Cause>)
+        ensures { self.new.store ≡ self.old.store }
+    {
+        if self.failing == failing {
+            return;
+        }
+        self.failing = failing;
+        let line = store_line(
+            self.log.alloc(),
+            self.log.moment(),
+            self.place.as_slice(),
+            failing,
+        );
+        self.log.put(line);
+    }
+}
+
+/// The line, with its end: time, `store`, the place and a colon, and the cause or that it is well again.
+fn store_line(
+    alloc: Global,
+    moment: u64,
+    place: &[u8],
+    failing: Option<Cause>,
+) -> Result<Bytes, Memory> {
+    let mut line = Bytes::from_slice(alloc, &moment_text(moment))?;
+    append_place(&mut line, place)?;
+    match failing {
+        Some(cause) => append_cause(&mut line, cause)?,
+        None => line.append(b"well again")?,
+    }
+    line.append(b"\n")?;
+    Ok(line)
+}
+
+fn append_place(line: &mut Bytes, place: &[u8]) -> Result<(), Memory> {
+    line.append(b" store ")?;
+    line.append(place)?;
+    line.append(b": ")
+}
+
+impl<W: Counted, K, R> Counted for LoggedStore<W, K, R> {
+    ghost called = { λ logged. W.called logged.store };
+
+    fn calls(&self) -> u64 {
+        self.store.calls()
+    }
+}
+
+impl<W: Swift + Explains, K: Sink, R: Clock> Swift for LoggedStore<W, K, R> {
+    ghost history = { λ logged. W.history logged.store };
+
+    ghost counted = { λ logged. W.counted logged.store };
+
+    ghost is_history = { λ logged. W.is_history logged.store };
+
+    fn call(&mut self, request: &SwiftRequest) -> Result<SwiftReply, SwiftFault> {
+        let result = self.store.call(request);
+        if self.log.is_on() {
+            match &result {
+                Ok(_) => self.note(None),
+                Err(SwiftFault::Failed) => {
+                    let cause = self.store.cause().unwrap_or(Cause::Other);
+                    self.note(Some(cause));
+                }
+                Err(SwiftFault::Memory) => {}
+            }
+        }
+        result
+    }
+}
