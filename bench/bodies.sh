@@ -10,7 +10,7 @@
 set -euo pipefail
 cd "$(dirname "$0")/.."
 exec python3 - "$@" <<'PYTHON'
-import datetime, fcntl, hashlib, importlib.util, os, random, struct, subprocess, sys, tempfile, termios, threading, time
+import base64, datetime, fcntl, hashlib, importlib.util, os, random, struct, subprocess, sys, tempfile, termios, threading, time
 
 sys.dont_write_bytecode = True
 spec = importlib.util.spec_from_file_location("sign", "examples/sign.py")
@@ -23,13 +23,14 @@ SIZE = 1 << 24
 MIB = SIZE >> 20
 BODY = random.Random(1).randbytes(SIZE)
 HASH = hashlib.sha256(BODY).hexdigest()
+DIGEST = "\r\nContent-MD5: " + base64.b64encode(hashlib.md5(BODY).digest()).decode()
 KEY = sign.first_key()
 
 
-def request(line, body=b"", payload="UNSIGNED-PAYLOAD"):
-    """The bytes of a signed request."""
+def request(line, body=b"", payload="UNSIGNED-PAYLOAD", more=""):
+    """The bytes of a signed request, with more lines of its head if they are given."""
     now = datetime.datetime.now(datetime.timezone.utc)
-    head = f"{line} HTTP/1.1\r\nContent-Length: {len(body)}"
+    head = f"{line} HTTP/1.1\r\nContent-Length: {len(body)}{more}"
     return sign.signed(head, *KEY, now, payload).encode() + b"\r\n\r\n" + body
 
 
@@ -133,10 +134,11 @@ def body_rows():
         yield words[0], run.clock, run.processor, run.memory
     bucket = request("PUT /photos")
     plain, hashed = request("PUT /photos/k", BODY), request("PUT /photos/k", BODY, HASH)
+    digested = request("PUT /photos/k", BODY, more=DIGEST)
     none, empty, one = session([], []), session([bucket], [200]), session([bucket, plain], [200, 200])
     run = session([b"PUT /photos HTTP/1.1\r\nContent-Length: %d\r\n\r\n" % SIZE + BODY] * REQUESTS, [400] * REQUESTS)
     yield "read, and answered 400", run.clock - none.clock, run.processor - none.processor, run.memory
-    for name, put in ("PUT, UNSIGNED-PAYLOAD", plain), ("PUT, its hash signed", hashed):
+    for name, put in ("PUT, UNSIGNED-PAYLOAD", plain), ("PUT, with Content-MD5", digested), ("PUT, its hash signed", hashed):
         run = session([bucket] + [put] * REQUESTS, [200] * (REQUESTS + 1))
         yield name, run.clock - empty.clock, run.processor - empty.processor, run.memory
     run = session([bucket, plain] + [request("GET /photos/k")] * REQUESTS, [200] * (REQUESTS + 2))

@@ -7,10 +7,14 @@ Storage API v1 says. Only Python's own libraries are used.
     Store(spell=quoted)                 answers are spelled by another function than `plain`
 """
 import contextlib
+import fcntl
 import hashlib
 import json
 import socket
+import struct
+import termios
 import threading
+import time
 from urllib.parse import parse_qs, unquote, unquote_to_bytes
 
 ACCOUNT, TOKEN = "acct", "token"
@@ -80,9 +84,18 @@ def ordinary(store, call, stream):
     return True
 
 
+def arrived(store, stream):
+    """Waits until the client's system has all that was sent, the end too: on a busy machine that takes a while."""
+    while struct.unpack("i", fcntl.ioctl(stream, termios.TIOCOUTQ, bytes(4)))[0] and not store.over.is_set():
+        time.sleep(0.001)
+
+
 def ordinary_and_closed(store, call, stream):
-    """The store says nothing of it beforehand."""
+    """The store says nothing of it beforehand. The end is said by a shutdown: a program that another thread is about to start shares
+    the connection until it begins, so that closing it here doesn't end it yet."""
     ordinary(store, call, stream)
+    stream.shutdown(socket.SHUT_WR)
+    arrived(store, stream)
     return False
 
 
@@ -91,6 +104,7 @@ def unasked(store, call, stream):
     ordinary(store, call, stream)
     store.over.wait(0.3)
     stream.sendall(http(200, body=b"[]"))
+    arrived(store, stream)
     store.said_more.set()
     return True
 

@@ -36,25 +36,3 @@ fn append_hex(alloc: Global, digits: &str, to: &mut Bytes) -> Result<(), Fault> 
         Err(_) => Err(Fault::Unread("no hexadecimal digits")),
     }
 }
-
-/// Appends the bytes in the notation that [`unescaped`] reads: all but visible ASCII and spaces is escaped.
-pub fn show(bytes: &[u8], to: &mut Bytes) -> Result<(), Fault> {
-    for byte in bytes {
-        if (32..=126).contains(byte) && *byte != b'\\' {
-            to.push(*byte)?;
-        } else {
-            to.push(b'\\')?;
-            to.push(digit(*byte / 16))?;
-            to.push(digit(*byte % 16))?;
-        }
-    }
-    Ok(())
-}
-
-fn digit(value: u8) -> u8 {
-    match value {
-        0..=9 => b'0' + value,
-        10..=15 => b'a' + (value - 10),
-        _ => b'?',
-    }
-}

@@ -15,30 +15,9 @@
 //! its canonical request, with `;` between the signed names. `is-date-time TEXT` tells whether a time has the form of one.
 //! `hmac KEY` is the code of the bytes by a key in hexadecimal digits. `secret ID` is the secret of an id, by a copy of the keys
 //! that the bytes give. `first [CALL]` signs the first request of a line, while its call of that number fails, and
-//! `first-of-none` one of a line of no connection.
-mod fronts;
-mod pages;
-mod signatures;
-pub(crate) mod talk;
-
-use case_text::Fault;
-use std::alloc::Global;
-
-/// Tells what a verb gives. `false` where this file has no such verb: then nothing is told.
-pub(crate) fn answer_http(
-    alloc: Global,
-    verb: &str,
-    text: &str,
-    given: &[u8],
-    told: &mut String,
-) -> Result<bool, Fault> {
-    match verb {
-        "messages" => fronts::messages(alloc, text, given, false, told)?,
-        "lengths" => fronts::messages(alloc, text, given, true, told)?,
-        "front" => fronts::front(alloc, text, given, told)?,
-        "page" => pages::page(alloc, text, given, told)?,
-        "memory" => pages::memory(alloc, text, told)?,
-        _ => return signatures::answer(alloc, verb, text, given, told),
-    }
-    Ok(true)
-}
+//! `first-of-none` one of a line of no connection. `verify-query MOMENT` tells of a presigned request what `verify` does, and
+//! `presign MOMENT SECONDS` the URL for a request.
+pub(crate) mod fronts;
+pub(crate) mod pages;
+pub(crate) mod presigned;
+pub(crate) mod signatures;

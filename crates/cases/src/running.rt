@@ -1,93 +1,112 @@
 //! How the program is run: over any store, on a line that is lent.
-ghost use Rattle.std.specs.Prelude.{◌≡◌, IfOk, nat_lt};
+ghost use Rattle.std.specs.Prelude.{◌≡◌, nat_lt};
 ghost use Rattle.std.specs.List.{list_all};
 ghost use Rattle.gate_base.specs.declared.outside.TheConstants.{MOMENT_LIMIT};
-ghost use Rattle.swift_calls.specs.Account.{IsOrdered, IsSized};
 
-use crate::given::Given;
-use crate::told::tell_bytes;
+use crate::given::{Given, behind, connections, keys, moments, numbers, words};
+use crate::told::{Told, tell_bytes};
 use case_text::Fault;
-use gate_base::{Copying, Counted, List, ListClock, ListDraws, MOMENT_LIMIT, MemLine, MemSink};
+use gate_base::{Bytes, Counted, List, ListClock, ListDraws, MOMENT_LIMIT, MemLine, MemSink};
 use gateway_cmd::run;
 use std::alloc::Global;
-use std::fmt::Write;
 use swift_calls::{Account, MemSwift, Swift};
 
 /// The most bytes that a read gives, where no case looks at that.
 pub(crate) const LARGE: u64 = 65_536;
 
-/// Runs the program over a store, and tells its status and its report.
+/// Runs the program over a store, and tells its status and its report. Whether the status is 0.
 pub(crate) fn run_on<W: Swift>(
     alloc: Global,
-    given: &Given,
+    given: Given<'_>,
     store: &mut W,
     line: &mut MemLine,
-    told: &mut String,
-) -> Result<u8, Fault> {
-    let mut report = MemSink::new(alloc, given.unreported.copy()?);
-    run_with(alloc, given, store, line, &mut report, told)
+    told: &mut Told,
+) -> bool {
+    let keys = keys(alloc, given);
+    told.note_of(&keys);
+    let mut report = MemSink::new(alloc, numbers(alloc, given, "unreported", "", told));
+    let status = run_with(alloc, given, keys.text(), store, line, &mut report, told);
+    told.say("status ");
+    told.show(&u64::from(status));
+    told.say("\n");
+    tell_report(alloc, report.bytes(), told);
+    status == 0
 }
 
 fn run_with<W: Swift>(
     alloc: Global,
-    given: &Given,
+    given: Given<'_>,
+    keys: &str,
     store: &mut W,
     line: &mut MemLine,
     report: &mut MemSink,
-    told: &mut String,
-) -> Result<u8, Fault> {
-    let mut clock = clock_of(given)?;
-    let status = call(alloc, given, store, line, report, &mut clock);
-    tell_end(alloc, status, report.bytes(), told)?;
-    Ok(status)
+    told: &mut Told,
+) -> u8 {
+    let text = match behind(given, "words") {
+        Some(text) => text,
+        None => "session",
+    };
+    let words = words(alloc, text, told);
+    match clock(alloc, given, told) {
+        Some(mut clock) => call(alloc, &words, keys, store, line, report, &mut clock),
+        None => 0,
+    }
 }
 
 fn call<W: Swift>(
     alloc: Global,
-    given: &Given,
+    words: &[String],
+    keys: &str,
     store: &mut W,
     line: &mut MemLine,
     report: &mut MemSink,
     clock: &mut ListClock,
 ) -> u8 {
     let mut draws = ListDraws::new(List::new(alloc));
-    run(
-        alloc,
-        &given.words,
-        given.keys.as_str(),
-        line,
-        report,
-        store,
-        clock,
-        &mut draws,
-    )
+    run(alloc, words, keys, line, report, store, clock, &mut draws)
 }
 
-fn tell_end(alloc: Global, status: u8, report: &[u8], told: &mut String) -> Result<(), Fault> {
-    write!(told, "status {status}\n")?;
-    if report.is_empty() {
-        return Ok(());
+fn tell_report(alloc: Global, report: &[u8], told: &mut Told) {
+    if !report.is_empty() {
+        told.say("report\n");
+        tell_bytes(alloc, report, told);
     }
-    told.push_str("report\n")?;
-    tell_bytes(alloc, report, told)
 }
 
 /// A line whose reads give so many bytes at most.
-pub(crate) fn line_of(alloc: Global, given: &Given, size: u64) -> Result<MemLine, Fault> {
-    let piece = size as usize;
-    if piece == 0 {
-        return Err(Fault::Unread("a read of at most 0 bytes"));
-    }
-    let connections = given.connections.copy()?;
-    Ok(MemLine::new(alloc, connections, piece, given.fails.copy()?)?)
+pub(crate) fn line_of(
+    alloc: Global,
+    given: Given<'_>,
+    size: u64,
+    told: &mut Told,
+) -> Option<MemLine> {
+    let fails = numbers(alloc, given, "fails", "", told);
+    let connections = connections(alloc, given, told);
+    line_with(alloc, connections, size, fails, told)
 }
 
-fn clock_of(given: &Given) -> Result<ListClock, Fault> {
-    let moments = given.moments.copy()?;
-    if moments.is_empty() || !are_moments(moments.as_slice()) {
-        return Err(Fault::Unread("no moments of a clock"));
+pub(crate) fn line_with(
+    alloc: Global,
+    connections: List<Bytes>,
+    size: u64,
+    fails: List<u64>,
+    told: &mut Told,
+) -> Option<MemLine> {
+    let piece = size as usize;
+    if piece == 0 {
+        told.note(Fault::Unread("a read of at most 0 bytes"));
+        return None;
     }
-    Ok(ListClock::new(moments))
+    told.keep(MemLine::new(alloc, connections, piece, fails))
+}
+
+pub(crate) fn clock(alloc: Global, given: Given<'_>, told: &mut Told) -> Option<ListClock> {
+    let moments = moments(alloc, given, told);
+    if moments.is_empty() || !are_moments(moments.as_slice()) {
+        told.note(Fault::Unread("no moments of a clock"));
+        return None;
+    }
+    Some(ListClock::new(moments))
 }
 
 fn are_moments(moments: &[u64]) -> bool
@@ -103,69 +122,52 @@ fn is_moment(moment: u64) -> bool
 }
 
 /// A store without a container.
-pub(crate) fn empty_store(alloc: Global) -> Result<MemSwift, Fault> {
+pub(crate) fn empty_store(alloc: Global, told: &mut Told) -> Option<MemSwift> {
     let account = Account {
         containers: List::new(alloc),
     };
-    Ok(MemSwift::new(alloc, account, List::new(alloc), List::new(alloc), 0)?)
+    let store = MemSwift::new(alloc, account, List::new(alloc), List::new(alloc), 0);
+    told.keep(store)
 }
 
-/// Which calls of a store fail: the number of one whose request is lost, of one whose answer is, of the first of those that
-/// all fail; 0 is none.
-#[derive(Clone, Copy)]
-pub(crate) struct Loss {
-    pub(crate) before: u64,
-    pub(crate) after: u64,
-    pub(crate) stop: u64,
-}
-
-/// No call fails.
-pub(crate) const NO_LOSS: Loss = Loss {
-    before: 0,
-    after: 0,
-    stop: 0,
-};
-
-/// A store with the account that another had after `at` calls.
+/// A store with the account that another had after `at` calls, whose calls don't fail.
 pub(crate) fn store_at(
     alloc: Global,
     first: &MemSwift,
     at: u64,
-    loss: &Loss,
-) -> Result<MemSwift, Fault> {
-    let before = one(alloc, loss.before)?;
-    let after = one(alloc, loss.after)?;
-    let account = account_at(first, at)?;
-    Ok(MemSwift::new(alloc, account, before, after, loss.stop)?)
+    told: &mut Told,
+) -> Option<MemSwift> {
+    store_with(
+        alloc,
+        first,
+        at,
+        List::new(alloc),
+        List::new(alloc),
+        0,
+        told,
+    )
 }
 
-/// A store with the account that another has, whose calls fail as a case says.
-pub(crate) fn store_after(
+/// The same, but the calls of these numbers fail without effect, or after their effect, and all from the last number on, which
+/// may be 0 for none.
+pub(crate) fn store_with(
     alloc: Global,
-    given: &Given,
     first: &MemSwift,
-) -> Result<MemSwift, Fault> {
-    let before = given.before.copy()?;
-    let after = given.after.copy()?;
-    let account = account_at(first, first.calls())?;
-    Ok(MemSwift::new(alloc, account, before, after, given.stop)?)
-}
-
-/// The number alone, or none where it is 0.
-fn one(alloc: Global, number: u64) -> Result<List<u64>, Fault> {
-    let mut numbers = List::new(alloc);
-    if number != 0 {
-        numbers.push(number)?;
-    }
-    Ok(numbers)
-}
-
-fn account_at(first: &MemSwift, at: u64) -> Result<Account, Fault>
-    ensures ordered { IfOk result IsOrdered }
-    ensures sized { IfOk result IsSized }
-{
+    at: u64,
+    before: List<u64>,
+    after: List<u64>,
+    stop: u64,
+    told: &mut Told,
+) -> Option<MemSwift> {
     if first.calls() < at {
-        return Err(Fault::Unread("no such call"));
+        told.note(Fault::Unread("no such call"));
+        return None;
     }
-    Ok(first.account_at(at)?)
+    match first.account_at(at) {
+        Ok(account) => told.keep(MemSwift::new(alloc, account, before, after, stop)),
+        Err(_) => {
+            told.note(Fault::Memory);
+            None
+        }
+    }
 }

@@ -1,73 +1,51 @@
 //! What requests mean.
-use crate::cases::first_word;
+use crate::cases::cut_text;
+use crate::machine::settings_of;
 use crate::s3_verbs::caller_of;
 use crate::s3_verbs_message::message_of;
-use crate::told::tell;
-use case_text::Fault;
-use gate_base::{Bytes, Caller, Copying};
+use crate::told::{Told, tell, tell_copied};
+use gate_base::Caller;
 use http_wire::Message;
-use s3_machine::{Code, Settings};
+use s3_machine::Code;
 use s3_names::Target;
 use s3_requests::{Meant, meaning};
 use std::alloc::Global;
 
 /// `CALLER METHOD TARGET` tells what a request means. The lines `>` are its headers, and behind an empty one its body; where
-/// nothing stands behind CALLER, they are the whole request. Not `whole`, an operation is told by that word alone.
-pub(crate) fn meaning_verb(
-    alloc: Global,
-    whole: bool,
-    text: &str,
-    given: &[u8],
-    told: &mut String,
-) -> Result<(), Fault> {
-    let (word, line) = first_word(text);
-    let caller = caller_of(word)?;
-    let mut message = message_of(alloc, line, given)?;
-    by_message(alloc, whole, caller, &mut message, told)
+/// nothing stands behind CALLER, they are the whole request. By `code` an operation is told by that word alone.
+pub(crate) fn meaning_verb(alloc: Global, verb: &str, text: &str, given: &[u8], told: &mut Told) {
+    let (word, line) = cut_text(text, ' ');
+    let caller = caller_of(word, told);
+    if let Some(mut message) = message_of(alloc, line, given, told) {
+        by_message(alloc, verb, caller, &mut message, told);
+    }
 }
 
 /// A target that can't be read has the code InvalidURI before anything else is looked at.
-fn by_message(
-    alloc: Global,
-    whole: bool,
-    caller: Caller,
-    message: &mut Message,
-    told: &mut String,
-) -> Result<(), Fault> {
+fn by_message(alloc: Global, verb: &str, caller: Caller, message: &mut Message, told: &mut Told) {
     match Target::read(alloc, message.target.as_slice()) {
-        Ok(target) => by_target(alloc, whole, caller, message, &target, told),
+        Ok(target) => by_target(alloc, verb, caller, message, &target, told),
         Err(_) => tell(&Meant::Refused(Code::InvalidURI), told),
     }
 }
 
 fn by_target(
     alloc: Global,
-    whole: bool,
+    verb: &str,
     caller: Caller,
     message: &mut Message,
     target: &Target,
-    told: &mut String,
-) -> Result<(), Fault> {
-    let settings = settings_of(alloc)?;
-    let meant = meaning(alloc, message, target, &caller, &settings);
-    tell_meant(whole, &meant, told)
-}
-
-/// A copy of the settings that cases have.
-fn settings_of(alloc: Global) -> Result<Settings, Fault> {
-    let settings = Settings {
-        region: Bytes::from_slice(alloc, b"us-east-1")?,
-        least_part: 5_242_880,
-    };
-    Ok(settings.copy()?)
-}
-
-fn tell_meant(whole: bool, meant: &Meant, told: &mut String) -> Result<(), Fault> {
-    if whole {
-        return tell(&meant.copy()?, told);
+    told: &mut Told,
+) {
+    if let Some(settings) = settings_of(alloc, b"us-east-1", told) {
+        let meant = meaning(alloc, message, target, &caller, &settings);
+        tell_meant(verb, &meant, told);
     }
+}
+
+fn tell_meant(verb: &str, meant: &Meant, told: &mut Told) {
     match meant {
-        Meant::Op(_) => Ok(told.push_str("operation\n")?),
-        _ => tell(meant, told),
+        Meant::Op(_) if verb == "code" => told.say("operation\n"),
+        _ => tell_copied(meant, told),
     }
 }

@@ -1,55 +1,52 @@
 //! The messages that cases give.
+use crate::given::unescaped_of;
 use crate::talk::Talk;
-use case_text::{Fault, unescaped};
-use gate_base::{Bytes, List, Pair};
+use crate::told::{Told, bytes_of, text_of};
+use case_text::Fault;
+use gate_base::{List, Pair};
 use http_wire::Message;
 use std::alloc::Global;
 
 /// The message of a request line without its version, or of none, and of the lines below it. In the values of its headers
 /// `\HH` stands for a byte, so that they may have bytes that no connection gives.
-pub(crate) fn message_of(alloc: Global, line: &str, given: &[u8]) -> Result<Message, Fault> {
-    let mut bytes = Bytes::new(alloc);
-    fill(line, given, &mut bytes)?;
-    unescaped_message(alloc, first_of(alloc, &bytes)?)
-}
-
-fn fill(line: &str, given: &[u8], to: &mut Bytes) -> Result<(), Fault> {
-    if !line.is_empty() {
-        to.append(line.as_bytes())?;
-        to.append(b" HTTP/1.1\r\n")?;
+pub(crate) fn message_of(
+    alloc: Global,
+    line: &str,
+    given: &[u8],
+    told: &mut Told,
+) -> Option<Message> {
+    let version = if line.is_empty() { "" } else { " HTTP/1.1\r\n" };
+    let mut bytes = bytes_of(alloc, line.as_bytes(), told);
+    for part in [version.as_bytes(), given, b"\r\n".as_slice()] {
+        let done = bytes.append(part);
+        told.check(done);
     }
-    to.append(given)?;
-    Ok(to.append(b"\r\n")?)
+    message_on(alloc, bytes.as_slice(), told)
 }
 
-/// The first message of a connection of these bytes.
-fn first_of(alloc: Global, bytes: &Bytes) -> Result<Message, Fault> {
-    let mut talk = Talk::open(alloc, bytes)?;
-    match talk.next() {
-        Some(message) => Ok(message),
-        None => Err(Fault::Unread("no request")),
+fn message_on(alloc: Global, given: &[u8], told: &mut Told) -> Option<Message> {
+    match Talk::open(alloc, given, told) {
+        Some(mut talk) => match talk.next_message() {
+            Some(message) => Some(unescaped_message(alloc, message, told)),
+            None => {
+                told.note(Fault::Unread("no request"));
+                None
+            }
+        },
+        None => None,
     }
 }
 
-fn unescaped_message(alloc: Global, message: Message) -> Result<Message, Fault> {
-    let mut message = message;
-    unescape(alloc, &mut message.headers)?;
-    Ok(message)
+fn unescaped_message(alloc: Global, mut message: Message, told: &mut Told) -> Message {
+    unescape(alloc, &mut message.headers, told);
+    message
 }
 
-fn unescape(alloc: Global, headers: &mut List<Pair>) -> Result<(), Fault> {
+fn unescape(alloc: Global, headers: &mut List<Pair>, told: &mut Told) {
     for at in 0..headers.len() {
         if at < headers.len() {
-            unescape_value(alloc, headers.at_mut(at))?;
+            let header = headers.at_mut(at);
+            header.value = unescaped_of(alloc, text_of(header.value.as_slice(), told), told);
         }
     }
-    Ok(())
-}
-
-fn unescape_value(alloc: Global, header: &mut Pair) -> Result<(), Fault> {
-    let Ok(text) = str::from_utf8(header.value.as_slice()) else {
-        return Err(Fault::Unread("a header isn't UTF-8"));
-    };
-    header.value = unescaped(alloc, text)?;
-    Ok(())
 }

@@ -1,25 +1,27 @@
-//! The pages of replies that cases give.
-ghost use Rattle.std.specs.Prelude.{◌≢◌, IsTrue};
-ghost use Rattle.std.specs.List.{All};
-ghost use Rattle.s3_machine.specs.Shown.{IsShowable, IsShownPart, IsShownUpload};
-
-use crate::cases::first_word;
-use crate::machine::{are_dated, are_items_dated, shows};
+//! The pages of replies that cases give. What a reply bears stands in fields `name: value`. Each field `item` of one that lists
+//! has four words, of which the last may have spaces: `MOMENT NUMBER WORD TEXT`. Of a bucket they are `CREATED 0 - NAME`; of an
+//! object `MODIFIED SIZE ETAG KEY`, and of a common prefix `0 0 - PREFIX`; of an upload `STARTED ID - KEY`; of a part
+//! `MODIFIED SIZE NUMBER ETAG`.
+use crate::cases::cut_text;
+use crate::given::number_of;
+use crate::machine::is_shown;
 use crate::s3_verbs::acl_of;
-use crate::s3_verbs_lists::{buckets, objects, parts, uploads};
 use crate::s3_verbs_message::message_of;
-use crate::told::tell;
+use crate::told::{Told, bytes_of, tell_copied, text_of};
 use case_text::Fault;
-use gate_base::{Bytes, Caller, Copying, MOMENT_LIMIT, Pair};
-use http_wire::{Message, first_value};
-use s3_machine::{Code, Label, ObjectHead, PartItem, Reply, UploadItem};
+use gate_base::{Bytes, Caller, Copying, List, MOMENT_LIMIT, Pair, cut};
+use http_wire::{Message, first_value, has_header};
+use s3_machine::{
+    Asked, BucketItem, Code, Item, ItemHead, Label, ObjectHead, PartItem, Reply, UploadItem,
+};
 use s3_names::Meta;
 use s3_pages::page;
 use std::alloc::Global;
 
-const CODES: [Code; 33] = [
+const CODES: [Code; 34] = [
     Code::AccessDenied,
     Code::AuthorizationHeaderMalformed,
+    Code::AuthorizationQueryParametersError,
     Code::BadDigest,
     Code::BucketAlreadyOwnedByYou,
     Code::BucketNotEmpty,
@@ -55,264 +57,339 @@ const CODES: [Code; 33] = [
 
 /// `REPLY MOMENT ID` tells the page of a reply, at that moment and to the request of that number. What the reply bears stands
 /// on the lines `>` as headers, `name: value`, and behind an empty line the bytes of an object.
-pub(crate) fn page_verb(
-    alloc: Global,
-    text: &str,
-    given: &[u8],
-    told: &mut String,
-) -> Result<(), Fault> {
-    let (name, words) = first_word(text);
-    let label = label_of(words)?;
-    let message = message_of(alloc, "GET /", given)?;
-    page_by(alloc, name, &label, &message, told)
-}
-
-/// `MOMENT ID`.
-fn label_of(text: &str) -> Result<Label, Fault> {
-    let (moment, id) = first_word(text);
-    let (moment, request_id) = (number(moment.as_bytes())?, id_of(id.as_bytes())?);
-    Ok(Label {
+pub(crate) fn page_verb(alloc: Global, text: &str, given: &[u8], told: &mut Told) {
+    let (name, words) = cut_text(text, ' ');
+    let (moment, id) = cut_text(words, ' ');
+    let label = Label {
         caller: Caller::Owner,
-        moment,
-        request_id,
+        moment: number_of(moment, told),
+        request_id: id_of(id.as_bytes(), told),
         draw: 7,
-    })
+    };
+    if let Some(message) = message_of(alloc, "GET /", given, told) {
+        page_with(alloc, name, &label, &message, told);
+    }
 }
 
-fn page_by(
-    alloc: Global,
-    name: &str,
-    label: &Label,
-    message: &Message,
-    told: &mut String,
-) -> Result<(), Fault> {
+fn page_with(alloc: Global, name: &str, label: &Label, message: &Message, told: &mut Told) {
     let fields = message.headers.as_slice();
-    page_with(alloc, name, label, fields, &message.body, told)
-}
-
-fn page_with(
-    alloc: Global,
-    name: &str,
-    label: &Label,
-    fields: &[Pair],
-    body: &Bytes,
-    told: &mut String,
-) -> Result<(), Fault> {
-    let reply = reply_of(alloc, name, fields, body)?;
-    show(alloc, &reply, label, fields, told)
+    let reply = reply_of(alloc, name, fields, &message.body, told);
+    let resource = first_value(fields, b"resource");
+    show(alloc, &reply, label, resource, told);
 }
 
 /// Tells the page of a copy of a reply.
-fn show(
-    alloc: Global,
-    reply: &Reply,
-    label: &Label,
-    fields: &[Pair],
-    told: &mut String,
-) -> Result<(), Fault> {
-    let label = label.copy()?;
-    let resource = first_value(fields, b"resource");
+fn show(alloc: Global, reply: &Reply, label: &Label, resource: &[u8], told: &mut Told) {
     if !is_shown(reply) || label.moment >= MOMENT_LIMIT {
-        return Err(Fault::Unread("a reply without a page"));
+        return told.note(Fault::Unread("a reply without a page"));
     }
-    let page = page(alloc, reply.copy()?, &label, resource)?;
-    tell(&page.copy()?, told)
-}
-
-/// Whether a reply has a page.
-fn is_shown(reply: &Reply) -> bool
-    ensures reply { IsTrue result → reply.now ≢ Reply.Memory }
-    ensures showable { IsTrue result → IsShowable reply.now }
-{
-    match reply {
-        Reply::Memory => false,
-        Reply::Refused(_) | Reply::Done | Reply::Gone | Reply::AclOf(_) => true,
-        Reply::Made { .. } | Reply::Location { .. } | Reply::Stored { .. } => true,
-        Reply::Started { .. } | Reply::Completed { .. } => true,
-        Reply::NotModified(head) => head.modified < MOMENT_LIMIT,
-        Reply::Buckets(items) => are_dated(items.as_slice()),
-        Reply::Objects { items, .. } => are_items_dated(items.as_slice()),
-        Reply::Uploads { items, .. } => are_shown_uploads(items.as_slice()),
-        Reply::Object {
-            head,
-            from,
-            length,
-            partial,
-            ..
-        } => shows(head, *from, *length, *partial),
-        Reply::Parts { items, .. } => are_shown_parts(items.as_slice()),
+    if let Ok(copied) = reply.copy() {
+        if let Some(page) = told.keep(page(alloc, copied, label, resource)) {
+            tell_copied(&page, told);
+        }
     }
-}
-
-fn are_shown_uploads(items: &[UploadItem]) -> bool
-    ensures { IsTrue result → All IsShownUpload items.now }
-{
-    items.iter().all(|item| item.started < MOMENT_LIMIT)
-}
-
-fn are_shown_parts(items: &[PartItem]) -> bool
-    ensures { IsTrue result → All IsShownPart items.now }
-{
-    items.iter().all(|item| item.modified < MOMENT_LIMIT)
 }
 
 /// The reply of that name, with what the fields say.
-fn reply_of(alloc: Global, name: &str, fields: &[Pair], body: &Bytes) -> Result<Reply, Fault> {
+fn reply_of(alloc: Global, name: &str, fields: &[Pair], body: &Bytes, told: &mut Told) -> Reply {
     match name {
-        "done" => Ok(Reply::Done),
-        "gone" => Ok(Reply::Gone),
-        "refused" => Ok(Reply::Refused(code_in(alloc, fields)?)),
-        "not-modified" => Ok(Reply::NotModified(head_in(alloc, fields)?)),
-        "buckets" => Ok(Reply::Buckets(buckets(alloc, fields)?)),
-        "objects" => objects(alloc, fields),
-        "uploads" => uploads(alloc, fields),
-        "parts" => parts(alloc, fields),
-        "object" => object(alloc, fields, body),
-        _ => small_reply_of(alloc, name, fields),
+        "done" => Reply::Done,
+        "gone" => Reply::Gone,
+        "acl" => acl_reply(fields, told),
+        "refused" => Reply::Refused(code_in(alloc, fields, told)),
+        "not-modified" => Reply::NotModified(head_in(alloc, fields, told)),
+        "object" => object(alloc, fields, body, told),
+        "buckets" => Reply::Buckets(buckets(alloc, fields, told)),
+        "objects" => objects(alloc, fields, told),
+        "uploads" => uploads(alloc, fields, told),
+        "parts" => parts(alloc, fields, told),
+        _ => small_reply_of(alloc, name, fields, told),
     }
 }
 
-fn small_reply_of(alloc: Global, name: &str, fields: &[Pair]) -> Result<Reply, Fault> {
+fn acl_reply(fields: &[Pair], told: &mut Told) -> Reply {
+    Reply::AclOf(acl_of(text_in(fields, b"acl", told), told))
+}
+
+fn small_reply_of(alloc: Global, name: &str, fields: &[Pair], told: &mut Told) -> Reply {
     match name {
-        "made" => Ok(Reply::Made {
-            bucket: bytes_in(alloc, fields, b"bucket")?,
-        }),
-        "stored" => Ok(Reply::Stored {
-            etag: bytes_in(alloc, fields, b"etag")?,
-        }),
-        "location" => Ok(Reply::Location {
-            region: bytes_in(alloc, fields, b"region")?,
-        }),
-        "acl" => Ok(Reply::AclOf(acl_of(text_in(fields, b"acl")?)?)),
-        "started" => started(alloc, fields),
-        "completed" => completed(alloc, fields),
-        _ => Err(Fault::Unread("no such reply")),
+        "made" => Reply::Made {
+            bucket: bytes_in(alloc, fields, b"bucket", told),
+        },
+        "stored" => Reply::Stored {
+            etag: bytes_in(alloc, fields, b"etag", told),
+        },
+        "location" => Reply::Location {
+            region: bytes_in(alloc, fields, b"region", told),
+        },
+        "started" => Reply::Started {
+            bucket: bytes_in(alloc, fields, b"bucket", told),
+            key: bytes_in(alloc, fields, b"key", told),
+            id: id_of(first_value(fields, b"id"), told),
+        },
+        "completed" => Reply::Completed {
+            bucket: bytes_in(alloc, fields, b"bucket", told),
+            key: bytes_in(alloc, fields, b"key", told),
+            etag: bytes_in(alloc, fields, b"etag", told),
+        },
+        _ => Reply::Memory,
     }
 }
 
-fn started(alloc: Global, fields: &[Pair]) -> Result<Reply, Fault> {
-    let id = id_of(first_value(fields, b"id"))?;
-    Ok(Reply::Started {
-        bucket: bytes_in(alloc, fields, b"bucket")?,
-        key: bytes_in(alloc, fields, b"key")?,
-        id,
-    })
-}
-
-fn completed(alloc: Global, fields: &[Pair]) -> Result<Reply, Fault> {
-    Ok(Reply::Completed {
-        bucket: bytes_in(alloc, fields, b"bucket")?,
-        key: bytes_in(alloc, fields, b"key")?,
-        etag: bytes_in(alloc, fields, b"etag")?,
-    })
-}
-
-fn object(alloc: Global, fields: &[Pair], body: &Bytes) -> Result<Reply, Fault> {
-    let from = number_in(fields, b"from")?;
-    let length = number_in(fields, b"length")?;
-    object_of(alloc, fields, from, length, body)
-}
-
-fn object_of(
-    alloc: Global,
-    fields: &[Pair],
-    from: u64,
-    length: u64,
-    body: &Bytes,
-) -> Result<Reply, Fault> {
-    Ok(Reply::Object {
-        head: head_in(alloc, fields)?,
-        from,
-        length,
+fn object(alloc: Global, fields: &[Pair], body: &Bytes, told: &mut Told) -> Reply {
+    Reply::Object {
+        head: head_in(alloc, fields, told),
+        from: number_in(fields, b"from", told),
+        length: number_in(fields, b"length", told),
         partial: is_said(fields, b"partial"),
-        body: body.copy()?,
-    })
+        body: bytes_of(alloc, body.as_slice(), told),
+    }
 }
 
-fn head_in(alloc: Global, fields: &[Pair]) -> Result<ObjectHead, Fault> {
-    let modified = number_in(fields, b"modified")?;
-    let size = number_in(fields, b"size")?;
-    head_of(alloc, fields, modified, size)
-}
-
-fn head_of(alloc: Global, fields: &[Pair], modified: u64, size: u64) -> Result<ObjectHead, Fault> {
-    Ok(ObjectHead {
-        etag: bytes_in(alloc, fields, b"etag")?,
-        modified,
-        size,
-        content_type: bytes_in(alloc, fields, b"type")?,
-        meta: meta_in(alloc, fields)?,
-    })
+fn head_in(alloc: Global, fields: &[Pair], told: &mut Told) -> ObjectHead {
+    ObjectHead {
+        etag: bytes_in(alloc, fields, b"etag", told),
+        modified: number_in(fields, b"modified", told),
+        size: number_in(fields, b"size", told),
+        content_type: bytes_in(alloc, fields, b"type", told),
+        meta: meta_in(alloc, fields, told),
+    }
 }
 
 /// The metadata of the fields `meta`, each `NAME VALUE`.
-fn meta_in(alloc: Global, fields: &[Pair]) -> Result<Meta, Fault> {
+fn meta_in(alloc: Global, fields: &[Pair], told: &mut Told) -> Meta {
     let mut meta = Meta::new(alloc);
-    add_entries(fields, &mut meta)?;
-    Ok(meta)
-}
-
-fn add_entries(fields: &[Pair], meta: &mut Meta) -> Result<(), Fault> {
     for field in fields {
         if field.name.as_slice() == b"meta".as_slice() {
-            let (name, value) = gate_base::cut(field.value.as_slice(), b' ');
-            let _added = meta.add(name, value)?;
+            let (name, value) = cut(field.value.as_slice(), b' ');
+            if meta.add(name, value).is_err() {
+                told.note(Fault::Memory);
+            }
         }
     }
-    Ok(())
+    meta
 }
 
-fn code_in(alloc: Global, fields: &[Pair]) -> Result<Code, Fault> {
-    let name = text_in(fields, b"code")?;
+/// A copy of the code of that name.
+fn code_in(alloc: Global, fields: &[Pair], told: &mut Told) -> Code {
+    let name = text_in(fields, b"code", told);
     for code in CODES {
-        if is_named(alloc, code, name)? {
-            return Ok(code.copy()?);
+        if is_named(alloc, &code, name) {
+            if let Ok(copied) = code.copy() {
+                return copied;
+            }
         }
     }
-    Err(Fault::Unread("no such code"))
+    told.note(Fault::Unread("no such code"));
+    Code::AccessDenied
 }
 
-fn is_named(alloc: Global, code: Code, name: &str) -> Result<bool, Fault> {
-    let mut told = String::new(alloc);
-    tell(&code, &mut told)?;
-    Ok(told.as_str().trim_end() == name)
+fn is_named(alloc: Global, code: &Code, name: &str) -> bool {
+    let mut told = Told::new(alloc);
+    told.show(code);
+    told.text() == name
+}
+
+/// The words of an item.
+#[derive(Clone, Copy)]
+struct Words<'a> {
+    moment: u64,
+    number: u128,
+    word: &'a [u8],
+    text: &'a [u8],
+}
+
+/// The words of a field that is an item.
+fn words_in<'a>(field: &'a Pair, told: &mut Told) -> Option<Words<'a>> {
+    if field.name.as_slice() != b"item".as_slice() {
+        return None;
+    }
+    let (moment, rest) = cut(field.value.as_slice(), b' ');
+    let (number, rest) = cut(rest, b' ');
+    let (word, text) = cut(rest, b' ');
+    Some(Words {
+        moment: number_of(text_of(moment, told), told),
+        number: id_of(number, told),
+        word,
+        text,
+    })
+}
+
+fn buckets(alloc: Global, fields: &[Pair], told: &mut Told) -> List<BucketItem> {
+    let mut items = List::new(alloc);
+    for field in fields {
+        if let Some(words) = words_in(field, told) {
+            let done = items.push(BucketItem {
+                name: bytes_of(alloc, words.text, told),
+                created: words.moment,
+            });
+            told.check(done);
+        }
+    }
+    items
+}
+
+fn objects(alloc: Global, fields: &[Pair], told: &mut Told) -> Reply {
+    Reply::Objects {
+        bucket: bytes_in(alloc, fields, b"bucket", told),
+        asked: asked_in(alloc, fields, told),
+        items: items_in(alloc, fields, told),
+        truncated: is_said(fields, b"truncated"),
+    }
+}
+
+fn items_in(alloc: Global, fields: &[Pair], told: &mut Told) -> List<Item> {
+    let mut items = List::new(alloc);
+    for field in fields {
+        if let Some(words) = words_in(field, told) {
+            let done = items.push(Item {
+                text: bytes_of(alloc, words.text, told),
+                object: head_of(alloc, &words, told),
+            });
+            told.check(done);
+        }
+    }
+    items
+}
+
+fn head_of(alloc: Global, words: &Words<'_>, told: &mut Told) -> Option<ItemHead> {
+    if words.word == b"-".as_slice() {
+        return None;
+    }
+    Some(ItemHead {
+        etag: bytes_of(alloc, words.word, told),
+        modified: words.moment,
+        size: small(words.number, told),
+    })
+}
+
+fn asked_in(alloc: Global, fields: &[Pair], told: &mut Told) -> Asked {
+    let is_first = first_value(fields, b"version") == b"1".as_slice();
+    Asked {
+        version: if is_first { 1 } else { 2 },
+        prefix: bytes_in(alloc, fields, b"prefix", told),
+        delimiter: bytes_in(alloc, fields, b"delimiter", told),
+        marker: bytes_in(alloc, fields, b"marker", told),
+        start_after: bytes_in(alloc, fields, b"start-after", told),
+        token: token_in(alloc, fields, told),
+        max: small_in(fields, b"max", told),
+        url: is_said(fields, b"url"),
+        owner: is_said(fields, b"owner"),
+    }
+}
+
+fn token_in(alloc: Global, fields: &[Pair], told: &mut Told) -> Option<Bytes> {
+    if has_header(fields, b"token") {
+        Some(bytes_in(alloc, fields, b"token", told))
+    } else {
+        None
+    }
+}
+
+fn uploads(alloc: Global, fields: &[Pair], told: &mut Told) -> Reply {
+    Reply::Uploads {
+        bucket: bytes_in(alloc, fields, b"bucket", told),
+        prefix: bytes_in(alloc, fields, b"prefix", told),
+        key_marker: bytes_in(alloc, fields, b"key-marker", told),
+        id_marker: bytes_in(alloc, fields, b"id-marker", told),
+        max: small_in(fields, b"max", told),
+        items: upload_items(alloc, fields, told),
+        truncated: is_said(fields, b"truncated"),
+    }
+}
+
+fn upload_items(alloc: Global, fields: &[Pair], told: &mut Told) -> List<UploadItem> {
+    let mut items = List::new(alloc);
+    for field in fields {
+        if let Some(words) = words_in(field, told) {
+            let done = items.push(UploadItem {
+                key: bytes_of(alloc, words.text, told),
+                id: words.number,
+                started: words.moment,
+            });
+            told.check(done);
+        }
+    }
+    items
+}
+
+fn parts(alloc: Global, fields: &[Pair], told: &mut Told) -> Reply {
+    Reply::Parts {
+        bucket: bytes_in(alloc, fields, b"bucket", told),
+        key: bytes_in(alloc, fields, b"key", told),
+        id: id_of(first_value(fields, b"id"), told),
+        marker: small_in(fields, b"number-marker", told),
+        max: small_in(fields, b"max", told),
+        items: part_items(alloc, fields, told),
+        truncated: is_said(fields, b"truncated"),
+    }
+}
+
+fn part_items(alloc: Global, fields: &[Pair], told: &mut Told) -> List<PartItem> {
+    let mut items = List::new(alloc);
+    for field in fields {
+        if let Some(words) = words_in(field, told) {
+            let done = items.push(PartItem {
+                number: small_of(words.word, told),
+                etag: bytes_of(alloc, words.text, told),
+                modified: words.moment,
+                size: small(words.number, told),
+            });
+            told.check(done);
+        }
+    }
+    items
 }
 
 /// The bytes of a field; none where it is missing.
-pub(crate) fn bytes_in(alloc: Global, fields: &[Pair], name: &[u8]) -> Result<Bytes, Fault> {
-    Ok(Bytes::from_slice(alloc, first_value(fields, name))?)
+fn bytes_in(alloc: Global, fields: &[Pair], name: &[u8], told: &mut Told) -> Bytes {
+    bytes_of(alloc, first_value(fields, name), told)
 }
 
-fn text_in<'a>(fields: &'a [Pair], name: &[u8]) -> Result<&'a str, Fault> {
-    match str::from_utf8(first_value(fields, name)) {
-        Ok(text) => Ok(text),
-        Err(_) => Err(Fault::Unread("no text")),
-    }
-}
-
-pub(crate) fn number_in(fields: &[Pair], name: &[u8]) -> Result<u64, Fault> {
-    number(first_value(fields, name))
+fn text_in<'a>(fields: &'a [Pair], name: &[u8], told: &mut Told) -> &'a str {
+    text_of(first_value(fields, name), told)
 }
 
 /// Whether a field says `yes`.
-pub(crate) fn is_said(fields: &[Pair], name: &[u8]) -> bool {
+fn is_said(fields: &[Pair], name: &[u8]) -> bool {
     first_value(fields, name) == b"yes".as_slice()
 }
 
-pub(crate) fn number(text: &[u8]) -> Result<u64, Fault> {
-    match u64::try_from(id_of(text)?) {
-        Ok(number) => Ok(number),
-        Err(_) => Err(Fault::Unread("a number of more than 64 bits")),
+fn number_in(fields: &[Pair], name: &[u8], told: &mut Told) -> u64 {
+    number_of(text_in(fields, name, told), told)
+}
+
+fn small_in(fields: &[Pair], name: &[u8], told: &mut Told) -> u32 {
+    small_of(first_value(fields, name), told)
+}
+
+fn small_of(text: &[u8], told: &mut Told) -> u32 {
+    match text_of(text, told).parse::<u32>() {
+        Ok(number) => number,
+        Err(_) => {
+            told.note(Fault::Unread("no number of 32 bits"));
+            0
+        }
     }
 }
 
 /// The number of a request or of an upload, in decimal.
-pub(crate) fn id_of(text: &[u8]) -> Result<u128, Fault> {
-    let Ok(text) = str::from_utf8(text) else {
-        return Err(Fault::Unread("no number"));
-    };
-    match text.parse::<u128>() {
-        Ok(number) => Ok(number),
-        Err(_) => Err(Fault::Unread("no number")),
+fn id_of(text: &[u8], told: &mut Told) -> u128 {
+    match text_of(text, told).parse::<u128>() {
+        Ok(number) => number,
+        Err(_) => {
+            told.note(Fault::Unread("no number of 128 bits"));
+            0
+        }
+    }
+}
+
+fn small(number: u128, told: &mut Told) -> u64 {
+    match u64::try_from(number) {
+        Ok(number) => number,
+        Err(_) => {
+            told.note(Fault::Unread("a number of more than 64 bits"));
+            0
+        }
     }
 }

@@ -1,15 +1,18 @@
 //! Any call may fail, and the client still sees one service: the one request of a case is made anew with each loss of each
 //! of its calls, and a new run, the probe, looks at the account after each number of calls.
 use crate::given::Given;
-use crate::machine::{Machine, machine_after};
+use crate::machine::machine_after;
 use crate::pieces::{are_unavailable, tell_answers, tell_statuses};
 use crate::play::First;
-use crate::running::{LARGE, Loss, NO_LOSS, line_of, run_on, store_at};
+use crate::running::{LARGE, line_of, run_on, store_at, store_with};
+use crate::told::Told;
 use case_text::Fault;
-use gate_base::{Counted, MemLine, Piece};
+use gate_base::{Counted, List, MemLine, Piece};
 use std::alloc::Global;
-use std::fmt::Write;
 use swift_calls::MemSwift;
+
+/// How a call is lost: its request, its answer, or all from it on.
+const LOSSES: [&str; 3] = ["before ", "after ", "stop "];
 
 /// What a sweep compares with: the texts of the answer without a loss, of what the probe sees before the request took effect and
 /// after, and the call by which it took effect, or 0.
@@ -21,397 +24,265 @@ struct Ordinary<'a> {
     commit: u64,
 }
 
-/// A request that was made: the store after it, and its pieces.
-#[derive(Clone, Copy)]
-struct Made<'a> {
-    store: &'a MemSwift,
-    pieces: &'a [Piece],
-}
-
 /// What is given to the requests and to the probe, and what stood before.
 #[derive(Clone, Copy)]
 struct Setting<'a> {
     first: &'a First<'a>,
-    given: &'a Given,
-    probe: &'a Given,
+    given: Given<'a>,
+    probe: Given<'a>,
+}
+
+/// A call that is lost, and how.
+#[derive(Clone, Copy)]
+struct Loss {
+    word: &'static str,
+    call: u64,
+
+    /// Whether the request takes effect all the same.
+    is_done: bool,
 }
 
 /// Tells the statuses that the probe is answered before the request and after it, and all that isn't as it is to be.
-pub(crate) fn sweep(
-    alloc: Global,
-    first: &First,
-    given: &Given,
-    probe: &Given,
-    told: &mut String,
-) -> Result<(), Fault> {
-    let mut store = store_at(alloc, first.store, first.store.calls(), &NO_LOSS)?;
+pub(crate) fn sweep(alloc: Global, first: &First, given: Given<'_>, told: &mut Told) {
     let setting = Setting {
         first,
         given,
-        probe,
+        probe: Given {
+            lines: given.lines,
+            word: "probe",
+        },
     };
-    sweep_on(alloc, &setting, &mut store, told)
-}
-
-fn sweep_on(
-    alloc: Global,
-    setting: &Setting,
-    store: &mut MemSwift,
-    told: &mut String,
-) -> Result<(), Fault> {
-    let mut line = line_of(alloc, setting.given, LARGE)?;
-    sweep_line(alloc, setting, store, &mut line, told)
-}
-
-fn sweep_line(
-    alloc: Global,
-    setting: &Setting,
-    store: &mut MemSwift,
-    line: &mut MemLine,
-    told: &mut String,
-) -> Result<(), Fault> {
-    let mut answer = String::new(alloc);
-    answer_on(alloc, setting.given, store, line, &mut answer)?;
-    let made = Made {
-        store: &*store,
-        pieces: line.pieces(),
-    };
-    sweep_from(alloc, setting, &made, answer.as_str(), told)
+    if let Some(mut store) = store_at(alloc, first.store, first.store.calls(), told) {
+        if let Some(mut line) = line_of(alloc, given, LARGE, told) {
+            let mut answer = Told::new(alloc);
+            answer_on(alloc, given, &mut store, &mut line, &mut answer);
+            told.note_of(&answer);
+            sweep_from(alloc, &setting, &store, line.pieces(), answer.text(), told);
+        }
+    }
 }
 
 /// Runs the program, and tells what it answers, and nothing of calls.
 fn answer_on(
     alloc: Global,
-    given: &Given,
+    given: Given<'_>,
     store: &mut MemSwift,
     line: &mut MemLine,
-    told: &mut String,
-) -> Result<(), Fault> {
-    let _status = run_on(alloc, given, store, line, told)?;
-    tell_answers(alloc, line.pieces(), told)
+    told: &mut Told,
+) {
+    let _done = run_on(alloc, given, store, line, told);
+    tell_answers(alloc, line.pieces(), told);
 }
 
 fn sweep_from(
     alloc: Global,
     setting: &Setting,
-    made: &Made,
+    made: &MemSwift,
+    pieces: &[Piece],
     answer: &str,
-    told: &mut String,
-) -> Result<(), Fault> {
-    let mut before = String::new(alloc);
-    see_before(alloc, setting, &mut before, told)?;
-    sweep_behind(alloc, setting, made, answer, before.as_str(), told)
-}
-
-fn sweep_behind(
-    alloc: Global,
-    setting: &Setting,
-    made: &Made,
-    answer: &str,
-    before: &str,
-    told: &mut String,
-) -> Result<(), Fault> {
-    let mut after = String::new(alloc);
-    see_after(alloc, setting, made, &mut after, told)?;
-    let ordinary = Ordinary {
+    told: &mut Told,
+) {
+    let mut before = Told::new(alloc);
+    see(
+        alloc,
+        setting,
+        &[],
+        setting.first.store,
+        "before",
+        &mut before,
+        told,
+    );
+    let mut after = Told::new(alloc);
+    see(alloc, setting, pieces, made, "after", &mut after, told);
+    let texts = Ordinary {
         answer,
-        before,
-        after: after.as_str(),
+        before: before.text(),
+        after: after.text(),
         commit: 0,
     };
-    sweep_by(alloc, setting, made.store, &ordinary, told)
+    sweep_by(alloc, setting, made, &texts, told);
 }
 
-/// What the probe sees before the request, which is what the machine answers.
-fn see_before(
-    alloc: Global,
-    setting: &Setting,
-    seen: &mut String,
-    told: &mut String,
-) -> Result<(), Fault> {
-    let mut machine = machine_after(alloc, setting.first, told)?;
-    let store = setting.first.store;
-    see(
-        alloc,
-        setting.probe,
-        store,
-        "before",
-        &mut machine,
-        seen,
-        told,
-    )
-}
-
-/// What the probe sees after the request, which is what the machine answers.
-fn see_after(
-    alloc: Global,
-    setting: &Setting,
-    made: &Made,
-    seen: &mut String,
-    told: &mut String,
-) -> Result<(), Fault> {
-    let mut machine = machine_after(alloc, setting.first, told)?;
-    machine.follow(setting.given, made.pieces, told)?;
-    see(
-        alloc,
-        setting.probe,
-        made.store,
-        "after",
-        &mut machine,
-        seen,
-        told,
-    )
-}
-
+/// What the probe sees on the account of a store, behind a request that was answered by these pieces. It is what the machine
+/// answers.
 fn see(
     alloc: Global,
-    probe: &Given,
+    setting: &Setting,
+    pieces: &[Piece],
     store: &MemSwift,
     word: &str,
-    machine: &mut Machine,
-    seen: &mut String,
-    told: &mut String,
-) -> Result<(), Fault> {
-    let mut later = store_at(alloc, store, store.calls(), &NO_LOSS)?;
-    see_on(alloc, probe, &mut later, word, machine, seen, told)
+    seen: &mut Told,
+    told: &mut Told,
+) {
+    if let Some(mut line) = line_of(alloc, setting.probe, LARGE, told) {
+        look_on(alloc, setting.probe, store, store.calls(), &mut line, seen);
+        tell_statuses(word, line.pieces(), told);
+        follow_probe(alloc, setting, pieces, line.pieces(), told);
+    }
 }
 
-fn see_on(
+fn look_on(
     alloc: Global,
-    probe: &Given,
-    store: &mut MemSwift,
-    word: &str,
-    machine: &mut Machine,
-    seen: &mut String,
-    told: &mut String,
-) -> Result<(), Fault> {
-    let mut line = line_of(alloc, probe, LARGE)?;
-    answer_on(alloc, probe, store, &mut line, seen)?;
-    tell_statuses(word, line.pieces(), told)?;
-    machine.follow(probe, line.pieces(), told)
+    probe: Given<'_>,
+    store: &MemSwift,
+    at: u64,
+    line: &mut MemLine,
+    seen: &mut Told,
+) {
+    if let Some(mut later) = store_at(alloc, store, at, seen) {
+        answer_on(alloc, probe, &mut later, line, seen);
+    }
 }
 
-fn sweep_by(
+fn follow_probe(
     alloc: Global,
     setting: &Setting,
-    made: &MemSwift,
-    texts: &Ordinary,
-    told: &mut String,
-) -> Result<(), Fault> {
-    let commit = commit_of(alloc, setting.probe, made, texts)?;
+    pieces: &[Piece],
+    seen: &[Piece],
+    told: &mut Told,
+) {
+    if let Some(mut machine) = machine_after(alloc, setting.first, told) {
+        machine.follow(setting.given, pieces, told);
+        machine.follow(setting.probe, seen, told);
+    }
+}
+
+fn sweep_by(alloc: Global, setting: &Setting, made: &MemSwift, texts: &Ordinary, told: &mut Told) {
+    let commit = commit_of(alloc, setting.probe, made, texts, told);
     let ordinary = Ordinary { commit, ..*texts };
     for call in 1..=made.calls() {
-        lose_call(alloc, setting, call, &ordinary, told)?;
+        for word in LOSSES {
+            let is_done = commit != 0 && (commit < call || (call == commit && word == "after "));
+            let loss = Loss {
+                word,
+                call,
+                is_done,
+            };
+            lose(alloc, setting, &loss, &ordinary, told);
+        }
     }
-    Ok(())
 }
 
 /// The least number of calls after which the probe sees the request done, where it can see that; else 0.
 fn commit_of(
     alloc: Global,
-    probe: &Given,
+    probe: Given<'_>,
     store: &MemSwift,
     texts: &Ordinary,
-) -> Result<u64, Fault> {
+    told: &mut Told,
+) -> u64 {
     if texts.before == texts.after {
-        return Ok(0);
+        return 0;
     }
     for at in 0..=store.calls() {
-        if sees(alloc, probe, store, at, texts.after)? {
-            return Ok(at);
+        if sees(alloc, probe, store, at, texts.after) {
+            return at;
         }
     }
-    Err(Fault::Unread("a request that never takes effect"))
+    told.note(Fault::Unread("a request that never takes effect"));
+    0
 }
 
 /// Whether the probe sees this on the account that a store had after so many calls.
-fn sees(
-    alloc: Global,
-    probe: &Given,
-    store: &MemSwift,
-    at: u64,
-    text: &str,
-) -> Result<bool, Fault> {
-    let mut seen = String::new(alloc);
-    look(alloc, probe, store, at, &mut seen)?;
-    Ok(seen.as_str() == text)
+fn sees(alloc: Global, probe: Given<'_>, store: &MemSwift, at: u64, text: &str) -> bool {
+    let mut seen = Told::new(alloc);
+    look(alloc, probe, store, at, &mut seen);
+    seen.text() == text
 }
 
-fn look(
-    alloc: Global,
-    probe: &Given,
-    store: &MemSwift,
-    at: u64,
-    seen: &mut String,
-) -> Result<(), Fault> {
-    let mut later = store_at(alloc, store, at, &NO_LOSS)?;
-    look_on(alloc, probe, &mut later, seen)
+fn look(alloc: Global, probe: Given<'_>, store: &MemSwift, at: u64, seen: &mut Told) {
+    if let Some(mut line) = line_of(alloc, probe, LARGE, seen) {
+        look_on(alloc, probe, store, at, &mut line, seen);
+    }
 }
 
-fn look_on(
-    alloc: Global,
-    probe: &Given,
-    store: &mut MemSwift,
-    seen: &mut String,
-) -> Result<(), Fault> {
-    let mut line = line_of(alloc, probe, LARGE)?;
-    answer_on(alloc, probe, store, &mut line, seen)
-}
-
-/// The call's request is lost, its answer, or all from it on.
-fn lose_call(
-    alloc: Global,
-    setting: &Setting,
-    call: u64,
-    ordinary: &Ordinary,
-    told: &mut String,
-) -> Result<(), Fault> {
-    let before = Loss {
-        before: call,
-        ..NO_LOSS
-    };
-    lose(alloc, setting, call, &before, ordinary, told)?;
-    let after = Loss {
-        after: call,
-        ..NO_LOSS
-    };
-    lose(alloc, setting, call, &after, ordinary, told)?;
-    let stop = Loss {
-        stop: call,
-        ..NO_LOSS
-    };
-    lose(alloc, setting, call, &stop, ordinary, told)
-}
-
-fn lose(
-    alloc: Global,
-    setting: &Setting,
-    call: u64,
-    loss: &Loss,
-    ordinary: &Ordinary,
-    told: &mut String,
-) -> Result<(), Fault> {
+fn lose(alloc: Global, setting: &Setting, loss: &Loss, ordinary: &Ordinary, told: &mut Told) {
     let first = setting.first.store;
-    let mut store = store_at(alloc, first, first.calls(), loss)?;
-    lose_on(alloc, setting, call, loss, &mut store, ordinary, told)
+    let before = lost(alloc, loss, "before ", told);
+    let after = lost(alloc, loss, "after ", told);
+    let stop = if loss.word == "stop " { loss.call } else { 0 };
+    if let Some(mut store) = store_with(alloc, first, first.calls(), before, after, stop, told) {
+        if let Some(mut line) = line_of(alloc, setting.given, LARGE, told) {
+            compare_lost(
+                alloc,
+                setting.given,
+                loss,
+                &mut store,
+                &mut line,
+                ordinary,
+                told,
+            );
+            look_at_each(alloc, setting.probe, &store, loss, ordinary, told);
+        }
+    }
 }
 
-fn lose_on(
-    alloc: Global,
-    setting: &Setting,
-    call: u64,
-    loss: &Loss,
-    store: &mut MemSwift,
-    ordinary: &Ordinary,
-    told: &mut String,
-) -> Result<(), Fault> {
-    let mut line = line_of(alloc, setting.given, LARGE)?;
-    let done = is_done(ordinary.commit, call, loss);
-    compare_lost(
-        alloc,
-        setting.given,
-        call,
-        loss,
-        store,
-        &mut line,
-        ordinary,
-        told,
-    )?;
-    look_at_each(
-        alloc,
-        setting.probe,
-        store,
-        call,
-        loss,
-        done,
-        ordinary,
-        told,
-    )
-}
-
-/// Whether the call that commits has its effect, where that call of the run is lost so.
-fn is_done(commit: u64, call: u64, loss: &Loss) -> bool {
-    commit != 0 && (commit < call || (call == commit && loss.after == call))
+/// The number of the call, where it is lost so; else none.
+fn lost(alloc: Global, loss: &Loss, word: &str, told: &mut Told) -> List<u64> {
+    let mut numbers = List::new(alloc);
+    if loss.word == word {
+        let done = numbers.push(loss.call);
+        told.check(done);
+    }
+    numbers
 }
 
 /// The reply to a request one of whose calls was lost is ServiceUnavailable, where a call failed, or the ordinary one, where
 /// what it says was done.
 fn compare_lost(
     alloc: Global,
-    given: &Given,
-    call: u64,
+    given: Given<'_>,
     loss: &Loss,
     store: &mut MemSwift,
     line: &mut MemLine,
     ordinary: &Ordinary,
-    told: &mut String,
-) -> Result<(), Fault> {
-    let mut came = String::new(alloc);
-    answer_on(alloc, given, store, line, &mut came)?;
-    let failed = call <= store.calls();
-    if failed && came.as_str().starts_with("status 0\n") && are_unavailable(line.pieces()) {
-        return Ok(());
+    told: &mut Told,
+) {
+    let mut came = Told::new(alloc);
+    answer_on(alloc, given, store, line, &mut came);
+    let failed = loss.call <= store.calls();
+    if failed && came.text().starts_with("status 0\n") && are_unavailable(line.pieces()) {
+        return told.note_of(&came);
     }
-    let done = ordinary.commit == 0 || is_done(ordinary.commit, call, loss);
-    if done && came.as_str() == ordinary.answer {
-        return Ok(());
-    }
-    tell_lost(call, loss, told)?;
-    write!(told, ":\n{came}")?;
-    Ok(())
-}
-
-/// Tells how the call is lost.
-fn tell_lost(call: u64, loss: &Loss, told: &mut String) -> Result<(), Fault> {
-    let word = if loss.before == call {
-        "before"
-    } else if loss.after == call {
-        "after"
-    } else {
-        "stop"
-    };
-    write!(told, "{word} {call}")?;
-    Ok(())
+    let done = ordinary.commit == 0 || loss.is_done;
+    let due = if done { ordinary.answer } else { "" };
+    told.say_other(loss.word, loss.call, &came, due);
 }
 
 /// The probe over the account after each number of calls sees the request as not done, or as done where that is to be.
 fn look_at_each(
     alloc: Global,
-    probe: &Given,
+    probe: Given<'_>,
     store: &MemSwift,
-    call: u64,
     loss: &Loss,
-    done: bool,
     ordinary: &Ordinary,
-    told: &mut String,
-) -> Result<(), Fault> {
+    told: &mut Told,
+) {
     for at in 0..=store.calls() {
-        let due = if done && ordinary.commit <= at {
+        let due = if loss.is_done && ordinary.commit <= at {
             ordinary.after
         } else {
             ordinary.before
         };
-        compare_seen(alloc, probe, store, at, call, loss, due, told)?;
+        if !sees(alloc, probe, store, at, due) {
+            tell_unseen(alloc, probe, store, at, loss, told);
+        }
     }
-    Ok(())
 }
 
-fn compare_seen(
+/// Tells how a call was lost, and what the probe sees after so many calls.
+fn tell_unseen(
     alloc: Global,
-    probe: &Given,
+    probe: Given<'_>,
     store: &MemSwift,
     at: u64,
-    call: u64,
     loss: &Loss,
-    due: &str,
-    told: &mut String,
-) -> Result<(), Fault> {
-    let mut seen = String::new(alloc);
-    look(alloc, probe, store, at, &mut seen)?;
-    if seen.as_str() == due {
-        return Ok(());
-    }
-    tell_lost(call, loss, told)?;
-    write!(told, ", probe after {at} calls:\n{seen}")?;
-    Ok(())
+    told: &mut Told,
+) {
+    told.say(loss.word);
+    told.show(&loss.call);
+    told.say(", probe after calls: ");
+    told.show(&at);
+    told.say("\n");
+    look(alloc, probe, store, at, told);
 }

@@ -25,76 +25,9 @@
 //! `tag` tells the tag of a text, and the text of that tag. `tag-write TYPE | ETAG | MOMENT | ID` does the latter for one that
 //! perhaps has none. `pack` tells the pieces of metadata, given as `NAME:VALUE;`; `unpack` the metadata of pieces, one a line,
 //! and their pieces again.
-mod calls;
-mod manifests;
-mod marks;
-mod served;
-mod start;
-mod wire;
-
-use crate::told::tell;
-use case_text::Fault;
-use gate_base::Copying;
-use std::alloc::Global;
-use std::fmt::Debug;
-
-/// Tells what a verb gives. `false` where this file has no such verb: then nothing is told.
-pub(crate) fn answer_swift(
-    alloc: Global,
-    verb: &str,
-    text: &str,
-    given: &[u8],
-    told: &mut String,
-) -> Result<bool, Fault> {
-    match verb {
-        "read-call" => wire::read_first(alloc, given, told)?,
-        "read-answer" => wire::read_behind(alloc, given, told)?,
-        "answer-end" => wire::tell_end(alloc, text, given, told)?,
-        "fits" => wire::tell_fit(alloc, text, told)?,
-        "calls" => calls::calls(alloc, text, given, told)?,
-        "write-answer" => calls::answered(alloc, text, given, told)?,
-        "swiftd" => served::swiftd(alloc, text, given, told)?,
-        _ => return answer_form(alloc, verb, text, given, told),
-    }
-    Ok(true)
-}
-
-/// The same for the forms of texts that the store keeps.
-fn answer_form(
-    alloc: Global,
-    verb: &str,
-    text: &str,
-    given: &[u8],
-    told: &mut String,
-) -> Result<bool, Fault> {
-    match verb {
-        "manifest" => manifests::manifest(alloc, text, given, false, told)?,
-        "manifest-size" => manifests::manifest(alloc, text, given, true, told)?,
-        "cover" => manifests::covered(alloc, text, told)?,
-        "tag" => marks::tag(alloc, given, told)?,
-        "tag-write" => marks::tag_write(alloc, text, told)?,
-        "pack" => marks::packed(alloc, given, told)?,
-        "unpack" => marks::unpacked(alloc, given, told)?,
-        _ => return manifests::answer(alloc, verb, given, told),
-    }
-    Ok(true)
-}
-
-/// Tells a copy of what was read, or why it wasn't.
-fn tell_copy<T: Copying + Debug + Drop, E: Debug>(
-    read: &Result<T, E>,
-    told: &mut String,
-) -> Result<(), Fault> {
-    match read {
-        Ok(value) => tell(&value.copy(), told),
-        Err(_) => tell(read, told),
-    }
-}
-
-/// The text of these bytes.
-fn text_of(given: &[u8]) -> Result<&str, Fault> {
-    match str::from_utf8(given) {
-        Ok(text) => Ok(text),
-        Err(_) => Err(Fault::Unread("no UTF-8")),
-    }
-}
+pub(crate) mod calls;
+pub(crate) mod manifests;
+pub(crate) mod marks;
+pub(crate) mod served;
+pub(crate) mod start;
+pub(crate) mod wire;

@@ -1,51 +1,93 @@
-//! The requests of one connection.
+//! A connection in memory, and the messages that are read from it.
 ghost use Rattle.std.specs.Prelude.{IsTrue};
 ghost use Rattle.gate_base.specs.MemLine.{is_open_of};
 
+use crate::running::{LARGE, line_with};
+use crate::told::{Told, bytes_of, tell};
 use case_text::Fault;
-use gate_base::{Bytes, Copying, Line, List, MemLine, NoCount};
-use http_wire::{Got, Message, Reader};
+use gate_base::{Line, List, MemLine, NoCount};
+use http_wire::{Got, Message, ReadFault, Reader};
 use std::alloc::Global;
 
-/// How many bytes a read gives at most.
-const PIECE: usize = 65_536;
+/// A line of one connection of these bytes, whose reads give at most `piece` bytes. The calls of these numbers fail.
+pub(crate) fn line_on(
+    alloc: Global,
+    given: &[u8],
+    piece: u64,
+    fails: List<u64>,
+    told: &mut Told,
+) -> Option<MemLine> {
+    let mut connections = List::new(alloc);
+    let done = connections.push(bytes_of(alloc, given, told));
+    told.check(done);
+    line_with(alloc, connections, piece, fails, told)
+}
 
-/// An open connection, and what reads its requests.
+/// A connection that is open, its reader, and how many of the pieces that were written are told.
 #[derive(Drop)]
 pub(crate) struct Talk {
     line: MemLine,
     reader: Reader,
+    told: usize,
     ghost open: { IsTrue (is_open_of line) },
 }
 
 impl Talk {
-    /// A connection with these bytes.
-    pub(crate) fn open(alloc: Global, bytes: &Bytes) -> Result<Talk, Fault> {
-        let Ok(reader) = Reader::new(alloc) else {
-            return Err(Fault::Memory);
-        };
-        let mut connections = List::new(alloc);
-        connections.push(bytes.copy()?)?;
-        begin(
-            MemLine::new(alloc, connections, PIECE, List::new(alloc))?,
-            reader,
-        )
+    /// Begins to talk over a line of one connection.
+    pub(crate) fn new(alloc: Global, mut line: MemLine, told: &mut Told) -> Option<Talk> {
+        if !opens(&mut line) {
+            told.note(Fault::Unread("no connection"));
+            return None;
+        }
+        match Reader::new(alloc) {
+            Ok(reader) => Some(Talk {
+                line,
+                reader,
+                told: 0,
+            }),
+            Err(_) => {
+                told.note(Fault::Memory);
+                None
+            }
+        }
     }
 
-    /// The next request, where one stands next that is read.
-    pub(crate) fn next(&mut self) -> Option<Message> {
-        match self.reader.next_request(&mut self.line, &NoCount) {
+    /// Begins to talk over a connection of these bytes.
+    pub(crate) fn open(alloc: Global, given: &[u8], told: &mut Told) -> Option<Talk> {
+        match line_on(alloc, given, LARGE, List::new(alloc), told) {
+            Some(line) => Talk::new(alloc, line, told),
+            None => None,
+        }
+    }
+
+    /// The next answer of the reader.
+    pub(crate) fn next(&mut self) -> Result<Got, ReadFault> {
+        self.reader.next_request(&mut self.line, &NoCount)
+    }
+
+    /// The next message; none where none comes next.
+    pub(crate) fn next_message(&mut self) -> Option<Message> {
+        match self.next() {
             Ok(Got::Request(message)) => Some(message),
             _ => None,
         }
     }
+
+    /// Tells the pieces that were written and aren't told yet.
+    pub(crate) fn tell_written(&mut self, told: &mut Told) {
+        let pieces = self.line.pieces();
+        for piece in pieces.iter().skip(self.told) {
+            tell(&piece.bytes, told);
+        }
+        self.told = pieces.len();
+    }
 }
 
-fn begin(line: MemLine, reader: Reader) -> Result<Talk, Fault> {
-    let mut line = line;
-    let begun: Result<bool, _> = Line::<NoCount>::next(&mut line);
-    match begun {
-        Ok(true) => Ok(Talk { line, reader }),
-        _ => Err(Fault::Unread("no connection")),
+fn opens(line: &mut MemLine) -> bool
+    ensures { IsTrue result → IsTrue (is_open_of line.new) }
+{
+    match Line::<NoCount>::next(line) {
+        Ok(begun) => begun,
+        Err(_) => false,
     }
 }

@@ -1,95 +1,72 @@
 //! A case over a store across the wire: each call of its run is an exchange of HTTP messages with a store in memory.
-ghost use Rattle.std.specs.Prelude.{IfOk};
+ghost use Rattle.std.specs.Prelude.{IfSome};
 ghost use Rattle.swift_requests.specs.Place.{IsPlace};
 
-use crate::given::Given;
+use crate::given::{Given, behind, numbers, says};
 use crate::left::tell_left;
-use crate::play::{run_by, serve_setup};
-use crate::running::{LARGE, line_of};
+use crate::play::{serve_on, tell_run};
+use crate::running::line_of;
+use crate::told::{Told, bytes_of};
 use case_text::Fault;
-use gate_base::{Bytes, Copying, List};
+use gate_base::List;
+use memory_swift::{StoreLink, client_over};
 use std::alloc::Global;
-use std::fmt::Write;
 use swift_calls::Swift;
-use swift_client::{SwiftClient, client_over};
+use swift_client::SwiftClient;
 use swift_requests::{Place, is_place};
-use swift_store::{MapShelf, Shelf, StoreLink};
+use swift_store::{MapShelf, Shelf};
 
 /// Runs a case once more, by reads of this size, and tells what came where it isn't the usual. One store serves the setup, the
 /// case and what looks at the account that is left, each through a client of its own, and only that of the case loses messages. A
 /// case whose store is gone from a call on is left out, for a link can't be lost so; so is a sweep.
 pub(crate) fn play_wire(
     alloc: Global,
-    setup: &Given,
-    given: &Given,
+    setup: Given<'_>,
+    given: Given<'_>,
     size: u64,
     usual: &str,
-    told: &mut String,
-) -> Result<(), Fault> {
-    if given.stop != 0 || given.wanted.sweep {
-        return Ok(());
+    told: &mut Told,
+) {
+    if behind(given, "stop").is_none() && !says(given, "sweep") {
+        let mut other = Told::new(alloc);
+        let mut shelf = MapShelf::new(alloc);
+        serve_first(alloc, setup, &mut shelf, &mut other);
+        serve_case(alloc, given, size, &mut shelf, &mut other);
+        look(alloc, given, &mut shelf, &mut other);
+        told.say_other("over the wire, by ", size, &other, usual);
     }
-    let mut other = String::new(alloc);
-    play_shelf(alloc, setup, given, size, &mut other)?;
-    if other.as_str() != usual {
-        write!(told, "over the wire:\n{other}")?;
+}
+
+fn serve_first<S: Shelf + Drop>(alloc: Global, setup: Given<'_>, shelf: S, told: &mut Told) {
+    if let Some(mut store) = client(alloc, shelf, List::new(alloc), List::new(alloc), told) {
+        serve_on(alloc, setup, &mut store, "", told);
     }
-    Ok(())
-}
-
-fn play_shelf(
-    alloc: Global,
-    setup: &Given,
-    given: &Given,
-    size: u64,
-    told: &mut String,
-) -> Result<(), Fault> {
-    let mut shelf = MapShelf::new(alloc);
-    play_over(alloc, setup, given, size, &mut shelf, told)
-}
-
-fn play_over(
-    alloc: Global,
-    setup: &Given,
-    given: &Given,
-    size: u64,
-    shelf: &mut MapShelf,
-    told: &mut String,
-) -> Result<(), Fault> {
-    serve_first(alloc, setup, &mut *shelf)?;
-    serve_case(alloc, given, size, &mut *shelf, told)?;
-    look(alloc, given, shelf, told)
-}
-
-fn serve_first<S: Shelf + Drop>(alloc: Global, setup: &Given, shelf: S) -> Result<(), Fault> {
-    let mut store = client(alloc, shelf, List::new(alloc), List::new(alloc))?;
-    serve_first_over(alloc, setup, &mut store)
-}
-
-fn serve_first_over<W: Swift>(alloc: Global, setup: &Given, store: &mut W) -> Result<(), Fault> {
-    let mut line = line_of(alloc, setup, LARGE)?;
-    serve_setup(alloc, setup, store, &mut line)
 }
 
 fn serve_case<S: Shelf + Drop>(
     alloc: Global,
-    given: &Given,
+    given: Given<'_>,
     size: u64,
     shelf: S,
-    told: &mut String,
-) -> Result<(), Fault> {
-    let mut store = client(alloc, shelf, given.before.copy()?, given.after.copy()?)?;
-    run_by(alloc, given, &mut store, size, told)
+    told: &mut Told,
+) {
+    let before = numbers(alloc, given, "before", "", told);
+    let after = numbers(alloc, given, "after", "", told);
+    if let Some(mut store) = client(alloc, shelf, before, after, told) {
+        run_over(alloc, given, size, &mut store, told);
+    }
 }
 
-fn look<S: Shelf + Drop>(
-    alloc: Global,
-    given: &Given,
-    shelf: S,
-    told: &mut String,
-) -> Result<(), Fault> {
-    let mut store = client(alloc, shelf, List::new(alloc), List::new(alloc))?;
-    tell_left(alloc, &given.wanted, &mut store, told)
+fn run_over<W: Swift>(alloc: Global, given: Given<'_>, size: u64, store: &mut W, told: &mut Told) {
+    if let Some(mut line) = line_of(alloc, given, size, told) {
+        tell_run(alloc, given, store, &mut line, told);
+    }
+}
+
+fn look<S: Shelf + Drop>(alloc: Global, given: Given<'_>, shelf: S, told: &mut Told) {
+    if let Some(mut store) = client(alloc, shelf, List::new(alloc), List::new(alloc), told) {
+        tell_left(alloc, given, &mut store, told);
+    }
 }
 
 /// A client of a store over the shelf. Its calls of these numbers lose their request, or their answer.
@@ -98,22 +75,32 @@ fn client<S: Shelf + Drop>(
     shelf: S,
     before: List<u64>,
     after: List<u64>,
-) -> Result<SwiftClient<StoreLink<S>>, Fault> {
-    let place = place_of_store(alloc)?;
-    Ok(client_over(alloc, shelf, place, before, after)?)
+    told: &mut Told,
+) -> Option<SwiftClient<StoreLink<S>>> {
+    match place(alloc, b"localhost:8080", b"AUTH_test", b"secret", told) {
+        Some(place) => told.keep(client_over(alloc, shelf, place, before, after)),
+        None => None,
+    }
 }
 
-fn place_of_store(alloc: Global) -> Result<Place, Fault>
-    ensures { IfOk result IsPlace }
+/// A place of a store: its host, its account and its token.
+pub(crate) fn place(
+    alloc: Global,
+    host: &[u8],
+    account: &[u8],
+    token: &[u8],
+    told: &mut Told,
+) -> Option<Place>
+    ensures { IfSome result IsPlace }
 {
     let place = Place {
-        host: Bytes::from_slice(alloc, b"localhost:8080")?,
-        account: Bytes::from_slice(alloc, b"AUTH_test")?,
-        token: Bytes::from_slice(alloc, b"secret")?,
+        host: bytes_of(alloc, host, told),
+        account: bytes_of(alloc, account, told),
+        token: bytes_of(alloc, token, told),
     };
     if is_place(&place) {
-        Ok(place)
-    } else {
-        Err(Fault::Unread("no place of a store"))
+        return Some(place);
     }
+    told.note(Fault::Unread("no place of a store"));
+    None
 }

@@ -2,158 +2,147 @@
 ghost use Rattle.swift_calls.specs.Step.{Fit};
 ghost use Rattle.swift_requests.specs.Place.{IsPlace};
 
-use crate::http_verbs::talk::{Talk, next_message, number, open};
+use crate::cases::cut_text;
+use crate::given::{number_of, numbers_of};
 use crate::swift_verbs::start::start_of;
-use crate::swift_verbs::tell_copy;
 use crate::swift_verbs::wire::{next_call, place_of};
-use crate::told::tell;
+use crate::talk::Talk;
+use crate::told::{Told, tell, tell_copy};
 use case_text::Fault;
 use gate_base::{Counted, List};
 use http_wire::Message;
 use std::alloc::Global;
 use swift_calls::{MemSwift, Swift, SwiftFault, SwiftReply, SwiftRequest, is_fit};
-use swift_replies::write_answer;
+use swift_replies::{WireFault, write_answer};
 use swift_requests::{Place, read_call};
 
 /// The most calls of a case.
 const MOST_CALLS: u64 = 1000;
 
-/// The word behind a name and its space; nothing where the name isn't there.
-fn named<'a>(text: &'a str, name: &str) -> &'a str {
-    let Some((_, rest)) = text.split_once(name) else {
-        return "";
-    };
-    match rest.split_once(' ') {
-        Some((word, _)) => word,
-        None => rest,
+const UNFIT: Fault = Fault::Unread("a request isn't a call within the limits");
+
+/// The numbers behind a name, with commas between them; none where the name isn't there.
+fn numbers(alloc: Global, text: &str, name: &str, told: &mut Told) -> List<u64> {
+    match text.split_once(name) {
+        Some((_, rest)) => numbers_of(alloc, cut_text(rest, ' ').0, ',', told),
+        None => List::new(alloc),
     }
 }
 
 /// The number behind a name, 0 where the name isn't there.
-fn count_of(text: &str, name: &str) -> Result<u64, Fault> {
-    let word = named(text, name);
-    if word.is_empty() {
-        return Ok(0);
+fn count_of(text: &str, name: &str, told: &mut Told) -> u64 {
+    match text.split_once(name) {
+        Some((_, rest)) => number_of(cut_text(rest, ' ').0, told),
+        None => 0,
     }
-    number(word)
 }
 
-/// The numbers of a text, with commas between them.
-fn numbers(alloc: Global, text: &str) -> Result<List<u64>, Fault> {
-    let mut list = List::new(alloc);
-    for word in text.split(',') {
-        if !word.is_empty() {
-            list.push(number(word)?)?;
-        }
+/// Makes the calls of the requests, and tells what comes of them; or, by `write-answer`, only the answer that is written to the last
+/// call for the reply to the one before it.
+pub(crate) fn calls(alloc: Global, verb: &str, text: &str, given: &[u8], told: &mut Told) {
+    if let Some(place) = place_of(alloc, told) {
+        calls_at(alloc, &place, verb, text, given, told);
     }
-    Ok(list)
 }
 
-/// The store on which a case begins.
-fn store_of(alloc: Global, place: &Place, text: &str, talk: &mut Talk) -> Result<MemSwift, Fault>
+fn calls_at(alloc: Global, place: &Place, verb: &str, text: &str, given: &[u8], told: &mut Told)
     requires { IsPlace place.now }
 {
-    let (large, stop) = (count_of(text, "large ")?, count_of(text, "stop ")?);
-    let before = numbers(alloc, named(text, "before "))?;
-    let after = numbers(alloc, named(text, "after "))?;
-    let start = start_of(alloc, place, large, talk)?;
-    Ok(start.store(alloc, before, after, stop)?)
-}
-
-/// Makes the calls of the requests.
-pub(crate) fn calls(
-    alloc: Global,
-    text: &str,
-    given: &[u8],
-    told: &mut String,
-) -> Result<(), Fault> {
-    let place = place_of(alloc)?;
-    calls_at(alloc, &place, text, given, told)
-}
-
-fn calls_at(
-    alloc: Global,
-    place: &Place,
-    text: &str,
-    given: &[u8],
-    told: &mut String,
-) -> Result<(), Fault>
-    requires { IsPlace place.now }
-{
-    let mut talk = open(alloc, given)?;
-    calls_over(alloc, place, text, &mut talk, told)
+    if let Some(mut talk) = Talk::open(alloc, given, told) {
+        calls_over(alloc, place, verb, text, &mut talk, told);
+    }
 }
 
 fn calls_over(
     alloc: Global,
     place: &Place,
+    verb: &str,
     text: &str,
     talk: &mut Talk,
-    told: &mut String,
-) -> Result<(), Fault>
+    told: &mut Told,
+)
     requires { IsPlace place.now }
 {
-    let mut store = store_of(alloc, place, text, talk)?;
-    calls_on(alloc, place, text, talk, &mut store, told)?;
-    tell(&store.into_account(), told)
+    if let Some(mut store) = store_of(alloc, place, text, talk, told) {
+        if verb == "calls" {
+            make_calls(alloc, place, MOST_CALLS, talk, &mut store, told);
+            tell_rest(alloc, text, &store, told);
+            tell(&store.into_account(), told);
+        } else {
+            write_last(alloc, place, text, talk, &mut store, told);
+        }
+    }
 }
 
-fn calls_on(
+/// The store on which a case begins.
+fn store_of(
+    alloc: Global,
+    place: &Place,
+    text: &str,
+    talk: &mut Talk,
+    told: &mut Told,
+) -> Option<MemSwift>
+    requires { IsPlace place.now }
+{
+    let large = count_of(text, "large ", told);
+    let stop = count_of(text, "stop ", told);
+    let before = numbers(alloc, text, "before ", told);
+    let after = numbers(alloc, text, "after ", told);
+    let start = start_of(alloc, place, large, talk, told);
+    told.keep(start.store(alloc, before, after, stop))
+}
+
+fn write_last(
     alloc: Global,
     place: &Place,
     text: &str,
     talk: &mut Talk,
     store: &mut MemSwift,
-    told: &mut String,
-) -> Result<(), Fault>
+    told: &mut Told,
+)
     requires { IsPlace place.now }
 {
-    make_calls(alloc, place, talk, store, told)?;
-    tell_rest(text, store, told)
+    let count = count_of(text, "made ", told);
+    let mut unseen = Told::new(alloc);
+    make_calls(alloc, place, count, talk, store, &mut unseen);
+    told.note_of(&unseen);
+    if let Some(made) = next_call(alloc, place, talk, told) {
+        answer_next(alloc, place, &made, talk, store, told);
+    }
 }
 
-/// Makes the calls, and tells of each its reply, and the account that it changes.
+/// Makes so many calls at most, and tells of each its reply, and the account that it changes.
 fn make_calls(
     alloc: Global,
     place: &Place,
+    count: u64,
     talk: &mut Talk,
     store: &mut MemSwift,
-    told: &mut String,
-) -> Result<(), Fault>
+    told: &mut Told,
+)
     requires { IsPlace place.now }
 {
-    let mut last = String::new(alloc);
-    tell(store.account(), &mut last)?;
-    for _ in 0..MOST_CALLS {
-        let Some(message) = next_message(talk)? else {
-            return Ok(());
-        };
-        make_call(alloc, place, message, store, told)?;
-        tell_change(alloc, store, &mut last, told)?;
-    }
-    Ok(())
-}
-
-fn make_call(
-    alloc: Global,
-    place: &Place,
-    message: Message,
-    store: &mut MemSwift,
-    told: &mut String,
-) -> Result<(), Fault>
-    requires { IsPlace place.now }
-{
-    match &read_call(alloc, place, message) {
-        Ok(call) => call_on(store, call, told),
-        Err(_) => Err(Fault::Unread("a request isn't a call")),
+    let mut last = Told::new(alloc);
+    tell(store.account(), &mut last);
+    for _ in 0..count {
+        match talk.next_message() {
+            Some(message) => make_call(alloc, place, message, store, told),
+            None => return,
+        }
+        last = tell_change(alloc, store, last, told);
     }
 }
 
-fn call_on(store: &mut MemSwift, call: &SwiftRequest, told: &mut String) -> Result<(), Fault> {
-    if is_fit(call) {
-        tell_copy(&sent(&mut &mut *store, call), told)
-    } else {
-        Err(Fault::Unread("a call isn't within the limits"))
+fn make_call(alloc: Global, place: &Place, message: Message, store: &mut MemSwift, told: &mut Told)
+    requires { IsPlace place.now }
+{
+    make_read(&read_call(alloc, place, message), store, told);
+}
+
+fn make_read(read: &Result<SwiftRequest, WireFault>, store: &mut MemSwift, told: &mut Told) {
+    match read {
+        Ok(call) if is_fit(call) => tell_copy(&sent(&mut &mut *store, call), told),
+        _ => told.note(UNFIT),
     }
 }
 
@@ -164,102 +153,30 @@ fn sent<W: Swift>(store: &mut W, request: &SwiftRequest) -> Result<SwiftReply, S
     store.call(request)
 }
 
-/// Tells the account where it isn't the last that was told.
-fn tell_change(
-    alloc: Global,
-    store: &MemSwift,
-    last: &mut String,
-    told: &mut String,
-) -> Result<(), Fault> {
-    let mut account = String::new(alloc);
-    tell(store.account(), &mut account)?;
-    if account.as_str() != last.as_str() {
-        told.push_str(account.as_str())?;
-        *last = account;
+/// Tells the account where it isn't the last that was told. The account's text.
+fn tell_change(alloc: Global, store: &MemSwift, last: Told, told: &mut Told) -> Told {
+    let mut account = Told::new(alloc);
+    tell(store.account(), &mut account);
+    if account.text() != last.text() {
+        told.say(account.text());
     }
-    Ok(())
+    account
 }
 
 /// Tells how many calls were made, and the accounts after the numbers of calls that are asked for.
-fn tell_rest(text: &str, store: &MemSwift, told: &mut String) -> Result<(), Fault> {
-    tell(&store.calls(), told)?;
-    for word in named(text, "at ").split(',') {
-        if !word.is_empty() {
-            tell_account_at(number(word)?, store, told)?;
-        }
+fn tell_rest(alloc: Global, text: &str, store: &MemSwift, told: &mut Told) {
+    tell(&store.calls(), told);
+    let counts = numbers(alloc, text, "at ", told);
+    for count in counts.as_slice() {
+        tell_account_at(*count, store, told);
     }
-    Ok(())
 }
 
-fn tell_account_at(count: u64, store: &MemSwift, told: &mut String) -> Result<(), Fault> {
+fn tell_account_at(count: u64, store: &MemSwift, told: &mut Told) {
     if store.calls() < count {
-        return Err(Fault::Unread("so many calls weren't made"));
+        return told.note(Fault::Unread("so many calls weren't made"));
     }
-    tell(&store.account_at(count), told)
-}
-
-/// Tells the answer that is written to the last call for the reply to the one before it.
-pub(crate) fn answered(
-    alloc: Global,
-    text: &str,
-    given: &[u8],
-    told: &mut String,
-) -> Result<(), Fault> {
-    let place = place_of(alloc)?;
-    answered_at(alloc, &place, text, given, told)
-}
-
-fn answered_at(
-    alloc: Global,
-    place: &Place,
-    text: &str,
-    given: &[u8],
-    told: &mut String,
-) -> Result<(), Fault>
-    requires { IsPlace place.now }
-{
-    let mut talk = open(alloc, given)?;
-    let mut store = store_of(alloc, place, text, &mut talk)?;
-    make_silently(
-        alloc,
-        place,
-        count_of(text, "made ")?,
-        &mut talk,
-        &mut store,
-    )?;
-    answer_last(alloc, place, &mut talk, &mut store, told)
-}
-
-fn make_silently(
-    alloc: Global,
-    place: &Place,
-    count: u64,
-    talk: &mut Talk,
-    store: &mut MemSwift,
-) -> Result<(), Fault>
-    requires { IsPlace place.now }
-{
-    let mut passed = String::new(alloc);
-    for _ in 0..count {
-        let Some(message) = next_message(talk)? else {
-            return Err(Fault::Unread("too few calls"));
-        };
-        make_call(alloc, place, message, store, &mut passed)?;
-    }
-    Ok(())
-}
-
-fn answer_last(
-    alloc: Global,
-    place: &Place,
-    talk: &mut Talk,
-    store: &mut MemSwift,
-    told: &mut String,
-) -> Result<(), Fault>
-    requires { IsPlace place.now }
-{
-    let made = next_call(alloc, place, talk)?;
-    answer_next(alloc, place, &made, talk, store, told)
+    tell(&store.account_at(count), told);
 }
 
 fn answer_next(
@@ -268,12 +185,13 @@ fn answer_next(
     made: &SwiftRequest,
     talk: &mut Talk,
     store: &mut MemSwift,
-    told: &mut String,
-) -> Result<(), Fault>
+    told: &mut Told,
+)
     requires { IsPlace place.now }
 {
-    let asked = next_call(alloc, place, talk)?;
-    answer_for(alloc, made, &asked, store, told)
+    if let Some(asked) = next_call(alloc, place, talk, told) {
+        answer_for(alloc, made, &asked, store, told);
+    }
 }
 
 fn answer_for(
@@ -281,13 +199,23 @@ fn answer_for(
     made: &SwiftRequest,
     asked: &SwiftRequest,
     store: &mut MemSwift,
-    told: &mut String,
-) -> Result<(), Fault> {
-    if !is_fit(made) {
-        return Err(Fault::Unread("a call isn't within the limits"));
+    told: &mut Told,
+) {
+    if is_fit(made) {
+        tell_answer(alloc, asked, &store.call(made), told);
+    } else {
+        told.note(UNFIT);
     }
-    match &store.call(made) {
+}
+
+fn tell_answer(
+    alloc: Global,
+    asked: &SwiftRequest,
+    made: &Result<SwiftReply, SwiftFault>,
+    told: &mut Told,
+) {
+    match made {
         Ok(reply) => tell(&write_answer(alloc, asked, reply), told),
-        Err(_) => Err(Fault::Unread("a call failed")),
+        Err(_) => told.note(Fault::Unread("a call failed")),
     }
 }

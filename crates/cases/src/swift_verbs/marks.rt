@@ -1,106 +1,92 @@
 //! Tags, and packs of metadata.
-use crate::http_verbs::talk::number;
-use crate::swift_verbs::{tell_copy, text_of};
-use crate::told::tell;
+use crate::given::number_of;
+use crate::told::{Told, bytes_of, tell, tell_copy, text_of};
 use case_text::Fault;
-use gate_base::{Bytes, Copying, List};
+use gate_base::{Copying, List};
 use s3_names::Meta;
 use std::alloc::Global;
 use swift_marks::{Tag, pack, unpack};
 
 /// Tells a tag, and its text.
-pub(crate) fn tag(alloc: Global, given: &[u8], told: &mut String) -> Result<(), Fault> {
+pub(crate) fn tag(alloc: Global, given: &[u8], told: &mut Told) {
     let tag = Tag::read(alloc, given);
-    tell_copy(&tag, told)?;
-    match &tag {
-        Ok(tag) => tell_text(alloc, tag, told),
-        Err(_) => Ok(()),
+    tell_copy(&tag, told);
+    if let Ok(tag) = &tag {
+        tell_text(alloc, tag, told);
     }
 }
 
-fn tell_text(alloc: Global, tag: &Tag, told: &mut String) -> Result<(), Fault> {
+fn tell_text(alloc: Global, tag: &Tag, told: &mut Told) {
     if tag.has_text() {
-        tell(&tag.write(alloc), told)
+        tell(&tag.write(alloc), told);
     } else {
-        Ok(told.push_str("no text\n")?)
+        told.say("no text\n");
     }
 }
 
 /// Tells the text of the tag that a text gives field by field.
-pub(crate) fn tag_write(alloc: Global, text: &str, told: &mut String) -> Result<(), Fault> {
-    let parts: Vec<&str> = text.split(" | ").collect(alloc)?;
-    match parts.as_slice() {
-        [content_type, etag, moment, id] => {
-            let (moment, id) = (number(moment)?, id_of(id)?);
-            let tag = tag_of(alloc, content_type, etag, moment, id)?;
-            tell_text(alloc, &tag, told)
-        }
-        _ => Err(Fault::Unread("no four fields of a tag")),
+pub(crate) fn tag_write(alloc: Global, text: &str, told: &mut Told) {
+    let parts: Result<Vec<&str>, _> = text.split(" | ").collect(alloc);
+    match parts {
+        Ok(parts) => tell_parts(alloc, parts.as_slice(), told),
+        Err(_) => told.note(Fault::Memory),
     }
 }
 
-fn tag_of(
-    alloc: Global,
-    content_type: &str,
-    etag: &str,
-    moment: u64,
-    id: Option<u128>,
-) -> Result<Tag, Fault> {
-    Ok(Tag {
-        content_type: Bytes::from_slice(alloc, content_type.as_bytes())?,
-        etag: Bytes::from_slice(alloc, etag.as_bytes())?,
-        moment,
-        id,
-    })
+fn tell_parts(alloc: Global, parts: &[&str], told: &mut Told) {
+    let [content_type, etag, moment, id] = parts else {
+        return told.note(Fault::Unread("no four fields of a tag"));
+    };
+    let tag = Tag {
+        content_type: bytes_of(alloc, content_type.as_bytes(), told),
+        etag: bytes_of(alloc, etag.as_bytes(), told),
+        moment: number_of(moment, told),
+        id: id_of(id, told),
+    };
+    tell_text(alloc, &tag, told);
 }
 
-fn id_of(text: &str) -> Result<Option<u128>, Fault> {
-    if text == "-" {
-        return Ok(None);
-    }
+fn id_of(text: &str, told: &mut Told) -> Option<u128> {
     match text.parse::<u128>() {
-        Ok(id) => Ok(Some(id)),
-        Err(_) => Err(Fault::Unread("no id")),
+        Ok(id) => Some(id),
+        Err(_) => {
+            if text != "-" {
+                told.note(Fault::Unread("no id"));
+            }
+            None
+        }
     }
 }
 
 /// Tells the pieces of metadata.
-pub(crate) fn packed(alloc: Global, given: &[u8], told: &mut String) -> Result<(), Fault> {
+pub(crate) fn packed(alloc: Global, given: &[u8], told: &mut Told) {
     let mut meta = Meta::new(alloc);
-    add_pairs(text_of(given)?, &mut meta)?;
-    tell(&pack(alloc, &meta), told)
-}
-
-fn add_pairs(text: &str, meta: &mut Meta) -> Result<(), Fault> {
-    for pair in text.split(';') {
+    for pair in text_of(given, told).split(';') {
         if let Some((name, value)) = pair.split_once(':') {
-            if !meta.add(name.as_bytes(), value.as_bytes())? {
-                return Err(Fault::Unread("a name that stands twice"));
+            if !matches!(meta.add(name.as_bytes(), value.as_bytes()), Ok(true)) {
+                told.note(Fault::Unread("a name that stands twice"));
             }
         }
     }
-    Ok(())
+    tell(&pack(alloc, &meta), told);
 }
 
 /// Tells the metadata of pieces, and their pieces.
-pub(crate) fn unpacked(alloc: Global, given: &[u8], told: &mut String) -> Result<(), Fault> {
+pub(crate) fn unpacked(alloc: Global, given: &[u8], told: &mut Told) {
     let mut pieces = List::new(alloc);
-    for line in text_of(given)?.lines() {
-        pieces.push(Bytes::from_slice(alloc, line.as_bytes())?)?;
+    for line in text_of(given, told).lines() {
+        let done = pieces.push(bytes_of(alloc, line.as_bytes(), told));
+        told.check(done);
     }
-    unpacked_from(alloc, pieces.as_slice(), told)
-}
-
-fn unpacked_from(alloc: Global, pieces: &[Bytes], told: &mut String) -> Result<(), Fault> {
-    let meta = unpack(alloc, pieces);
-    match &meta {
+    match &unpack(alloc, pieces.as_slice()) {
         Ok(meta) => tell_meta(alloc, meta, told),
-        Err(_) => tell(&meta, told),
+        other => tell(other, told),
     }
 }
 
-fn tell_meta(alloc: Global, meta: &Meta, told: &mut String) -> Result<(), Fault> {
-    let copied = meta.copy()?;
-    tell(&copied.pairs(), told)?;
-    tell(&pack(alloc, &copied), told)
+fn tell_meta(alloc: Global, meta: &Meta, told: &mut Told) {
+    if let Some(copied) = told.keep(meta.copy()) {
+        tell(&copied.pairs(), told);
+        tell(&pack(alloc, &copied), told);
+    }
 }

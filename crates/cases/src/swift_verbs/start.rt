@@ -4,8 +4,9 @@ ghost use Rattle.swift_calls.specs.Account.{size_of, IsOrdered, IsSized};
 ghost use Rattle.swift_calls.specs.declared.account.Content.TheVariants.{Segments};
 ghost use Rattle.swift_requests.specs.Place.{IsPlace};
 
-use crate::http_verbs::talk::Talk;
 use crate::swift_verbs::wire::next_call;
+use crate::talk::Talk;
+use crate::told::Told;
 use case_text::Fault;
 use gate_base::{Bytes, List, Memory};
 use slo_manifest::{Form, Segment, read};
@@ -27,25 +28,25 @@ pub(crate) fn start_of(
     place: &Place,
     count: u64,
     talk: &mut Talk,
-) -> Result<Start, Fault>
+    told: &mut Told,
+) -> Start
     requires { IsPlace place.now }
 {
-    let mut start = Start::new(alloc);
+    let mut start = Start {
+        account: Account {
+            containers: List::new(alloc),
+        },
+    };
     for _ in 0..count {
-        start.add(alloc, next_call(alloc, place, talk)?)?;
+        if let Some(call) = next_call(alloc, place, talk, told) {
+            let done = start.add(alloc, call);
+            told.check(done);
+        }
     }
-    Ok(start)
+    start
 }
 
 impl Start {
-    fn new(alloc: Global) -> Start {
-        Start {
-            account: Account {
-                containers: List::new(alloc),
-            },
-        }
-    }
-
     /// A store that begins with the account.
     pub(crate) fn store(
         self,

@@ -1,0 +1,55 @@
+//! The verbs: which function tells what each gives. `s3_verbs`, `http_verbs` and `swift_verbs` say what they take.
+use crate::ended::ended;
+use crate::http_verbs::{fronts, pages, presigned, signatures};
+use crate::s3_verbs;
+use crate::s3_verbs_meaning::meaning_verb;
+use crate::s3_verbs_pages::page_verb;
+use crate::swift_verbs::{calls, manifests, marks, served, wire};
+use crate::told::{Told, tell};
+use gate_base::Bytes;
+use http_wire::print_memory;
+use std::alloc::Global;
+
+/// Tells what a verb gives: by the text behind the verb, and by the bytes of its lines `>`.
+pub(crate) fn answer(alloc: Global, verb: &str, text: &str, given: &[u8], told: &mut Told) {
+    match verb {
+        "meaning" | "code" => meaning_verb(alloc, verb, text, given, told),
+        "page-of" => page_verb(alloc, text, given, told),
+        "messages" => fronts::messages(alloc, text, given, false, told),
+        "lengths" => fronts::messages(alloc, text, given, true, told),
+        "front" => fronts::front(alloc, text, given, told),
+        "page" => pages::page(alloc, text, given, told),
+        "memory" => tell(
+            &Bytes::from_slice(alloc, print_memory(text == "HEAD")),
+            told,
+        ),
+        "ended" => ended(alloc, text, given, told),
+        "verify" | "canonical" | "is-date-time" | "hmac" | "secret" | "first" | "first-of-none" => {
+            signatures::answer(alloc, verb, text, given, told);
+        }
+        "verify-query" | "presign" => presigned::answer(alloc, verb, text, given, told),
+        _ => answer_swift(alloc, verb, text, given, told),
+    }
+}
+
+/// The same for the layers of Swift.
+fn answer_swift(alloc: Global, verb: &str, text: &str, given: &[u8], told: &mut Told) {
+    match verb {
+        "read-call" => wire::read_first(alloc, given, told),
+        "read-answer" => wire::read_behind(alloc, given, told),
+        "answer-end" => wire::tell_end(alloc, text, given, told),
+        "fits" => wire::tell_fit(alloc, text, told),
+        "calls" | "write-answer" => calls::calls(alloc, verb, text, given, told),
+        "swiftd" => served::swiftd(alloc, text, given, told),
+        "tag" => marks::tag(alloc, given, told),
+        "tag-write" => marks::tag_write(alloc, text, told),
+        "pack" => marks::packed(alloc, given, told),
+        "unpack" => marks::unpacked(alloc, given, told),
+        "manifest" | "manifest-size" => manifests::manifest(alloc, verb, text, given, told),
+        "cover" => manifests::covered(alloc, text, told),
+        "is-segment" | "is-manifest" | "joined-etag" | "manifest-write" => {
+            manifests::of_segments(alloc, verb, given, told);
+        }
+        _ => s3_verbs::answer(alloc, verb, text, given, told),
+    }
+}
