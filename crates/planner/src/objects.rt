@@ -1,10 +1,11 @@
 //! The plans of the operations on objects.
-ghost use Rattle.std.specs.Prelude.{◌≡◌, ◌≢◌, ◌<◌, ◌+◌, ◌^◌, true, Some, IfOk, IfSome, Err};
+ghost use Rattle.std.specs.Prelude.{◌≡◌, ◌≢◌, ◌<◌, ◌+◌, ◌^◌, false, true, Some, IfOk, IfSome, Err};
 ghost use Rattle.gate_base.specs.Told.{moment_limit};
 ghost use Rattle.s3_names.specs.declared.acl.Acl.{Acl};
+ghost use Rattle.s3_machine.specs.ETag.{body_etag};
 ghost use Rattle.s3_machine.specs.Reading.{judged};
 ghost use Rattle.s3_machine.specs.Shown.{IsShown};
-ghost use Rattle.s3_machine.specs.Step.{IsPlace, IsProperContent};
+ghost use Rattle.s3_machine.specs.Step.{IsPlace, IsProperContent, is_other_acl};
 ghost use Rattle.s3_machine.specs.declared.reading.Judged.TheVariants as judged_as;
 ghost use Rattle.swift_calls.specs.Limits.{IsRange};
 ghost use Rattle.s3_machine.specs.declared.operation.Label.{Label};
@@ -21,8 +22,8 @@ ghost use Rattle.planner.specs.Objects.{TellsReadable, headed_reply, part_end, r
 use gate_base::Bytes;
 use recovery::{PlanFault, Settled, head_bucket};
 use s3_machine::{
-    Code, Conditions, Judged, Label, ObjectHead, Range, Reply, Span, body_etag, is_other_acl,
-    judge, may_read,
+    Body, Code, Conditions, Judged, Label, ObjectHead, Range, Reply, Span, is_other_acl, judge,
+    may_read,
 };
 use s3_names::{Acl, Meta};
 use std::alloc::Global;
@@ -38,7 +39,7 @@ pub(crate) fn put_object<W: Swift>(
     acl: Option<Acl>,
     content_type: Bytes,
     meta: &Meta,
-    body: Bytes,
+    body: Body,
     label: &Label,
 ) -> Result<Reply, PlanFault>
     requires place { IsPlace bucket key }
@@ -75,7 +76,7 @@ fn put_into<W: Swift>(
     list: Acl,
     content_type: Bytes,
     meta: &Meta,
-    body: Bytes,
+    body: Body,
     label: &Label,
 ) -> Result<Reply, PlanFault>
     requires place { IsPlace bucket key }
@@ -88,8 +89,46 @@ fn put_into<W: Swift>(
     if is_other_acl(acl, list) {
         return Ok(Reply::Refused(Code::NotImplemented));
     }
-    let etag = body_etag(body.as_slice());
-    let text = Bytes::from_slice(alloc, &etag)?;
+    let etag = body.etag();
+    put_bytes(
+        alloc,
+        state,
+        bucket,
+        key,
+        acl,
+        list,
+        content_type,
+        meta,
+        body.into_bytes(),
+        &etag,
+        label,
+    )
+}
+
+/// The PUT of PutObject, of a body that has this ETag.
+fn put_bytes<W: Swift>(
+    alloc: Global,
+    state: &mut Settled<'_, W>,
+    bucket: Bytes,
+    key: Bytes,
+    acl: Option<Acl>,
+    list: Acl,
+    content_type: Bytes,
+    meta: &Meta,
+    body: Bytes,
+    etag: &[u8; 32],
+    label: &Label,
+) -> Result<Reply, PlanFault>
+    requires place { IsPlace bucket key }
+    requires content { IsProperContent content_type meta.now body }
+    requires moment { label.now.moment < moment_limit }
+    requires acl { is_other_acl acl list ≡ false }
+    requires etag { etag.now ≡ body_etag body }
+    ensures stays { Stays state.old state.new }
+    ensures plans { Plans (always 1) (W.history state.old.store.now) (W.history state.new.store.now) state.old.settings.now
+        (Given (λ s. TellsBucket bucket s (Some list))) (PutObject bucket key acl content_type meta.now body) label.now known.Settled result }
+{
+    let text = Bytes::from_slice(alloc, etag)?;
     stored_end(
         recovery::put_object(
             alloc,
@@ -99,7 +138,7 @@ fn put_into<W: Swift>(
             content_type,
             meta,
             body,
-            &etag,
+            etag,
             label.moment,
         ),
         text,

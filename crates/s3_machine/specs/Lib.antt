@@ -1,3 +1,4 @@
+pub mod Body
 pub mod Conditions
 pub mod ETag
 pub mod Finish

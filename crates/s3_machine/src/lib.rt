@@ -3,6 +3,7 @@
 #![tactic(auto)]
 
 mod access;
+mod body;
 mod code;
 mod etag;
 mod items;
@@ -12,6 +13,7 @@ mod operation;
 mod reading;
 
 pub use access::{is_other_acl, may_read};
+pub use body::Body;
 pub use code::Code;
 pub use etag::body_etag;
 pub use items::{Asked, BucketItem, Item, ItemHead, PartItem, UploadItem, copy_option};

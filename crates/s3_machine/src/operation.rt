@@ -1,8 +1,8 @@
 ghost use Rattle.std.specs.Prelude.{◌≡◌, IfOk};
 
-use crate::Code;
 use crate::items::{Asked, BucketItem, Item, PartItem, UploadItem};
 use crate::reading::{Conditions, Range};
+use crate::{Body, Code};
 use gate_base::{Bytes, Caller, Copying, List, Memory};
 use s3_names::{Acl, Meta};
 
@@ -89,7 +89,7 @@ pub enum Op {
         acl: Option<Acl>,
         content_type: Bytes,
         meta: Meta,
-        body: Bytes,
+        body: Body,
     },
     GetObject {
         bucket: Bytes,
@@ -253,7 +253,7 @@ fn copy_put_object(
     acl: Option<Acl>,
     content_type: &Bytes,
     meta: &Meta,
-    body: &Bytes,
+    body: &Body,
 ) -> Result<Op, Memory>
     ensures { IfOk result (λ op. op ≡ Op.PutObject bucket.now key.now acl content_type.now meta.now body.now) }
 {

@@ -1,2 +1,6 @@
+pub mod Completing
+pub mod Digests
 pub mod Listings
+pub mod Numbers
+pub mod Parts
 pub mod Rolls

@@ -1,7 +1,11 @@
 //! The machine of `s3_machine` in its running form: plain and slow, for tests.
 #![tactic(auto)]
 
+mod kept;
 mod listing;
 mod native;
+mod numbered;
+mod upload;
+mod uploads;
 
 pub use native::Native;

@@ -28,7 +28,7 @@ pub(crate) fn marker_of(asked: &Asked) -> &[u8]
 }
 
 /// Whether the text begins with these bytes.
-fn begins(front: &[u8], text: &[u8]) -> bool
+pub(crate) fn begins(front: &[u8], text: &[u8]) -> bool
     ensures { result ≡ begins front.now text.now }
 {
     text.starts_with(front)
@@ -144,14 +144,14 @@ fn rows(
 }
 
 /// Whether an item is left over, where any is asked for.
-fn is_cut(max: usize, count: usize) -> bool
+pub(crate) fn is_cut(max: usize, count: usize) -> bool
     ensures { result ≡ (nat_lt 0 max && nat_lt max count) }
 {
     0 < max && max < count
 }
 
 /// The first items.
-fn first(items: List<Item>, max: usize) -> List<Item>
+pub(crate) fn first<T: Drop>(items: List<T>, max: usize) -> List<T>
     ensures { result ≡ take max items }
 {
     let mut items = items.into_vec();

@@ -19,12 +19,14 @@ ghost use Rattle.s3_machine.specs.declared.operation.Op.TheVariants.{
 };
 ghost use Rattle.s3_machine.specs.Step.{IsProper, S3Step, bucket_items, drop_object, is_other_acl, may_read, put_object, with_acl};
 
+use crate::kept::NativeKept;
 use crate::listing::listed;
+use crate::upload::NativeUpload;
 use gate_base::{Bytes, Caller, Copying, List, Memory};
 use name_table::Table;
 use s3_machine::{
-    Asked, BucketItem, Code, Conditions, Item, ItemHead, Judged, Label, ObjectHead, Op, Range,
-    Reply, Settings, Span, body_etag, is_other_acl, judge, may_read,
+    Asked, Body, BucketItem, Code, Conditions, Item, ItemHead, Judged, Label, ObjectHead, Op,
+    Range, Reply, Settings, Span, is_other_acl, judge, may_read,
 };
 use s3_names::{Acl, Meta};
 use std::alloc::Global;
@@ -33,11 +35,11 @@ use std::marker::Model;
 /// An object. Contracts see it as one of the state.
 #[derive(Drop)]
 pub(crate) struct NativeObject {
-    bytes: Bytes,
-    etag: Bytes,
-    content_type: Bytes,
-    meta: Meta,
-    modified: u64,
+    pub(crate) bytes: Bytes,
+    pub(crate) etag: Bytes,
+    pub(crate) content_type: Bytes,
+    pub(crate) meta: Meta,
+    pub(crate) modified: u64,
 }
 
 impl Model for NativeObject {
@@ -62,13 +64,13 @@ impl NativeObject {
         moment: u64,
         content_type: &Bytes,
         meta: &Meta,
-        body: &Bytes,
+        body: &Body,
     ) -> Result<NativeObject, Memory>
         ensures { IfOk result (λ made. made ≡ new_object moment content_type.now meta.now body.now) }
     {
         Ok(NativeObject {
-            bytes: body.copy()?,
-            etag: Bytes::from_slice(alloc, &body_etag(body.as_slice()))?,
+            bytes: Bytes::from_slice(alloc, body.as_slice())?,
+            etag: Bytes::from_slice(alloc, &body.etag())?,
             content_type: content_type.copy()?,
             meta: meta.copy()?,
             modified: moment,
@@ -162,7 +164,9 @@ impl NativeObject {
 pub(crate) struct NativeBucket {
     created: u64,
     acl: Acl,
-    objects: Table<NativeObject>,
+    pub(crate) objects: Table<NativeObject>,
+    pub(crate) uploads: Table<NativeUpload>,
+    pub(crate) kept: Table<NativeKept>,
 }
 
 impl Model for NativeBucket {
@@ -190,6 +194,8 @@ impl NativeBucket {
             created: moment,
             acl,
             objects: Table::new(alloc),
+            uploads: Table::new(alloc),
+            kept: Table::new(alloc),
         }
     }
 
@@ -223,7 +229,7 @@ impl NativeBucket {
         may_read(caller, self.acl)
     }
 
-    fn has_another_acl(&self, acl: Option<Acl>) -> bool
+    pub(crate) fn has_another_acl(&self, acl: Option<Acl>) -> bool
         ensures { result ≡ is_other_acl acl self.now.acl }
     {
         is_other_acl(acl, self.acl)
@@ -309,9 +315,9 @@ fn drop_object(buckets: &mut Table<NativeBucket>, bucket: &[u8], key: &[u8])
 /// One S3 service in memory. Contracts see its settings and the state of its buckets.
 #[derive(Drop)]
 pub struct Native {
-    alloc: Global,
-    settings: Settings,
-    buckets: Table<NativeBucket>,
+    pub(crate) alloc: Global,
+    pub(crate) settings: Settings,
+    pub(crate) buckets: Table<NativeBucket>,
 }
 
 impl Model for Native {
@@ -378,7 +384,7 @@ impl Native {
             } => self.head_object(bucket, key, *range, conditions, label),
             Op::DeleteObject { bucket, key } => self.delete_object(bucket, key, label),
             Op::GetObjectAcl { bucket, key } => Ok(self.get_object_acl(bucket, key, label)),
-            _ => Err(Memory),
+            _ => self.step_upload(op, label),
         }
     }
 
@@ -498,7 +504,7 @@ impl Native {
         acl: Option<Acl>,
         content_type: &Bytes,
         meta: &Meta,
-        body: &Bytes,
+        body: &Body,
         label: &Label,
     ) -> Result<Reply, Memory>
         ensures settings { self.new.settings ≡ self.old.settings }

@@ -4,7 +4,7 @@ ghost use Rattle.std.specs.Prelude.{◌≡◌, ◌&&◌, ◌||◌, ◌==◌, IfO
 ghost use Rattle.std.specs.List.{starts_with};
 ghost use Rattle.base64.specs.Engines.{standard};
 ghost use Rattle.base64.specs.GeneralPurpose.{encode_of};
-ghost use Rattle.md5.specs.Md5.{md5};
+ghost use Rattle.s3_machine.specs.Body.{IsDigestOf};
 ghost use Rattle.s3_machine.specs.Limits.{is_kept_header};
 ghost use Rattle.http_wire.specs.Headers.{has_header, text_of};
 ghost use Rattle.s3_requests.specs.Rows.{shape_of};
@@ -43,23 +43,29 @@ pub fn has_bad_digest(alloc: Global, headers: &[Pair]) -> Result<bool, Memory>
     Ok(!is_digest(alloc, text.as_slice())?)
 }
 
-fn digest_text(alloc: Global, body: &[u8]) -> Result<Bytes, Memory>
-    ensures { IfOk result (λ text. text ≡ encode_of standard (md5 body.now)) }
+fn digest_text(alloc: Global, digest: &[u8; 16]) -> Result<Bytes, Memory>
+    ensures { IfOk result (λ text. text ≡ encode_of standard digest.now) }
 {
-    let text = STANDARD.encode(alloc, &Md5::digest(body))?;
+    let text = STANDARD.encode(alloc, digest)?;
     Bytes::from_slice(alloc, text.as_bytes())
 }
 
-/// Whether there is a Content-MD5 other than the body's.
-pub fn is_other_body(alloc: Global, headers: &[Pair], body: &[u8]) -> Result<bool, Memory>
-    ensures { IfOk result (λ other. other ≡ is_other_body headers.now body.now) }
+/// Whether there is a Content-MD5 other than the body's, and the body's MD5 where it was made for that.
+pub fn is_other_body(
+    alloc: Global,
+    headers: &[Pair],
+    body: &[u8],
+) -> Result<(bool, Option<[u8; 16]>), Memory>
+    ensures other { IfOk result (λ made. made.0 ≡ is_other_body headers.now body.now) }
+    ensures digest { IfOk result (λ made. IsDigestOf made.1 body.now) }
 {
     if !has_header(headers, b"content-md5") {
-        return Ok(false);
+        return Ok((false, None));
     }
     let text = text_of(alloc, headers, b"content-md5")?;
-    let digest = digest_text(alloc, body)?;
-    Ok(text.as_slice() != digest.as_slice())
+    let digest = Md5::digest(body);
+    let due = digest_text(alloc, &digest)?;
+    Ok((text.as_slice() != due.as_slice(), Some(digest)))
 }
 
 fn given_type(alloc: Global, headers: &[Pair]) -> Result<Bytes, Memory>

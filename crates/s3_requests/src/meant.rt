@@ -1,5 +1,6 @@
 //! What a request means.
 ghost use Rattle.std.specs.Prelude.{◌≡◌, ◌≢◌, ◌&&◌, IfOk};
+ghost use Rattle.s3_machine.specs.Body.{IsDigestOf};
 ghost use Rattle.s3_requests.specs.Proper.{IsProperMeant};
 ghost use Rattle.s3_requests.specs.Meaning.{first_refusal, reasons, header_reasons, digest_reasons, argument_reasons, content_reasons, body_reasons, meaning_of, op_of, or_private, put_acl, KeepsFront, is_denied, has_bad_bucket, row_of};
 ghost use Rattle.s3_requests.specs.declared.meant.Meant.TheVariants as variant;
@@ -26,7 +27,7 @@ use crate::ranges::given_range;
 use crate::rows::{Level, Row, is_method, is_same_level, level_of, row_for, shape_of};
 use gate_base::{Bytes, Caller, Copying, Memory, Pair};
 use http_wire::Message;
-use s3_machine::{Code, Op, Settings, is_content_type, is_proper_meta};
+use s3_machine::{Body, Code, Op, Settings, is_content_type, is_proper_meta};
 use s3_names::{Acl, MOST_KEY_BYTES, Meta, Target, is_bucket, is_key};
 use std::alloc::Global;
 use std::mem;
@@ -180,10 +181,11 @@ fn by_digest(
     if has_bad_digest(alloc, headers)? {
         return Ok(Meant::Refused(Code::InvalidDigest));
     }
-    if is_other_body(alloc, headers, message.body.as_slice())? {
+    let (is_other, digest) = is_other_body(alloc, headers, message.body.as_slice())?;
+    if is_other {
         return Ok(Meant::Refused(Code::BadDigest));
     }
-    by_arguments(alloc, settings, row, message, target, caller)
+    by_arguments(alloc, settings, row, message, target, caller, digest)
 }
 
 /// The reasons against the values of the query, and then those against the content.
@@ -194,7 +196,9 @@ fn by_arguments(
     message: &mut Message,
     target: &Target,
     caller: &Caller,
+    digest: Option<[u8; 16]>,
 ) -> Result<Meant, Memory>
+    requires digest { IsDigestOf digest message.now.body }
     ensures value { IfOk result (λ meant. meant ≡ first_refusal (argument_reasons settings.now row message.entry.now target.now caller.now) (op_of row message.entry.now target.now)) }
     ensures keeps { KeepsFront message.entry.now message.exit.now }
 {
@@ -208,7 +212,7 @@ fn by_arguments(
     if has_bad_token(alloc, query)? {
         return Ok(Meant::Refused(Code::InvalidArgument));
     }
-    by_content(alloc, settings, row, message, target, caller)
+    by_content(alloc, settings, row, message, target, caller, digest)
 }
 
 /// The reasons against the content, and then those against the body.
@@ -219,7 +223,9 @@ fn by_content(
     message: &mut Message,
     target: &Target,
     caller: &Caller,
+    digest: Option<[u8; 16]>,
 ) -> Result<Meant, Memory>
+    requires digest { IsDigestOf digest message.now.body }
     ensures value { IfOk result (λ meant. meant ≡ first_refusal (content_reasons settings.now row message.entry.now caller.now) (op_of row message.entry.now target.now)) }
     ensures keeps { KeepsFront message.entry.now message.exit.now }
 {
@@ -246,6 +252,7 @@ fn by_content(
         acl,
         content_type,
         meta,
+        digest,
     )
 }
 
@@ -260,10 +267,12 @@ fn by_body(
     acl: Option<Acl>,
     content_type: Bytes,
     meta: Meta,
+    digest: Option<[u8; 16]>,
 ) -> Result<Meant, Memory>
     requires acl { acl ≡ given_acl message.now.headers }
     requires content_type { content_type ≡ taken_type row message.now.headers }
     requires meta { meta ≡ taken_meta row message.now.headers }
+    requires digest { IsDigestOf digest message.now.body }
     ensures value { IfOk result (λ meant. meant ≡ first_refusal (body_reasons settings.now row message.entry.now caller.now) (op_of row message.entry.now target.now)) }
     ensures keeps { KeepsFront message.entry.now message.exit.now }
 {
@@ -281,7 +290,7 @@ fn by_body(
     if is_denied(row, *caller) {
         return Ok(Meant::Refused(Code::AccessDenied));
     }
-    op_of(alloc, row, message, target, acl, content_type, meta)
+    op_of(alloc, row, message, target, acl, content_type, meta, digest)
 }
 
 /// The operation of a row, with the access control list that is named, and the content type and the metadata that it takes.
@@ -293,10 +302,12 @@ fn op_of(
     acl: Option<Acl>,
     content_type: Bytes,
     meta: Meta,
+    digest: Option<[u8; 16]>,
 ) -> Result<Meant, Memory>
     requires acl { acl ≡ given_acl message.now.headers }
     requires content_type { content_type ≡ taken_type row message.now.headers }
     requires meta { meta ≡ taken_meta row message.now.headers }
+    requires digest { IsDigestOf digest message.now.body }
     ensures value { IfOk result (λ meant. meant ≡ op_of row message.entry.now target.now) }
     ensures keeps { KeepsFront message.entry.now message.exit.now }
 {
@@ -308,7 +319,7 @@ fn op_of(
         Row::HeadBucket => head_bucket(target),
         Row::GetBucketLocation => get_location(target),
         Row::GetBucketAcl => get_bucket_acl(target),
-        Row::PutObject => put_object(alloc, message, target, acl, content_type, meta),
+        Row::PutObject => put_object(alloc, message, target, acl, content_type, meta, digest),
         Row::ListObjects => list_objects(alloc, target),
         Row::ListObjectsV2 => list_objects_v2(alloc, target),
         Row::GetObject => get_object(alloc, message.headers.as_slice(), target),
@@ -387,7 +398,9 @@ fn put_object(
     acl: Option<Acl>,
     content_type: Bytes,
     meta: Meta,
+    digest: Option<[u8; 16]>,
 ) -> Result<Meant, Memory>
+    requires digest { IsDigestOf digest message.now.body }
     ensures value { IfOk result (λ meant. meant ≡ Meant.Op (Op.PutObject target.now.bucket target.now.key acl content_type meta message.entry.now.body)) }
     ensures keeps { KeepsFront message.entry.now message.exit.now }
 {
@@ -398,7 +411,7 @@ fn put_object(
         acl,
         content_type,
         meta,
-        body: mem::replace(&mut message.body, Bytes::new(alloc)),
+        body: Body::with(mem::replace(&mut message.body, Bytes::new(alloc)), digest),
     }))
 }
 

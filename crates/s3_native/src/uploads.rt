@@ -1,0 +1,592 @@
+//! The operations on uploads in the machine's running form.
+ghost use Rattle.std.specs.Prelude.{◌≡◌, map, IfOk, IfSome, IsTrue, None, is_some, OnOk, OnErr, Some};
+ghost use Rattle.std.specs.FinMap.{entries, from_entries, get};
+ghost use Rattle.std.specs.List.{filter};
+ghost use Rattle.gate_base.specs.Maps.{adjust, name_cmp};
+ghost use Rattle.s3_machine.specs.declared.operation.Op.TheVariants.{
+  ListUploads,
+  CreateUpload,
+  UploadPart,
+  ListParts,
+  CompleteUpload,
+  AbortUpload,
+};
+ghost use Rattle.s3_machine.specs.State.{Bucket};
+ghost use Rattle.s3_machine.specs.Step.{IsNewId, S3Step};
+ghost use Rattle.s3_machine.specs.Uploads.{
+  cut,
+  drop_upload,
+  id_value,
+  is_upload_after,
+  is_upload_listed,
+  kept_as,
+  on_upload,
+  open_upload,
+  upload_place,
+  upload_row,
+  uploads_after,
+  with_part,
+};
+ghost use Rattle.s3_native.specs.Native.{added, closed, upload_item};
+
+use crate::kept::NativeKept;
+use crate::listing::{begins, first, is_cut};
+use crate::native::{Native, NativeBucket, NativeObject};
+use crate::upload::{NativePart, NativeUpload};
+use gate_base::{Bytes, Copying, List, Memory};
+use name_table::Table;
+use s3_machine::{Code, Label, Listed, Op, Reply, UploadItem};
+use s3_names::{Acl, Meta, id_digits, id_of};
+use std::alloc::Global;
+
+/// How many ids are tried for a new upload. All of them are taken only where there are as many uploads.
+const TRIES: u32 = 1_000_000;
+
+/// The id that the text of an upload writes; 0 for a text that writes none.
+fn id_value(text: &[u8]) -> u128
+    ensures { result ≡ id_value text.now }
+{
+    match id_of(text) {
+        Some(id) => id,
+        None => 0,
+    }
+}
+
+/// Whether an upload of this key and id comes after the markers.
+fn is_after(key_marker: &[u8], id_marker: &[u8], key: &[u8], id: &[u8]) -> bool
+    ensures { result ≡ is_upload_after key_marker.now id_marker.now key.now id.now }
+{
+    key.cmp(key_marker).is_gt()
+        || (key == key_marker && id_marker.len() > 0 && id.cmp(id_marker).is_gt())
+}
+
+impl NativeUpload {
+    fn is_listed(&self, prefix: &[u8], key_marker: &[u8], id_marker: &[u8], id: &[u8]) -> bool
+        ensures { result ≡ is_upload_listed prefix.now key_marker.now id_marker.now (id.now, self.now) }
+    {
+        let key = self.key.as_slice();
+        begins(prefix, key) && is_after(key_marker, id_marker, key, id)
+    }
+
+    /// What a listing tells of it.
+    fn item(&self, id: &[u8]) -> Result<UploadItem, Memory>
+        ensures { IfOk result (λ item. item ≡ upload_item id.now self.now) }
+    {
+        Ok(UploadItem {
+            key: self.key.copy()?,
+            id: id_value(id),
+            started: self.started,
+        })
+    }
+
+    /// Where it stands among others.
+    fn place(&self, alloc: Global, id: &[u8]) -> Result<Bytes, Memory>
+        ensures { IfOk result (λ place. place ≡ upload_place self.now.key id.now) }
+    {
+        let mut place = Bytes::from_slice(alloc, self.key.as_slice())?;
+        place.push(0)?;
+        place.append(id)?;
+        Ok(place)
+    }
+}
+
+/// Adds an item at its place, unless one is there. Where memory runs out, the rows are as before.
+fn add_item(rows: &mut Table<UploadItem>, place: &[u8], item: UploadItem) -> Result<(), Memory>
+    ensures { OnOk result (rows.new ≡ added (place.now, item) rows.old) }
+{
+    if rows.get(place).is_some() {
+        return Ok(());
+    }
+    rows.put(place, item)
+}
+
+/// The items in the order of their places.
+fn items_in(rows: &Table<UploadItem>, alloc: Global) -> Result<List<UploadItem>, Memory>
+    ensures { IfOk result (λ items. items ≡ map (λ row. row.1) (entries rows.now)) }
+{
+    let mut items = List::new(alloc);
+    for (_place, item) in rows.as_map() {
+        items.push(item.copy()?)?;
+    }
+    Ok(items)
+}
+
+/// The uploads with the prefix that come after the markers, by their places.
+fn rows_after(
+    uploads: &Table<NativeUpload>,
+    alloc: Global,
+    prefix: &[u8],
+    key_marker: &[u8],
+    id_marker: &[u8],
+) -> Result<Table<UploadItem>, Memory>
+    ensures { IfOk result (λ rows. rows ≡
+        from_entries {R = name_cmp} (map upload_row (filter (is_upload_listed prefix.now key_marker.now id_marker.now) (entries uploads.now)))) }
+{
+    let mut rows = Table::new(alloc);
+    for (id, upload) in uploads.as_map() {
+        if upload.is_listed(prefix, key_marker, id_marker, id) {
+            let place = upload.place(alloc, id)?;
+            let item = upload.item(id)?;
+            add_item(&mut rows, place.as_slice(), item)?;
+        }
+    }
+    Ok(rows)
+}
+
+/// The first uploads of a listing, and whether one is left over.
+fn uploads_listed(
+    uploads: &Table<NativeUpload>,
+    alloc: Global,
+    prefix: &[u8],
+    key_marker: &[u8],
+    id_marker: &[u8],
+    max: u32,
+) -> Result<(List<UploadItem>, bool), Memory>
+    ensures { IfOk result (λ listed. listed ≡ cut max (uploads_after prefix.now key_marker.now id_marker.now uploads.now)) }
+{
+    let rows = rows_after(uploads, alloc, prefix, key_marker, id_marker)?;
+    let items = items_in(&rows, alloc)?;
+    let max = max as usize;
+    let truncated = is_cut(max, items.len());
+    Ok((first(items, max), truncated))
+}
+
+/// Puts a part into an upload, in place of what stands under its number. Where memory runs out, all is as before.
+fn put_part_in(
+    uploads: &mut Table<NativeUpload>,
+    id: &[u8],
+    number: u32,
+    part: NativePart,
+) -> Result<(), Memory>
+    ensures ok { OnOk result (uploads.new ≡ adjust id.now (with_part number part) uploads.old) }
+    ensures err { OnErr result (uploads.new ≡ uploads.old) }
+{
+    match uploads.get_mut(id) {
+        Some(found) => found.put_part(number, part),
+        None => Ok(()),
+    }
+}
+
+impl NativeBucket {
+    fn is_unused(&self, id: u128) -> bool
+        ensures { IsTrue result → IsNewId self.now id }
+    {
+        let digits = id_digits(id);
+        self.uploads.get(&digits).is_none() && self.kept.get(&digits).is_none()
+    }
+
+    /// The first id from the word of chance on that is neither open nor kept, if few are.
+    fn new_id(&self, draw: u128) -> Option<u128>
+        ensures { IfSome result (λ id. IsNewId self.now id) }
+    {
+        for tries in 0..TRIES {
+            let id = draw.wrapping_add(u128::from(tries));
+            if self.is_unused(id) {
+                return Some(id);
+            }
+        }
+        None
+    }
+
+    /// The ETag with which the same completion is kept, if it is.
+    fn repeated(&self, key: &[u8], id: &[u8], list: &[Listed]) -> Result<Option<Bytes>, Memory>
+        ensures { IfOk result (λ etag. etag ≡ kept_as key.now list.now (get self.now.kept id.now)) }
+    {
+        match self.kept.get(id) {
+            Some(kept) if kept.is_same(key, list) => Ok(Some(kept.etag()?)),
+            _ => Ok(None),
+        }
+    }
+
+    fn open_upload(&mut self, id: &[u8], upload: NativeUpload) -> Result<(), Memory>
+        ensures ok { OnOk result (self.new ≡ open_upload id.now upload self.old) }
+        ensures err { OnErr result (self.new ≡ self.old) }
+    {
+        self.uploads.put(id, upload)
+    }
+
+    fn put_part(&mut self, id: &[u8], number: u32, part: NativePart) -> Result<(), Memory>
+        ensures ok { OnOk result (self.new ≡ on_upload id.now (with_part number part) self.old) }
+        ensures err { OnErr result (self.new ≡ self.old) }
+    {
+        put_part_in(&mut self.uploads, id, number, part)
+    }
+
+    fn drop_upload(&mut self, id: &[u8])
+        ensures { self.new ≡ drop_upload id.now self.old }
+    {
+        self.uploads.drop_at(id);
+    }
+
+    fn is_kept(&self, id: &[u8]) -> bool
+        ensures { result ≡ is_some (get self.now.kept id.now) }
+    {
+        self.kept.get(id).is_some()
+    }
+
+    /// Puts the object of a completion, closes its upload, and keeps it. Where memory runs out, all is as before; it is taken
+    /// to run out also where a completion of the id is kept already, which no open upload has.
+    fn close(
+        &mut self,
+        key: &[u8],
+        id: &[u8],
+        object: NativeObject,
+        kept: NativeKept,
+    ) -> Result<(), Memory>
+        ensures ok { OnOk result (self.new ≡ closed key.now id.now object kept self.old) }
+        ensures err { OnErr result (self.new ≡ self.old) }
+    {
+        if self.is_kept(id) {
+            return Err(Memory);
+        }
+        self.kept.put(id, kept)?;
+        match self.objects.put(key, object) {
+            Ok(()) => {
+                self.uploads.drop_at(id);
+                Ok(())
+            }
+            Err(fault) => {
+                self.kept.drop_at(id);
+                Err(fault)
+            }
+        }
+    }
+}
+
+/// Opens an upload in a bucket. Where memory runs out, all is as before.
+fn open_upload(
+    buckets: &mut Table<NativeBucket>,
+    bucket: &[u8],
+    id: &[u8],
+    upload: NativeUpload,
+) -> Result<(), Memory>
+    ensures ok { OnOk result (buckets.new ≡ adjust bucket.now (open_upload id.now upload) buckets.old) }
+    ensures err { OnErr result (buckets.new ≡ buckets.old) }
+{
+    match buckets.get_mut(bucket) {
+        Some(found) => found.open_upload(id, upload),
+        None => Ok(()),
+    }
+}
+
+/// Puts a part into an upload of a bucket. Where memory runs out, all is as before.
+fn put_part(
+    buckets: &mut Table<NativeBucket>,
+    bucket: &[u8],
+    id: &[u8],
+    number: u32,
+    part: NativePart,
+) -> Result<(), Memory>
+    ensures ok { OnOk result (buckets.new ≡ adjust bucket.now (on_upload id.now (with_part number part)) buckets.old) }
+    ensures err { OnErr result (buckets.new ≡ buckets.old) }
+{
+    match buckets.get_mut(bucket) {
+        Some(found) => found.put_part(id, number, part),
+        None => Ok(()),
+    }
+}
+
+/// Takes away an upload of a bucket, if it is there.
+fn drop_upload(buckets: &mut Table<NativeBucket>, bucket: &[u8], id: &[u8])
+    ensures { buckets.new ≡ adjust bucket.now (drop_upload id.now) buckets.old }
+{
+    if let Some(found) = buckets.get_mut(bucket) {
+        found.drop_upload(id);
+    }
+}
+
+/// Closes an upload of a bucket by its completion. Where memory runs out, all is as before.
+fn close(
+    buckets: &mut Table<NativeBucket>,
+    bucket: &[u8],
+    key: &[u8],
+    id: &[u8],
+    object: NativeObject,
+    kept: NativeKept,
+) -> Result<(), Memory>
+    ensures ok { OnOk result (buckets.new ≡ adjust bucket.now (closed key.now id.now object kept) buckets.old) }
+    ensures err { OnErr result (buckets.new ≡ buckets.old) }
+{
+    match buckets.get_mut(bucket) {
+        Some(found) => found.close(key, id, object, kept),
+        None => Ok(()),
+    }
+}
+
+impl Native {
+    /// A step of an operation on uploads. It is asked for no other one; such a one ends as where memory runs out.
+    pub(crate) fn step_upload(&mut self, op: &Op, label: &Label) -> Result<Reply, Memory>
+        ensures settings { self.new.settings ≡ self.old.settings }
+        ensures ok { IfOk result (λ reply. S3Step self.old.settings self.old.state op.now label.now reply self.new.state) }
+        ensures err { OnErr result (self.new.state ≡ self.old.state) }
+    {
+        match op {
+            Op::ListUploads {
+                bucket,
+                prefix,
+                key_marker,
+                id_marker,
+                max,
+            } => self.list_uploads(bucket, prefix, key_marker, id_marker, *max, label),
+            Op::CreateUpload {
+                bucket,
+                key,
+                acl,
+                content_type,
+                meta,
+            } => self.create_upload(bucket, key, *acl, content_type, meta, label),
+            Op::UploadPart {
+                bucket,
+                key,
+                id,
+                number,
+                body,
+            } => self.upload_part(bucket, key, id, *number, body, label),
+            Op::ListParts {
+                bucket,
+                key,
+                id,
+                marker,
+                max,
+            } => self.list_parts(bucket, key, id, *marker, *max, label),
+            Op::CompleteUpload {
+                bucket,
+                key,
+                id,
+                list,
+            } => self.complete_upload(bucket, key, id, list, label),
+            Op::AbortUpload { bucket, key, id } => Ok(self.abort_upload(bucket, key, id, label)),
+            _ => Err(Memory),
+        }
+    }
+
+    fn list_uploads(
+        &self,
+        bucket: &Bytes,
+        prefix: &Bytes,
+        key_marker: &Bytes,
+        id_marker: &Bytes,
+        max: u32,
+        label: &Label,
+    ) -> Result<Reply, Memory>
+        ensures { IfOk result (λ reply.
+            S3Step self.now.settings self.now.state (ListUploads bucket.now prefix.now key_marker.now id_marker.now max) label.now reply self.now.state) }
+    {
+        let Some(found) = self.buckets.get(bucket.as_slice()) else {
+            return Ok(Reply::Refused(Code::NoSuchBucket));
+        };
+        let (items, truncated) = uploads_listed(
+            &found.uploads,
+            self.alloc,
+            prefix.as_slice(),
+            key_marker.as_slice(),
+            id_marker.as_slice(),
+            max,
+        )?;
+        Ok(Reply::Uploads {
+            bucket: bucket.copy()?,
+            prefix: prefix.copy()?,
+            key_marker: key_marker.copy()?,
+            id_marker: id_marker.copy()?,
+            max,
+            items,
+            truncated,
+        })
+    }
+
+    /// Where memory runs out, the state is as before.
+    #[tactic(auto, using(crate::proofs::Completing::starts_flat, s3_machine::proofs::lemmas::StepLemmas::start_with_another_acl))]
+    fn create_upload(
+        &mut self,
+        bucket: &Bytes,
+        key: &Bytes,
+        acl: Option<Acl>,
+        content_type: &Bytes,
+        meta: &Meta,
+        label: &Label,
+    ) -> Result<Reply, Memory>
+        ensures settings { self.new.settings ≡ self.old.settings }
+        ensures ok { IfOk result (λ reply.
+            S3Step self.old.settings self.old.state (CreateUpload bucket.now key.now acl content_type.now meta.now) label.now reply self.new.state) }
+        ensures err { OnErr result (self.new.state ≡ self.old.state) }
+    {
+        let Some(found) = self.buckets.get(bucket.as_slice()) else {
+            return Ok(Reply::Refused(Code::NoSuchBucket));
+        };
+        if found.has_another_acl(acl) {
+            return Ok(Reply::Refused(Code::NotImplemented));
+        }
+        let Some(id) = found.new_id(label.draw) else {
+            return Err(Memory);
+        };
+        let name = bucket.copy()?;
+        let at = key.copy()?;
+        let upload = NativeUpload::new(self.alloc, key, content_type, meta, label.moment)?;
+        let digits = id_digits(id);
+        open_upload(&mut self.buckets, bucket.as_slice(), &digits, upload)?;
+        Ok(Reply::Started {
+            bucket: name,
+            key: at,
+            id,
+        })
+    }
+
+    /// Where memory runs out, the state is as before.
+    fn upload_part(
+        &mut self,
+        bucket: &Bytes,
+        key: &Bytes,
+        id: &Bytes,
+        number: u32,
+        body: &Bytes,
+        label: &Label,
+    ) -> Result<Reply, Memory>
+        ensures settings { self.new.settings ≡ self.old.settings }
+        ensures ok { IfOk result (λ reply.
+            S3Step self.old.settings self.old.state (UploadPart bucket.now key.now id.now number body.now) label.now reply self.new.state) }
+        ensures err { OnErr result (self.new.state ≡ self.old.state) }
+    {
+        let Some(found) = self.buckets.get(bucket.as_slice()) else {
+            return Ok(Reply::Refused(Code::NoSuchBucket));
+        };
+        let Some(upload) = found.uploads.get(id.as_slice()) else {
+            return Ok(Reply::Refused(Code::NoSuchUpload));
+        };
+        if !upload.is_of(key.as_slice()) {
+            return Ok(Reply::Refused(Code::NoSuchUpload));
+        }
+        let part = NativePart::new(self.alloc, label.moment, body)?;
+        let etag = part.etag()?;
+        put_part(
+            &mut self.buckets,
+            bucket.as_slice(),
+            id.as_slice(),
+            number,
+            part,
+        )?;
+        Ok(Reply::Stored { etag })
+    }
+
+    fn list_parts(
+        &self,
+        bucket: &Bytes,
+        key: &Bytes,
+        id: &Bytes,
+        marker: u32,
+        max: u32,
+        label: &Label,
+    ) -> Result<Reply, Memory>
+        ensures { IfOk result (λ reply.
+            S3Step self.now.settings self.now.state (ListParts bucket.now key.now id.now marker max) label.now reply self.now.state) }
+    {
+        let Some(found) = self.buckets.get(bucket.as_slice()) else {
+            return Ok(Reply::Refused(Code::NoSuchBucket));
+        };
+        let Some(upload) = found.uploads.get(id.as_slice()) else {
+            return Ok(Reply::Refused(Code::NoSuchUpload));
+        };
+        if !upload.is_of(key.as_slice()) {
+            return Ok(Reply::Refused(Code::NoSuchUpload));
+        }
+        let (items, truncated) = upload.listed(self.alloc, marker, max)?;
+        Ok(Reply::Parts {
+            bucket: bucket.copy()?,
+            key: key.copy()?,
+            id: id_value(id.as_slice()),
+            marker,
+            max,
+            items,
+            truncated,
+        })
+    }
+
+    fn abort_upload(&mut self, bucket: &Bytes, key: &Bytes, id: &Bytes, label: &Label) -> Reply
+        ensures settings { self.new.settings ≡ self.old.settings }
+        ensures step { S3Step self.old.settings self.old.state (AbortUpload bucket.now key.now id.now) label.now result self.new.state }
+    {
+        let Some(found) = self.buckets.get(bucket.as_slice()) else {
+            return Reply::Refused(Code::NoSuchBucket);
+        };
+        let Some(upload) = found.uploads.get(id.as_slice()) else {
+            return Reply::Refused(Code::NoSuchUpload);
+        };
+        if !upload.is_of(key.as_slice()) {
+            return Reply::Refused(Code::NoSuchUpload);
+        }
+        drop_upload(&mut self.buckets, bucket.as_slice(), id.as_slice());
+        Reply::Gone
+    }
+
+    /// A completion that is kept is answered again. Where memory runs out, the state is as before.
+    fn complete_upload(
+        &mut self,
+        bucket: &Bytes,
+        key: &Bytes,
+        id: &Bytes,
+        list: &List<Listed>,
+        label: &Label,
+    ) -> Result<Reply, Memory>
+        ensures settings { self.new.settings ≡ self.old.settings }
+        ensures ok { IfOk result (λ reply.
+            S3Step self.old.settings self.old.state (CompleteUpload bucket.now key.now id.now list.now) label.now reply self.new.state) }
+        ensures err { OnErr result (self.new.state ≡ self.old.state) }
+    {
+        let Some(found) = self.buckets.get(bucket.as_slice()) else {
+            return Ok(Reply::Refused(Code::NoSuchBucket));
+        };
+        match found.repeated(key.as_slice(), id.as_slice(), list.as_slice())? {
+            Some(etag) => Ok(Reply::Completed {
+                bucket: bucket.copy()?,
+                key: key.copy()?,
+                etag,
+            }),
+            None => self.complete_open(bucket, key, id, list, label),
+        }
+    }
+
+    /// A completion that isn't kept.
+    #[tactic(auto, using(crate::proofs::Completing::completes_flat, crate::proofs::Completing::refuses_flat))]
+    fn complete_open(
+        &mut self,
+        bucket: &Bytes,
+        key: &Bytes,
+        id: &Bytes,
+        list: &List<Listed>,
+        label: &Label,
+    ) -> Result<Reply, Memory>
+        requires { (b : Bucket) → get self.now.state bucket.now ≡ Some b → kept_as key.now list.now (get b.kept id.now) ≡ None }
+        ensures settings { self.new.settings ≡ self.old.settings }
+        ensures ok { IfOk result (λ reply.
+            S3Step self.old.settings self.old.state (CompleteUpload bucket.now key.now id.now list.now) label.now reply self.new.state) }
+        ensures err { OnErr result (self.new.state ≡ self.old.state) }
+    {
+        let Some(found) = self.buckets.get(bucket.as_slice()) else {
+            return Ok(Reply::Refused(Code::NoSuchBucket));
+        };
+        let Some(upload) = found.uploads.get(id.as_slice()) else {
+            return Ok(Reply::Refused(Code::NoSuchUpload));
+        };
+        if !upload.is_of(key.as_slice()) {
+            return Ok(Reply::Refused(Code::NoSuchUpload));
+        }
+        if let Some(code) = upload.refuses(self.settings.least_part, list.as_slice()) {
+            return Ok(Reply::Refused(code));
+        }
+        let name = bucket.copy()?;
+        let at = key.copy()?;
+        let (etag, object, kept) = upload.completed(self.alloc, list, label.moment)?;
+        close(
+            &mut self.buckets,
+            bucket.as_slice(),
+            key.as_slice(),
+            id.as_slice(),
+            object,
+            kept,
+        )?;
+        Ok(Reply::Completed {
+            bucket: name,
+            key: at,
+            etag,
+        })
+    }
+}
