@@ -91,10 +91,12 @@ ask() {
 }
 ask -X PUT --data-binary '' "$place/photos"
 if command -v aws >/dev/null; then
-    export AWS_ACCESS_KEY_ID=$id AWS_SECRET_ACCESS_KEY=$secret AWS_CONFIG_FILE=examples/clients/aws-config AWS_ENDPOINT_URL="$place"
-    aws s3 cp README.md s3://photos/docs/README.md
-    aws s3 ls s3://photos --recursive
-    aws s3 cp s3://photos/docs/README.md - | head -n 1
+    export AWS_ACCESS_KEY_ID=$id AWS_SECRET_ACCESS_KEY=$secret AWS_CONFIG_FILE=examples/clients/aws-config
+    # An older aws heeds the place by this option alone.
+    at() { aws --endpoint-url "$place" s3 "$@"; }
+    at cp README.md s3://photos/docs/README.md
+    at ls s3://photos --recursive
+    at cp s3://photos/docs/README.md - | head -n 1
 else
     ask -X PUT --data-binary @README.md -H 'Content-Type: text/markdown' "$place/photos/docs/README.md"
     ask "$place/photos?list-type=2"
@@ -105,10 +107,10 @@ cat <<END
 s3gate serves at $place, over swiftd at $store. In another shell:
 
   export AWS_ACCESS_KEY_ID=$id AWS_SECRET_ACCESS_KEY=$secret
-  export AWS_CONFIG_FILE=$PWD/examples/clients/aws-config AWS_ENDPOINT_URL=$place
-  aws s3 mb s3://music
-  aws s3 cp README.md s3://music/a.txt
-  aws s3 ls s3://music
+  export AWS_CONFIG_FILE=$PWD/examples/clients/aws-config
+  aws --endpoint-url $place s3 mb s3://music
+  aws --endpoint-url $place s3 cp README.md s3://music/a.txt
+  aws --endpoint-url $place s3 ls s3://music
 
 examples/clients has what boto3, rclone and s3cmd want. What is stored is gone when this ends. Before a real Swift, set
 S3GATE_STORE, S3GATE_ACCOUNT and S3GATE_TOKEN to its place, an account of its own and an owner's token (docs/OPERATING.md).

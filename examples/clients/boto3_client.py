@@ -1,10 +1,19 @@
 """A boto3 client for s3gate: path style, and no chunked signatures.
 
-    from boto3_client import client
+    from boto3_client import client, transfer
     s3 = client("http://127.0.0.1:8080")
+    s3.upload_file("photo.jpg", "photos", "photo.jpg", Config=transfer)
 """
 import boto3
+from boto3.s3.transfer import TransferConfig
 from botocore.config import Config
+
+# A file of up to 16 MiB goes in one PUT; a larger one would be sent in parts, which s3gate answers 501 NotImplemented.
+transfer = TransferConfig(multipart_threshold=16777217)
+
+# Since 1.36 botocore sends a checksum that nobody asked for, over TLS in chunks, which s3gate answers 501 too. Older ones know no such
+# option, and need none.
+CHECKSUMS = ("request_checksum_calculation", "response_checksum_validation")
 
 
 def client(endpoint, **more):
@@ -12,7 +21,6 @@ def client(endpoint, **more):
     config = Config(
         signature_version="s3v4",
         s3={"addressing_style": "path"},
-        request_checksum_calculation="when_required",
-        response_checksum_validation="when_required",
+        **{name: "when_required" for name in CHECKSUMS if name in Config.OPTION_DEFAULTS},
     )
     return boto3.client("s3", endpoint_url=endpoint, region_name="us-east-1", config=config, **more)

@@ -1,0 +1,15 @@
+#!/usr/bin/env bash
+# duplicity on s3gate, by its boto3 backend. The bucket is made before, by any other client.
+#
+#   export AWS_ACCESS_KEY_ID=.. AWS_SECRET_ACCESS_KEY=.. PASSPHRASE=..
+#   examples/clients/duplicity.sh full /home boto3+s3://backup/home
+#   examples/clients/duplicity.sh verify boto3+s3://backup/home /home
+#   examples/clients/duplicity.sh restore boto3+s3://backup/home /tmp/restored
+#
+# --volsize 10: a volume has some 10 MB, and goes in one PUT. duplicity's own 200 MB are sent in parts, which s3gate answers 501.
+# S3GATE_ENDPOINT is s3gate's place, or a front's. With botocore from 1.36 on and TLS: export
+# AWS_REQUEST_CHECKSUM_CALCULATION=when_required AWS_RESPONSE_CHECKSUM_VALIDATION=when_required.
+set -euo pipefail
+action="$1"
+shift
+exec duplicity "$action" --volsize 10 --s3-endpoint-url "${S3GATE_ENDPOINT:-http://127.0.0.1:8080}" --s3-region-name us-east-1 "$@"
