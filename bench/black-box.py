@@ -14,6 +14,7 @@ import contextlib
 import datetime
 import email.utils
 import hashlib
+import hmac
 import importlib.util
 import os
 import queue
@@ -27,6 +28,7 @@ import sys
 import tempfile
 import threading
 import time
+from urllib.parse import quote
 
 sys.dont_write_bytecode = True
 from scripted_swift import ACCOUNT, TOKEN, Store, answer, cut_answer, http, lose_answer, lose_request, ordinary_and_closed, plain, raw, silent, unasked
@@ -50,9 +52,9 @@ LARGEST = 16_777_216  # bytes of a body
 
 ROOT = os.path.dirname(os.path.dirname(os.path.abspath(__file__)))
 KEYS = os.path.join(ROOT, "examples/keys.txt")
-USAGE = b"usage: s3gate session|serve|recover|sweep|check|sign|trial\n"
+USAGE = b"usage: s3gate session|serve|recover|sweep|check|sign|trial|presign\n"
 SETUP = b"s3gate: setup\n"
-BUILT = b"s3gate: built are session, serve and sign\n"
+BUILT = b"s3gate: built are session, serve, sign and presign\n"
 
 # A store that is never called: nothing listens there.
 NOWHERE = "127.0.0.1:1"
@@ -427,6 +429,58 @@ def keys_and_signatures(check):
     check("no request to sign", (8, b"s3gate: request\n", b""), ran(S3GATE, sign_words, S3GATE_KEYS=KEYS))
     check("a request to sign without a time", (8, b"s3gate: request\n", b""), ran(S3GATE, sign_words, b"GET / HTTP/1.1\r\nHost: h\r\n\r\n", S3GATE_KEYS=KEYS))
     check("a key to sign with that isn't there", (2, USAGE, b"S3GATE_KEYS: not the key to sign with\n"), ran(S3GATE, sign_words, published))
+
+
+# URLs that are presigned.
+
+
+def url_signed(method, host, path, query, time, expires):
+    """The URL of a request that is presigned at a time, by Python's own libraries (Amazon S3 API Reference, "Authenticating
+    requests: using query parameters")."""
+    id_, secret = sign.first_key()
+    scope = f"{time[:8]}/us-east-1/s3/aws4_request"
+    named = [("Algorithm", "AWS4-HMAC-SHA256"), ("Credential", f"{id_}/{scope}"), ("Date", time), ("Expires", str(expires)), ("SignedHeaders", "host")]
+    joined = sign.canonical_query("&".join([query] * bool(query) + [f"X-Amz-{name}={quote(value, safe='')}" for name, value in named]))
+    canonical = "\n".join([method, path, joined, f"host:{host}", "", "host", "UNSIGNED-PAYLOAD"])
+    text = "\n".join(["AWS4-HMAC-SHA256", time, scope, hashlib.sha256(canonical.encode()).hexdigest()])
+    key = ("AWS4" + secret).encode()
+    for word in scope.split("/"):
+        key = hmac.digest(key, word.encode(), "sha256")
+    return f"{path}?{joined}&X-Amz-Signature={hmac.digest(key, text.encode(), 'sha256').hex()}"
+
+
+@group()
+def urls(check):
+    id_ = sign.first_key()[0]
+
+    def made(words, given, before="", **variables):
+        return ran(S3GATE, ["presign", *words], given.encode(), before, **{"S3GATE_KEYS": KEYS, **variables})
+
+    def head(method, target, host="localhost"):
+        return f"{method} {target} HTTP/1.1\r\nHost: {host}\r\n" + ("Content-Length: 0\r\n" if method == "PUT" else "") + "\r\n"
+
+    week = ["--key", id_, "--expires", "604800"]
+    for method, path, query in (("GET", "/photos/a%20b", ""), ("PUT", "/photos/k", ""), ("GET", "/photos", "list-type=2&prefix=a%2Fb"), ("HEAD", "/", "")):
+        first = datetime.datetime.now(datetime.timezone.utc).replace(microsecond=0)
+        status, output, report = made(week, head(method, path + "?" * bool(query) + query))
+        last = datetime.datetime.now(datetime.timezone.utc)
+        times = [first + datetime.timedelta(seconds=at) for at in range(int((last - first).total_seconds()) + 1)]
+        due = [f"url {url_signed(method, 'localhost', path, query, at.strftime('%Y%m%dT%H%M%SZ'), 604800)}\n".encode() for at in times]
+        check(f"a URL for {method} {path}", (0, True, b""), (status, output in due, report))
+    put, get = (made(week, head(method, "/photos/k"))[1].decode().removeprefix("url ").rstrip("\n") for method in ("PUT", "GET"))
+    given = request("PUT", "/photos") + f"PUT {put} HTTP/1.1\r\nHost: localhost\r\nContent-Length: 5\r\n\r\nhello".encode() + head("GET", get).encode() + head("PUT", get).encode()
+    status, output, _ = ran(S3GATE, ["session"], given, S3GATE_KEYS=KEYS)
+    check("URLs in a session, and one for another method", (0, [200, 200, 200, 403]), (status, told(output)[0]))
+    published = head("GET", "/photos/k")
+    check("a URL whose line fails", (3, b"s3gate: line\n", b""), made(week, "", "<."))
+    check("a URL that can't be written", 6, made(week, published, ">/dev/full")[0])
+    check("no request for a URL", (8, b"s3gate: request\n", b""), made(week, ""))
+    check("a request for a URL without a host", (8, b"s3gate: request\n", b""), made(week, "GET /photos/k HTTP/1.1\r\n\r\n"))
+    check("a request for a URL that has a signature", (8, b"s3gate: request\n", b""), made(week, head("GET", get)))
+    check("a request for a URL that expects 100-continue", (0, b"url /photos/k?", b""), (lambda it: (it[0], it[1][:14], it[2]))(made(week, "PUT /photos/k HTTP/1.1\r\nHost: localhost\r\nContent-Length: 5\r\nExpect: 100-continue\r\n\r\nhello")))
+    check("a key for a URL that isn't there", (2, USAGE, b"S3GATE_KEYS: not the key to sign with\n"), made(["--key", "B", "--expires", "1"], published))
+    for words in ([], week[:2], week[2:], [*week[:3], "0"], [*week[:3], "604801"], [*week, "--expires", "1"], [*week, "--region", "US"], [*week, "--connections", "1"]):
+        check(f"the words presign {' '.join(words)!r}", (2, USAGE, BUILT), made(words, published))
 
 
 # Sessions on standard input and output.

@@ -4,9 +4,10 @@ use Rattle.std.specs.Prelude.{◌&&◌, nat_le}
 use Rattle.std.specs.List.{list_all}
 use Rattle.std.specs.Str.Parse.{digits_value, ParsesUnsigned}
 use Rattle.std.proofs.lemmas.Bool.{and_parts}
+use Rattle.std.proofs.lemmas.Bool.Decides.{nat_tests}
 use Rattle.std.proofs.lemmas.Str.Parse.{IsNumeralModel, IsDigitsTest, numerals_by_value, parse_digits}
 use Rattle.gate_base.specs.Ascii.{is_digit}
-use Rattle.gateway_cli.specs.Words.{count_of, is_count, is_number}
+use Rattle.gateway_cli.specs.Words.{count_of, is_count, is_number, is_span, span_of}
 
 tells : IsDigitsTest (λ ds. list_all is_digit ds ≡ true)
 tells = search rules
@@ -30,4 +31,16 @@ uncounted text fault fails number = by_test (is_count (digits_value 10 text)) re
   where
     by_test : (test : Bool) → is_count (digits_value 10 text) ≡ test → count_of (Some text) ≡ None
     by_test true is = absurd (counted text fault fails number is)
+    by_test false is = ap (λ b. cond (is_number text && b) (Some (digits_value 10 text)) None) is ∙ ap (λ b. cond (b && false) (Some (digits_value 10 text)) None) number
+
+-- a second to a week is small enough too
+spanned : (n : ℕ) → is_span n ≡ true → is_count n ≡ true
+spanned n span = grind (arith, nat_tests)
+
+-- a text that can't be read as a number is none of seconds
+pub unspanned : {E : Type 0} (text : List ℕ) (fault : E) → ParsesUnsigned 64 10 text (Err fault) → is_number text ≡ true → span_of (Some text) ≡ None
+unspanned text fault fails number = by_test (is_span (digits_value 10 text)) refl
+  where
+    by_test : (test : Bool) → is_span (digits_value 10 text) ≡ test → span_of (Some text) ≡ None
+    by_test true is = absurd (counted text fault fails number (spanned (digits_value 10 text) is))
     by_test false is = ap (λ b. cond (is_number text && b) (Some (digits_value 10 text)) None) is ∙ ap (λ b. cond (b && false) (Some (digits_value 10 text)) None) number

@@ -13,7 +13,7 @@ use Rattle.clap.specs.declared.parser.matches.Found.{Found}
 use Rattle.clap.proofs.OnLiterals.{clap_on_literals}
 use Rattle.clap.proofs.WalkLemmas.{first_value-rows}
 use Rattle.gateway_cli.specs.Description.{gate_app}
-use Rattle.gateway_cli.specs.Words.{FaultOf, Parses, ReadsWords, command_in, met_in, serve_with, session_with, sign_with}
+use Rattle.gateway_cli.specs.Words.{FaultOf, Parses, ReadsWords, command_in, met_in, presign_with, serve_with, session_with, sign_with}
 use Rattle.gateway_cli.specs.declared.command.Command.{Command}
 use Rattle.gateway_cli.specs.declared.command.WordsFault.{WordsFault}
 use Rattle.gateway_cli.specs.declared.command.WordsFault.TheVariants.{Refused, Memory}
@@ -58,6 +58,19 @@ named_sign name found key region other unserved named key_is region_is =
     ∙ (choice_where (bytes_eq name (codes "sign")) _ _ named
     ∙ (ap (λ k. sign_with k (first_of (codes "region") (rows_of found))) (sym (key_is ∙ first_value-rows found (codes "key")))
     ∙ ap (sign_with key) (sym (region_is ∙ first_value-rows found (codes "region"))))))
+
+pub named_presign : (name : Text) (found : Found) (key region expires : Option (List ℕ)) → bytes_eq name (codes "session") ≡ false → bytes_eq name (codes "serve") ≡ false
+    → bytes_eq name (codes "sign") ≡ false → bytes_eq name (codes "presign") ≡ true
+    → key ≡ first_value found (codes "key") → region ≡ first_value found (codes "region") → expires ≡ first_value found (codes "expires")
+    → command_in name (rows_of found) ≡ presign_with key region expires
+named_presign name found key region expires other unserved unsigned named key_is region_is expires_is =
+    choice_unless (bytes_eq name (codes "session")) _ _ other
+    ∙ (choice_unless (bytes_eq name (codes "serve")) _ _ unserved
+    ∙ (choice_unless (bytes_eq name (codes "sign")) _ _ unsigned
+    ∙ (choice_where (bytes_eq name (codes "presign")) _ _ named
+    ∙ (ap (λ k. presign_with k (first_of (codes "region") (rows_of found)) (first_of (codes "expires") (rows_of found))) (sym (key_is ∙ first_value-rows found (codes "key")))
+    ∙ (ap (λ r. presign_with key r (first_of (codes "expires") (rows_of found))) (sym (region_is ∙ first_value-rows found (codes "region")))
+    ∙ ap (presign_with key region) (sym (expires_is ∙ first_value-rows found (codes "expires"))))))))
 
 -- ---- what `clap` answers
 

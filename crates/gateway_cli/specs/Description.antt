@@ -28,9 +28,21 @@ serve_app = with_rule (with_rule (new_app (codes "serve")) region_rule) connecti
 abbrev pub sign_app : App
 sign_app = with_rule (with_rule (new_app (codes "sign")) key_rule) region_rule
 
+-- the option `--expires N`, which must be given
+abbrev pub expires_rule : Rule
+expires_rule = record (new_rule (codes "expires")) { long = Some (codes "expires"); action = Some Set; required = true }
+
+-- `presign`, with a key, a region and a number of seconds
+abbrev pub signer_app : App
+signer_app = with_rule (with_rule (new_app (codes "presign")) key_rule) region_rule
+
+abbrev pub presign_app : App
+presign_app = with_rule signer_app expires_rule
+
 -- the words begin behind the program's name, and one of the commands must be named
 abbrev pub with_settings : Shape → Shape
 with_settings s = record s { no_binary_name = true; subcommand_required = true }
 
 unfoldable pub gate_app : App
-gate_app = with_subcommand (with_subcommand (with_subcommand (on_top with_settings (new_app (codes "s3gate"))) session_app.top) serve_app.top) sign_app.top
+gate_app =
+    with_subcommand (with_subcommand (with_subcommand (with_subcommand (on_top with_settings (new_app (codes "s3gate"))) session_app.top) serve_app.top) sign_app.top) presign_app.top

@@ -1,5 +1,5 @@
 -- What the words that follow the program's name ask for (this profile).
-use Rattle.std.specs.Prelude.{◌≡◌, ◌≢◌, ℕ, Bool, ◌&&◌, ◌||◌, ◌==◌, nat_le, if◌then◌else◌, List, length, map, codes, bytes_eq, Option, Some, None}
+use Rattle.std.specs.Prelude.{◌≡◌, ◌≢◌, ◌≤◌, ℕ, Bool, true, ◌&&◌, ◌||◌, ◌==◌, nat_le, if◌then◌else◌, List, length, map, codes, bytes_eq, Option, Some, None}
 use Rattle.std.specs.Prelude.{option_and_then, option_map, unwrap_or, Result, Ok, Err, String, string_bytes}
 use Rattle.std.specs.List.{list_all}
 use Rattle.std.specs.Str.Parse.{digits_value}
@@ -13,7 +13,7 @@ use Rattle.clap.specs.declared.parser.matches.ArgMatches.{ArgMatches}
 use Rattle.gate_base.specs.Ascii.{is_digit, is_letter_or_digit}
 use Rattle.gateway_cli.specs.Description.{gate_app}
 use Rattle.gateway_cli.specs.declared.command.Command.{Command}
-use Rattle.gateway_cli.specs.declared.command.Command.TheVariants.{Session, Serve, Sign}
+use Rattle.gateway_cli.specs.declared.command.Command.TheVariants.{Session, Serve, Sign, Presign}
 use Rattle.gateway_cli.specs.declared.command.WordsFault.{WordsFault}
 use Rattle.gateway_cli.specs.declared.command.WordsFault.TheVariants.{Refused, Memory}
 
@@ -42,6 +42,15 @@ abbrev pub count_of : Option (List ℕ) → Option ℕ
 count_of None = Some 1000
 count_of (Some text) = if is_number text && is_count (digits_value 10 text) then Some (digits_value 10 text) else None
 
+-- a second to a week
+abbrev pub is_span : ℕ → Bool
+is_span n = nat_le 1 n && nat_le n 604800
+
+-- the number of seconds that is given; none where none is, or what is given isn't such a number
+abbrev pub span_of : Option (List ℕ) → Option ℕ
+span_of None = None
+span_of (Some text) = if is_number text && is_span (digits_value 10 text) then Some (digits_value 10 text) else None
+
 -- the region that is given, or the usual one
 abbrev pub region_of : Option (List ℕ) → List ℕ
 region_of given = unwrap_or given (codes "us-east-1")
@@ -59,12 +68,18 @@ abbrev pub sign_with : Option (List ℕ) → Option (List ℕ) → Option Comman
 sign_with None given = None
 sign_with (Some key) given = if is_key_id key && is_region (region_of given) then Some (Sign key (region_of given)) else None
 
+-- `presign`, with the key, the region and the number of seconds that are given
+abbrev pub presign_with : Option (List ℕ) → Option (List ℕ) → Option (List ℕ) → Option Command
+presign_with None given expires = None
+presign_with (Some key) given expires = if is_key_id key && is_region (region_of given) then option_map (Presign key (region_of given)) (span_of expires) else None
+
 -- the command of a name, with what `clap` found for it
 abbrev pub command_in : Text → List Row → Option Command
 command_in name rows = if bytes_eq name (codes "session") then session_with (first_of (codes "region") rows)
     else (if bytes_eq name (codes "serve") then serve_with (first_of (codes "region") rows) (first_of (codes "connections") rows)
     else (if bytes_eq name (codes "sign") then sign_with (first_of (codes "key") rows) (first_of (codes "region") rows)
-    else None))
+    else (if bytes_eq name (codes "presign") then presign_with (first_of (codes "key") rows) (first_of (codes "region") rows) (first_of (codes "expires") rows)
+    else None)))
 
 -- what `clap` finds in the words, where it takes them: the name of the command and what was found for it
 unfoldable pub met_in : List Text → Option (Text × List Row)
@@ -79,6 +94,13 @@ abbrev pub ReadsWords : Option Command → Result Command WordsFault → Type 0
 ReadsWords meant (Ok command) = meant ≡ Some command
 ReadsWords meant (Err Refused) = meant ≡ None
 ReadsWords meant (Err Memory) = Unit {0}
+
+-- what making a URL asks for, which each command to make one has: a region of the form, and a second to a week
+abbrev pub IsProper : Command → Type 0
+IsProper (Session region) = Unit {0}
+IsProper (Serve region connections) = Unit {0}
+IsProper (Sign key region) = Unit {0}
+IsProper (Presign key region expires) = (is_region region ≡ true) × (1 ≤ expires) × (expires ≤ 604800)
 
 -- what `clap` makes of the words
 abbrev pub Parses : List Text → Result ArgMatches WordsFault → Type 0

@@ -4,12 +4,26 @@ use gate_base::{Bytes, Copying, Memory};
 use std::alloc::AllocError;
 
 /// What the words ask for. `Session`: to serve the connections of the line as this region. `Serve`: the same, but at
-/// most so many connections. `Sign`: to sign a request with the key of this id, for this region.
+/// most so many connections. `Sign`: to sign a request with the key of this id, for this region. `Presign`:
+/// to make a URL of it that holds for so many seconds.
 #[derive(Debug, Drop)]
 pub enum Command {
-    Session { region: Bytes },
-    Serve { region: Bytes, connections: u64 },
-    Sign { key: Bytes, region: Bytes },
+    Session {
+        region: Bytes,
+    },
+    Serve {
+        region: Bytes,
+        connections: u64,
+    },
+    Sign {
+        key: Bytes,
+        region: Bytes,
+    },
+    Presign {
+        key: Bytes,
+        region: Bytes,
+        expires: u64,
+    },
 }
 
 impl Copying for Command {
@@ -28,6 +42,15 @@ impl Copying for Command {
             Command::Sign { key, region } => Ok(Command::Sign {
                 key: key.copy()?,
                 region: region.copy()?,
+            }),
+            Command::Presign {
+                key,
+                region,
+                expires,
+            } => Ok(Command::Presign {
+                key: key.copy()?,
+                region: region.copy()?,
+                expires: *expires,
             }),
         }
     }

@@ -1,7 +1,7 @@
 ghost use Rattle.std.specs.Prelude.{◌≡◌, false, IfOk};
 ghost use Rattle.clap.specs.Words.{app_of, with_subcommand};
 ghost use Rattle.clap.specs.declared.builder.command.Command.TheViews.{out-Command as fields_of};
-ghost use Rattle.gateway_cli.specs.Description.{gate_app, serve_app, session_app, sign_app};
+ghost use Rattle.gateway_cli.specs.Description.{gate_app, presign_app, serve_app, session_app, sign_app, signer_app};
 
 use clap::{Arg, ArgAction, Command};
 use std::alloc::{AllocError, Global};
@@ -15,7 +15,8 @@ pub(crate) fn gate<'a>(alloc: Global) -> Result<Command<'a>, AllocError>
         .subcommand_required(true);
     let one = with_session(alloc, bare)?;
     let two = with_serve(alloc, one)?;
-    with_sign(alloc, two)
+    let three = with_sign(alloc, two)?;
+    with_presign(alloc, three)
 }
 
 fn with_session<'a>(alloc: Global, gate: Command<'a>) -> Result<Command<'a>, AllocError>
@@ -37,6 +38,13 @@ fn with_sign<'a>(alloc: Global, gate: Command<'a>) -> Result<Command<'a>, AllocE
 {
     let sign = sign(alloc)?;
     gate.subcommand(sign)
+}
+
+fn with_presign<'a>(alloc: Global, gate: Command<'a>) -> Result<Command<'a>, AllocError>
+    ensures { IfOk result (λ command. app_of command ≡ with_subcommand (app_of gate.entry) presign_app.top) }
+{
+    let presign = presign(alloc)?;
+    gate.subcommand(presign)
 }
 
 fn session<'a>(alloc: Global) -> Result<Command<'a>, AllocError>
@@ -74,4 +82,30 @@ fn sign<'a>(alloc: Global) -> Result<Command<'a>, AllocError>
         .long("region")
         .action(ArgAction::Set);
     Command::new(alloc, "sign").arg(key)?.arg(region)
+}
+
+fn presign<'a>(alloc: Global) -> Result<Command<'a>, AllocError>
+    ensures app { IfOk result (λ command. app_of command ≡ presign_app) }
+    ensures local { IfOk result (λ command. (fields_of command).has_globals ≡ false) }
+{
+    let expires = Arg::new(alloc, "expires")
+        .long("expires")
+        .action(ArgAction::Set)
+        .required(true);
+    let signer = signer(alloc)?;
+    signer.arg(expires)
+}
+
+fn signer<'a>(alloc: Global) -> Result<Command<'a>, AllocError>
+    ensures app { IfOk result (λ command. app_of command ≡ signer_app) }
+    ensures local { IfOk result (λ command. (fields_of command).has_globals ≡ false) }
+{
+    let key = Arg::new(alloc, "key")
+        .long("key")
+        .action(ArgAction::Set)
+        .required(true);
+    let region = Arg::new(alloc, "region")
+        .long("region")
+        .action(ArgAction::Set);
+    Command::new(alloc, "presign").arg(key)?.arg(region)
 }

@@ -1,9 +1,9 @@
-ghost use Rattle.std.specs.Prelude.{◌≡◌, map, option_and_then, option_map, string_bytes};
+ghost use Rattle.std.specs.Prelude.{◌≡◌, IfOk, map, option_and_then, option_map, string_bytes};
 ghost use Rattle.clap.specs.Words.{found_of, kind_of, rows_of, subcommand_rows_of};
-ghost use Rattle.gateway_cli.specs.Words.{FaultOf, Parses, ReadsWords, command_in, command_of, count_of, region_of, serve_with, session_with, sign_with};
+ghost use Rattle.gateway_cli.specs.Words.{FaultOf, IsProper, Parses, ReadsWords, command_in, command_of, count_of, presign_with, region_of, serve_with, session_with, sign_with, span_of};
 
 use crate::description::gate;
-use crate::text::{count_in, is_key_id, is_region};
+use crate::text::{count_in, is_key_id, is_region, span_in};
 use crate::{Command, WordsFault};
 use clap::error::ErrorKind;
 use clap::{ArgMatches, Error};
@@ -18,9 +18,11 @@ const USUAL_CONNECTIONS: u64 = 1000;
 
 /// The command that the words name. The words are those behind the program's name. They are refused where `clap`
 /// refuses them or answers with a help text, where a region isn't 1 to 32 bytes of `a-z 0-9 -`, where a number of
-/// connections isn't 1 to 1000000000 in at most 20 digits, and where the id of a key isn't 1 to 128 letters and digits.
+/// connections isn't 1 to 1000000000 in at most 20 digits, where a number of seconds isn't 1 to 604800 in as many, and where the
+/// id of a key isn't 1 to 128 letters and digits.
 pub fn read_words(alloc: Global, words: &[String]) -> Result<Command, WordsFault>
-    ensures { ReadsWords (command_of words.now) result }
+    ensures reads { ReadsWords (command_of words.now) result }
+    ensures proper { IfOk result IsProper }
 {
     let matches = parse(alloc, words)?;
     command_met(alloc, &matches)
@@ -46,7 +48,8 @@ fn fault_of(error: &Error) -> WordsFault
 }
 
 fn command_met(alloc: Global, matches: &ArgMatches) -> Result<Command, WordsFault>
-    ensures { ReadsWords (option_and_then (λ p. command_in p.0 p.1) (subcommand_rows_of matches.now)) result }
+    ensures reads { ReadsWords (option_and_then (λ p. command_in p.0 p.1) (subcommand_rows_of matches.now)) result }
+    ensures proper { IfOk result IsProper }
 {
     match matches.subcommand() {
         Some((name, found)) => command_named(alloc, name, found),
@@ -55,7 +58,8 @@ fn command_met(alloc: Global, matches: &ArgMatches) -> Result<Command, WordsFaul
 }
 
 fn command_named(alloc: Global, name: &str, found: &ArgMatches) -> Result<Command, WordsFault>
-    ensures { ReadsWords (command_in name.now (rows_of (found_of found.now))) result }
+    ensures reads { ReadsWords (command_in name.now (rows_of (found_of found.now))) result }
+    ensures proper { IfOk result IsProper }
 {
     if name == "session" {
         session_with(alloc, found.get_str("region"))
@@ -63,13 +67,21 @@ fn command_named(alloc: Global, name: &str, found: &ArgMatches) -> Result<Comman
         serve_with(alloc, found.get_str("region"), found.get_str("connections"))
     } else if name == "sign" {
         sign_with(alloc, found.get_str("key"), found.get_str("region"))
+    } else if name == "presign" {
+        presign_with(
+            alloc,
+            found.get_str("key"),
+            found.get_str("region"),
+            found.get_str("expires"),
+        )
     } else {
         Err(WordsFault::Refused)
     }
 }
 
 fn session_with(alloc: Global, region: Option<&str>) -> Result<Command, WordsFault>
-    ensures { ReadsWords (session_with (option_map (λ text. text.now) region.entry)) result }
+    ensures reads { ReadsWords (session_with (option_map (λ text. text.now) region.entry)) result }
+    ensures proper { IfOk result IsProper }
 {
     let region = region_of(region);
     if !is_region(region) {
@@ -85,7 +97,8 @@ fn serve_with(
     region: Option<&str>,
     connections: Option<&str>,
 ) -> Result<Command, WordsFault>
-    ensures { ReadsWords (serve_with (option_map (λ text. text.now) region.entry) (option_map (λ text. text.now) connections.entry)) result }
+    ensures reads { ReadsWords (serve_with (option_map (λ text. text.now) region.entry) (option_map (λ text. text.now) connections.entry)) result }
+    ensures proper { IfOk result IsProper }
 {
     let region = region_of(region);
     if !is_region(region) {
@@ -101,7 +114,8 @@ fn serve_with(
 }
 
 fn sign_with(alloc: Global, key: Option<&str>, region: Option<&str>) -> Result<Command, WordsFault>
-    ensures { ReadsWords (sign_with (option_map (λ text. text.now) key.entry) (option_map (λ text. text.now) region.entry)) result }
+    ensures reads { ReadsWords (sign_with (option_map (λ text. text.now) key.entry) (option_map (λ text. text.now) region.entry)) result }
+    ensures proper { IfOk result IsProper }
 {
     let Some(key) = key else {
         return Err(WordsFault::Refused);
@@ -114,6 +128,33 @@ fn sign_with(alloc: Global, key: Option<&str>, region: Option<&str>) -> Result<C
     Ok(Command::Sign {
         key: Bytes::from_slice(alloc, key)?,
         region: Bytes::from_slice(alloc, region)?,
+    })
+}
+
+fn presign_with(
+    alloc: Global,
+    key: Option<&str>,
+    region: Option<&str>,
+    expires: Option<&str>,
+) -> Result<Command, WordsFault>
+    ensures reads { ReadsWords (presign_with (option_map (λ text. text.now) key.entry) (option_map (λ text. text.now) region.entry) (option_map (λ text. text.now) expires.entry)) result }
+    ensures proper { IfOk result IsProper }
+{
+    let Some(key) = key else {
+        return Err(WordsFault::Refused);
+    };
+    let key = key.as_bytes();
+    let region = region_of(region);
+    if !is_key_id(key) || !is_region(region) {
+        return Err(WordsFault::Refused);
+    }
+    let Some(expires) = span_of(expires) else {
+        return Err(WordsFault::Refused);
+    };
+    Ok(Command::Presign {
+        key: Bytes::from_slice(alloc, key)?,
+        region: Bytes::from_slice(alloc, region)?,
+        expires,
     })
 }
 
@@ -132,5 +173,14 @@ fn count_of(given: Option<&str>) -> Option<u64>
     match given {
         Some(text) => count_in(text),
         None => Some(USUAL_CONNECTIONS),
+    }
+}
+
+fn span_of(given: Option<&str>) -> Option<u64>
+    ensures { result ≡ span_of (option_map (λ text. text.now) given.entry) }
+{
+    match given {
+        Some(text) => span_in(text),
+        None => None,
     }
 }

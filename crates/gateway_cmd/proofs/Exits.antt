@@ -7,7 +7,7 @@ use Rattle.gateway_cmd.specs.declared.status.Status.{Status}
 use Rattle.gateway_cmd.specs.declared.status.Status.TheVariants.{Done, Usage, Line, Request, Memory}
 use Rattle.gateway_cmd.specs.Report.{IsStatus, Says, Fits, Admits, kind_of, code_of, is_plain, is_failed_run, is_done, is_done_status}
 use Rattle.gateway_cmd.specs.Session.{LineServed}
-use Rattle.gateway_cmd.specs.Tasks.{Task, nothing, to_serve, to_sign, Serving, is_serving, tells}
+use Rattle.gateway_cmd.specs.Tasks.{Task, nothing, to_serve, to_sign, to_presign, Serving, is_serving, tells}
 
 -- the exit status of a run that ended so; 6 is that of one whose report failed
 abbrev pub Exits : RunOutcome → ℕ → Type 0
@@ -68,6 +68,7 @@ serving_tells : (task : Task) → is_serving task ≡ true → tells task ≡ No
 serving_tells nothing is = refl
 serving_tells (to_serve serving) is = refl
 serving_tells (to_sign id region) is = absurd (let no : false ≡ true = is in cc)
+serving_tells (to_presign id region expires) is = absurd (let no : false ≡ true = is in cc)
 
 pub serving_plain : (task : Task) (ended : RunOutcome) → is_serving task ≡ true → Fits task ended → is_plain ended ≡ true
 serving_plain task (Told told) serving fits = absurd (let no : None ≡ Some (kind_of told) = sym (serving_tells task serving) ∙ fits in cc)

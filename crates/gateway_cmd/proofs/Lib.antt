@@ -5,4 +5,5 @@ pub mod Refusing
 pub mod Reporting
 pub mod RunTraces
 pub mod Sessions
+pub mod Signers
 pub mod Works

@@ -27,9 +27,9 @@ use Rattle.gateway_cmd.specs.declared.status.RunOutcome.TheVariants.{Plain}
 use Rattle.gateway_cmd.specs.declared.status.Status.{Status}
 use Rattle.gateway_cmd.specs.declared.status.Status.TheVariants.{Done, Usage, Line, Request, Memory}
 use Rattle.gateway_cmd.specs.Report.{is_failed_run, is_done, Fits}
-use Rattle.gateway_cmd.specs.Tasks.{settings_of, Serving, service_of, Task, nothing, to_serve, to_sign}
+use Rattle.gateway_cmd.specs.Tasks.{settings_of, Serving, service_of, Task, nothing, to_serve, to_sign, to_presign}
 use Rattle.gateway_cmd.specs.Run.{run_cursor_of, RunTrace, none, more, RunTraces, RunTraced, RunStands, RunRefines}
-use Rattle.gateway_cmd.specs.Session.{is_end, NextCursor, LineServed, LineServesAll, RunServes, RunSigns, Does}
+use Rattle.gateway_cmd.specs.Session.{is_end, NextCursor, LineServed, LineServesAll, RunServes, RunSigns, RunPresigns, Does}
 use Rattle.gateway_cmd.proofs.Faulty.{none_faulty_of_none}
 use Rattle.gateway_cmd.proofs.RunTraces.{run_trace_agree, run_trace_follow, run_trace_pass, run_trace_stands}
 
@@ -117,12 +117,20 @@ run_signs_none id region keys at ended line fails never = record {
   effect = λ secret good has observable memory. absurd (never good memory);
 }
 
+run_presigns_none : (id region : List ℕ) (expires : ℕ) (keys : List ℕ) (at : ℕ) (ended : RunOutcome) (line : LineModel) (clock : SourceModel) → is_failed_run ended ≡ false → (are_keys (keys_of keys) ≡ true → ended ≢ Plain Memory → ⊥)
+    → RunPresigns id region expires keys at ended line line clock clock
+run_presigns_none id region expires keys at ended line clock fails never = record {
+  line = signs_on_none (is_failed_run ended) at line fails;
+  effect = λ secret good has observable memory. absurd (never good memory);
+}
+
 -- a run that did nothing: it ran out of memory, or the keys are refused
 pub does_none : (task : Task) (keys : List ℕ) (ended : RunOutcome) (line : LineModel) (store : History) (clock draws : SourceModel) → is_failed_run ended ≡ false → is_done ended ≡ false → (are_keys (keys_of keys) ≡ true → ended ≢ Plain Memory → ⊥)
     → Does task keys ended (world line store Unsure clock draws) (λ known. world line store known clock draws)
 does_none nothing keys ended line store clock draws fails ends never = tt
 does_none (to_serve serving) keys ended line store clock draws fails ends never = run_serves_none serving keys ended line store clock draws fails ends
 does_none (to_sign id region) keys ended line store clock draws fails ends never = run_signs_none id region keys store.called ended line fails never
+does_none (to_presign id region expires) keys ended line store clock draws fails ends never = run_presigns_none id region expires keys store.called ended line clock fails never
 
 -- what connections are served by as a region, at most so many
 abbrev pub as_region : List ℕ → Option ℕ → Serving

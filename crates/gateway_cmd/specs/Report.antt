@@ -6,13 +6,15 @@ use Rattle.hex.specs.Hex.{encode_lower}
 use Rattle.sigv4.specs.declared.signature.Signed.{Signed}
 use Rattle.sign_cmd.specs.declared.first.Signing.{Signing}
 use Rattle.sign_cmd.specs.declared.first.Signing.TheVariants as signing
+use Rattle.presign_cmd.specs.declared.first.Presigning.{Presigning}
+use Rattle.presign_cmd.specs.declared.first.Presigning.TheVariants as presigning
 use Rattle.gateway_cmd.specs.declared.status.Status.{Status}
 use Rattle.gateway_cmd.specs.declared.status.Status.TheVariants.{Done, Usage, Line, Request, Memory}
 use Rattle.gateway_cmd.specs.declared.status.RunOutcome.{RunOutcome}
 use Rattle.gateway_cmd.specs.declared.status.RunOutcome.TheVariants.{Told, Plain}
 use Rattle.gateway_cmd.specs.declared.status.Told.{Told as Reported}
-use Rattle.gateway_cmd.specs.declared.status.Told.TheVariants.{Signature}
-use Rattle.gateway_cmd.specs.Tasks.{Task, Kind, a_signature, tells, is_serving, is_signing, uses_line}
+use Rattle.gateway_cmd.specs.declared.status.Told.TheVariants.{Signature, Url}
+use Rattle.gateway_cmd.specs.Tasks.{Task, Kind, a_signature, a_url, tells, is_serving, is_signing, uses_line}
 
 -- the exit status
 abbrev pub code_of : Status → ℕ
@@ -28,7 +30,7 @@ line_feed = 10 ∷ []
 -- the line that is reported, none where all connections were served that were to be
 unfoldable pub line_of : Status → List ℕ
 line_of Done = []
-line_of Usage = codes "usage: s3gate session|serve|recover|sweep|check|sign|trial" ++ line_feed
+line_of Usage = codes "usage: s3gate session|serve|recover|sweep|check|sign|trial|presign" ++ line_feed
 line_of Line = codes "s3gate: line" ++ line_feed
 line_of Memory = codes "s3gate: memory" ++ line_feed
 line_of Request = codes "s3gate: request" ++ line_feed
@@ -37,6 +39,10 @@ line_of Request = codes "s3gate: request" ++ line_feed
 unfoldable pub signed_lines : Signed → List ℕ
 signed_lines signed =
     (((codes "canonical " ++ encode_lower signed.canonical_hash) ++ (line_feed ++ codes "signature ")) ++ encode_lower signed.signature) ++ line_feed
+
+-- the line of a URL
+abbrev pub url_line : List ℕ → List ℕ
+url_line url = codes "url " ++ (url ++ line_feed)
 
 -- the statuses that there are
 abbrev pub IsStatus : ℕ → Type 0
@@ -49,9 +55,17 @@ end_of signing.NoRequest = Plain Request
 end_of signing.LineFailed = Plain Line
 end_of signing.Memory = Plain Memory
 
+-- how a run ended that made a URL, or couldn't
+abbrev pub end_of_url : Presigning → RunOutcome
+end_of_url (presigning.Url url) = Told (Url url)
+end_of_url presigning.NoRequest = Plain Request
+end_of_url presigning.LineFailed = Plain Line
+end_of_url presigning.Memory = Plain Memory
+
 -- the lines that are reported of what a run has to tell
 abbrev pub lines_of : Reported → List ℕ
 lines_of (Signature signed) = signed_lines signed
+lines_of (Url url) = url_line url
 
 -- the run ended with nothing to tell
 abbrev pub is_plain : RunOutcome → Bool
@@ -60,6 +74,7 @@ is_plain (Plain status) = true
 
 abbrev pub kind_of : Reported → Kind
 kind_of (Signature signed) = a_signature
+kind_of (Url url) = a_url
 
 -- how a run may end, by what is asked for: with what is to be told; done with nothing to tell, where connections are served; for
 -- the line where it is used; without a request where one is to be signed; and, whatever is asked for, with words or keys that are

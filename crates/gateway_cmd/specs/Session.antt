@@ -3,6 +3,7 @@ use Rattle.std.specs.Prelude.{◌≡◌, ◌≢◌, ◌<◌, ◌≤◌, ◌⊎�
 use Rattle.std.specs.Prelude.{Result, Ok, Err}
 use Rattle.gate_base.specs.Causes.{Rose, RisesIf}
 use Rattle.gate_base.specs.Line.{LineModel}
+use Rattle.gate_base.specs.Told.{SourceModel, ClockNow}
 use Rattle.gate_base.specs.Transcript.{Transcript}
 use Rattle.swift_calls.specs.History.{History}
 use Rattle.recovery.specs.declared.state.Known.{Known}
@@ -13,6 +14,8 @@ use Rattle.sigv4.specs.declared.keys.KeysFault.{KeysFault}
 use Rattle.sigv4.specs.declared.keys.KeysFault.TheVariants as fault
 use Rattle.sign_cmd.specs.Signing.{AnswersFirst, SendsFirst, SignsOn}
 use Rattle.sign_cmd.specs.declared.first.Signing.{Signing}
+use Rattle.presign_cmd.specs.Presigning.{Presigns, AnswersFirst as UrlFirst, SendsFirst as UrlSends}
+use Rattle.presign_cmd.specs.declared.first.Presigning.{Presigning}
 use Rattle.gateway.specs.declared.service.Service.{Service}
 use Rattle.gateway.specs.Exchange.{ReplyRelation, Span}
 use Rattle.gateway.specs.Life.{Work, upkeep, answering, Promises}
@@ -21,8 +24,8 @@ use Rattle.gateway_cmd.specs.declared.status.Status.{Status}
 use Rattle.gateway_cmd.specs.declared.status.Status.TheVariants.{Done, Usage, Line, Request as NoRequest, Memory}
 use Rattle.gateway_cmd.specs.declared.status.RunOutcome.{RunOutcome}
 use Rattle.gateway_cmd.specs.declared.status.RunOutcome.TheVariants.{Plain}
-use Rattle.gateway_cmd.specs.Report.{end_of, is_failed_run, is_done}
-use Rattle.gateway_cmd.specs.Tasks.{Task, nothing, to_serve, to_sign, Serving, service_of}
+use Rattle.gateway_cmd.specs.Report.{end_of, end_of_url, is_failed_run, is_done}
+use Rattle.gateway_cmd.specs.Tasks.{Task, nothing, to_serve, to_sign, to_presign, Serving, service_of}
 use Rattle.gateway_cmd.specs.Run.{run_cursor_of, ServesNext, RunTraces}
 
 -- no connection is left, or as many as were asked for began
@@ -113,11 +116,21 @@ pub record RunSigns (id region keys : List ℕ) (at : ℕ) (ended : RunOutcome) 
       → (signing : Signing) × AnswersFirst secret region old.transcript.waiting signing × SendsFirst at old.transcript signing new.transcript
       × (ended ≡ end_of signing)
 
+-- the same, a URL of the first request: it is for the moment that the clock gives
+pub record RunPresigns (id region : List ℕ) (expires : ℕ) (keys : List ℕ) (at : ℕ) (ended : RunOutcome) (old new : LineModel) (clock clock' : SourceModel) : Type 0 where
+  pub line : SignsOn (is_failed_run ended) at old new
+  pub effect : (secret : List ℕ) → are_keys (keys_of keys) ≡ true → secret_of id (keys_of keys) ≡ Some secret → IsTrue old.observable → ended ≢ Plain Memory
+      → (moment : ℕ) × ClockNow clock moment clock'
+      × (presigning : Presigning) × UrlFirst (Presigns secret id region moment expires) old.transcript.waiting presigning
+      × UrlSends at old.transcript presigning new.transcript × (ended ≡ end_of_url presigning)
+
 -- what a run does by its task, whose words are taken; `new` is the world at its end, by what is known of the store then
 abbrev pub Does : Task → List ℕ → RunOutcome → World → (Known → World) → Type 0
 Does nothing keys ended old new = Unit {0}
 Does (to_serve serving) keys ended old new = RunServes serving keys ended old new
 Does (to_sign id region) keys ended old new = RunSigns id region keys old.store.called ended old.line (new Unsure).line
+Does (to_presign id region expires) keys ended old new =
+    RunPresigns id region expires keys old.store.called ended old.line (new Unsure).line old.clock (new Unsure).clock
 
 -- ---- what a run is among others, one after another
 
@@ -126,6 +139,7 @@ abbrev pub IsWorkOf : Task → Work → Type 0
 IsWorkOf nothing work = work ≡ upkeep
 IsWorkOf (to_serve serving) work = (spans : List Span) × (work ≡ answering serving.settings spans)
 IsWorkOf (to_sign id region) work = work ≡ upkeep
+IsWorkOf (to_presign id region expires) work = work ≡ upkeep
 
 -- the work of a task was done between two numbers of calls, where the account was consistent at the first
 pub record HasWorked (task : Task) (old new : History) : Type 0 where

@@ -6,7 +6,7 @@ use Rattle.sigv4.specs.Keys.{keys_of, are_keys, secret_of}
 use Rattle.gateway.specs.declared.service.Service.{Service}
 use Rattle.gateway_cli.specs.Words.{command_of}
 use Rattle.gateway_cli.specs.declared.command.Command.{Command}
-use Rattle.gateway_cli.specs.declared.command.Command.TheVariants.{Session, Serve, Sign}
+use Rattle.gateway_cli.specs.declared.command.Command.TheVariants.{Session, Serve, Sign, Presign}
 use Rattle.gateway_cmd.specs.declared.service.TheConstants.{LEAST_PART}
 
 -- the settings of a service of that region
@@ -23,26 +23,29 @@ abbrev pub service_of : Serving → List ℕ → Service
 service_of serving keys = record { settings = serving.settings; keys = keys_of keys }
 
 -- what is asked for: nothing where the words are refused; to serve the connections of the line; or to sign its first request, by
--- the key of an id for a region
+-- the key of an id for a region; or to make a URL of it, which holds for so many seconds
 pub data Task : Type 0 where
   nothing : Task
   to_serve : Serving → Task
   to_sign : List ℕ → List ℕ → Task
+  to_presign : List ℕ → List ℕ → ℕ → Task
 
 abbrev pub task_of : Option Command → Task
 task_of None = nothing
 task_of (Some (Session region)) = to_serve (record { settings = settings_of region; most = None })
 task_of (Some (Serve region connections)) = to_serve (record { settings = settings_of region; most = Some connections })
 task_of (Some (Sign id region)) = to_sign id region
+task_of (Some (Presign id region expires)) = to_presign id region expires
 
 abbrev pub asked_for : List (String Global) → Task
 asked_for words = task_of (command_of words)
 
--- the task can be done by the key text: each of its lines is a key, no id twice; and to sign, one of them has the id
+-- the task can be done by the key text: each of its lines is a key, no id twice; and to sign or to make a URL, one of them has the id
 abbrev pub is_possible : Task → List ℕ → Bool
 is_possible nothing keys = false
 is_possible (to_serve serving) keys = are_keys (keys_of keys)
 is_possible (to_sign id region) keys = are_keys (keys_of keys) && is_some (secret_of id (keys_of keys))
+is_possible (to_presign id region expires) keys = are_keys (keys_of keys) && is_some (secret_of id (keys_of keys))
 
 -- ---- what a task is of
 
@@ -51,31 +54,37 @@ abbrev pub is_serving : Task → Bool
 is_serving nothing = false
 is_serving (to_serve serving) = true
 is_serving (to_sign id region) = false
+is_serving (to_presign id region expires) = false
 
--- the first request of the line is signed
+-- the first request of the line is signed, in a header or in a URL
 abbrev pub is_signing : Task → Bool
 is_signing nothing = false
 is_signing (to_serve serving) = false
 is_signing (to_sign id region) = true
+is_signing (to_presign id region expires) = true
 
 -- the line is used
 abbrev pub uses_line : Task → Bool
 uses_line nothing = false
 uses_line (to_serve serving) = true
 uses_line (to_sign id region) = true
+uses_line (to_presign id region expires) = true
 
 -- what a run may have to tell
 pub data Kind : Type 0 where
   a_signature : Kind
+  a_url : Kind
 
 -- what is told where the task is done: nothing, where connections are served
 abbrev pub tells : Task → Option Kind
 tells nothing = None
 tells (to_serve serving) = None
 tells (to_sign id region) = Some a_signature
+tells (to_presign id region expires) = Some a_url
 
 -- of these four facts, that line, store, clock and draws are left alone, those that hold by the task
 abbrev pub Apart : Task → Type 0 → Type 0 → Type 0 → Type 0 → Type 0
 Apart nothing line store clock draws = line × store × clock × draws
 Apart (to_serve serving) line store clock draws = Unit {0}
 Apart (to_sign id region) line store clock draws = store × clock × draws
+Apart (to_presign id region expires) line store clock draws = store × draws

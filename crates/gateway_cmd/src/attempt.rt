@@ -1,12 +1,16 @@
 //! A run but for its report: the words, and then the command that they name.
-ghost use Rattle.std.specs.Prelude.{◌≡◌, ℕ, false, IsTrue, List, Some, None};
+ghost use Rattle.std.specs.Prelude.{◌≡◌, ◌≤◌, ℕ, true, false, IsTrue, List, Some, None};
+ghost use Rattle.gate_base.specs.Told.{ClockNow};
 ghost use Rattle.recovery.specs.declared.state.Known.TheVariants.{Unsure};
-ghost use Rattle.sigv4.specs.Keys.{secret_of};
+ghost use Rattle.sigv4.specs.Keys.{are_keys, secret_of};
 ghost use Rattle.sign_cmd.specs.Signing.{AnswersFirst, SendsFirst, SignsOn};
 ghost use Rattle.sign_cmd.specs.declared.first.Signing.{Signing};
+ghost use Rattle.presign_cmd.specs.Presigning.{Presigns, AnswersFirst as UrlFirst, SendsFirst as UrlSends};
+ghost use Rattle.presign_cmd.specs.declared.first.Presigning.{Presigning};
+ghost use Rattle.gateway_cli.specs.Words.{IsProper, is_region};
 ghost use Rattle.gateway.specs.World.{world, Continues};
-ghost use Rattle.gateway_cmd.specs.Report.{Admits, Fits, is_failed_run, end_of};
-ghost use Rattle.gateway_cmd.specs.Tasks.{Apart, asked_for, is_possible, task_of, to_sign};
+ghost use Rattle.gateway_cmd.specs.Report.{Admits, Fits, is_failed_run, end_of, end_of_url};
+ghost use Rattle.gateway_cmd.specs.Tasks.{Apart, asked_for, is_possible, task_of, to_sign, to_presign};
 ghost use Rattle.gateway_cmd.specs.declared.status.RunOutcome.TheVariants as ended;
 ghost use Rattle.gateway_cmd.specs.declared.status.Status.TheVariants as status;
 ghost use Rattle.gateway_cmd.specs.Session.{Does};
@@ -16,6 +20,7 @@ use crate::session::session;
 use crate::status::{RunOutcome, Status, Told};
 use gate_base::{Bytes, Clock, Draws, Line};
 use gateway_cli::{Command, WordsFault, read_words};
+use presign_cmd::{Presigning, presign_first};
 use recovery::Known;
 use sign_cmd::{Signing, sign_first};
 use sigv4::{Keys, KeysFault};
@@ -60,6 +65,7 @@ fn perform<N: Line<W>, W: Swift, C: Clock, D: Draws>(
     clock: &mut C,
     draws: &mut D,
 ) -> RunOutcome
+    requires { IsProper command }
     ensures admits { Admits (is_possible (task_of (Some command)) keys.now) result }
     ensures fits { Fits (task_of (Some command)) result }
     ensures idle { is_possible (task_of (Some command)) keys.now ≡ false → (line.new ≡ line.old) × (store.new ≡ store.old) × (clock.new ≡ clock.old) × (draws.new ≡ draws.old) }
@@ -98,6 +104,11 @@ fn perform<N: Line<W>, W: Swift, C: Clock, D: Draws>(
                 ))
             }
             Command::Sign { key, region } => sign(alloc, &keys, &key, &region, line, store),
+            Command::Presign {
+                key,
+                region,
+                expires,
+            } => presign(alloc, &keys, &key, &region, expires, line, store, clock),
         },
         Err(KeysFault::BadLine(_)) => RunOutcome::Plain(Status::Usage),
         Err(KeysFault::Twice(_)) => RunOutcome::Plain(Status::Usage),
@@ -125,6 +136,54 @@ fn sign<N: Line<W>, W: Swift>(
     match keys.secret(id.as_slice()) {
         Some(secret) => end_of(sign_first(alloc, secret, region.as_slice(), line, store)),
         None => RunOutcome::Plain(Status::Usage),
+    }
+}
+
+/// Makes a URL of the first request of the line by the key of the id, for the moment that the clock gives.
+fn presign<N: Line<W>, W: Swift, C: Clock>(
+    alloc: Global,
+    keys: &Keys,
+    id: &Bytes,
+    region: &Bytes,
+    expires: u64,
+    line: &mut N,
+    store: &W,
+    clock: &mut C,
+) -> RunOutcome
+    requires keys { are_keys keys.now ≡ true }
+    requires region { is_region region.now ≡ true }
+    requires least { 1 ≤ expires }
+    requires most { expires ≤ 604800 }
+    ensures usage { result ≡ ended.Plain status.Usage → secret_of id.now keys.now ≡ None }
+    ensures refused { secret_of id.now keys.now ≡ None → (result ≡ ended.Plain status.Usage) × (line.new ≡ line.old) × (clock.new ≡ clock.old) }
+    ensures fits { (id region : List ℕ) (expires : ℕ) → Fits (to_presign id region expires) result }
+    ensures line { SignsOn (is_failed_run result) (W.history store.now).called (N.model line.old) (N.model line.new) }
+    ensures clock { IsTrue (C.model clock.old).observable → IsTrue (C.model clock.new).observable }
+    ensures effect { (secret : List ℕ) → secret_of id.now keys.now ≡ Some secret → IsTrue (N.model line.old).observable
+        → (moment : ℕ) × ClockNow (C.model clock.old) moment (C.model clock.new)
+        × (presigning : Presigning) × UrlFirst (Presigns secret id.now region.now moment expires) (N.model line.old).transcript.waiting presigning
+        × UrlSends (W.history store.now).called (N.model line.old).transcript presigning (N.model line.new).transcript × (result ≡ end_of_url presigning) }
+{
+    match keys.secret(id.as_slice()) {
+        Some(secret) => {
+            let moment = clock.now();
+            let id = id.as_slice();
+            let region = region.as_slice();
+            end_of_url(presign_first(alloc, secret, id, region, moment, expires, line, store))
+        }
+        None => RunOutcome::Plain(Status::Usage),
+    }
+}
+
+/// How a run ends that was to make a URL.
+fn end_of_url(presigning: Presigning) -> RunOutcome
+    ensures { result ≡ end_of_url presigning }
+{
+    match presigning {
+        Presigning::Url(url) => RunOutcome::Told(Told::Url(url)),
+        Presigning::NoRequest => RunOutcome::Plain(Status::Request),
+        Presigning::LineFailed => RunOutcome::Plain(Status::Line),
+        Presigning::Memory => RunOutcome::Plain(Status::Memory),
     }
 }
 

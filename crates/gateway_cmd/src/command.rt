@@ -1,14 +1,17 @@
 ghost use Rattle.std.specs.Prelude.{◌≡◌, ◌==◌, ◌<◌, ℕ, true, false, IsTrue, List, is_some};
 ghost use Rattle.gate_base.specs.Causes.{Rose};
+ghost use Rattle.gate_base.specs.Told.{ClockNow};
 ghost use Rattle.swift_calls.specs.History.{budget, FaultFree};
 ghost use Rattle.recovery.specs.declared.state.Known.TheVariants.{Unsure};
 ghost use Rattle.recovery.specs.Calls.{Any, Met};
 ghost use Rattle.sigv4.specs.Keys.{keys_of, are_keys, secret_of};
 ghost use Rattle.sign_cmd.specs.Signing.{AnswersFirst, SendsFirst, SignsOn};
 ghost use Rattle.sign_cmd.specs.declared.first.Signing.{Signing};
+ghost use Rattle.presign_cmd.specs.Presigning.{Presigns, AnswersFirst as UrlFirst, SendsFirst as UrlSends};
+ghost use Rattle.presign_cmd.specs.declared.first.Presigning.{Presigning};
 ghost use Rattle.gateway.specs.World.{world, IsObservable, Continues};
-ghost use Rattle.gateway_cmd.specs.Report.{is_plain, IsStatus, Fits, Says, Reports, end_of, code_of, line_of};
-ghost use Rattle.gateway_cmd.specs.Tasks.{Apart, asked_for, is_possible, is_serving, is_signing, tells, to_serve, to_sign, Serving, service_of};
+ghost use Rattle.gateway_cmd.specs.Report.{is_plain, IsStatus, Fits, Says, Reports, end_of, end_of_url, code_of, line_of};
+ghost use Rattle.gateway_cmd.specs.Tasks.{Apart, asked_for, is_possible, is_serving, is_signing, tells, to_serve, to_sign, to_presign, Serving, service_of};
 ghost use Rattle.gateway_cmd.specs.declared.status.RunOutcome.{RunOutcome as how};
 ghost use Rattle.gateway_cmd.specs.declared.status.RunOutcome.TheVariants as ends;
 ghost use Rattle.gateway_cmd.specs.declared.status.Status.TheVariants.{Done};
@@ -22,12 +25,12 @@ use std::alloc::Global;
 use swift_calls::Swift;
 
 /// A whole run of `s3gate` with these words, which follow the program's name, by the keys of a key text (see
-/// [`sigv4::Keys::read`]). `session` serves the connections of the line, `serve` no more of them than the words say, and
-/// `sign` signs its first request. The answer is the exit status: 0 where no connection is left to serve, or the signature
-/// was reported; 2 where the words are refused (see
+/// [`sigv4::Keys::read`]). `session` serves the connections of the line, `serve` no more of them than the words say,
+/// `sign` signs its first request, and `presign` makes a URL of it for the moment that the clock gives. The answer is the exit
+/// status: 0 where no connection is left to serve, or the signature or the URL was reported; 2 where the words are refused (see
 /// [`gateway_cli::read_words`]), or the key text, or it hasn't the key that is to sign; 3 where the line failed to give
 /// another connection, or at all while a request was to be signed; 5 where memory ran out; 6 where the report of a
-/// signature failed; 8 where no request stood first on the line, or one that can't be signed.
+/// signature or a URL failed; 8 where no request stood first on the line, or one that can't be signed, or have a URL.
 ///
 /// Of a run that serves, three clauses say what became of its requests, each with its span: the numbers of calls before
 /// it, as its operation began, at its commit point, and after it. `traced` is over every store, `account` over every line,
@@ -58,9 +61,12 @@ pub fn run<N: Line<W>, R: Sink, W: Swift, C: Clock, D: Draws>(
     ensures serving { (serving : Serving) → asked_for words.now ≡ to_serve serving
         → LineServed serving (result == 3) (result == 0) (N.model line.old) (N.model line.new) }
 
-    // A run that signs: at most one connection of the line begins, and at most the interim line is sent on it: 3 comes only where
+    // A run that signs, or makes a URL: at most one connection of the line begins, and at most the interim line is sent on it: 3 comes only where
     // the line failed.
     ensures signing { (id region : List ℕ) → asked_for words.now ≡ to_sign id region → SignsOn (result == 3) (W.history store.old).called (N.model line.old) (N.model line.new) }
+
+    ensures presigning { (id region : List ℕ) (expires : ℕ) → asked_for words.now ≡ to_presign id region expires
+        → SignsOn (result == 3) (W.history store.old).called (N.model line.old) (N.model line.new) }
 
     // The task was done as its end says, over line, store, clock and draws. The report has the lines of that end, and nothing else;
     // where its count of faults rose, the first bytes of them. It is left alone where all connections were served.
@@ -115,6 +121,14 @@ pub fn run<N: Line<W>, R: Sink, W: Swift, C: Clock, D: Draws>(
         → (signing : Signing) × AnswersFirst secret region (N.model line.old).transcript.waiting signing
         × SendsFirst (W.history store.old).called (N.model line.old).transcript signing (N.model line.new).transcript
         × (text : List ℕ) × Says (end_of signing) result text × Reports text (R.model report.old) (R.model report.new) }
+
+    // The URL is one of the line's first request, by the secret of the key, for the moment that the clock gave.
+    ensures effect_presigned { (id region secret : List ℕ) (expires : ℕ) → asked_for words.now ≡ to_presign id region expires
+        → are_keys (keys_of keys.now) ≡ true → secret_of id (keys_of keys.now) ≡ Some secret → IsTrue (N.model line.old).observable → (result ≡ 5 → ⊥)
+        → (moment : ℕ) × ClockNow (C.model clock.old) moment (C.model clock.new)
+        × (presigning : Presigning) × UrlFirst (Presigns secret id region moment expires) (N.model line.old).transcript.waiting presigning
+        × UrlSends (W.history store.old).called (N.model line.old).transcript presigning (N.model line.new).transcript
+        × (text : List ℕ) × Says (end_of_url presigning) result text × Reports text (R.model report.old) (R.model report.new) }
 {
     let ended = attempt(alloc, words, keys, line, store, clock, draws);
     tell(alloc, ended, report)

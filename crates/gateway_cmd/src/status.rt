@@ -1,11 +1,11 @@
 ghost use Rattle.std.specs.Prelude.{◌≡◌, IfOk};
-ghost use Rattle.gateway_cmd.specs.Report.{code_of, line_of, lines_of, signed_lines};
+ghost use Rattle.gateway_cmd.specs.Report.{code_of, line_of, lines_of, signed_lines, url_line};
 
 use gate_base::{Bytes, Memory};
 use sigv4::Signed;
 use std::alloc::Global;
 
-/// How a run ended that has no signature to report.
+/// How a run ended that has nothing to tell.
 #[derive(Clone, Copy, Debug, PartialEq, Eq)]
 pub enum Status {
     /// Each connection of the line was served, or as many as were asked for.
@@ -41,7 +41,8 @@ impl Status {
     {
         match self {
             Status::Done => b"",
-            Status::Usage => b"usage: s3gate session|serve|recover|sweep|check|sign|trial\n",
+            Status::Usage =>
+                b"usage: s3gate session|serve|recover|sweep|check|sign|trial|presign\n",
             Status::Line => b"s3gate: line\n",
             Status::Memory => b"s3gate: memory\n",
             Status::Request => b"s3gate: request\n",
@@ -50,14 +51,16 @@ impl Status {
 }
 
 /// What a run has to tell, where it is done.
-#[derive(Clone, Copy, Debug, PartialEq, Eq)]
+#[derive(Debug, Drop)]
 pub enum Told {
     /// The first request of the line signs to this.
     Signature(Signed),
+    /// It has this URL, from its path on.
+    Url(Bytes),
 }
 
 /// How a run ended.
-#[derive(Clone, Copy, Debug, PartialEq, Eq)]
+#[derive(Debug, Drop)]
 pub enum RunOutcome {
     Told(Told),
     Plain(Status),
@@ -69,6 +72,7 @@ pub fn told_lines(alloc: Global, told: &Told) -> Result<Bytes, Memory>
 {
     match told {
         Told::Signature(signed) => signed_lines(alloc, signed),
+        Told::Url(url) => url_line(alloc, url.as_slice()),
     }
 }
 
@@ -83,4 +87,14 @@ fn signed_lines(alloc: Global, signed: &Signed) -> Result<Bytes, Memory>
     lines.append(hex::encode(alloc, signed.signature)?.as_bytes())?;
     lines.append(b"\n")?;
     Ok(lines)
+}
+
+/// The line that reports a URL.
+fn url_line(alloc: Global, url: &[u8]) -> Result<Bytes, Memory>
+    ensures { IfOk result (λ line. line ≡ url_line url.now) }
+{
+    let mut line = Bytes::from_slice(alloc, b"url ")?;
+    line.append(url)?;
+    line.append(b"\n")?;
+    Ok(line)
 }

@@ -3,8 +3,8 @@
 //!
 //! `session` serves one connection on standard input and output, over a fresh store in memory. `serve` serves the clients
 //! that come to the place which `S3GATE_LISTEN` names, over the Swift store at `S3GATE_STORE`, in its account
-//! `S3GATE_ACCOUNT`, with the token `S3GATE_TOKEN`. `sign` signs the first request of standard input, to
-//! which nothing is written back.
+//! `S3GATE_ACCOUNT`, with the token `S3GATE_TOKEN`. `sign` signs the first request of standard input, and
+//! `presign` makes a URL of it; nothing is written back.
 #![tactic(auto)]
 
 mod faults;

@@ -28,5 +28,8 @@ returns-in-Session-clause-fits g c = subst (λ command. Fits (task_of (Some comm
 pub returns-in-Serve-clause-fits : goal.returns-in-Serve-clause-fits
 returns-in-Serve-clause-fits g c = subst (λ command. Fits (task_of (Some command)) (Plain c.session-in-Serve.result)) (sym c.in-Serve.is) (session_fits (as_region c.in-Serve.region (Some c.in-Serve.connections)) c.session-in-Serve.result c.session-in-Serve.ensures.line.ends)
 
+pub returns-in-Sign-clause-fits : goal.returns-in-Sign-clause-fits
+returns-in-Sign-clause-fits g c = subst (λ command. Fits (task_of (Some command)) c.sign.result) (sym c.in-Sign.is) (c.sign.ensures.fits c.in-Sign.key c.in-Sign.region)
+
 pub returns-in-Ok-clause-fits : goal.returns-in-Ok-clause-fits
-returns-in-Ok-clause-fits g c = subst (λ command. Fits (task_of (Some command)) c.sign.result) (sym c.in-Sign.is) (c.sign.ensures.fits c.in-Sign.key c.in-Sign.region)
+returns-in-Ok-clause-fits g c = subst (λ command. Fits (task_of (Some command)) c.presign.result) (sym c.in-Presign.is) (c.presign.ensures.fits c.in-Presign.key c.in-Presign.region c.in-Presign.expires)

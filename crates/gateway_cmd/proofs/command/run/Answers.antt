@@ -42,6 +42,12 @@ returns-clause-signing g c = λ id region is.
     let exits = says_exits _ _ _ c.tell.ensures.says.1 in
     subst (λ failed. SignsOn failed (g.W.Swift.history c.args.store.now).called (g.N.Line.model c.args.line.now) (g.N.Line.model c.attempt-ended.new.line)) (exits_failed_run _ _ exits) run.line
 
+pub returns-clause-presigning : goal.returns-clause-presigning
+returns-clause-presigning g c = λ id region expires is.
+    let run = rw is at c.attempt-ended.ensures.does in
+    let exits = says_exits _ _ _ c.tell.ensures.says.1 in
+    subst (λ failed. SignsOn failed (g.W.Swift.history c.args.store.now).called (g.N.Line.model c.args.line.now) (g.N.Line.model c.attempt-ended.new.line)) (exits_failed_run _ _ exits) run.line
+
 pub returns-clause-report : goal.returns-clause-report
 returns-clause-report g c =
     let says = c.tell.ensures.says in
@@ -92,6 +98,13 @@ returns-clause-effect_signed g c = λ id region secret asked good known observab
     let run = rw asked at c.attempt-ended.ensures.does in
     let signs = run.effect secret good known observable (exits_other _ Memory _ (says_exits _ _ _ says.1) other) in
     (signs.0, signs.1, signs.2, says.0, subst (λ how. Says how c.tell.result says.0) signs.3 says.1, says.2)
+
+pub returns-clause-effect_presigned : goal.returns-clause-effect_presigned
+returns-clause-effect_presigned g c = λ id region secret expires asked good known observable other.
+    let says = c.tell.ensures.says in
+    let run = rw asked at c.attempt-ended.ensures.does in
+    let made = run.effect secret good known observable (exits_other _ Memory _ (says_exits _ _ _ says.1) other) in
+    (made.0, made.1, made.2, made.3, made.4, says.0, subst (λ how. Says how c.tell.result says.0) made.5 says.1, says.2)
 
 pub returns-clause-works : goal.returns-clause-works
 returns-clause-works g c = λ met.

@@ -1,0 +1,68 @@
+ghost use Rattle.std.specs.Prelude.{◌≡◌, ◌≤◌, ◌<◌, true, false, MatchOption, IfOk};
+ghost use Rattle.gate_base.specs.Told.{moment_limit};
+ghost use Rattle.s3_names.specs.Target.{target_of};
+ghost use Rattle.sigv4.specs.Keys.{is_key};
+ghost use Rattle.presign.specs.Url.{IsPresigned, is_region, has_signature_name};
+ghost use Rattle.presign_cmd.specs.Presigning.{can_presign, has_host, plain_target, Presigns};
+
+use gate_base::{Bytes, Memory};
+use http_wire::{Message, has_one};
+use presign::{has_signature_name, presign};
+use s3_names::{NameFault, Target};
+use std::alloc::Global;
+
+/// The URL of a request. None exactly where it can't be presigned.
+pub(crate) fn presign_message(
+    alloc: Global,
+    secret: &[u8],
+    id: &[u8],
+    region: &[u8],
+    moment: u64,
+    expires: u64,
+    message: &Message,
+) -> Result<Option<Bytes>, Memory>
+    requires key { is_key (record { id = id.now; secret = secret.now }) ≡ true }
+    requires region { is_region region.now ≡ true }
+    requires moment { moment < moment_limit }
+    requires least { 1 ≤ expires }
+    requires most { expires ≤ 604800 }
+    ensures { IfOk result (λ answer. MatchOption answer (can_presign message.now ≡ false) (Presigns secret.now id.now region.now moment expires message.now)) }
+{
+    if !has_host(message) {
+        return Ok(None);
+    }
+    match plain_target(alloc, message.target.as_slice())? {
+        Some(target) => Ok(Some(presign(
+            alloc, secret, id, region, message, &target, moment, expires,
+        )?)),
+        None => Ok(None),
+    }
+}
+
+/// Whether exactly one header is `host`.
+fn has_host(message: &Message) -> bool
+    ensures { result ≡ has_host message.now }
+{
+    has_one(message.headers.as_slice(), b"host")
+}
+
+/// The target, where the text is one and its query has none of the names of a signature.
+fn plain_target(alloc: Global, text: &[u8]) -> Result<Option<Target>, Memory>
+    ensures { IfOk result (λ read. read ≡ plain_target (target_of text.now)) }
+{
+    match Target::read(alloc, text) {
+        Ok(target) => Ok(plain(target)),
+        Err(NameFault::Memory) => Err(Memory),
+        Err(_) => Ok(None),
+    }
+}
+
+fn plain(target: Target) -> Option<Target>
+    ensures { result ≡ plain_target (Ok target) }
+{
+    if has_signature_name(&target) {
+        None
+    } else {
+        Some(target)
+    }
+}
