@@ -27,7 +27,10 @@ pub fn told(rt: &HostRuntime, fault: SetupFault) -> u8 {
 pub fn explain_refusal(rt: &HostRuntime, words: &[String], keys: &str) {
     match read_words(rt.alloc(), words) {
         Ok(_) => explain_keys(rt, keys),
-        Err(WordsFault::Refused) => say(rt, b"s3gate: built are session, serve, sign and presign\n"),
+        Err(WordsFault::Refused) => say(
+            rt,
+            b"s3gate: built are session, serve, sign and presign\n",
+        ),
         Err(WordsFault::Memory) => {}
     }
 }
