@@ -73,6 +73,8 @@ def tried(room, file, number, old, new, files=FILES):
     ran = subprocess.run(["rt", "try", "--seconds", "300", *data, "--", *files], cwd=folder, stdin=subprocess.DEVNULL, capture_output=True, text=True, errors="replace")
     with open(path, "w", encoding="utf-8") as it:
         it.write(text)
+    if "run=fault" in ran.stderr + ran.stdout:
+        return True, "the run ends by a fault, before it printed anything"
     if not ran.stdout.startswith("file "):
         return False, f"no run: {(ran.stderr or ran.stdout).strip().splitlines()[-1:]}"
     due, came = expected(files).splitlines(), ran.stdout.splitlines()
