@@ -1426,4 +1426,6 @@ def main():
 
 
 if __name__ == "__main__":
+    # A shell starts what runs in its background with SIGINT ignored, and the programs would inherit that.
+    signal.signal(signal.SIGINT, signal.default_int_handler)
     main()
