@@ -130,7 +130,7 @@ pub enum Op {
         key: Bytes,
         id: Bytes,
         number: u32,
-        body: Bytes,
+        body: Body,
     },
     ListParts {
         bucket: Bytes,
@@ -358,7 +358,7 @@ fn copy_upload_part(
     key: &Bytes,
     id: &Bytes,
     number: u32,
-    body: &Bytes,
+    body: &Body,
 ) -> Result<Op, Memory>
     ensures { IfOk result (λ op. op ≡ Op.UploadPart bucket.now key.now id.now number body.now) }
 {

@@ -10,7 +10,7 @@ use crate::listing::{first, is_cut};
 use crate::native::NativeObject;
 use crate::numbered::Numbered;
 use gate_base::{Bytes, Copying, List, Memory};
-use s3_machine::{Code, Listed, PartItem, body_etag};
+use s3_machine::{Body, Code, Listed, PartItem};
 use s3_names::Meta;
 use std::alloc::Global;
 use std::marker::Model;
@@ -36,12 +36,12 @@ impl Model for NativePart {
 }
 
 impl NativePart {
-    pub(crate) fn new(alloc: Global, moment: u64, body: &Bytes) -> Result<NativePart, Memory>
+    pub(crate) fn new(alloc: Global, moment: u64, body: &Body) -> Result<NativePart, Memory>
         ensures { IfOk result (λ made. made ≡ new_part moment body.now) }
     {
         Ok(NativePart {
-            bytes: body.copy()?,
-            etag: Bytes::from_slice(alloc, &body_etag(body.as_slice()))?,
+            bytes: Bytes::from_slice(alloc, body.as_slice())?,
+            etag: Bytes::from_slice(alloc, &body.etag())?,
             modified: moment,
         })
     }

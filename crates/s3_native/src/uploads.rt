@@ -35,7 +35,7 @@ use crate::native::{Native, NativeBucket, NativeObject};
 use crate::upload::{NativePart, NativeUpload};
 use gate_base::{Bytes, Copying, List, Memory};
 use name_table::Table;
-use s3_machine::{Code, Label, Listed, Op, Reply, UploadItem};
+use s3_machine::{Body, Code, Label, Listed, Op, Reply, UploadItem};
 use s3_names::{Acl, Meta, id_digits, id_of};
 use std::alloc::Global;
 
@@ -438,7 +438,7 @@ impl Native {
         key: &Bytes,
         id: &Bytes,
         number: u32,
-        body: &Bytes,
+        body: &Body,
         label: &Label,
     ) -> Result<Reply, Memory>
         ensures settings { self.new.settings ≡ self.old.settings }

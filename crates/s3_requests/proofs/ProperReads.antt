@@ -1,7 +1,8 @@
 -- What is read of a request keeps the limits of an operation: its range, and what its listing asks for.
-use Rattle.std.proofs.Common.{◌≡◌, ◌≤◌, ◌<◌, ◌^◌, ℕ, Bool, true, false, not, ◌||◌, cond, List, [], ◌∷◌, length, Option, Some, None, IfSome, refl, arith}
+use Rattle.std.proofs.Common.{◌≡◌, ◌≤◌, ◌<◌, ◌^◌, ℕ, Bool, true, false, not, ◌&&◌, ◌||◌, cond, List, [], ◌∷◌, length, Option, Some, None, IfSome, refl, arith}
 use Rattle.std.specs.Prelude.{nat_le, nat_eq, drop, option_map, codes}
 use Rattle.std.specs.List.{list_all, list_any, starts_with, before_first, after_first}
+use Rattle.std.specs.Option.{unwrap_or}
 use Rattle.std.specs.Result.{result_ok}
 use Rattle.std.specs.Str.Parse.{digits_value}
 use Rattle.std.proofs.lemmas.Bool.{and_parts, leb-true}
@@ -13,13 +14,16 @@ use Rattle.gate_base.specs.declared.page.Pair.{Pair}
 use Rattle.http_wire.specs.Headers.{text_of}
 use Rattle.s3_machine.specs.declared.reading.Range.{Range}
 use Rattle.s3_machine.specs.declared.reading.Range.TheVariants.{FromTo, From, Last}
+use Rattle.s3_machine.specs.declared.limits.TheConstants.{GREATEST_PART_NUMBER}
 use Rattle.s3_machine.specs.Limits.{is_listing_text, most_items, range_limit}
-use Rattle.s3_machine.specs.Step.{IsProperAsked, IsProperRange}
+use Rattle.s3_machine.specs.Step.{IsProperAsked, IsProperRange, IsProperUploads}
+use Rattle.s3_machine.specs.Uploads.{greatest_part, IsPartNumber}
 use Rattle.s3_requests.specs.Numbers.{is_number, number_of}
 use Rattle.s3_requests.specs.Ranges.{is_dash, place_of, between, range_by, range_behind, range_of, given_range}
 use Rattle.s3_requests.specs.Query.{text_at}
 use Rattle.s3_requests.specs.Rows.{is_asked}
-use Rattle.s3_requests.specs.Listings.{capped, count_of, is_lower_hex, listing_text, token_of, given_token, has_long_text, first_asked, second_asked}
+use Rattle.s3_requests.specs.Uploads.{of_part, part_of, given_part}
+use Rattle.s3_requests.specs.Listings.{most_by, capped, count_of, is_lower_hex, listing_text, token_of, given_token, has_long_text, first_asked, second_asked}
 use Rattle.s3_requests.proofs.Digits.{own}
 
 -- ---- ranges
@@ -131,17 +135,23 @@ pub record FitsTexts (query : List Pair) : Type 0 where
   pub delimiter : Fits (text_at (codes "delimiter") query)
   pub marker : Fits (text_at (codes "marker") query)
   pub start_after : Fits (text_at (codes "start-after") query)
+  pub key_marker : Fits (text_at (codes "key-marker") query)
+  pub id_marker : Fits (text_at (codes "upload-id-marker") query)
 
 texts_fit : (query : List Pair) → has_long_text query ≡ false → FitsTexts query
 texts_fit query h =
-    let last = or_parts _ (not (is_listing_text (text_at (codes "start-after") query))) h in
-    let third = or_parts _ (not (is_listing_text (text_at (codes "marker") query))) last.0 in
+    let last = or_parts _ (not (is_listing_text (text_at (codes "upload-id-marker") query))) h in
+    let fifth = or_parts _ (not (is_listing_text (text_at (codes "key-marker") query))) last.0 in
+    let fourth = or_parts _ (not (is_listing_text (text_at (codes "start-after") query))) fifth.0 in
+    let third = or_parts _ (not (is_listing_text (text_at (codes "marker") query))) fourth.0 in
     let first = or_parts _ (not (is_listing_text (text_at (codes "delimiter") query))) third.0 in
     record {
       prefix = text_fits _ first.0;
       delimiter = text_fits _ first.1;
       marker = text_fits _ third.1;
-      start_after = text_fits _ last.1;
+      start_after = text_fits _ fourth.1;
+      key_marker = text_fits _ fifth.1;
+      id_marker = text_fits _ last.1;
     }
 
 pub first_proper : (query : List Pair) → has_long_text query ≡ false → IsProperAsked (first_asked query)
@@ -167,3 +177,40 @@ second_proper query h =
       token = given_fits query;
       few = few (count_of (text_at (codes "max-keys") query));
     }
+
+-- ---- uploads
+
+pub most_proper : (name : List ℕ) (query : List Pair) → most_by name query ≤ most_items
+most_proper name query = few (count_of (text_at name query))
+
+pub uploads_proper : (query : List Pair) → has_long_text query ≡ false → IsProperUploads (text_at (codes "prefix") query) (text_at (codes "key-marker") query) (text_at (codes "upload-id-marker") query) (most_by (codes "max-uploads") query)
+uploads_proper query h =
+    let fit = texts_fit query h in
+    record {
+      prefix = fit.prefix;
+      key_marker = fit.key_marker;
+      id_marker = fit.id_marker;
+      few = most_proper (codes "max-uploads") query;
+    }
+
+one_proper : IsPartNumber 1
+unfolding greatest_part
+one_proper = record { counted = omega arith; within = omega arith }
+
+counted_proper : (number : ℕ) → (nat_le 1 number && nat_le number GREATEST_PART_NUMBER) ≡ true → IsPartNumber number
+unfolding greatest_part
+counted_proper number h =
+    let parts = and_parts (nat_le 1 number) (nat_le number GREATEST_PART_NUMBER) h in
+    record { counted = leb-true 1 number parts.0; within = leb-true number GREATEST_PART_NUMBER parts.1 }
+
+or_one_proper : (number : Option ℕ) → IsPartNumber (unwrap_or (of_part number) 1)
+or_one_proper None = one_proper
+or_one_proper (Some number) = by_test (nat_le 1 number && nat_le number GREATEST_PART_NUMBER) refl
+  where
+    by_test : (b : Bool) → (nat_le 1 number && nat_le number GREATEST_PART_NUMBER) ≡ b → IsPartNumber (unwrap_or (cond b (Some number) None) 1)
+    by_test true e = counted_proper number e
+    by_test false e = one_proper
+
+pub part_proper : (query : List Pair) → IsPartNumber (given_part query)
+unfolding part_of
+part_proper query = or_one_proper (number_of 9 (text_at (codes "partNumber") query))

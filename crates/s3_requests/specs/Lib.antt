@@ -9,3 +9,4 @@ pub mod Proper
 pub mod Query
 pub mod Ranges
 pub mod Rows
+pub mod Uploads

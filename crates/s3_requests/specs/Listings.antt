@@ -1,5 +1,5 @@
--- What a listing of objects asks for. Sources: Amazon S3 API Reference, "ListObjects" and "ListObjectsV2"; the limits of counts
--- and of texts, and the form of a token, are this profile's.
+-- What a listing of objects asks for, and the counts and texts that any listing may be given. Sources: Amazon S3 API Reference,
+-- "ListObjects" and "ListObjectsV2"; the limits of counts and of texts, and the form of a token, are this profile's.
 use Rattle.std.specs.Prelude.{ℕ, Bool, false, not, ◌&&◌, ◌||◌, nat_le, min, if◌then◌else◌, List, [], codes, bytes_eq, Option, Some, None, is_none}
 use Rattle.std.specs.List.{list_all}
 use Rattle.std.specs.Result.{result_ok}
@@ -27,9 +27,12 @@ abbrev pub capped : Option ℕ → ℕ
 capped None = most_items
 capped (Some count) = min count most_items
 
--- how many items a listing may have
+-- how many items a listing may have, by the name that says so
+abbrev pub most_by : List ℕ → List Pair → ℕ
+most_by name query = capped (count_of (text_at name query))
+
 abbrev pub most_keys : List Pair → ℕ
-most_keys query = capped (count_of (text_at (codes "max-keys") query))
+most_keys query = most_by (codes "max-keys") query
 
 -- ---- tokens
 
@@ -81,7 +84,8 @@ has_bad_word query =
 abbrev pub has_long_text : List Pair → Bool
 has_long_text query =
     has_bad_text (codes "prefix") query || has_bad_text (codes "delimiter") query || has_bad_text (codes "marker") query
-    || has_bad_text (codes "start-after") query
+    || has_bad_text (codes "start-after") query || has_bad_text (codes "key-marker") query
+    || has_bad_text (codes "upload-id-marker") query
 
 -- ---- what is asked
 

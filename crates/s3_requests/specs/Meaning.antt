@@ -23,13 +23,15 @@ use Rattle.s3_requests.specs.declared.rows.Level.TheVariants.{Service, Key}
 use Rattle.s3_requests.specs.declared.rows.Row.{Row}
 use Rattle.s3_requests.specs.declared.rows.Row.TheVariants.{ListBuckets, CreateBucket, PutBucketAcl, DeleteBucket, HeadBucket, GetBucketLocation}
 use Rattle.s3_requests.specs.declared.rows.Row.TheVariants.{GetBucketAcl, ListObjects, ListObjectsV2, PutObject, GetObject, HeadObject}
-use Rattle.s3_requests.specs.declared.rows.Row.TheVariants.{DeleteObject, GetObjectAcl}
+use Rattle.s3_requests.specs.declared.rows.Row.TheVariants.{DeleteObject, GetObjectAcl, ListMultipartUploads, CreateMultipartUpload, UploadPart}
+use Rattle.s3_requests.specs.declared.rows.Row.TheVariants.{ListParts, AbortMultipartUpload, CompleteMultipartUpload}
 use Rattle.s3_requests.specs.Rows.{shape_of, is_method, level_of, is_same_level, row_for}
 use Rattle.s3_requests.specs.Query.{has_unknown_name, has_foreign_name, has_name_twice}
 use Rattle.s3_requests.specs.Headers.{has_unsupported, is_chunked, is_conditional_write, given_acl, has_other_acl, lacks_acl, has_other_class}
 use Rattle.s3_requests.specs.Conditions.{given_conditions}
 use Rattle.s3_requests.specs.Ranges.{given_range}
 use Rattle.s3_requests.specs.Listings.{has_bad_word, has_long_text, has_bad_token, first_asked, second_asked}
+use Rattle.s3_requests.specs.Uploads.{has_bad_number, given_upload, given_part, uploads_asked, parts_asked}
 use Rattle.s3_requests.specs.Content.{has_bad_digest, is_other_body, taken_type, taken_meta, has_bad_entry, is_long_body, has_bad_location, has_other_location}
 
 -- a reason to refuse, and whether it holds
@@ -93,6 +95,7 @@ content_reasons settings row message caller =
 abbrev pub argument_reasons : Settings → Row → Message → Target → Caller → List Reason
 argument_reasons settings row message target caller =
     reason (has_bad_word target.query) InvalidArgument
+    ∷ reason (has_bad_number target.query) InvalidArgument
     ∷ reason (has_long_text target.query) InvalidArgument
     ∷ reason (has_bad_token target.query) InvalidArgument
     ∷ content_reasons settings row message caller
@@ -160,7 +163,19 @@ op_of GetObject message target = Op (op.GetObject target.bucket target.key (give
 op_of HeadObject message target = Op (op.HeadObject target.bucket target.key (given_range message.headers) (given_conditions message.headers))
 op_of DeleteObject message target = Op (op.DeleteObject target.bucket target.key)
 op_of GetObjectAcl message target = Op (op.GetObjectAcl target.bucket target.key)
-op_of _ message target = Refused NotImplemented
+op_of ListMultipartUploads message target = Op (uploads_asked target.bucket target.query)
+op_of CreateMultipartUpload message target =
+    Op
+    (op.CreateUpload
+    target.bucket
+    target.key
+    (given_acl message.headers)
+    (taken_type CreateMultipartUpload message.headers)
+    (taken_meta CreateMultipartUpload message.headers))
+op_of UploadPart message target = Op (op.UploadPart target.bucket target.key (given_upload target.query) (given_part target.query) message.body)
+op_of ListParts message target = Op (parts_asked target.bucket target.key target.query)
+op_of AbortMultipartUpload message target = Op (op.AbortUpload target.bucket target.key (given_upload target.query))
+op_of CompleteMultipartUpload message target = Refused NotImplemented
 
 -- a request without a row is refused
 abbrev pub judged : Settings → Option Row → Message → Target → Caller → Meant

@@ -90,17 +90,17 @@ shape_of GetBucketLocation = built (plain (codes "GET") Bucket (codes "location"
 shape_of GetBucketAcl = built (plain (codes "GET") Bucket (codes "acl" ∷ []) [])
 shape_of ListObjects = for_all (built (plain (codes "GET") Bucket [] objects_names))
 shape_of ListObjectsV2 = for_all (built (plain (codes "GET") Bucket (codes "list-type" ∷ []) objects_v2_names))
-shape_of ListMultipartUploads = plain (codes "GET") Bucket (codes "uploads" ∷ []) uploads_names
+shape_of ListMultipartUploads = built (plain (codes "GET") Bucket (codes "uploads" ∷ []) uploads_names)
 shape_of PutObject = with_content (built (plain (codes "PUT") Key [] []))
 shape_of GetObject = for_all (built (plain (codes "GET") Key [] []))
 shape_of HeadObject = for_all (built (plain (codes "HEAD") Key [] []))
 shape_of DeleteObject = built (plain (codes "DELETE") Key [] [])
 shape_of GetObjectAcl = built (plain (codes "GET") Key (codes "acl" ∷ []) [])
-shape_of CreateMultipartUpload = with_content (plain (codes "POST") Key (codes "uploads" ∷ []) [])
-shape_of UploadPart = plain (codes "PUT") Key (codes "partNumber" ∷ codes "uploadId" ∷ []) []
-shape_of ListParts = plain (codes "GET") Key (codes "uploadId" ∷ []) parts_names
+shape_of CreateMultipartUpload = with_content (built (plain (codes "POST") Key (codes "uploads" ∷ []) []))
+shape_of UploadPart = built (plain (codes "PUT") Key (codes "partNumber" ∷ codes "uploadId" ∷ []) [])
+shape_of ListParts = built (plain (codes "GET") Key (codes "uploadId" ∷ []) parts_names)
 shape_of CompleteMultipartUpload = plain (codes "POST") Key (codes "uploadId" ∷ []) []
-shape_of AbortMultipartUpload = plain (codes "DELETE") Key (codes "uploadId" ∷ []) []
+shape_of AbortMultipartUpload = built (plain (codes "DELETE") Key (codes "uploadId" ∷ []) [])
 
 unfoldable pub rows : List Row
 rows =

@@ -12,6 +12,7 @@ mod numbers;
 mod query;
 mod ranges;
 mod rows;
+mod uploads;
 
 pub use laws::{law_given_meta, law_range_asked, law_token_returns};
 pub use meant::{Meant, meaning};

@@ -1,10 +1,10 @@
-//! What a listing of objects asks for.
-ghost use Rattle.std.specs.Prelude.{◌≡◌, IfOk};
+//! What a listing of objects asks for, and the counts and texts that any listing may be given.
+ghost use Rattle.std.specs.Prelude.{◌≡◌, ◌≤◌, IfOk, IfSome};
 ghost use Rattle.std.specs.List.{list_all};
 ghost use Rattle.std.specs.Result.{result_ok};
 ghost use Rattle.hex.specs.Hex.{decode_of};
 ghost use Rattle.s3_requests.specs.Query.{text_at};
-ghost use Rattle.s3_requests.specs.Listings.{up_to_greatest, count_of, capped, most_keys, is_lower_hex, listing_text, token_of, given_token, has_other, has_bad_flag, has_bad_count, has_bad_text, has_bad_token, has_bad_word, has_long_text, first_asked, second_asked};
+ghost use Rattle.s3_requests.specs.Listings.{up_to_greatest, count_of, capped, most_by, most_keys, is_lower_hex, listing_text, token_of, given_token, has_other, has_bad_flag, has_bad_count, has_bad_text, has_bad_token, has_bad_word, has_long_text, first_asked, second_asked};
 
 use crate::numbers::number_of;
 use crate::query::{is_asked, text_at};
@@ -17,7 +17,8 @@ use std::alloc::Global;
 const GREATEST: u64 = 2_147_483_647;
 
 fn up_to_greatest(count: Option<u64>) -> Option<u64>
-    ensures { result ≡ up_to_greatest count }
+    ensures is { result ≡ up_to_greatest count }
+    ensures within { IfSome result (λ count. count ≤ 2147483647) }
 {
     match count {
         Some(count) if count <= GREATEST => Some(count),
@@ -27,8 +28,9 @@ fn up_to_greatest(count: Option<u64>) -> Option<u64>
 
 /// The count that the text writes in 1 to 10 digits, at most 2147483647.
 #[tactic(auto, unfolding(crate::specs::Listings::count_of))]
-fn count_of(text: &[u8]) -> Option<u64>
-    ensures { result ≡ count_of text.now }
+pub fn count_of(text: &[u8]) -> Option<u64>
+    ensures is { result ≡ count_of text.now }
+    ensures within { IfSome result (λ count. count ≤ 2147483647) }
 {
     up_to_greatest(number_of(text, 10))
 }
@@ -42,11 +44,17 @@ fn capped(count: Option<u64>) -> u32
     }
 }
 
-/// How many items the listing may have: `max-keys`, at most 1000.
+/// How many items the listing may have, by the name that says so: at most 1000.
+pub fn most_by(query: &[Pair], name: &[u8]) -> u32
+    ensures { result ≡ most_by name.now query.now }
+{
+    capped(count_of(text_at(query, name)))
+}
+
 fn most_keys(query: &[Pair]) -> u32
     ensures { result ≡ most_keys query.now }
 {
-    capped(count_of(text_at(query, b"max-keys")))
+    most_by(query, b"max-keys")
 }
 
 fn is_lower_hex(byte: u8) -> bool
@@ -119,7 +127,8 @@ fn has_bad_flag(query: &[Pair], name: &[u8]) -> bool
     has_other(query, name, b"true") && has_other(query, name, b"false")
 }
 
-fn has_bad_count(query: &[Pair], name: &[u8]) -> bool
+/// Whether the name is there with a value that is no count.
+pub fn has_bad_count(query: &[Pair], name: &[u8]) -> bool
     ensures { result ≡ has_bad_count name.now query.now }
 {
     is_asked(query, name) && count_of(text_at(query, name)).is_none()
@@ -160,9 +169,12 @@ pub fn has_long_text(query: &[Pair]) -> bool
         || has_bad_text(query, b"delimiter")
         || has_bad_text(query, b"marker")
         || has_bad_text(query, b"start-after")
+        || has_bad_text(query, b"key-marker")
+        || has_bad_text(query, b"upload-id-marker")
 }
 
-fn copy_at(alloc: Global, query: &[Pair], name: &[u8]) -> Result<Bytes, Memory>
+/// A copy of the value of a name.
+pub fn copy_at(alloc: Global, query: &[Pair], name: &[u8]) -> Result<Bytes, Memory>
     ensures { IfOk result (λ text. text ≡ text_at name.now query.now) }
 {
     Bytes::from_slice(alloc, text_at(query, name))

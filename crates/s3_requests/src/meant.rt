@@ -11,6 +11,7 @@ ghost use Rattle.s3_requests.specs.Headers.{given_acl};
 ghost use Rattle.s3_requests.specs.Conditions.{given_conditions};
 ghost use Rattle.s3_requests.specs.Ranges.{given_range};
 ghost use Rattle.s3_requests.specs.Listings.{first_asked, second_asked};
+ghost use Rattle.s3_requests.specs.Uploads.{given_upload, given_part, uploads_asked, parts_asked};
 
 use crate::conditions::given_conditions;
 use crate::content::{
@@ -25,6 +26,7 @@ use crate::listings::{first_asked, has_bad_token, has_bad_word, has_long_text, s
 use crate::query::{has_foreign_name, has_name_twice, has_unknown_name};
 use crate::ranges::given_range;
 use crate::rows::{Level, Row, is_method, is_same_level, level_of, row_for, shape_of};
+use crate::uploads::{given_part, given_upload, has_bad_number, parts_asked, uploads_asked};
 use gate_base::{Bytes, Caller, Copying, Memory, Pair};
 use http_wire::Message;
 use s3_machine::{Body, Code, Op, Settings, is_content_type, is_proper_meta};
@@ -206,6 +208,9 @@ fn by_arguments(
     if has_bad_word(query) {
         return Ok(Meant::Refused(Code::InvalidArgument));
     }
+    if has_bad_number(query) {
+        return Ok(Meant::Refused(Code::InvalidArgument));
+    }
     if has_long_text(query) {
         return Ok(Meant::Refused(Code::InvalidArgument));
     }
@@ -326,12 +331,12 @@ fn op_of(
         Row::HeadObject => head_object(alloc, message.headers.as_slice(), target),
         Row::DeleteObject => delete_object(target),
         Row::GetObjectAcl => get_object_acl(target),
-        Row::ListMultipartUploads
-        | Row::CreateMultipartUpload
-        | Row::UploadPart
-        | Row::ListParts
-        | Row::CompleteMultipartUpload
-        | Row::AbortMultipartUpload => Ok(Meant::Refused(Code::NotImplemented)),
+        Row::ListMultipartUploads => list_uploads(alloc, target),
+        Row::CreateMultipartUpload => create_upload(target, acl, content_type, meta),
+        Row::UploadPart => upload_part(alloc, message, target, digest),
+        Row::ListParts => list_parts(alloc, target),
+        Row::AbortMultipartUpload => abort_upload(alloc, target),
+        Row::CompleteMultipartUpload => Ok(Meant::Refused(Code::NotImplemented)),
     }
 }
 
@@ -482,6 +487,69 @@ fn get_object_acl(target: &Target) -> Result<Meant, Memory>
     let bucket = target.bucket.copy()?;
     let key = target.key.copy()?;
     Ok(Meant::Op(Op::GetObjectAcl { bucket, key }))
+}
+
+fn list_uploads(alloc: Global, target: &Target) -> Result<Meant, Memory>
+    ensures { IfOk result (λ meant. meant ≡ Meant.Op (uploads_asked target.now.bucket target.now.query)) }
+{
+    let bucket = target.bucket.copy()?;
+    let op = uploads_asked(alloc, bucket, target.query.pairs())?;
+    Ok(Meant::Op(op))
+}
+
+fn create_upload(
+    target: &Target,
+    acl: Option<Acl>,
+    content_type: Bytes,
+    meta: Meta,
+) -> Result<Meant, Memory>
+    ensures { IfOk result (λ meant. meant ≡ Meant.Op (Op.CreateUpload target.now.bucket target.now.key acl content_type meta)) }
+{
+    let (bucket, key) = place(target)?;
+    Ok(Meant::Op(Op::CreateUpload {
+        bucket,
+        key,
+        acl,
+        content_type,
+        meta,
+    }))
+}
+
+fn upload_part(
+    alloc: Global,
+    message: &mut Message,
+    target: &Target,
+    digest: Option<[u8; 16]>,
+) -> Result<Meant, Memory>
+    requires digest { IsDigestOf digest message.now.body }
+    ensures value { IfOk result (λ meant. meant ≡ Meant.Op (Op.UploadPart target.now.bucket target.now.key (given_upload target.now.query) (given_part target.now.query) message.entry.now.body)) }
+    ensures keeps { KeepsFront message.entry.now message.exit.now }
+{
+    let (bucket, key) = place(target)?;
+    let id = given_upload(alloc, target.query.pairs())?;
+    Ok(Meant::Op(Op::UploadPart {
+        bucket,
+        key,
+        id,
+        number: given_part(target.query.pairs()),
+        body: Body::with(mem::replace(&mut message.body, Bytes::new(alloc)), digest),
+    }))
+}
+
+fn list_parts(alloc: Global, target: &Target) -> Result<Meant, Memory>
+    ensures { IfOk result (λ meant. meant ≡ Meant.Op (parts_asked target.now.bucket target.now.key target.now.query)) }
+{
+    let (bucket, key) = place(target)?;
+    let op = parts_asked(alloc, bucket, key, target.query.pairs())?;
+    Ok(Meant::Op(op))
+}
+
+fn abort_upload(alloc: Global, target: &Target) -> Result<Meant, Memory>
+    ensures { IfOk result (λ meant. meant ≡ Meant.Op (Op.AbortUpload target.now.bucket target.now.key (given_upload target.now.query))) }
+{
+    let (bucket, key) = place(target)?;
+    let id = given_upload(alloc, target.query.pairs())?;
+    Ok(Meant::Op(Op::AbortUpload { bucket, key, id }))
 }
 
 fn level_of_target(target: &Target) -> Level

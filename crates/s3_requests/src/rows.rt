@@ -155,17 +155,21 @@ pub fn shape_of(row: Row) -> Shape
         Row::ListObjectsV2 => plain(b"GET", Level::Bucket, &LIST_TYPE, &OBJECTS_V2_NAMES)
             .built()
             .for_all(),
-        Row::ListMultipartUploads => plain(b"GET", Level::Bucket, &UPLOADS, &UPLOADS_NAMES),
+        Row::ListMultipartUploads => {
+            plain(b"GET", Level::Bucket, &UPLOADS, &UPLOADS_NAMES).built()
+        }
         Row::PutObject => plain(b"PUT", Level::Key, &[], &[]).built().with_content(),
         Row::GetObject => plain(b"GET", Level::Key, &[], &[]).built().for_all(),
         Row::HeadObject => plain(b"HEAD", Level::Key, &[], &[]).built().for_all(),
         Row::DeleteObject => plain(b"DELETE", Level::Key, &[], &[]).built(),
         Row::GetObjectAcl => plain(b"GET", Level::Key, &ACL, &[]).built(),
-        Row::CreateMultipartUpload => plain(b"POST", Level::Key, &UPLOADS, &[]).with_content(),
-        Row::UploadPart => plain(b"PUT", Level::Key, &PART, &[]),
-        Row::ListParts => plain(b"GET", Level::Key, &UPLOAD_ID, &PARTS_NAMES),
+        Row::CreateMultipartUpload => plain(b"POST", Level::Key, &UPLOADS, &[])
+            .built()
+            .with_content(),
+        Row::UploadPart => plain(b"PUT", Level::Key, &PART, &[]).built(),
+        Row::ListParts => plain(b"GET", Level::Key, &UPLOAD_ID, &PARTS_NAMES).built(),
         Row::CompleteMultipartUpload => plain(b"POST", Level::Key, &UPLOAD_ID, &[]),
-        Row::AbortMultipartUpload => plain(b"DELETE", Level::Key, &UPLOAD_ID, &[]),
+        Row::AbortMultipartUpload => plain(b"DELETE", Level::Key, &UPLOAD_ID, &[]).built(),
     }
 }
 

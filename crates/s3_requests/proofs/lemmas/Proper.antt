@@ -1,5 +1,6 @@
 -- A request means an operation that keeps the limits, or a code that is none for a store that failed.
 use Rattle.std.proofs.Common.{◌≡◌, ◌≢◌, ◌≤◌, ℕ, Bool, true, false, not, ◌&&◌, cond, nat_lt, List, [], ◌∷◌, length, Option, Some, None, find, refl, ap, ◌∙◌, subst, arith}
+use Rattle.std.specs.Prelude.{codes}
 use Rattle.std.proofs.lemmas.Bool.{and_parts, not-false}
 use Rattle.std.proofs.lemmas.Bool.Decides.{nat_tests}
 use Rattle.gate_base.specs.declared.caller.Caller.{Caller}
@@ -20,11 +21,12 @@ use Rattle.s3_requests.specs.declared.rows.Level.TheVariants.{Service, Bucket, K
 use Rattle.s3_requests.specs.declared.rows.Row.{Row}
 use Rattle.s3_requests.specs.declared.rows.Row.TheVariants.{ListBuckets, CreateBucket, PutBucketAcl, DeleteBucket, HeadBucket, GetBucketLocation}
 use Rattle.s3_requests.specs.declared.rows.Row.TheVariants.{GetBucketAcl, ListObjects, ListObjectsV2, PutObject, GetObject, HeadObject}
-use Rattle.s3_requests.specs.declared.rows.Row.TheVariants.{DeleteObject, GetObjectAcl}
+use Rattle.s3_requests.specs.declared.rows.Row.TheVariants.{DeleteObject, GetObjectAcl, ListMultipartUploads, CreateMultipartUpload, UploadPart}
+use Rattle.s3_requests.specs.declared.rows.Row.TheVariants.{ListParts, AbortMultipartUpload, CompleteMultipartUpload}
 use Rattle.s3_requests.specs.Rows.{rows, shape_of, level_of, is_same_level, is_same_set, fits}
 use Rattle.s3_requests.specs.Headers.{given_acl}
 use Rattle.s3_requests.specs.Proper.{IsProperCode, IsProperMeant}
-use Rattle.s3_requests.proofs.ProperReads.{range_proper, first_proper, second_proper}
+use Rattle.s3_requests.proofs.ProperReads.{range_proper, first_proper, second_proper, uploads_proper, most_proper, part_proper}
 use Rattle.s3_requests.specs.Meaning.{Reason, first_refusal, target_reasons, reasons, row_of, judged, put_acl, op_of, meaning_of}
 
 -- ---- the reasons
@@ -136,11 +138,11 @@ op_proper settings HeadBucket message target caller e none also = bucket_of mess
 op_proper settings GetBucketLocation message target caller e none also = bucket_of message target (at_level message target GetBucketLocation e) none
 op_proper settings GetBucketAcl message target caller e none also = bucket_of message target (at_level message target GetBucketAcl e) none
 op_proper settings ListObjects message target caller e none also =
-    (bucket_of message target (at_level message target ListObjects e) none, first_proper target.query also.1.1.1.1.1.1.1.1.1.1.1.1.0)
+    (bucket_of message target (at_level message target ListObjects e) none, first_proper target.query also.1.1.1.1.1.1.1.1.1.1.1.1.1.0)
 op_proper settings ListObjectsV2 message target caller e none also =
-    (bucket_of message target (at_level message target ListObjectsV2 e) none, second_proper target.query also.1.1.1.1.1.1.1.1.1.1.1.1.0)
+    (bucket_of message target (at_level message target ListObjectsV2 e) none, second_proper target.query also.1.1.1.1.1.1.1.1.1.1.1.1.1.0)
 op_proper settings PutObject message target caller e none also =
-    let content = also.1.1.1.1.1.1.1.1.1.1.1.1.1.1 in
+    let content = also.1.1.1.1.1.1.1.1.1.1.1.1.1.1.1 in
     (place_of message target (at_level message target PutObject e) none, record { typed = is_named _ content.0; described = is_named _ content.1.1.0; sized = short message.body content.1.1.1.0 })
 op_proper settings GetObject message target caller e none also =
     (place_of message target (at_level message target GetObject e) none, range_proper message.headers)
@@ -148,12 +150,23 @@ op_proper settings HeadObject message target caller e none also =
     (place_of message target (at_level message target HeadObject e) none, range_proper message.headers)
 op_proper settings DeleteObject message target caller e none also = place_of message target (at_level message target DeleteObject e) none
 op_proper settings GetObjectAcl message target caller e none also = place_of message target (at_level message target GetObjectAcl e) none
-op_proper settings _ message target caller e none also = proper_code NotImplemented refl
+op_proper settings ListMultipartUploads message target caller e none also =
+    (bucket_of message target (at_level message target ListMultipartUploads e) none, uploads_proper target.query also.1.1.1.1.1.1.1.1.1.1.1.1.1.0)
+op_proper settings CreateMultipartUpload message target caller e none also =
+    let content = also.1.1.1.1.1.1.1.1.1.1.1.1.1.1.1 in
+    (place_of message target (at_level message target CreateMultipartUpload e) none, is_named _ content.0, is_named _ content.1.1.0)
+op_proper settings UploadPart message target caller e none also =
+    let content = also.1.1.1.1.1.1.1.1.1.1.1.1.1.1.1 in
+    (place_of message target (at_level message target UploadPart e) none, part_proper target.query, short message.body content.1.1.1.0)
+op_proper settings ListParts message target caller e none also =
+    (place_of message target (at_level message target ListParts e) none, most_proper (codes "max-parts") target.query)
+op_proper settings AbortMultipartUpload message target caller e none also = place_of message target (at_level message target AbortMultipartUpload e) none
+op_proper settings CompleteMultipartUpload message target caller e none also = proper_code NotImplemented refl
 
 -- ---- the meaning
 
 own : (settings : Settings) (row : Row) (message : Message) (target : Target) (caller : Caller) → AllProper (reasons settings row message target caller)
-own settings row message target caller = (refl, (refl, (refl, (refl, (refl, (refl, (refl, (refl, (refl, (refl, (refl, (refl, (refl, (refl, (refl, (refl, (refl, (refl, (refl, (refl, (refl, tt)))))))))))))))))))))
+own settings row message target caller = (refl, (refl, (refl, (refl, (refl, (refl, (refl, (refl, (refl, (refl, (refl, (refl, (refl, (refl, (refl, (refl, (refl, (refl, (refl, (refl, (refl, (refl, tt))))))))))))))))))))))
 
 judged_proper : (settings : Settings) (found : Option Row) (message : Message) (target : Target) (caller : Caller) → row_of message target ≡ found → NoneHolds (target_reasons message target) → IsProperMeant (judged settings found message target caller)
 judged_proper settings None message target caller e none = proper_code MethodNotAllowed refl
@@ -194,7 +207,12 @@ op_known GetObject message target e = cc
 op_known HeadObject message target e = cc
 op_known DeleteObject message target e = cc
 op_known GetObjectAcl message target e = cc
-op_known _ message target e = cc
+op_known ListMultipartUploads message target e = cc
+op_known CreateMultipartUpload message target e = cc
+op_known UploadPart message target e = cc
+op_known ListParts message target e = cc
+op_known AbortMultipartUpload message target e = cc
+op_known CompleteMultipartUpload message target e = cc
 
 judged_known : (settings : Settings) (found : Option Row) (message : Message) (target : Target) (caller : Caller) → judged settings found message target caller ≢ Memory
 judged_known settings None message target caller = λ e. cc

@@ -1,0 +1,107 @@
+//! What a request for an upload in parts asks for beside its bucket and its key.
+ghost use Rattle.std.specs.Prelude.{◌≡◌, ◌&&◌, ◌||◌, ◌≤◌, is_none, IfOk, IfSome};
+ghost use Rattle.s3_requests.specs.Listings.{count_of, has_bad_count};
+ghost use Rattle.s3_requests.specs.Query.{text_at};
+ghost use Rattle.s3_requests.specs.Uploads.{given_upload, of_part, part_of, given_part, given_marker, has_bad_part, has_bad_number, uploads_asked, parts_asked};
+
+use crate::listings::{copy_at, count_of, has_bad_count, most_by};
+use crate::numbers::number_of;
+use crate::query::{is_asked, text_at};
+use gate_base::{Bytes, Memory, Pair};
+use s3_machine::{GREATEST_PART_NUMBER, Op};
+use std::alloc::Global;
+
+/// The most digits of the number of a part.
+const DIGITS: usize = 9;
+
+fn of_part(number: Option<u64>) -> Option<u32>
+    ensures { result ≡ of_part number }
+{
+    match number {
+        Some(number) if 1 <= number && number <= u64::from(GREATEST_PART_NUMBER) => {
+            Some(number as u32)
+        }
+        _ => None,
+    }
+}
+
+/// The number of a part that the text writes in 1 to 9 digits.
+#[tactic(auto, unfolding(crate::specs::Uploads::part_of))]
+fn part_of(text: &[u8]) -> Option<u32>
+    ensures { result ≡ part_of text.now }
+{
+    of_part(number_of(text, DIGITS))
+}
+
+/// The id of the upload, as it is given.
+pub fn given_upload(alloc: Global, query: &[Pair]) -> Result<Bytes, Memory>
+    ensures { IfOk result (λ id. id ≡ given_upload query.now) }
+{
+    copy_at(alloc, query, b"uploadId")
+}
+
+/// The number of the part.
+pub fn given_part(query: &[Pair]) -> u32
+    ensures { result ≡ given_part query.now }
+{
+    match part_of(text_at(query, b"partNumber")) {
+        Some(number) => number,
+        None => 1,
+    }
+}
+
+/// The number behind which the parts are listed.
+fn given_marker(query: &[Pair]) -> u32
+    ensures { result ≡ given_marker query.now }
+{
+    match count_of(text_at(query, b"part-number-marker")) {
+        Some(number) => number as u32,
+        None => 0,
+    }
+}
+
+fn has_bad_part(query: &[Pair]) -> bool
+    ensures { result ≡ has_bad_part query.now }
+{
+    is_asked(query, b"partNumber") && part_of(text_at(query, b"partNumber")).is_none()
+}
+
+/// Whether a number of the query is of another form.
+pub fn has_bad_number(query: &[Pair]) -> bool
+    ensures { result ≡ has_bad_number query.now }
+{
+    has_bad_part(query)
+        || has_bad_count(query, b"max-uploads")
+        || has_bad_count(query, b"max-parts")
+        || has_bad_count(query, b"part-number-marker")
+}
+
+/// What ListMultipartUploads asks for, of a bucket.
+pub fn uploads_asked(alloc: Global, bucket: Bytes, query: &[Pair]) -> Result<Op, Memory>
+    ensures { IfOk result (λ op. op ≡ uploads_asked bucket query.now) }
+{
+    let prefix = copy_at(alloc, query, b"prefix")?;
+    let key_marker = copy_at(alloc, query, b"key-marker")?;
+    let id_marker = copy_at(alloc, query, b"upload-id-marker")?;
+    Ok(Op::ListUploads {
+        bucket,
+        prefix,
+        key_marker,
+        id_marker,
+        max: most_by(query, b"max-uploads"),
+    })
+}
+
+/// What ListParts asks for, of a bucket and a key.
+pub fn parts_asked(alloc: Global, bucket: Bytes, key: Bytes, query: &[Pair]) -> Result<Op, Memory>
+    ensures { IfOk result (λ op. op ≡ parts_asked bucket key query.now) }
+{
+    let id = given_upload(alloc, query)?;
+    Ok(Op::ListParts {
+        bucket,
+        key,
+        id,
+        marker: given_marker(query),
+        max: most_by(query, b"max-parts"),
+    })
+}
