@@ -22,7 +22,7 @@ use Rattle.recovery.specs.Fault.{CausesFault}
 use Rattle.recovery.specs.Stutters.{Stutters, LastFailed}
 use Rattle.recovery.specs.Settling.{IsKnown, settle_fault, as_plan, SettlesIt, Settles}
 use Rattle.recovery.proofs.lemmas.Idle.{none_made, goes_none, goes_trans}
-use Rattle.planner.specs.Plan.{reply_of, Answered}
+use Rattle.recovery.specs.Plan.{reply_of, Answered}
 use Rattle.gateway.specs.Exchange.{SettledBy, IsFault, unsettled, answered, Operated}
 use Rattle.gateway.proofs.lemmas.Map.{settled_by_agree}
 

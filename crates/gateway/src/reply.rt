@@ -10,7 +10,7 @@ ghost use Rattle.recovery.specs.declared.state.Known.TheVariants as known;
 ghost use Rattle.recovery.specs.Answers.{most_calls};
 ghost use Rattle.recovery.specs.Calls.{GoesOn, Met};
 ghost use Rattle.recovery.specs.Settling.{IsKnown, Settles, settle_fault};
-ghost use Rattle.planner.specs.Plan.{reply_of, Answered};
+ghost use Rattle.recovery.specs.Plan.{reply_of, Answered};
 ghost use Rattle.gateway.specs.Connection.{sent_by};
 ghost use Rattle.s3_requests.specs.declared.meant.Meant.TheVariants as variant;
 ghost use Rattle.gateway.specs.ResolvedRequest.{Understands};
@@ -19,7 +19,7 @@ ghost use Rattle.gateway.specs.Request.{Request};
 ghost use Rattle.gateway.specs.Exchange.{store_cursor, Operated, RepliesBy, RepliesExpected, Where};
 ghost use Rattle.gateway.specs.Stands.{Stands};
 
-use recovery::{Known, SettleFault, Settled, Unsure};
+use recovery::{Known, SettleFault, Settled, Unsure, is_upload};
 use s3_machine::{Code, Label, Op, Reply, Settings};
 use s3_requests::Meant;
 use std::alloc::Global;
@@ -84,6 +84,7 @@ fn settle<W: Swift>(alloc: Global, store: &mut W, settings: &Settings) -> Result
     Unsure::open(alloc, store, settings).settle()
 }
 
+/// Answers an operation over a store that is settled, by the crate that has its plan.
 fn perform<W: Swift>(
     alloc: Global,
     store: &mut W,
@@ -94,7 +95,12 @@ fn perform<W: Swift>(
     requires { IsProper op label.now }
     ensures { Answered (most_calls op (present (W.history store.old))) (W.history store.old) (W.history store.new) settings.now op label.now known.Settled result }
 {
-    planner::answer(alloc, &mut Settled::hold(store, settings), op, label)
+    let mut state = Settled::hold(store, settings);
+    if is_upload(&op) {
+        plan_uploads::answer(alloc, &mut state, op, label)
+    } else {
+        planner::answer(alloc, &mut state, op, label)
+    }
 }
 
 /// The reply to an operation whose store could not be settled.

@@ -152,6 +152,11 @@ status_line serving status old new line = record {
   none_faulty = line.none_faulty;
 }
 
+-- what connections are served by, as the words and the keys make it
+pub serves_by : {service : Service} {region : List ℕ} {keys : List AccessKey} {old new : World} → service ≡ record { settings = settings_of region; keys = keys }
+    → ServesOver service.settings (RunTraces service) old new → ServesOver (settings_of region) (RunTraces (record { settings = settings_of region; keys = keys })) old new
+serves_by {old = old} {new = new} is serves = subst (λ (s : Service). ServesOver s.settings (RunTraces s) old new) is serves
+
 -- a run that is a session, with such a number of connections
 pub run_session : (region : List ℕ) (most : Option ℕ) (keys : List ℕ) {read : List AccessKey} {service : Service} {status : Status} {old : World} {new : Known → World} (known : Known)
     → service ≡ record { settings = settings_of region; keys = read } → read ≡ keys_of keys

@@ -1,6 +1,7 @@
 //! A run but for its report: the words, and then the command that they name.
 ghost use Rattle.std.specs.Prelude.{◌≡◌, ◌≤◌, ℕ, true, false, IsTrue, List, Some, None};
 ghost use Rattle.gate_base.specs.Told.{ClockNow};
+ghost use Rattle.recovery.specs.declared.state.Known.{Known as what_is_known};
 ghost use Rattle.recovery.specs.declared.state.Known.TheVariants.{Unsure};
 ghost use Rattle.sigv4.specs.Keys.{are_keys, secret_of};
 ghost use Rattle.sign_cmd.specs.Signing.{AnswersFirst, SendsFirst, SignsOn};
@@ -8,12 +9,13 @@ ghost use Rattle.sign_cmd.specs.declared.first.Signing.{Signing};
 ghost use Rattle.presign_cmd.specs.Presigning.{Presigns, AnswersFirst as UrlFirst, SendsFirst as UrlSends};
 ghost use Rattle.presign_cmd.specs.declared.first.Presigning.{Presigning};
 ghost use Rattle.gateway_cli.specs.Words.{IsProper, is_region};
-ghost use Rattle.gateway.specs.World.{world, Continues};
+ghost use Rattle.gateway.specs.World.{world, Continues, ServesOver};
 ghost use Rattle.gateway_cmd.specs.Report.{Admits, Fits, is_failed_run, end_of, end_of_url};
-ghost use Rattle.gateway_cmd.specs.Tasks.{Apart, asked_for, is_possible, task_of, to_sign, to_presign};
+ghost use Rattle.gateway_cmd.specs.Tasks.{Apart, asked_for, is_possible, settings_of, task_of, to_sign, to_presign};
 ghost use Rattle.gateway_cmd.specs.declared.status.RunOutcome.TheVariants as ended;
 ghost use Rattle.gateway_cmd.specs.declared.status.Status.TheVariants as status;
-ghost use Rattle.gateway_cmd.specs.Session.{Does};
+ghost use Rattle.gateway_cmd.specs.Run.{RunTraces};
+ghost use Rattle.gateway_cmd.specs.Session.{Does, LineServesAll};
 
 use crate::service::{read_keys, service};
 use crate::session::session;
@@ -79,30 +81,22 @@ fn perform<N: Line<W>, W: Swift, C: Clock, D: Draws>(
 {
     match read_keys(alloc, keys) {
         Ok(keys) => match command {
-            Command::Session { region } => {
-                let service = service(region, keys);
-                let mut known = Known::Unsure;
-                RunOutcome::Plain(session(
-                    alloc, &service, None, line, store, &mut known, clock, draws,
-                ))
-            }
+            Command::Session { region } => RunOutcome::Plain(serve(
+                alloc, region, keys, None, line, store, clock, draws,
+            )),
             Command::Serve {
                 region,
                 connections,
-            } => {
-                let service = service(region, keys);
-                let mut known = Known::Unsure;
-                RunOutcome::Plain(session(
-                    alloc,
-                    &service,
-                    Some(connections),
-                    line,
-                    store,
-                    &mut known,
-                    clock,
-                    draws,
-                ))
-            }
+            } => RunOutcome::Plain(serve(
+                alloc,
+                region,
+                keys,
+                Some(connections),
+                line,
+                store,
+                clock,
+                draws,
+            )),
             Command::Sign { key, region } => sign(alloc, &keys, &key, &region, line, store),
             Command::Presign {
                 key,
@@ -114,6 +108,27 @@ fn perform<N: Line<W>, W: Swift, C: Clock, D: Draws>(
         Err(KeysFault::Twice(_)) => RunOutcome::Plain(Status::Usage),
         Err(KeysFault::Memory) => RunOutcome::Plain(Status::Memory),
     }
+}
+
+/// Serves the connections of the line, so many at most.
+fn serve<N: Line<W>, W: Swift, C: Clock, D: Draws>(
+    alloc: Global,
+    region: Bytes,
+    keys: Keys,
+    most: Option<u64>,
+    line: &mut N,
+    store: &mut W,
+    clock: &mut C,
+    draws: &mut D,
+) -> Status
+    ensures line { LineServesAll most result (N.model line.old) (N.model line.new) }
+    ensures serves { (known : what_is_known) × ServesOver (settings_of region) (RunTraces (record { settings = settings_of region; keys = keys }))
+        (world (N.model line.old) (W.history store.old) Unsure (C.model clock.old) (D.model draws.old))
+        (world (N.model line.new) (W.history store.new) known (C.model clock.new) (D.model draws.new)) }
+{
+    let service = service(region, keys);
+    let mut known = Known::Unsure;
+    session(alloc, &service, most, line, store, &mut known, clock, draws)
 }
 
 /// Signs the first request of the line by the key of the id.

@@ -12,7 +12,7 @@ use Rattle.s3_machine.specs.declared.operation.Reply.TheVariants.{Refused, Made}
 use Rattle.s3_machine.specs.State.{Bucket, State}
 use Rattle.s3_machine.specs.Step.{S3Step}
 use Rattle.s3_machine.proofs.lemmas.StepLemmas.{step_made, step_owned}
-use Rattle.recovery.specs.Calls.{TellsBucket, acl_of_bucket, makes_bucket}
+use Rattle.recovery.specs.Calls.{LacksBucket, TellsBucket, acl_of_bucket, makes_bucket}
 
 none_of : (o : Option Bucket) → option_map acl_of_bucket o ≡ None → o ≡ None
 none_of None e = refl
@@ -26,10 +26,10 @@ pub missing_of : (name : List ℕ) (state : State) → TellsBucket name state No
 missing_of name state told = none_of (get state name) told
 
 -- a missing bucket is made
-pub steps_made : (settings : Settings) (state : State) (bucket : List ℕ) (acl : Acl) (label : Label) (name : List ℕ) → name ≡ bucket → TellsBucket bucket state None
+pub steps_made : (settings : Settings) (state : State) (bucket : List ℕ) (acl : Acl) (label : Label) (name : List ℕ) → name ≡ bucket → LacksBucket bucket state
     → S3Step settings state (CreateBucket bucket acl) label (Made name) (makes_bucket bucket acl label.moment state)
-steps_made settings state bucket acl label name named told =
-    subst (λ n. S3Step settings state (CreateBucket bucket acl) label (Made n) (makes_bucket bucket acl label.moment state)) (sym named) (step_made settings state bucket acl label (missing_of bucket state told))
+steps_made settings state bucket acl label name named lacks =
+    subst (λ n. S3Step settings state (CreateBucket bucket acl) label (Made n) (makes_bucket bucket acl label.moment state)) (sym named) (step_made settings state bucket acl label lacks)
 
 -- one that is there stays
 pub steps_owned : (settings : Settings) (state : State) (bucket : List ℕ) (acl list : Acl) (label : Label) → TellsBucket bucket state (Some list) → S3Step settings state (CreateBucket bucket acl) label (Refused BucketAlreadyOwnedByYou) state

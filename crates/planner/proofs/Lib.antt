@@ -1,7 +1,7 @@
 pub mod BucketSteps
 pub mod CreateBucket
-pub mod Ends
 pub mod Listings
+pub mod MakeBucket
 pub mod Readings
 pub mod Replies
 pub mod Steps

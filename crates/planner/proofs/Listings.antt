@@ -29,9 +29,9 @@ use Rattle.recovery.specs.Keys.{objects_in, TellsListing}
 use Rattle.recovery.specs.declared.fault.PlanFault.{PlanFault}
 use Rattle.recovery.specs.declared.state.Known.{Known}
 use Rattle.planner.specs.Listing.{objects_reply}
-use Rattle.planner.specs.Plan.{IsOwnReply, Plans}
+use Rattle.recovery.specs.Plan.{IsOwnReply, Plans}
 use Rattle.planner.proofs.CreateBucket.{missing_of}
-use Rattle.planner.proofs.Ends.{met_settled, after_told, goes_on_from}
+use Rattle.recovery.proofs.lemmas.Ends.{met_settled, after_told, goes_on_from}
 use Rattle.planner.proofs.Steps.{bucket_by}
 
 -- ---- the steps

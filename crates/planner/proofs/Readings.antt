@@ -33,7 +33,7 @@ use Rattle.recovery.specs.Calls.{TellsBucket, TellsObject, TellsBytes, HasObject
 use Rattle.recovery.specs.Interpret.{IsShownHead}
 use Rattle.recovery.specs.declared.fault.PlanFault.TheVariants.{Inconsistent}
 use Rattle.planner.specs.Objects.{TellsReadable, headed_reply, part_end, range_of}
-use Rattle.planner.specs.Plan.{IsOwnReply}
+use Rattle.recovery.specs.Plan.{IsOwnReply}
 use Rattle.planner.proofs.CreateBucket.{missing_of}
 use Rattle.planner.proofs.Steps.{bucket_by, no_object, object_by_head}
 

@@ -1,4 +1,3 @@
 pub mod Buckets
 pub mod Listing
 pub mod Objects
-pub mod Plan

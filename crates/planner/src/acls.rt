@@ -8,7 +8,7 @@ ghost use Rattle.recovery.specs.Calls.{always, Any, Given, TellsBucket};
 ghost use Rattle.recovery.specs.Lent.{Stays};
 ghost use Rattle.recovery.specs.declared.state.Known.TheVariants as known;
 ghost use Rattle.planner.specs.Buckets.{set_reply};
-ghost use Rattle.planner.specs.Plan.{Plans, ended};
+ghost use Rattle.recovery.specs.Plan.{Plans, ended};
 
 use gate_base::Bytes;
 use recovery::{PlanFault, Settled, head_bucket, set_acl};

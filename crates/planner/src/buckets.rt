@@ -1,5 +1,5 @@
 //! The plans of the operations on buckets.
-ghost use Rattle.std.specs.Prelude.{◌≡◌, ◌<◌, true, None};
+ghost use Rattle.std.specs.Prelude.{◌≡◌, ◌<◌, ◌+◌, [], true};
 ghost use Rattle.gate_base.specs.Told.{moment_limit};
 ghost use Rattle.s3_names.specs.Bucket.{is_bucket};
 ghost use Rattle.s3_machine.specs.declared.operation.Label.{Label};
@@ -7,22 +7,29 @@ ghost use Rattle.s3_machine.specs.declared.operation.Op.TheVariants.{CreateBucke
 ghost use Rattle.s3_machine.specs.declared.operation.Reply.TheVariants.{Made};
 ghost use Rattle.swift_calls.specs.History.{present};
 ghost use Rattle.recovery.specs.Answers.{most_calls};
-ghost use Rattle.recovery.specs.Calls.{always, Any, Given, TellsBucket};
+ghost use Rattle.recovery.specs.Calls.{always, by_account, Any, Given, GivenOf, LacksBucket};
 ghost use Rattle.recovery.specs.Lent.{Stays};
 ghost use Rattle.recovery.specs.declared.state.Known.TheVariants as known;
-ghost use Rattle.planner.specs.Buckets.{dropped_reply};
-ghost use Rattle.planner.specs.Plan.{Plans, ended};
+ghost use Rattle.recovery.specs.Purging.{MayMake, purge_calls};
+ghost use Rattle.upload_records.specs.Layout.{segments_name, uploads_name};
+ghost use Rattle.planner.specs.Buckets.{dropped_reply, emptying, HasBareUploads, HasSides, HasUploads};
+ghost use Rattle.recovery.specs.Plan.{Plans, ended};
 
 use gate_base::{Bytes, Copying};
-use recovery::{Dropped, PlanFault, Settled, drop_bucket, head_bucket, make_bucket};
+use recovery::{
+    Dropped, PlanFault, Settled, drop_bucket, head_bucket, make_beside, make_bucket, purge,
+};
 use s3_machine::{Code, Label, Reply, may_read};
 use s3_names::Acl;
 use std::alloc::Global;
 use swift_calls::Swift;
+use upload_records::{segments_container, uploads_container};
 
-/// CreateBucket: HEAD of the container, then its PUT, which commits. At most two calls. The reply is made before
-/// the PUT, so that no memory is needed after it. The faults are those of the two calls.
+/// CreateBucket: HEAD of the container; where it is missing, PUT of both containers beside it, the deletion of all files that stand
+/// in them, and its PUT, which commits. The reply is made before the last PUT, so that no memory is needed after it. At most as many
+/// calls as pages and files of both, and four more. The faults are those of the calls.
 pub(crate) fn create_bucket<W: Swift>(
+    alloc: Global,
     state: &mut Settled<'_, W>,
     bucket: Bytes,
     acl: Acl,
@@ -31,17 +38,109 @@ pub(crate) fn create_bucket<W: Swift>(
     requires name { is_bucket bucket ≡ true }
     requires moment { label.now.moment < moment_limit }
     ensures stays { Stays state.old state.new }
-    ensures plans { Plans (always 2) (W.history state.old.store.now) (W.history state.new.store.now) state.old.settings.now
+    ensures plans { Plans (most_calls (CreateBucket bucket acl) (present (W.history state.old.store.now)))
+        (W.history state.old.store.now) (W.history state.new.store.now) state.old.settings.now
         (Given Any) (CreateBucket bucket acl) label.now known.Settled result }
 {
     match head_bucket(state, &bucket)? {
-        None => make_missing(state, bucket, acl, label),
+        None => make_missing(alloc, state, bucket, acl, label),
         Some(_) => Ok(Reply::Refused(Code::BucketAlreadyOwnedByYou)),
     }
 }
 
-/// The rest of CreateBucket, where the bucket is missing.
+/// The rest of CreateBucket, where the bucket is missing: the names of the containers beside it are written, and the first of them
+/// is made.
 fn make_missing<W: Swift>(
+    alloc: Global,
+    state: &mut Settled<'_, W>,
+    bucket: Bytes,
+    acl: Acl,
+    label: &Label,
+) -> Result<Reply, PlanFault>
+    requires name { is_bucket bucket ≡ true }
+    requires moment { label.now.moment < moment_limit }
+    ensures stays { Stays state.old state.new }
+    ensures plans { Plans (by_account (3 + emptying bucket (present (W.history state.old.store.now))))
+        (W.history state.old.store.now) (W.history state.new.store.now) state.old.settings.now
+        (Given (LacksBucket bucket)) (CreateBucket bucket acl) label.now known.Settled result }
+{
+    let uploads = uploads_container(alloc, bucket.as_slice())?;
+    let segments = segments_container(alloc, bucket.as_slice())?;
+    make_beside(state, &bucket, &uploads)?;
+    make_segments(alloc, state, bucket, &uploads, &segments, acl, label)
+}
+
+/// The second of them is made.
+fn make_segments<W: Swift>(
+    alloc: Global,
+    state: &mut Settled<'_, W>,
+    bucket: Bytes,
+    uploads: &Bytes,
+    segments: &Bytes,
+    acl: Acl,
+    label: &Label,
+) -> Result<Reply, PlanFault>
+    requires name { is_bucket bucket ≡ true }
+    requires uploads { uploads.now ≡ uploads_name bucket }
+    requires segments { segments.now ≡ segments_name bucket }
+    requires moment { label.now.moment < moment_limit }
+    ensures stays { Stays state.old state.new }
+    ensures plans { Plans (by_account (2 + emptying bucket (present (W.history state.old.store.now))))
+        (W.history state.old.store.now) (W.history state.new.store.now) state.old.settings.now
+        (GivenOf (HasUploads bucket)) (CreateBucket bucket acl) label.now known.Settled result }
+{
+    make_beside(state, &bucket, segments)?;
+    empty_uploads(alloc, state, bucket, uploads, segments, acl, label)
+}
+
+/// All that stands in the first of them is deleted.
+fn empty_uploads<W: Swift>(
+    alloc: Global,
+    state: &mut Settled<'_, W>,
+    bucket: Bytes,
+    uploads: &Bytes,
+    segments: &Bytes,
+    acl: Acl,
+    label: &Label,
+) -> Result<Reply, PlanFault>
+    requires name { is_bucket bucket ≡ true }
+    requires uploads { uploads.now ≡ uploads_name bucket }
+    requires segments { segments.now ≡ segments_name bucket }
+    requires moment { label.now.moment < moment_limit }
+    ensures stays { Stays state.old state.new }
+    ensures plans { Plans (by_account (1 + emptying bucket (present (W.history state.old.store.now))))
+        (W.history state.old.store.now) (W.history state.new.store.now) state.old.settings.now
+        (GivenOf (HasSides bucket)) (CreateBucket bucket acl) label.now known.Settled result }
+{
+    let all = Bytes::new(alloc);
+    purge(alloc, state, &bucket, uploads, &all)?;
+    empty_segments(alloc, state, bucket, segments, acl, label)
+}
+
+/// All that stands in the second is deleted.
+fn empty_segments<W: Swift>(
+    alloc: Global,
+    state: &mut Settled<'_, W>,
+    bucket: Bytes,
+    segments: &Bytes,
+    acl: Acl,
+    label: &Label,
+) -> Result<Reply, PlanFault>
+    requires name { is_bucket bucket ≡ true }
+    requires segments { segments.now ≡ segments_name bucket }
+    requires moment { label.now.moment < moment_limit }
+    ensures stays { Stays state.old state.new }
+    ensures plans { Plans (by_account (1 + purge_calls (present (W.history state.old.store.now)) (segments_name bucket) []))
+        (W.history state.old.store.now) (W.history state.new.store.now) state.old.settings.now
+        (GivenOf (HasBareUploads bucket)) (CreateBucket bucket acl) label.now known.Settled result }
+{
+    let all = Bytes::new(alloc);
+    purge(alloc, state, &bucket, segments, &all)?;
+    make_bare(state, bucket, acl, label)
+}
+
+/// The bucket is made, where both containers beside it are there without a file.
+fn make_bare<W: Swift>(
     state: &mut Settled<'_, W>,
     bucket: Bytes,
     acl: Acl,
@@ -51,7 +150,7 @@ fn make_missing<W: Swift>(
     requires moment { label.now.moment < moment_limit }
     ensures stays { Stays state.old state.new }
     ensures plans { Plans (always 1) (W.history state.old.store.now) (W.history state.new.store.now) state.old.settings.now
-        (Given (λ s. TellsBucket bucket s None)) (CreateBucket bucket acl) label.now known.Settled result }
+        (GivenOf (MayMake bucket)) (CreateBucket bucket acl) label.now known.Settled result }
 {
     let name = bucket.copy()?;
     made_end(make_bucket(state, bucket, acl, label.moment), name)

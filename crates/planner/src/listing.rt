@@ -10,7 +10,7 @@ ghost use Rattle.recovery.specs.Answers.{pages};
 ghost use Rattle.recovery.specs.Calls.{by_account, Any, Given, TellsBucket};
 ghost use Rattle.recovery.specs.Lent.{Stays};
 ghost use Rattle.recovery.specs.declared.state.Known.TheVariants as known;
-ghost use Rattle.planner.specs.Plan.{Plans};
+ghost use Rattle.recovery.specs.Plan.{Plans};
 ghost use Rattle.planner.specs.Listing.{objects_reply};
 
 use gate_base::{Bytes, List};

@@ -16,7 +16,7 @@ ghost use Rattle.recovery.specs.Interpret.{IsShownHead};
 ghost use Rattle.recovery.specs.Lent.{Stays};
 ghost use Rattle.recovery.specs.declared.fault.PlanFault.TheVariants.{Failed};
 ghost use Rattle.recovery.specs.declared.state.Known.TheVariants as known;
-ghost use Rattle.planner.specs.Plan.{ended, Plans, IsOwnReply};
+ghost use Rattle.recovery.specs.Plan.{ended, Plans, IsOwnReply};
 ghost use Rattle.planner.specs.Objects.{TellsReadable, headed_reply, part_end, range_of};
 
 use gate_base::Bytes;
@@ -200,11 +200,12 @@ fn get_within<W: Swift>(
     let Some(head) = recovery::head_object(alloc, state, &bucket, &key)? else {
         return Ok(Reply::Refused(Code::NoSuchKey));
     };
-    get_judged(state, bucket, key, range, conditions, head)
+    get_judged(alloc, state, bucket, key, range, conditions, head)
 }
 
 /// The rest of GetObject, for an object that is there and may be read, whatever list its bucket has and whoever asks.
 fn get_judged<W: Swift>(
+    alloc: Global,
     state: &mut Settled<'_, W>,
     bucket: Bytes,
     key: Bytes,
@@ -223,13 +224,14 @@ fn get_judged<W: Swift>(
         Judged::NotModified => Ok(Reply::NotModified(head)),
         Judged::InvalidRange => Ok(Reply::Refused(Code::InvalidRange)),
         Judged::Bytes { span, partial } => get_span(
-            state, bucket, key, range, conditions, head, span, partial,
+            alloc, state, bucket, key, range, conditions, head, span, partial,
         ),
     }
 }
 
 /// The rest of GetObject, where these bytes are asked for.
 fn get_span<W: Swift>(
+    alloc: Global,
     state: &mut Settled<'_, W>,
     bucket: Bytes,
     key: Bytes,
@@ -247,7 +249,15 @@ fn get_span<W: Swift>(
         (Given (TellsReadable bucket key label.caller list head)) (GetObject bucket key range conditions.now) label known.Settled result }
 {
     let asked = range_of(span, partial);
-    let told = recovery::get_object(state, bucket, key, head.etag.as_slice(), head.size, asked)?;
+    let told = recovery::get_object(
+        alloc,
+        state,
+        bucket,
+        key,
+        head.etag.as_slice(),
+        head.size,
+        asked,
+    )?;
     let Some(body) = told else {
         return Err(PlanFault::Inconsistent);
     };

@@ -1,12 +1,12 @@
 //! The answer to each operation.
-ghost use Rattle.std.specs.Prelude.{◌≡◌};
+ghost use Rattle.std.specs.Prelude.{◌≡◌, false};
 ghost use Rattle.s3_machine.specs.Step.{IsProper};
 ghost use Rattle.swift_calls.specs.History.{present};
-ghost use Rattle.recovery.specs.Answers.{most_calls};
+ghost use Rattle.recovery.specs.Answers.{is_upload, most_calls};
 ghost use Rattle.recovery.specs.declared.state.Known.TheVariants as known;
 ghost use Rattle.recovery.specs.Calls.{Any, Given};
 ghost use Rattle.recovery.specs.Lent.{Stays};
-ghost use Rattle.planner.specs.Plan.{reply_of, Plans, Answered};
+ghost use Rattle.recovery.specs.Plan.{reply_of, Plans, Answered};
 
 use crate::acls::{get_bucket_acl, get_object_acl, put_bucket_acl};
 use crate::buckets::{create_bucket, delete_bucket, get_location, list_buckets, show_bucket};
@@ -17,13 +17,14 @@ use s3_machine::{Code, Label, Op, Reply};
 use std::alloc::Global;
 use swift_calls::Swift;
 
-/// Answers one operation of Amazon S3. The reply is the service's own, and then the state is as its step leaves it. Or
-/// it is ServiceUnavailable, only where the store's count of faults rose in this call: the last call failed, no earlier
-/// one did, and the state is the old one or the step's. Or it is `Memory`, where memory ran out, with the
-/// same two states. Or it is InconsistentStore, never over an observable consistent account. A call that failed is the
+/// Answers one operation of Amazon S3 that isn't one on uploads in parts. The reply is the service's own, and then the state
+/// is as its step leaves it. Or it is ServiceUnavailable, only where the store's count of faults rose in this call: the last
+/// call failed, no earlier one did, and the state is the old one or the step's. Or it is `Memory`, where memory ran out, with
+/// the same two states. Or it is InconsistentStore, never over an observable consistent account. A call that failed is the
 /// last one. How many there are is bounded by the operation, also where the reply is a refusal.
 pub fn answer<W: Swift>(alloc: Global, state: &mut Settled<'_, W>, op: Op, label: &Label) -> Reply
-    requires { IsProper op label.now }
+    requires proper { IsProper op label.now }
+    requires own { is_upload op ≡ false }
     ensures stays { Stays state.old state.new }
 
     // The calls amount to the operation, with at most one commit.
@@ -51,7 +52,7 @@ fn plan<W: Swift>(
     } else if is_lent(&op) {
         plan_lent(alloc, state, &op, label)
     } else if is_of_bucket(&op) {
-        plan_of_bucket(state, op, label)
+        plan_of_bucket(alloc, state, op, label)
     } else {
         plan_of_key(alloc, state, op, label)
     }
@@ -146,6 +147,7 @@ fn plan_lent<W: Swift>(
 
 /// The plan of an operation that changes a bucket; any other ends as where memory ran out, without a call.
 fn plan_of_bucket<W: Swift>(
+    alloc: Global,
     state: &mut Settled<'_, W>,
     op: Op,
     label: &Label,
@@ -156,7 +158,7 @@ fn plan_of_bucket<W: Swift>(
         (Given Any) op label.now known.Settled result }
 {
     match op {
-        Op::CreateBucket { bucket, acl } => create_bucket(state, bucket, acl, label),
+        Op::CreateBucket { bucket, acl } => create_bucket(alloc, state, bucket, acl, label),
         Op::DeleteBucket { bucket } => delete_bucket(state, bucket),
         Op::PutBucketAcl { bucket, acl } => put_bucket_acl(state, bucket, acl),
         _ => Err(PlanFault::Memory),

@@ -1,5 +1,5 @@
 -- What a request and what stands first on a line say of the answer.
-use Rattle.std.proofs.Common.{◌≡◌, ℕ, Bool, true, false, ◌&&◌, List, [], ◌++◌, is_some, cond, Option, Some, None, Result, Ok, Err, refl, sym, ap, ◌∙◌, subst, inl, inr, true≢false}
+use Rattle.std.proofs.Common.{◌≡◌, ℕ, Bool, true, false, ◌&&◌, List, [], ◌++◌, is_some, cond, Option, Some, None, Result, Ok, Err, sym, ap, ◌∙◌, subst, inl, inr, true≢false}
 use Rattle.gate_base.specs.declared.outside.Piece.{Piece}
 use Rattle.s3_names.specs.declared.fault.NameFault.{NameFault}
 use Rattle.s3_names.specs.declared.target.Target.{Target}

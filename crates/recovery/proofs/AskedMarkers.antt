@@ -8,7 +8,7 @@ use Rattle.s3_machine.specs.Step.{IsProperAsked}
 use Rattle.s3_machine.specs.declared.items.Asked.{Asked}
 use Rattle.swift_calls.specs.Limits.{IsMarker}
 use Rattle.list_pages.specs.Rolls.{wanted}
-use Rattle.recovery.proofs.Markers.{text_is_marker}
+use Rattle.recovery.proofs.lemmas.Markers.{text_is_marker}
 use Rattle.recovery.proofs.Taken.{key_is_marker}
 
 last_of_two : (a b : Bool) → a ≡ false → (a || b) ≡ true → b ≡ true

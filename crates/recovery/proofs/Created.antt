@@ -14,7 +14,7 @@ use Rattle.swift_calls.specs.declared.calls.SwiftReply.TheVariants.{Readers}
 use Rattle.upload_records.specs.Consistent.{IsConsistent, head_of}
 use Rattle.recovery.specs.declared.fault.PlanFault.TheVariants.{Inconsistent}
 use Rattle.recovery.specs.Listing.{created_due, made_by, Has, TellsCreated}
-use Rattle.recovery.proofs.One.{IsReadingOf}
+use Rattle.recovery.proofs.lemmas.One.{IsReadingOf}
 
 leaves_by : (o : Option SwiftContainer) (tree : SwiftAccount) → (head_container o tree).tree ≡ tree
 leaves_by None tree = refl

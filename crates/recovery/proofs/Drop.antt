@@ -20,7 +20,7 @@ use Rattle.upload_records.proofs.lemmas.Settled.{unsealed_of, settled_same}
 use Rattle.recovery.specs.declared.bucket.Dropped.TheVariants.{Gone, Full, Missing}
 use Rattle.recovery.specs.Calls.{Any, DropsBucket, SetsAcl}
 use Rattle.recovery.specs.Interpret.{dropped_due, set_due}
-use Rattle.recovery.proofs.One.{Effect, IsWriting}
+use Rattle.recovery.proofs.lemmas.One.{Effect, IsWriting}
 
 none_of : {X Y : Type 0} (f : X → Y) (o : Option X) → option_map f o ≡ None → o ≡ None
 none_of f None e = refl

@@ -1,12 +1,14 @@
 -- What the calls on an object's file tell of the object, and do to it.
-use Rattle.std.proofs.lemmas.Bool.{and_from, eq-eqb, le-leb}
+use Rattle.std.proofs.lemmas.Bool.{and_from, eq-eqb}
+use Rattle.std.proofs.lemmas.Slice.Eq.{bytes_eq-Decides}
 use Rattle.std.proofs.lemmas.Option.{same_Some}
-use Rattle.std.specs.Prelude.{◌≡◌, ◌<◌, ◌≤◌, ℕ, ◌&&◌, cond, nat_le, List, length, bytes_eq, true, Option, Some, None, Ok, Err, is_some}
+use Rattle.std.specs.Prelude.{◌≡◌, ◌<◌, ℕ, cond, List, length, true, Option, Some, None, Ok, Err, is_some}
 use Rattle.std.specs.Option.{option_and_then, option_map}
 use Rattle.std.specs.FinMap.{get}
 use Rattle.std.proofs.Common.{refl, sym, ap, subst, ◌∙◌, arith}
 use Rattle.gate_base.proofs.lemmas.Maps.{some_value}
 use Rattle.gate_base.specs.Told.{moment_limit}
+use Rattle.gate_base.specs.Maps.{Names}
 use Rattle.gate_base.specs.declared.page.Pair.{Pair}
 use Rattle.s3_names.specs.Bucket.{is_bucket}
 use Rattle.s3_names.specs.Key.{is_key}
@@ -14,9 +16,8 @@ use Rattle.s3_names.specs.Meta.{names_ascend}
 use Rattle.s3_names.specs.declared.acl.Acl.{Acl}
 use Rattle.s3_machine.specs.declared.operation.ObjectHead.{ObjectHead}
 use Rattle.s3_machine.specs.ETag.{body_etag}
-use Rattle.s3_machine.specs.Limits.{most_body_bytes}
 use Rattle.s3_machine.specs.Step.{IsProperContent, head_of}
-use Rattle.swift_calls.specs.Account.{SwiftObject, SwiftContainer, SwiftAccount, files, find_object}
+use Rattle.swift_calls.specs.Account.{SwiftObject, SwiftContainer, SwiftAccount, files, find_object, size_of}
 use Rattle.swift_calls.specs.Bodies.{bytes_of, etag_text, ranged}
 use Rattle.swift_calls.specs.Bodies as bodies
 use Rattle.swift_calls.specs.Step.{Answer, swift_step, head_reply, get_reply, body_reply, part_reply, delete_object}
@@ -31,67 +32,86 @@ use Rattle.swift_marks.proofs.lemmas.TagLaws.{tag_text_reads}
 use Rattle.swift_marks.proofs.lemmas.PackLaws.{pack_unpacks}
 use Rattle.upload_records.specs.Layout.{segments_name}
 use Rattle.upload_records.specs.Native.{SameGateway, object_at, IsSettled, s3_state}
-use Rattle.upload_records.specs.Consistent.{IsConsistent, IsPlainObject, in_one_piece, IsStored}
-use Rattle.upload_records.specs.Laws.{ChangesBy, FindsObject, file_put, object_in}
+use Rattle.upload_records.specs.Consistent.{IsConsistent, IsPlainObject, IsStored}
+use Rattle.upload_records.specs.Laws.{ChangesBy, FindsObject, file_put}
 use Rattle.upload_records.proofs.lemmas.Buckets.{s3_state_there}
-use Rattle.upload_records.proofs.lemmas.Objects.{plain_object, found, object_put, object_gone}
+use Rattle.upload_records.proofs.lemmas.Objects.{found, object_put, object_gone}
 use Rattle.upload_records.proofs.lemmas.Off.{same_put_file, same_delete_file}
 use Rattle.upload_records.proofs.lemmas.Settled.{unsealed_of, settled_same}
 use Rattle.recovery.specs.Calls.{Given, TellsBucket, TellsObject, TellsBytes, HasObject, acl_of_bucket, bytes_in, Any, Becomes, HasBucket, puts_object, drops_object}
 use Rattle.recovery.specs.declared.fault.PlanFault.TheVariants.{Inconsistent}
-use Rattle.recovery.specs.Interpret.{known, head_by, head_due, is_unchanged, bytes_due, stored_due, gone_due, plain_tag, put_of}
-use Rattle.recovery.proofs.Etags.{etag_agrees}
-use Rattle.recovery.proofs.Fits.{has_a_pack, tag_has_text}
-use Rattle.recovery.proofs.Names.{object_name}
-use Rattle.recovery.proofs.One.{IsReadingOf, IsReading, Effect, IsWriting}
+use Rattle.recovery.specs.Interpret.{agrees, known, head_by, head_due, unchanged_by, is_unchanged, bytes_due, stored_due, gone_due, plain_tag, put_of}
+use Rattle.recovery.proofs.lemmas.Etags.{etag_agrees}
+use Rattle.recovery.proofs.lemmas.Fits.{has_a_pack, tag_has_text}
+use Rattle.recovery.proofs.lemmas.Forms.{Says, object_said, said, says_of}
+use Rattle.recovery.proofs.lemmas.Names.{object_name}
+use Rattle.recovery.proofs.lemmas.One.{IsReadingOf, IsReading, Effect, IsWriting}
 
 -- ---- HEAD and GET
-
--- bytes that are no more than a body may have agree with their own tag
-plain_agrees : (body : List ℕ) → length body ≤ most_body_bytes → bytes_eq (etag_text body) (body_etag body) && nat_le (length body) most_body_bytes ≡ true
-plain_agrees body sized = and_from _ _ (etag_agrees body) (le-leb (length body) most_body_bytes sized)
 
 -- the bytes of a range, of which there may be none
 part_due : (etag : List ℕ) (size : ℕ) (head : StoredHead) (part : Option (List ℕ)) → is_unchanged etag size head ≡ true → bytes_due etag size (part_reply head part) ≡ Ok part
 part_due etag size head None same = refl
 part_due etag size head (Some bytes) same = ap (λ t. cond t (Ok (Some bytes)) (Err Inconsistent)) same
 
--- an object that is put in one piece has the ETag and the size of its file
-plain_unchanged : (file : SwiftObject) (plain : IsPlainObject file) (etag : List ℕ) (size : ℕ) (head : ObjectHead) → head_of (object_in plain) ≡ head → head.etag ≡ etag → head.size ≡ size
-    → is_unchanged etag size (bodies.head_of file) ≡ true
-plain_unchanged file plain etag size head is same_etag same_size =
-    let tagged : body_etag plain.bytes ≡ etag = ap (λ (h : ObjectHead). h.etag) is ∙ same_etag in
-    let sized : length plain.bytes ≡ size = ap (λ (h : ObjectHead). h.size) is ∙ same_size in
-    (λ i. is_unchanged etag size (bodies.head_of (record { content_type = file.content_type; meta = file.meta; content = plain.own i })))
-    ∙ and_from _ _ (subst (λ e. bytes_eq (etag_text plain.bytes) e ≡ true) tagged (etag_agrees plain.bytes)) (eq-eqb (length plain.bytes) size sized)
+-- the head that a file says has these
+said_head : {segments : Names SwiftObject} {folder : List ℕ} {file : SwiftObject} (says : Says segments folder file)
+    → record { etag = says.tag.etag; modified = says.tag.moment; size = size_of file.content; content_type = says.tag.content_type; meta = says.meta } ≡ head_of (object_said says)
+said_head says = λ i. record { etag = says.tag.etag; modified = says.tag.moment; size = says.sized i; content_type = says.tag.content_type; meta = says.meta }
 
-module _ (tree : SwiftAccount) (bucket key : List ℕ) where
-  head_told_by : (o : Option SwiftObject) → FindsObject tree bucket key o → (reply : SwiftReply) → reply ≡ head_reply o
+-- a file that says this ETag and this size
+said_unchanged : {segments : Names SwiftObject} {folder : List ℕ} {file : SwiftObject} (says : Says segments folder file) → agrees (bodies.head_of file) says.tag ≡ true
+    → (etag : List ℕ) (size : ℕ) → says.tag.etag ≡ etag → length says.bytes ≡ size → is_unchanged etag size (bodies.head_of file) ≡ true
+said_unchanged {file = file} says agreed etag size same_etag same_size =
+    ap (unchanged_by etag size (bodies.head_of file)) says.tagged
+    ∙ and_from _ _ (and_from _ _ agreed ((bytes_eq-Decides says.tag.etag etag).1 same_etag)) (eq-eqb (size_of file.content) size (says.sized ∙ same_size))
+
+module _ (tree : SwiftAccount) (bucket key : List ℕ) (sound : IsConsistent tree) where
+  abbrev segments : Names SwiftObject
+  segments = files tree (segments_name bucket)
+
+  module _ (file : SwiftObject) (at : find_object tree bucket key ≡ Some file) (found : FindsObject tree bucket key (Some file)) where
+    says : Says segments (segments_name bucket) file
+    says = says_of segments (segments_name bucket) file key found.0
+
+    -- what is found of an object is what its file says
+    there_says : object_at (get (s3_state tree) bucket) key ≡ Some (object_said says)
+    there_says = found.3 ∙ sym found.2 ∙ said key says
+
+    agrees_there : agrees (bodies.head_of file) says.tag ≡ true
+    agrees_there = says.as_tagged (sound.stored bucket key file at).sized
+
+  head_told_by : (o : Option SwiftObject) → find_object tree bucket key ≡ o → FindsObject tree bucket key o → (reply : SwiftReply) → reply ≡ head_reply o
       → (told : Option ObjectHead) × (head_due reply ≡ Ok told) × TellsObject bucket key (s3_state tree) told
-  head_told_by None none reply e = (None, ap head_due e, ap (option_map head_of) none)
-  head_told_by (Some file) (in_one_piece keyed plain, o, reads, is) reply e = (
-    Some (head_of (object_in plain)),
-    ap head_due e
-        ∙ (λ i. known (head_by (bodies.head_of (record { content_type = file.content_type; meta = file.meta; content = plain.own i })) (plain.tagged i) (plain.packed i)))
-        ∙ ap (λ t. known (cond t (Some (head_of (object_in plain))) None)) (plain_agrees plain.bytes plain.sized),
-    ap (option_map head_of) (is ∙ sym reads ∙ plain_object (files tree (segments_name bucket)) key file plain),
-  )
+  head_told_by None at none reply e = (None, ap head_due e, ap (option_map head_of) none)
+  head_told_by (Some file) at found reply e =
+      let now = says file at found in (
+        Some (head_of (object_said now)),
+        ap head_due e
+            ∙ (λ i. known (head_by (bodies.head_of file) (now.tagged i) (now.packed i)))
+            ∙ ap (λ t. known (cond t (Some (record { etag = now.tag.etag; modified = now.tag.moment; size = size_of file.content; content_type = now.tag.content_type; meta = now.meta })) None)) (agrees_there file at found)
+            ∙ ap (λ head. known (Some head)) (said_head now),
+        ap (option_map head_of) (there_says file at found),
+      )
 
   module _ (etag : List ℕ) (size : ℕ) (has : HasObject bucket key etag size (s3_state tree)) where
     -- the file of the object that is there
-    file_unchanged : (file : SwiftObject) (plain : IsPlainObject file) → object_at (get (s3_state tree) bucket) key ≡ Some (object_in plain) → is_unchanged etag size (bodies.head_of file) ≡ true
-    file_unchanged file plain is = plain_unchanged file plain etag size has.0 (same_Some _ _ (sym (ap (option_map head_of) is) ∙ has.1)) has.2 has.3
+    file_unchanged : (file : SwiftObject) → find_object tree bucket key ≡ Some file → (found : FindsObject tree bucket key (Some file)) → is_unchanged etag size (bodies.head_of file) ≡ true
+    file_unchanged file at found =
+        let now = says file at found in
+        let is : head_of (object_said now) ≡ has.0 = same_Some _ _ (sym (ap (option_map head_of) (there_says file at found)) ∙ has.1) in
+        said_unchanged now (agrees_there file at found) etag size (ap (λ (h : ObjectHead). h.etag) is ∙ has.2) (ap (λ (h : ObjectHead). h.size) is ∙ has.3)
 
-    bytes_told_by : (range : Option (ℕ × ℕ)) (o : Option SwiftObject) → FindsObject tree bucket key o → (reply : SwiftReply) → reply ≡ get_reply (find_object tree) range o
+    bytes_told_by : (range : Option (ℕ × ℕ)) (o : Option SwiftObject) → find_object tree bucket key ≡ o → FindsObject tree bucket key o → (reply : SwiftReply) → reply ≡ get_reply (find_object tree) range o
         → (told : Option (List ℕ)) × (bytes_due etag size reply ≡ Ok told) × TellsBytes bucket key range (s3_state tree) told
-    bytes_told_by range None none reply e = (None, ap (bytes_due etag size) e, ap (λ o. option_and_then (ranged range) (option_map bytes_in o)) none)
-    bytes_told_by range (Some file) (in_one_piece keyed plain, o, reads, is) reply e =
-        let there = is ∙ sym reads ∙ plain_object (files tree (segments_name bucket)) key file plain in (
-          ranged range plain.bytes,
+    bytes_told_by range None at none reply e = (None, ap (bytes_due etag size) e, ap (λ o. option_and_then (ranged range) (option_map bytes_in o)) none)
+    bytes_told_by range (Some file) at found reply e =
+        let now = says file at found in (
+          ranged range now.bytes,
           ap (bytes_due etag size) e
-              ∙ (λ i. bytes_due etag size (body_reply (bodies.head_of file) range (bytes_of (find_object tree) (plain.own i))))
-              ∙ part_due etag size (bodies.head_of file) (ranged range plain.bytes) (file_unchanged file plain there),
-          ap (λ o. option_and_then (ranged range) (option_map bytes_in o)) there,
+              ∙ ap (λ b. bytes_due etag size (body_reply (bodies.head_of file) range b)) (now.over (find_object tree) (λ name f there. there))
+              ∙ part_due etag size (bodies.head_of file) (ranged range now.bytes) (file_unchanged file at found),
+          ap (λ o. option_and_then (ranged range) (option_map bytes_in o)) (there_says file at found),
         )
 
 module _ (tree : SwiftAccount) (container name bucket key : List ℕ) (named : container ≡ bucket) (under : name ≡ key) (is : is_bucket bucket ≡ true) (sound : IsConsistent tree) (settled : IsSettled tree) where
@@ -99,12 +119,12 @@ module _ (tree : SwiftAccount) (container name bucket key : List ℕ) (named : c
   same_file = λ i. find_object tree (named i) (under i)
 
   head_tells : (reply : SwiftReply) → reply ≡ (swift_step (HeadObject container name) tree).reply → (told : Option ObjectHead) × (head_due reply ≡ Ok told) × TellsObject bucket key (s3_state tree) told
-  head_tells reply replied = head_told_by tree bucket key (find_object tree bucket key) (found tree bucket key is sound (unsealed_of settled)) reply (replied ∙ ap head_reply same_file)
+  head_tells reply replied = head_told_by tree bucket key sound (find_object tree bucket key) refl (found tree bucket key is sound (unsealed_of settled)) reply (replied ∙ ap head_reply same_file)
 
   get_tells : (etag : List ℕ) (size : ℕ) → HasObject bucket key etag size (s3_state tree) → (range : Option (ℕ × ℕ)) (reply : SwiftReply) → reply ≡ (swift_step (GetObject container name range) tree).reply
       → (told : Option (List ℕ)) × (bytes_due etag size reply ≡ Ok told) × TellsBytes bucket key range (s3_state tree) told
   get_tells etag size has range reply replied =
-      bytes_told_by tree bucket key etag size has range (find_object tree bucket key) (found tree bucket key is sound (unsealed_of settled)) reply (replied ∙ ap (get_reply (find_object tree) range) same_file)
+      bytes_told_by tree bucket key sound etag size has range (find_object tree bucket key) refl (found tree bucket key is sound (unsealed_of settled)) reply (replied ∙ ap (get_reply (find_object tree) range) same_file)
 
 module _ {container name bucket key : List ℕ} (named : container ≡ bucket) (under : name ≡ key) (is : is_bucket bucket ≡ true) where
   -- HEAD of an object's file tells of its head

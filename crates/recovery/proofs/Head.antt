@@ -17,7 +17,7 @@ use Rattle.upload_records.proofs.lemmas.Readers.{acl_of_folder}
 use Rattle.upload_records.proofs.lemmas.Settled.{unsealed_of}
 use Rattle.recovery.specs.Calls.{TellsBucket}
 use Rattle.recovery.specs.Interpret.{bucket_due}
-use Rattle.recovery.proofs.One.{IsReading}
+use Rattle.recovery.proofs.lemmas.One.{IsReading}
 
 leaves_by : (o : Option SwiftContainer) (tree : SwiftAccount) → (head_container o tree).tree ≡ tree
 leaves_by None tree = refl

@@ -30,10 +30,10 @@ use Rattle.recovery.specs.Keys.{TellsKeys}
 use Rattle.recovery.specs.Listing.{TellsOf}
 use Rattle.recovery.proofs.lemmas.Faults.{err_is}
 use Rattle.recovery.proofs.lemmas.Idle.{stays}
-use Rattle.recovery.proofs.Ask.{asks_out_of_memory}
+use Rattle.recovery.proofs.lemmas.Ask.{asks_out_of_memory}
 use Rattle.recovery.proofs.KeyPages.{page_is_one, page_tells}
-use Rattle.recovery.proofs.One as one
-use Rattle.recovery.proofs.One.{IsReadingOf, asked_of, asked_of_in_vain, grows_one, found, stays_settled}
+use Rattle.recovery.proofs.lemmas.One as one
+use Rattle.recovery.proofs.lemmas.One.{IsReadingOf, asked_of, asked_of_in_vain, grows_one, found, stays_settled}
 
 -- what a listing answers, where it is a page
 abbrev page_due : SwiftReply → Result (List NameItem) PlanFault
@@ -70,6 +70,9 @@ no_page prefix marker es e = ap (λ es. take 1000 (map (λ (e : List ℕ × Swif
 no_files : (prefix marker : List ℕ) → page 1000 (λ e. item_of e.0 e.1) (λ e. is_listed prefix marker e.0) (entries (files_of None)) ≡ []
 no_files prefix marker = no_page prefix marker (entries (files_of None)) (none_of (entries (files_of None)) (sym (len-entries (files_of None)) ∙ len-empty name_cmp SwiftObject))
 
+no_fault : {X F : Type 0} (x : X) (f : F) → Ok x ≡ Err f → ⊥
+no_fault x f e = cc
+
 module _ (bucket prefix marker : List ℕ) (is : is_bucket bucket ≡ true) where
   module _ (tree : SwiftAccount) (sound : IsConsistent tree) where
     tells_by : IsSettled tree → (o : Option SwiftContainer) → get tree bucket ≡ o → (reply : SwiftReply) → reply ≡ items_reply 1000 prefix marker o
@@ -100,11 +103,16 @@ module _ (bucket prefix marker : List ℕ) (is : is_bucket bucket ≡ true) wher
   }
 
   module _ {a b : History} where
+    -- the page that a call told
+    told_by : (told : List NameItem) (reply : SwiftReply) → Calls a b (page_request bucket prefix marker) (Ok reply) → IsTold prefix marker reply told
+        → Asks (always 1) a b IsSettled (TellsOf (TellsKeys bucket prefix marker)) (Ok told)
+    told_by told reply calls comes = asked_of keys_read calls (Ok told) (inr (told_due prefix marker reply told comes)) (no_fault told plan.Failed)
+
     pub keys_told : {told : List NameItem} → AsksPage a b bucket prefix marker (Ok told) → Asks (always 1) a b IsSettled (TellsOf (TellsKeys bucket prefix marker)) (Ok told)
-    keys_told {told = told} (asked (Ok reply) calls comes) = asked_of keys_read calls (Ok told) (inr (told_due prefix marker reply told comes)) (λ e. cc)
-    keys_told (asked (Err swift.Failed) calls e) = cc
-    keys_told (asked (Err swift.Memory) calls e) = cc
-    keys_told (not_asked same e) = cc
+    keys_told {told = told} (asked (Ok reply) calls comes) = told_by told reply calls comes
+    keys_told {told = told} (asked (Err swift.Failed) calls e) = absurd (no_fault told fault.Failed e)
+    keys_told {told = told} (asked (Err swift.Memory) calls e) = absurd (no_fault told fault.Memory e)
+    keys_told {told = told} (not_asked same e) = absurd (no_fault told fault.Memory e)
 
     module _ {reply : SwiftReply} (calls : Calls a b (page_request bucket prefix marker) (Ok reply)) where
       by_reply : (f : PageFault) → ComesTo bucket prefix marker reply (Err f) → Asks (always 1) a b IsSettled (TellsOf (TellsKeys bucket prefix marker)) (Err (of_page f))

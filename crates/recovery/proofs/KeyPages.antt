@@ -12,12 +12,11 @@ use Rattle.std.proofs.lemmas.List.Sums.{AllPass-from_list_all}
 use Rattle.gate_base.specs.Maps.{Names, name_cmp, picked, pick_entry}
 use Rattle.gate_base.proofs.lemmas.Maps.{name_total, name_antisymmetric}
 use Rattle.s3_names.specs.Bucket.{is_bucket}
-use Rattle.s3_names.specs.Key.{is_key}
 use Rattle.s3_machine.specs.Items.{begins, behind, with_prefix}
-use Rattle.s3_machine.specs.State.{Object, Bucket}
+use Rattle.s3_machine.specs.State.{Bucket}
 use Rattle.s3_machine.specs.Step.{listed_key}
 use Rattle.s3_machine.specs.declared.items.ItemHead.{ItemHead}
-use Rattle.swift_calls.specs.Account.{SwiftObject, SwiftAccount, files, size_of}
+use Rattle.swift_calls.specs.Account.{SwiftObject, SwiftAccount, files}
 use Rattle.swift_calls.specs.Bodies.{item_of}
 use Rattle.swift_calls.specs.Limits.{IsMarker}
 use Rattle.swift_calls.specs.Step.{Fit, page, is_listed}
@@ -26,10 +25,9 @@ use Rattle.swift_marks.specs.Tag.{read_stamp}
 use Rattle.swift_marks.proofs.lemmas.Stamps.{tag_has_stamp}
 use Rattle.upload_records.specs.Layout.{segments_name}
 use Rattle.upload_records.specs.Native.{object_of, IsSettled, s3_state}
-use Rattle.upload_records.specs.Consistent.{IsConsistent, IsObject, in_one_piece}
-use Rattle.upload_records.specs.Laws.{object_in}
+use Rattle.upload_records.specs.Consistent.{IsConsistent, IsObject}
 use Rattle.upload_records.proofs.lemmas.Listing.{objects_there, objects_missing}
-use Rattle.upload_records.proofs.lemmas.Objects.{plain_object, file_is_object}
+use Rattle.upload_records.proofs.lemmas.Objects.{file_is_object}
 use Rattle.upload_records.proofs.lemmas.Settled.{unsealed_of}
 use Rattle.list_pages.specs.Listing.{Ascends, IsPageOf, is_name_with, name_in, page_request}
 use Rattle.list_pages.specs.Rolls.{head_by, seen_of}
@@ -40,8 +38,9 @@ use Rattle.list_pages.proofs.lemmas.Sorted.{sorted_filter}
 use Rattle.list_pages.proofs.lemmas.Starting.{not_behind}
 use Rattle.list_pages.proofs.lemmas.Starts.{starts_begins}
 use Rattle.recovery.specs.Keys.{objects_in, keys_with, TellsKeys}
-use Rattle.recovery.proofs.Markers.{entries_are}
-use Rattle.recovery.proofs.Names.{container_name}
+use Rattle.recovery.proofs.lemmas.Markers.{entries_are}
+use Rattle.recovery.proofs.lemmas.Forms.{Says, object_said, said, says_of, key_of}
+use Rattle.recovery.proofs.lemmas.Names.{container_name}
 
 pub page_fits : (bucket prefix marker : List ℕ) → is_bucket bucket ≡ true → IsMarker prefix → IsMarker marker → Fit (page_request bucket prefix marker)
 page_fits bucket prefix marker is of_prefix of_marker = (container_name bucket is, of_prefix, of_marker, (omega arith, omega arith))
@@ -101,26 +100,21 @@ module _ (tree : SwiftAccount) (bucket : List ℕ) (is : is_bucket bucket ≡ tr
   object : (e : List ℕ × SwiftObject) → Kept e → IsObject segments (segments_name bucket) e.0 e.1
   object e found = file_is_object tree bucket e.0 e.1 sound is found
 
-  keyed_by : (e : List ℕ × SwiftObject) → IsObject segments (segments_name bucket) e.0 e.1 → is_key e.0 ≡ true
-  keyed_by e (in_one_piece keyed plain) = keyed
-
-  stamped_by : (e : List ℕ × SwiftObject) → IsObject segments (segments_name bucket) e.0 e.1 → has_stamp (item e) ≡ true
-  stamped_by e (in_one_piece keyed plain) = ap is_some (tag_has_stamp e.1.content_type _ plain.tagged)
+  stamped_by : (e : List ℕ × SwiftObject) → Says segments (segments_name bucket) e.1 → has_stamp (item e) ≡ true
+  stamped_by e says = ap is_some (tag_has_stamp e.1.content_type says.tag says.tagged)
 
   -- the object that a file represents has the head that its listing tells
-  head_told : (e : List ℕ × SwiftObject) → IsObject segments (segments_name bucket) e.0 e.1 → (o : Object) × (object_of segments e.0 e.1 ≡ Some o) × (listed_key (e.0, o) ≡ seen e)
-  head_told e (in_one_piece keyed plain) = (
-    object_in plain,
-    plain_object segments e.0 e.1 plain,
-    sym (λ i. (e.0, head_by (tag_has_stamp e.1.content_type _ plain.tagged i) (size_of (plain.own i)))),
-  )
+  head_told : (e : List ℕ × SwiftObject) (says : Says segments (segments_name bucket) e.1) → listed_key (e.0, object_said says) ≡ seen e
+  head_told e says = sym (λ i. (e.0, head_by (tag_has_stamp e.1.content_type says.tag says.tagged i) (says.sized i)))
+
+  says : (e : List ℕ × SwiftObject) → Kept e → Says segments (segments_name bucket) e.1
+  says e found = says_of segments (segments_name bucket) e.1 e.0 (object e found)
 
   heads_told : (es : List (List ℕ × SwiftObject)) → AllByRecursion Kept es → map listed_key (filter_map (pick_entry (object_of segments)) es) ≡ map seen es
   heads_told [] h = refl
   heads_told (e ∷ es) h =
-      let told = head_told e (object e h.0) in
-      ap (λ o. map listed_key (cons_option (option_map (λ y. (e.0, y)) o) (filter_map (pick_entry (object_of segments)) es))) told.1
-      ∙ ap (λ k. k ∷ map listed_key (filter_map (pick_entry (object_of segments)) es)) told.2
+      ap (λ o. map listed_key (cons_option (option_map (λ y. (e.0, y)) o) (filter_map (pick_entry (object_of segments)) es))) (said e.0 (says e h.0))
+      ∙ ap (λ k. k ∷ map listed_key (filter_map (pick_entry (object_of segments)) es)) (head_told e (says e h.0))
       ∙ ap (λ l. seen e ∷ l) (heads_told es h.1)
 
   entries_of : entries (picked (object_of segments) (files tree bucket)) ≡ filter_map (pick_entry (object_of segments)) (entries (files tree bucket))
@@ -147,7 +141,7 @@ module _ (tree : SwiftAccount) (bucket : List ℕ) (is : is_bucket bucket ≡ tr
       none [] = refl
       none (x ∷ xs) = refl
   stamped p (suc n) (e ∷ es) h = elim (p e) as (λ t. list_all has_stamp (take (suc n) (map item (cond t (e ∷ filter p es) (filter p es)))) ≡ true) [
-    | true ↦ ap (λ t. t && list_all has_stamp (take n (map item (filter p es)))) (stamped_by e (object e h.0)) ∙ stamped p n es h.1
+    | true ↦ ap (λ t. t && list_all has_stamp (take n (map item (filter p es)))) (stamped_by e (says e h.0)) ∙ stamped p n es h.1
     | false ↦ stamped p (suc n) es h.1
   ]
 
@@ -167,7 +161,7 @@ module _ (tree : SwiftAccount) (bucket : List ℕ) (is : is_bucket bucket ≡ tr
       → list_all (is_name_with prefix) (take (suc n) (map (λ e. e.0) (cond t (e ∷ filter (λ e. is_listed prefix marker e.0) es) (filter (λ e. is_listed prefix marker e.0) es)))) ≡ true) [
         | true ↦ λ listed.
             let fits = (and_parts (is_lt (name_cmp marker e.0)) (begins prefix e.0) (sym (listed_is prefix marker e) ∙ listed)).1 in
-            ap (λ t. t && list_all (is_name_with prefix) (take n (map (λ e. e.0) (filter (λ e. is_listed prefix marker e.0) es)))) (and_from _ _ (keyed_by e (object e h.0)) fits) ∙ named prefix marker n es h.1
+            ap (λ t. t && list_all (is_name_with prefix) (take n (map (λ e. e.0) (filter (λ e. is_listed prefix marker e.0) es)))) (and_from _ _ (key_of segments (segments_name bucket) e.1 e.0 (object e h.0)) fits) ∙ named prefix marker n es h.1
         | false ↦ λ listed. named prefix marker (suc n) es h.1
       ] refl
 

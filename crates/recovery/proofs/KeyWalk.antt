@@ -26,8 +26,8 @@ use Rattle.recovery.proofs.KeyPages.{keys_within}
 use Rattle.recovery.proofs.Taken.{keys_sorted, keys_fit}
 use Rattle.recovery.proofs.lemmas.Faults.{err_is}
 use Rattle.recovery.proofs.lemmas.Idle.{goes_none, goes_trans, none_made, grows_none}
-use Rattle.recovery.proofs.One.{tells_state}
-use Rattle.recovery.proofs.Walk.{Idles, idles_none, idles_trans, cause_after, keeps_after}
+use Rattle.recovery.proofs.lemmas.One.{tells_state}
+use Rattle.recovery.proofs.lemmas.Walk.{Idles, idles_none, idles_trans, cause_after, keeps_after}
 
 -- ---- the keys up to the marker
 

@@ -14,7 +14,7 @@ use Rattle.recovery.specs.Listing.{TellsOf, TellsNames, TellsItems, TellsBuckets
 use Rattle.recovery.specs.Calls.{always, by_account, Met, Keeps, Asks, Tells}
 use Rattle.recovery.proofs.Made.{bucket_items_are, len_is}
 use Rattle.recovery.proofs.lemmas.Idle.{goes_trans}
-use Rattle.recovery.proofs.Walk.{Idles, idles_trans, cause_after, keeps_after}
+use Rattle.recovery.proofs.lemmas.Walk.{Idles, idles_trans, cause_after, keeps_after}
 
 module _ {a b : History} {names : List (List ℕ)} (first : Asks (by_account (pages (len (present a)))) a b IsSettled (TellsOf TellsNames) (Ok names)) where
   idles_first : Met IsSettled a → Idles b a.called b.called

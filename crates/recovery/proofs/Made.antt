@@ -23,10 +23,10 @@ use Rattle.recovery.specs.Listing.{TellsOf, TellsAdded, TellsItems, Has, HasName
 use Rattle.recovery.specs.Calls.{always, GoesOn, Met, Asks}
 use Rattle.recovery.proofs.lemmas.Faults.{err_is}
 use Rattle.recovery.proofs.lemmas.Idle.{none_made, goes_none, goes_trans, grows_none}
-use Rattle.recovery.proofs.Ascending.{front, back}
-use Rattle.recovery.proofs.Markers.{IsEntry, IsKey, entries_are, keys_are}
-use Rattle.recovery.proofs.Pages.{at_index}
-use Rattle.recovery.proofs.Walk.{Idles, idles_none, idles_trans, cause_after, keeps_after}
+use Rattle.recovery.proofs.lemmas.Ascending.{front, back}
+use Rattle.recovery.proofs.lemmas.Markers.{IsEntry, IsKey, entries_are, keys_are}
+use Rattle.recovery.proofs.lemmas.Pages.{at_index}
+use Rattle.recovery.proofs.lemmas.Walk.{Idles, idles_none, idles_trans, cause_after, keeps_after}
 
 -- ---- the buckets of the state are those of the containers
 

@@ -15,9 +15,10 @@ use Rattle.upload_records.specs.Consistent.{IsConsistent}
 use Rattle.upload_records.proofs.lemmas.Buckets.{s3_state_there, bucket_made}
 use Rattle.upload_records.proofs.lemmas.Off.{same_put}
 use Rattle.upload_records.proofs.lemmas.Settled.{unsealed_of, settled_same}
-use Rattle.recovery.specs.Calls.{Becomes, LacksBucket, makes_bucket}
+use Rattle.recovery.specs.Calls.{Becomes, makes_bucket}
 use Rattle.recovery.specs.Interpret.{made_due}
-use Rattle.recovery.proofs.One.{Effect, IsWriting}
+use Rattle.recovery.specs.Purging.{MayMake}
+use Rattle.recovery.proofs.lemmas.One.{Effect, IsWritingOf}
 
 -- the request, for the bucket's own name, access control list and moment
 pub record IsPutOf (name bucket : List ℕ) (readers : ReadList) (acl : Acl) (moment : ℕ) : Type 0 where
@@ -42,10 +43,10 @@ module _ (tree : SwiftAccount) (name bucket : List ℕ) (readers : ReadList) (ac
   same_step = λ i. swift_step (PutContainer (put.named i) (put.listed i) (Some moment)) tree
 
   -- the bucket is made, and the store says so
-  put_effect : IsConsistent tree → IsSettled tree → get (s3_state tree) bucket ≡ None → Effect tree (PutContainer name readers (Some moment)) made_due (Becomes (makes_bucket bucket acl moment))
-  put_effect sound settled missing =
-      let none : get tree bucket ≡ None = no_container tree bucket put.is settled missing in
-      let done = bucket_made tree bucket acl moment put.is put.below sound (unsealed_of settled) none in
+  put_effect : IsConsistent tree → IsSettled tree → MayMake bucket tree → Effect tree (PutContainer name readers (Some moment)) made_due (Becomes (makes_bucket bucket acl moment))
+  put_effect sound settled may =
+      let none : get tree bucket ≡ None = no_container tree bucket put.is settled may.lacks in
+      let done = bucket_made tree bucket acl moment put.is put.below sound (unsealed_of settled) none may.bare in
       record {
         answer = tt;
         says = ap (λ (a : Answer). made_due a.reply) same_step ∙ put_replies (get tree bucket) bucket (readers_of acl) (Some moment) tree none;
@@ -56,10 +57,10 @@ module _ (tree : SwiftAccount) (name bucket : List ℕ) (readers : ReadList) (ac
   put_gateway : SameGateway tree (swift_step (PutContainer name readers (Some moment)) tree).tree
   put_gateway = subst (SameGateway tree) (sym (ap (λ (a : Answer). a.tree) same_step)) (same_put tree bucket put.is (readers_of acl) (Some moment))
 
--- PUT of a bucket's container makes a bucket that is missing
+-- PUT of a bucket's container makes a bucket that is missing, beside which nothing stands
 pub puts : {name bucket : List ℕ} {readers : ReadList} {acl : Acl} {moment : ℕ} → IsPutOf name bucket readers acl moment
-    → IsWriting (PutContainer name readers (Some moment)) made_due (LacksBucket bucket) (Becomes (makes_bucket bucket acl moment))
+    → IsWritingOf (PutContainer name readers (Some moment)) made_due (MayMake bucket) (Becomes (makes_bucket bucket acl moment))
 puts {name = name} {bucket = bucket} {readers = readers} {acl = acl} {moment = moment} put = record {
-  effect = λ tree sound settled missing. put_effect tree name bucket readers acl moment put sound settled missing;
+  effect = λ tree sound settled may. put_effect tree name bucket readers acl moment put sound settled may;
   settled = λ tree. settled_same (put_gateway tree name bucket readers acl moment put);
 }

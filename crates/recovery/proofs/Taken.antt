@@ -25,7 +25,7 @@ use Rattle.list_pages.proofs.lemmas.Pages.{parts, roll_rest}
 use Rattle.list_pages.proofs.lemmas.Sorted.{both, sorted_filter, rises_sorted, rises_front, with_prefix_behind}
 use Rattle.list_pages.proofs.lemmas.Turning.{page_turned, split_at_marker}
 use Rattle.recovery.specs.Keys.{objects_in, keys_with, TellsKeys, up_to, HasRolled, GoesOnWith, TellsTaken}
-use Rattle.recovery.proofs.Names.{object_name}
+use Rattle.recovery.proofs.lemmas.Names.{object_name}
 
 -- ---- the keys of a bucket are sorted
 

@@ -3,7 +3,8 @@
 use Rattle.std.specs.Prelude.{◌≡◌, ◌<◌, ◌≤◌, ◌⊎◌, ℕ, suc, ◌+◌, ◌*◌, ◌/◌, ◌%◌, ◌^◌, Bool, true, false, List, [], ◌∷◌, ◌++◌, length, take, is_some, Option, None, Some}
 use Rattle.std.specs.FinMap.{entries, get, len}
 use Rattle.std.specs.List.{filter}
-use Rattle.s3_machine.specs.declared.code.Code.TheVariants.{ServiceUnavailable}
+use Rattle.s3_machine.specs.declared.code.Code.{Code}
+use Rattle.s3_machine.specs.declared.code.Code.TheVariants.{ServiceUnavailable, InconsistentStore}
 use Rattle.s3_machine.specs.declared.operation.Label.{Label}
 use Rattle.s3_machine.specs.declared.operation.Settings.{Settings}
 use Rattle.s3_machine.specs.declared.operation.Op.{Op}
@@ -29,7 +30,7 @@ use Rattle.s3_machine.specs.declared.operation.Op.TheVariants.{
   AbortUpload,
 }
 use Rattle.s3_machine.specs.declared.operation.Reply.{Reply}
-use Rattle.s3_machine.specs.declared.operation.Reply.TheVariants.{Refused, Memory, Gone}
+use Rattle.s3_machine.specs.declared.operation.Reply.TheVariants.{Refused, Memory, Gone, Completed}
 use Rattle.s3_machine.specs.Items.{begins}
 use Rattle.s3_machine.specs.State.{Bucket, Upload, State}
 use Rattle.s3_machine.specs.Step.{S3Step}
@@ -41,6 +42,30 @@ use Rattle.upload_records.specs.Native.{s3_state}
 use Rattle.upload_records.specs.Consistent.{IsConsistent}
 use Rattle.recovery.specs.Calls.{Bound, always, by_account}
 use Rattle.recovery.specs.Stutters.{OldBefore, calm, LastFailed}
+
+-- ---- which plans it has
+
+-- whether the operation is one on uploads in parts
+abbrev pub is_upload : Op → Bool
+is_upload ListBuckets = false
+is_upload (CreateBucket bucket acl) = false
+is_upload (DeleteBucket bucket) = false
+is_upload (HeadBucket bucket) = false
+is_upload (GetLocation bucket) = false
+is_upload (GetBucketAcl bucket) = false
+is_upload (PutBucketAcl bucket acl) = false
+is_upload (ListObjects bucket asked) = false
+is_upload (PutObject bucket key acl content_type meta body) = false
+is_upload (GetObject bucket key range conditions) = false
+is_upload (HeadObject bucket key range conditions) = false
+is_upload (DeleteObject bucket key) = false
+is_upload (GetObjectAcl bucket key) = false
+is_upload (ListUploads bucket prefix key_marker id_marker max) = true
+is_upload (CreateUpload bucket key acl content_type meta) = true
+is_upload (UploadPart bucket key id number body) = true
+is_upload (ListParts bucket key id marker max) = true
+is_upload (CompleteUpload bucket key id list) = true
+is_upload (AbortUpload bucket key id) = true
 
 -- ---- the steps of an operation
 
@@ -185,8 +210,15 @@ abbrev pub upload_at : Option Bucket → List ℕ → Option Upload
 upload_at None id = None
 upload_at (Some b) id = get b.uploads id
 
+-- the calls from p to q clear the segments that are named by the id away, or the last of them failed
+pub record ClearsOrFails (bucket id : List ℕ) (h : History) (p q : ℕ) : Type 0 where
+  -- where no call failed, none is left beside the bucket
+  pub cleared : FaultFree h p q → (name : List ℕ) → IsNamedBy id name → get (files (h.account_at q) (segments_name bucket)) name ≡ None
+  -- no call follows one that failed
+  pub last : (h.faults_at q ≡ h.faults_at p) ⊎ LastFailed h p q
+
 -- what is asked of the account beside the state, by the operation: nothing; that an upload which it opens in the bucket has the
--- first free id; or that, once it is gone and no call failed, no segment of the upload is left beside the bucket
+-- first free id; or that, once it is gone, its segments are cleared away, or the last call failed
 pub data Beside : Type 0 where
   nothing_beside : Beside
   opens_in : List ℕ → Beside
@@ -207,19 +239,18 @@ beside_of (HeadObject bucket key range conditions) = nothing_beside
 beside_of (DeleteObject bucket key) = nothing_beside
 beside_of (GetObjectAcl bucket key) = nothing_beside
 beside_of (ListUploads bucket prefix key_marker id_marker max) = nothing_beside
-beside_of (CreateUpload bucket key acl content_type meta) = nothing_beside
+beside_of (CreateUpload bucket key acl content_type meta) = opens_in bucket
 beside_of (UploadPart bucket key id number body) = nothing_beside
 beside_of (ListParts bucket key id marker max) = nothing_beside
 beside_of (CompleteUpload bucket key id list) = nothing_beside
-beside_of (AbortUpload bucket key id) = nothing_beside
+beside_of (AbortUpload bucket key id) = clears bucket id
 
 -- the calls from p to q, by which an operation was answered, leave the account so
 abbrev pub SaysBeside : Beside → Label → History → ℕ → ℕ → Reply → Type 0
 SaysBeside nothing_beside label h p q reply = Unit {0}
 SaysBeside (opens_in bucket) label h p q reply = (id : List ℕ) → upload_at (get (s3_state (h.account_at p)) bucket) id ≡ None
     → is_some (upload_at (get (s3_state (h.account_at q)) bucket) id) ≡ true → IsFirstFree (h.account_at p) bucket label.draw id
-SaysBeside (clears bucket id) label h p q reply = reply ≡ Gone → FaultFree h p q
-    → (name : List ℕ) → IsNamedBy id name → get (files (h.account_at q) (segments_name bucket)) name ≡ None
+SaysBeside (clears bucket id) label h p q reply = reply ≡ Gone → ClearsOrFails bucket id h p q
 
 -- ---- what the laws say
 
@@ -255,7 +286,7 @@ named_by tree bucket id = length (filter (λ entry. begins (id ++ (47 ∷ [])) e
 -- the greatest number of calls of an operation, by the account as it began
 abbrev pub most_calls : Op → SwiftAccount → Bound
 most_calls ListBuckets tree = by_account (pages (len tree) + len (s3_state tree))
-most_calls (CreateBucket bucket acl) tree = always 2
+most_calls (CreateBucket bucket acl) tree = by_account (4 + (pages (records_of tree bucket) + records_of tree bucket) + (pages (segments_of tree bucket) + segments_of tree bucket))
 most_calls (DeleteBucket bucket) tree = always 1
 most_calls (HeadBucket bucket) tree = always 1
 most_calls (GetLocation bucket) tree = always 1
@@ -274,27 +305,43 @@ most_calls (ListParts bucket key id marker max) tree = by_account (2 + pages (na
 most_calls (CompleteUpload bucket key id list) tree = by_account (6 + pages (named_by tree bucket id))
 most_calls (AbortUpload bucket key id) tree = by_account (3 + pages (named_by tree bucket id) + named_by tree bucket id)
 
--- whether no call follows the one that commits, so that none fails under a reply of the service
-abbrev pub ends_by_commit : Op → Bool
-ends_by_commit ListBuckets = true
-ends_by_commit (CreateBucket bucket acl) = true
-ends_by_commit (DeleteBucket bucket) = true
-ends_by_commit (HeadBucket bucket) = true
-ends_by_commit (GetLocation bucket) = true
-ends_by_commit (GetBucketAcl bucket) = true
-ends_by_commit (PutBucketAcl bucket acl) = true
-ends_by_commit (ListObjects bucket asked) = true
-ends_by_commit (PutObject bucket key acl content_type meta body) = true
-ends_by_commit (GetObject bucket key range conditions) = true
-ends_by_commit (HeadObject bucket key range conditions) = true
-ends_by_commit (DeleteObject bucket key) = true
-ends_by_commit (GetObjectAcl bucket key) = true
-ends_by_commit (ListUploads bucket prefix key_marker id_marker max) = true
-ends_by_commit (CreateUpload bucket key acl content_type meta) = true
-ends_by_commit (UploadPart bucket key id number body) = true
-ends_by_commit (ListParts bucket key id marker max) = true
-ends_by_commit (CompleteUpload bucket key id list) = false
-ends_by_commit (AbortUpload bucket key id) = false
+-- whether no call failed under a reply of the service: of all but a completion and an abort that are done, whose commit other calls
+-- follow
+abbrev pub ends_by_commit : Op → Reply → Bool
+ends_by_commit ListBuckets reply = true
+ends_by_commit (CreateBucket bucket acl) reply = true
+ends_by_commit (DeleteBucket bucket) reply = true
+ends_by_commit (HeadBucket bucket) reply = true
+ends_by_commit (GetLocation bucket) reply = true
+ends_by_commit (GetBucketAcl bucket) reply = true
+ends_by_commit (PutBucketAcl bucket acl) reply = true
+ends_by_commit (ListObjects bucket asked) reply = true
+ends_by_commit (PutObject bucket key acl content_type meta body) reply = true
+ends_by_commit (GetObject bucket key range conditions) reply = true
+ends_by_commit (HeadObject bucket key range conditions) reply = true
+ends_by_commit (DeleteObject bucket key) reply = true
+ends_by_commit (GetObjectAcl bucket key) reply = true
+ends_by_commit (ListUploads bucket prefix key_marker id_marker max) reply = true
+ends_by_commit (CreateUpload bucket key acl content_type meta) reply = true
+ends_by_commit (UploadPart bucket key id number body) reply = true
+ends_by_commit (ListParts bucket key id marker max) reply = true
+ends_by_commit (CompleteUpload bucket key id list) (Completed in_bucket under etag) = false
+ends_by_commit (CompleteUpload bucket key id list) reply = true
+ends_by_commit (AbortUpload bucket key id) Gone = false
+ends_by_commit (AbortUpload bucket key id) reply = true
+
+-- a code that speaks of the store below
+abbrev pub is_of_store : Code → Bool
+is_of_store ServiceUnavailable = true
+is_of_store InconsistentStore = true
+is_of_store code = false
+
+-- whether a completion may be sealed after it was answered so: where it was done, or where it broke off
+abbrev pub may_be_sealed : Reply → Bool
+may_be_sealed (Completed bucket key etag) = true
+may_be_sealed Memory = true
+may_be_sealed (Refused code) = is_of_store code
+may_be_sealed reply = false
 
 -- whether a completion may be sealed after the operation, by its reply: after CompleteUpload alone, which seals it
 abbrev pub may_leave_unsure : Op → Reply → Bool
@@ -315,7 +362,7 @@ may_leave_unsure (ListUploads bucket prefix key_marker id_marker max) reply = fa
 may_leave_unsure (CreateUpload bucket key acl content_type meta) reply = false
 may_leave_unsure (UploadPart bucket key id number body) reply = false
 may_leave_unsure (ListParts bucket key id marker max) reply = false
-may_leave_unsure (CompleteUpload bucket key id list) reply = true
+may_leave_unsure (CompleteUpload bucket key id list) reply = may_be_sealed reply
 may_leave_unsure (AbortUpload bucket key id) reply = false
 
 -- the greatest number of calls by which a store is settled, by the account as it began

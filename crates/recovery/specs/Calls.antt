@@ -14,6 +14,8 @@ use Rattle.swift_calls.specs.Bodies.{ranged}
 use Rattle.swift_calls.specs.Bodies as bodies
 use Rattle.swift_calls.specs.History.{History, present, Extends}
 use Rattle.swift_calls.specs.declared.heads.StoredHead.{StoredHead}
+use Rattle.swift_marks.specs.declared.tag.Tag.{Tag}
+use Rattle.swift_marks.specs.Tag.{read_tag}
 use Rattle.upload_records.specs.Native.{object_at, IsSettled, s3_state}
 use Rattle.upload_records.specs.Consistent.{IsConsistent}
 use Rattle.recovery.specs.declared.bucket.Dropped.{Dropped}
@@ -21,6 +23,7 @@ use Rattle.recovery.specs.declared.bucket.Dropped.TheVariants.{Gone, Full, Missi
 use Rattle.recovery.specs.declared.fault.PlanFault.{PlanFault}
 use Rattle.recovery.specs.declared.fault.PlanFault.TheVariants.{Failed, Memory, Inconsistent}
 use Rattle.recovery.specs.Fault.{CausesFault}
+use Rattle.recovery.specs.Interpret.{agrees}
 use Rattle.recovery.specs.Stutters.{Stutters, LastFailed}
 
 -- calls were made, and the history went on. Where the store is observable and sure, its count of faults stayed as it was at
@@ -123,6 +126,12 @@ pub record Changes {T : Type 0} (most : Bound) (old new : History) (given : Swif
   pub effect : Met given old → Writes new old.called new.called S result
   pub settled : IsTrue old.observable → IsSettled (present old) → IsSettled (present new)
 
+-- calls of which the last may change the state, after which this holds of the account where they were answered
+pub record ChangesTo {T : Type 0} (most : Bound) (old new : History) (given : SwiftAccount → Type 0)
+    (S : T → State → State → Type 0) (Q : SwiftAccount → Type 0) (result : Result T PlanFault) : Type 0 where
+  pub changes : Changes most old new given S result
+  pub leaves : Met given old → IfOk result (λ told. Q (present new))
+
 -- ---- what is told, and what is changed
 
 abbrev pub acl_of_bucket : Bucket → Acl
@@ -147,10 +156,16 @@ TellsBytes bucket key range state told = option_and_then (ranged range) (option_
 abbrev pub HasObject : List ℕ → List ℕ → List ℕ → ℕ → State → Type 0
 HasObject bucket key etag size state = (head : ObjectHead) × TellsObject bucket key state (Some head) × (head.etag ≡ etag) × (head.size ≡ size)
 
--- an object of a container is there, with this ETag and this size
-abbrev pub IsStoredAs : SwiftAccount → List ℕ → List ℕ → List ℕ → ℕ → Type 0
-IsStoredAs tree container name etag size =
-    (head : StoredHead) × (option_map bodies.head_of (find_object tree container name) ≡ Some head) × (head.etag ≡ etag) × (head.size ≡ size)
+-- the file of an object is there: it is what its tag says, of an object with this ETag and this size. One that was put in one
+-- piece has the ETag itself
+pub record IsStoredAs (tree : SwiftAccount) (container name etag : List ℕ) (size : ℕ) : Type 0 where
+  pub head : StoredHead
+  pub tag : Tag
+  pub there : option_map bodies.head_of (find_object tree container name) ≡ Some head
+  pub tagged : read_tag head.content_type ≡ Some tag
+  pub as_tagged : agrees head tag ≡ true
+  pub has_etag : tag.etag ≡ etag
+  pub has_size : head.size ≡ size
 
 -- where the store is observable, bytes are given of an object with this ETag and this size alone, whether its account is
 -- consistent or not

@@ -1,6 +1,6 @@
 -- What an answer of the store comes to, by the call that it answers. Over a consistent account no other answer comes than
 -- one that tells of the state. Source: Object Storage API v1 and this profile.
-use Rattle.std.specs.Prelude.{◌≡◌, ◌⊎◌, ◌<◌, ◌==◌, ◌^◌, ℕ, Bool, true, false, cond, if◌then◌else◌, not, ◌&&◌, nat_le, List, bytes_eq, Option, None, Some, is_none, Result, Ok, Err}
+use Rattle.std.specs.Prelude.{◌≡◌, ◌⊎◌, ◌<◌, ◌==◌, ◌^◌, ℕ, Bool, true, false, cond, if◌then◌else◌, not, ◌&&◌, ◌||◌, nat_le, nat_lt, List, length, bytes_eq, Option, None, Some, is_none, Result, Ok, Err}
 use Rattle.gate_base.specs.Told.{moment_limit}
 use Rattle.gate_base.specs.declared.page.Pair.{Pair}
 use Rattle.s3_names.specs.declared.acl.Acl.{Acl}
@@ -31,10 +31,19 @@ bucket_due (Readers readers (Some created)) = Ok (Some (acl_of readers))
 bucket_due NotFound = Ok None
 bucket_due _ = Err fault.Inconsistent
 
--- whether a file is what its tag says that was put in one piece: of no upload, with bytes of its own, as many as a body
--- may have, and with their ETag
+-- whether a file is what its tag says that was put in one piece: with bytes of its own, as many as a body may have, and with
+-- their ETag
+abbrev pub agrees_whole : StoredHead → Tag → Bool
+agrees_whole head tag = not head.manifest && bytes_eq head.etag tag.etag && nat_le head.size most_body_bytes
+
+-- whether it is what its tag says that was completed from parts: with an ETag of parts, and a list of segments where it has a
+-- byte. Numbers hold its size
+abbrev pub agrees_parts : StoredHead → Tag → Bool
+agrees_parts head tag = nat_lt 32 (length tag.etag) && (head.manifest || (head.size == 0)) && nat_lt head.size (2 ^ 63)
+
+-- whether a file is what its tag says
 abbrev pub agrees : StoredHead → Tag → Bool
-agrees head tag = is_none tag.id && not head.manifest && bytes_eq head.etag tag.etag && nat_le head.size most_body_bytes
+agrees head tag = cond (is_none tag.id) (agrees_whole head tag) (agrees_parts head tag)
 
 -- the head of an object, by what its tag and its pack read as
 abbrev pub head_by : StoredHead → Option Tag → Option (List Pair) → Option ObjectHead
@@ -62,11 +71,15 @@ head_due (Head head) = known (head_from head)
 head_due NotFound = Ok None
 head_due _ = Err fault.Inconsistent
 
--- whether a file has this ETag and this size
-abbrev pub is_unchanged : List ℕ → ℕ → StoredHead → Bool
-is_unchanged etag size head = bytes_eq head.etag etag && (head.size == size)
+-- whether a file with this tag is what the tag says, of an object with this ETag and this size
+abbrev pub unchanged_by : List ℕ → ℕ → StoredHead → Option Tag → Bool
+unchanged_by etag size head None = false
+unchanged_by etag size head (Some tag) = agrees head tag && bytes_eq tag.etag etag && (head.size == size)
 
--- GET of an object's file, or of a range of it, of which it may have no byte: HEAD told this ETag and this size of the file
+abbrev pub is_unchanged : List ℕ → ℕ → StoredHead → Bool
+is_unchanged etag size head = unchanged_by etag size head (read_tag head.content_type)
+
+-- GET of an object's file, or of a range of it, of which it may have no byte: HEAD told this ETag and this size of the object
 abbrev pub bytes_due : List ℕ → ℕ → SwiftReply → Result (Option (List ℕ)) PlanFault
 bytes_due etag size (Bytes head body) = if is_unchanged etag size head then Ok (Some body) else Err fault.Inconsistent
 bytes_due etag size Unsatisfiable = Ok None

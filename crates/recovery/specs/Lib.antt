@@ -1,9 +1,12 @@
 pub mod Answers
 pub mod Calls
 pub mod Fault
+pub mod FilePages
 pub mod Interpret
 pub mod Keys
 pub mod Lent
 pub mod Listing
+pub mod Plan
+pub mod Purging
 pub mod Settling
 pub mod Stutters

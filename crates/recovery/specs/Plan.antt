@@ -56,7 +56,7 @@ CausesEnd false before now end = end ≡ Err fault.Failed → Rose before now
 pub record Plans (most : Bound) (old new : History) (settings : Settings) (given : SwiftAccount → Type 0)
     (op : Op) (label : Label) (after : Known) (end : Result Reply PlanFault) : Type 0 where
   pub grows : Grows most given old new
-  pub cause : CausesEnd (ends_by_commit op) old.faults new.faults end
+  pub cause : CausesEnd (ends_by_commit op (reply_of end)) old.faults new.faults end
   pub own : IfOk end IsOwnReply
   pub effect : Met given old → EndsPlan settings new old.called new.called op label end
   pub knows : IsTrue old.observable → IsSettled (present old) → IsKnown after (present new)
@@ -67,7 +67,7 @@ pub record Answered (most : Bound) (old new : History) (settings : Settings) (op
   pub showable : IsShowable reply
   pub unavailable : reply ≡ Refused ServiceUnavailable → Rose old.faults new.faults
   pub unsure : known ≡ Unsure → may_leave_unsure op reply ≡ true
-  pub steady : ends_by_commit op ≡ true → reply ≢ Refused ServiceUnavailable → new.faults ≡ old.faults
+  pub steady : ends_by_commit op reply ≡ true → reply ≢ Refused ServiceUnavailable → new.faults ≡ old.faults
   pub effect : Met IsSettled old → (t : ℕ) × (takes : ℕ) × Answers settings new old.called t new.called op label takes reply
   pub beside : Met IsSettled old → SaysBeside (beside_of op) label new old.called new.called reply
   pub consistent : Met IsSettled old → reply ≢ Refused InconsistentStore

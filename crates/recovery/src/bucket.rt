@@ -3,8 +3,9 @@ ghost use Rattle.std.specs.Prelude.{◌≡◌, ◌<◌, true};
 ghost use Rattle.gate_base.specs.Told.{moment_limit};
 ghost use Rattle.s3_names.specs.Bucket.{is_bucket};
 ghost use Rattle.upload_records.specs.Native.{IsSettled};
-ghost use Rattle.recovery.specs.Calls.{always, Any, Asks, Becomes, Changes, DropsBucket, Given, LacksBucket, SetsAcl, Tells, TellsBucket, makes_bucket};
+ghost use Rattle.recovery.specs.Calls.{always, Any, Asks, Becomes, Changes, DropsBucket, Given, GivenOf, SetsAcl, Tells, TellsBucket, makes_bucket};
 ghost use Rattle.recovery.specs.Lent.{Stays};
+ghost use Rattle.recovery.specs.Purging.{MayMake};
 
 use crate::interpret::{bucket_in, dropped_in, made_in, set_in};
 use crate::state::ask;
@@ -18,7 +19,7 @@ use upload_records::readers;
 /// Storage API v1, "Show container metadata"). At most one call, and the S3 state stays. Failed comes only where the
 /// store's count of faults rose; Memory where memory ran out, before the call or to read its answer; Inconsistent
 /// never over an observable consistent account.
-#[tactic(auto, using(crate::proofs::Names::container_name))]
+#[tactic(auto, using(crate::proofs::lemmas::Names::container_name))]
 pub fn head_bucket<W: Swift>(
     state: &mut Settled<'_, W>,
     bucket: &Bytes,
@@ -36,12 +37,12 @@ pub fn head_bucket<W: Swift>(
     bucket_in(&reply)
 }
 
-/// Makes a bucket that isn't there, by PUT of its container (Object Storage API v1, "Create container"): the one call
-/// that commits. At most one call. The moment is in seconds since the beginning of 1970, before the year 10000. After Ok
+/// Makes a bucket that isn't there, and beside which both containers are there without a file, by PUT of its container
+/// (Object Storage API v1, "Create container"): the one call that commits. At most one call. The moment is in seconds since the beginning of 1970, before the year 10000. After Ok
 /// the S3 state has the new bucket. After Failed, which comes only where the store's count of faults rose, and after
-/// Memory the state is the old one or the new one. Inconsistent never comes over an observable consistent account, on
-/// which the bucket is missing.
-#[tactic(auto, using(crate::proofs::Names::container_name))]
+/// Memory the state is the old one or the new one. Inconsistent never comes over an observable consistent account of
+/// which this is so.
+#[tactic(auto, using(crate::proofs::lemmas::Names::container_name))]
 pub fn make_bucket<W: Swift>(
     state: &mut Settled<'_, W>,
     bucket: Bytes,
@@ -51,7 +52,7 @@ pub fn make_bucket<W: Swift>(
     requires name { is_bucket bucket ≡ true }
     requires moment { moment < moment_limit }
     ensures stays { Stays state.old state.new }
-    ensures changes { Changes (always 1) (W.history state.old.store.now) (W.history state.new.store.now) (Given (LacksBucket bucket)) (Becomes (makes_bucket bucket acl moment)) result }
+    ensures changes { Changes (always 1) (W.history state.old.store.now) (W.history state.new.store.now) (GivenOf (MayMake bucket)) (Becomes (makes_bucket bucket acl moment)) result }
 {
     let reply = ask(
         state.store,
@@ -79,7 +80,7 @@ pub enum Dropped {
 /// call that commits. At most one call. After Ok the S3 state is as the answer says. After Failed, which comes only where
 /// the store's count of faults rose, and after Memory the state is the old one or one of those that an answer tells.
 /// Inconsistent never comes over an observable consistent account.
-#[tactic(auto, using(crate::proofs::Names::container_name))]
+#[tactic(auto, using(crate::proofs::lemmas::Names::container_name))]
 pub fn drop_bucket<W: Swift>(
     state: &mut Settled<'_, W>,
     bucket: Bytes,
@@ -98,7 +99,7 @@ pub fn drop_bucket<W: Swift>(
 /// Replaces the access control list of a bucket, by POST of its container (Object Storage API v1, "Create, update, or
 /// delete container metadata"): the one call that commits. At most one call. After Ok the answer says whether the bucket
 /// is there, and if so the S3 state has its new list. The faults are those of [`drop_bucket`].
-#[tactic(auto, using(crate::proofs::Names::container_name))]
+#[tactic(auto, using(crate::proofs::lemmas::Names::container_name))]
 pub fn set_acl<W: Swift>(
     state: &mut Settled<'_, W>,
     bucket: Bytes,

@@ -1,6 +1,6 @@
 //! What an answer of the store comes to.
 ghost use Rattle.std.specs.Prelude.{◌≡◌, ◌≢◌, Err, IfOk};
-ghost use Rattle.recovery.specs.Interpret.{Gives, agrees, bucket_due, bytes_due, dropped_due, gone_due, head_due, head_from, known, IsShownHead, made_due, set_due, stored_due};
+ghost use Rattle.recovery.specs.Interpret.{Gives, agrees, agrees_parts, agrees_whole, bucket_due, bytes_due, dropped_due, gone_due, head_due, head_from, known, IsShownHead, made_due, set_due, stored_due};
 ghost use Rattle.swift_calls.specs.declared.calls.SwiftReply.TheVariants as answer;
 ghost use Rattle.recovery.specs.declared.fault.PlanFault.TheVariants as fault;
 
@@ -12,6 +12,9 @@ use std::alloc::Global;
 use swift_calls::{StoredHead, SwiftReply};
 use swift_marks::{Tag, unpack};
 use upload_records::acl;
+
+/// Each object has fewer bytes.
+const SIZE_LIMIT: u64 = 1 << 63;
 
 /// The answer to HEAD of a bucket's container, which has the moment at which the bucket was made.
 pub(crate) fn bucket_in(reply: &SwiftReply) -> Result<Option<Acl>, PlanFault>
@@ -63,45 +66,64 @@ fn read_head(alloc: Global, head: &StoredHead) -> Result<Option<ObjectHead>, Pla
     }))
 }
 
-/// The file is what its tag says that was put in one piece: of no upload, with bytes of its own, as many as a body may
-/// have, and with their ETag.
+/// The file is what its tag says: put in one piece, or of an upload.
 fn agrees(head: &StoredHead, tag: &Tag) -> bool
     ensures { result ≡ agrees head.now tag.now }
 {
-    tag.id.is_none()
-        && !head.manifest
-        && head.etag.as_slice() == tag.etag.as_slice()
-        && head.size <= MOST_BODY_BYTES
+    if tag.id.is_none() {
+        agrees_whole(head, tag)
+    } else {
+        agrees_parts(head, tag)
+    }
+}
+
+/// The file is what its tag says that was put in one piece: with bytes of its own, as many as a body may have, and with
+/// their ETag.
+fn agrees_whole(head: &StoredHead, tag: &Tag) -> bool
+    ensures { result ≡ agrees_whole head.now tag.now }
+{
+    !head.manifest && head.etag.as_slice() == tag.etag.as_slice() && head.size <= MOST_BODY_BYTES
+}
+
+/// The file is what its tag says that was completed from parts: with an ETag of parts, and a list of segments where it has
+/// a byte.
+fn agrees_parts(head: &StoredHead, tag: &Tag) -> bool
+    ensures { result ≡ agrees_parts head.now tag.now }
+{
+    tag.etag.len() > 32 && (head.manifest || head.size == 0) && head.size < SIZE_LIMIT
 }
 
 /// The answer to GET of an object's file, or of a range of it, of which it may have no byte. HEAD told this ETag and this
-/// size of the file.
+/// size of the object.
 pub(crate) fn bytes_in(
+    alloc: Global,
     reply: SwiftReply,
     etag: &[u8],
     size: u64,
 ) -> Result<Option<Bytes>, PlanFault>
-    ensures due { result ≡ bytes_due etag.now size reply }
+    ensures due { Gives result (bytes_due etag.now size reply) }
     ensures own { result ≢ Err fault.Failed }
 {
     match reply {
-        SwiftReply::Bytes { head, body } => unchanged(&head, body, etag, size),
+        SwiftReply::Bytes { head, body } => unchanged(alloc, &head, body, etag, size),
         SwiftReply::Unsatisfiable | SwiftReply::NotFound => Ok(None),
         _ => Err(PlanFault::Inconsistent),
     }
 }
 
-/// The bytes that a GET told with this head, where HEAD told the same ETag and the same size.
+/// The bytes that a GET told with this head, where the file is what its tag says, with the ETag and the size that HEAD told.
 fn unchanged(
+    alloc: Global,
     head: &StoredHead,
     body: Bytes,
     etag: &[u8],
     size: u64,
 ) -> Result<Option<Bytes>, PlanFault>
-    ensures due { result ≡ bytes_due etag.now size (answer.Bytes head.now body) }
+    ensures due { Gives result (bytes_due etag.now size (answer.Bytes head.now body)) }
     ensures own { result ≢ Err fault.Failed }
 {
-    if head.etag.as_slice() != etag || head.size != size {
+    let tag = Tag::read(alloc, head.content_type.as_slice())?;
+    if !agrees(head, &tag) || tag.etag.as_slice() != etag || head.size != size {
         return Err(PlanFault::Inconsistent);
     }
     Ok(Some(body))

@@ -2,19 +2,25 @@
 //! of a whole operation may amount to.
 #![tactic(auto)]
 
+mod beside;
 mod bucket;
 mod fault;
+mod file_pages;
 mod interpret;
 mod keys;
 mod laws;
 mod listing;
 mod object;
+mod plans;
 mod state;
 
+pub use beside::{make_beside, purge};
 pub use bucket::{Dropped, drop_bucket, head_bucket, make_bucket, set_acl};
 pub use fault::PlanFault;
+pub use file_pages::{file_page, next_marker};
 pub use keys::list_objects;
 pub use laws::{law_answered_fault_free, law_never_unavailable};
 pub use listing::list_buckets;
 pub use object::{delete_object, get_object, head_object, put_object};
+pub use plans::is_upload;
 pub use state::{Known, SettleFault, Settled, Unsure};

@@ -143,7 +143,7 @@ fn item<W: Swift>(state: &mut Settled<'_, W>, bucket: &Bytes) -> Result<BucketIt
     Ok(BucketItem { name, created })
 }
 
-#[tactic(auto, using(crate::proofs::Names::container_name))]
+#[tactic(auto, using(crate::proofs::lemmas::Names::container_name))]
 fn created<W: Swift>(state: &mut Settled<'_, W>, bucket: &Bytes) -> Result<u64, PlanFault>
     requires { is_bucket bucket.now ≡ true }
     ensures stays { Stays state.old state.new }

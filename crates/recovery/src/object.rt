@@ -28,7 +28,7 @@ use swift_marks::{Tag, pack};
 /// metadata"). At most one call, and the S3 state stays. Failed comes only where the store's count of faults rose;
 /// Memory where memory ran out, before the call, to read its answer or to read the marks of the file; Inconsistent
 /// never over an observable consistent account.
-#[tactic(auto, using(crate::proofs::Names::container_name, crate::proofs::Names::object_name))]
+#[tactic(auto, using(crate::proofs::lemmas::Names::container_name, crate::proofs::lemmas::Names::object_name))]
 pub fn head_object<W: Swift>(
     alloc: Global,
     state: &mut Settled<'_, W>,
@@ -51,10 +51,11 @@ pub fn head_object<W: Swift>(
 /// metadata"), of which HEAD told this ETag and this size in bytes. A range has the number of its first byte and that of its
 /// last, which may be past the end of the object. `None` where the object is missing, or has no byte of the range. At most
 /// one call, and the S3 state stays. Failed comes only where the store's count of faults rose; Memory where memory ran out;
-/// Inconsistent where the answer has another ETag or another size, and never over an observable consistent account whose
-/// object has these.
-#[tactic(auto, using(crate::proofs::Names::container_name, crate::proofs::Names::object_name))]
+/// Inconsistent where the file that answers has no tag, isn't what its tag says, or has another ETag in it or another size,
+/// and never over an observable consistent account whose object has these.
+#[tactic(auto, using(crate::proofs::lemmas::Names::container_name, crate::proofs::lemmas::Names::object_name))]
 pub fn get_object<W: Swift>(
+    alloc: Global,
     state: &mut Settled<'_, W>,
     bucket: Bytes,
     key: Bytes,
@@ -77,7 +78,7 @@ pub fn get_object<W: Swift>(
             range,
         },
     )?;
-    bytes_in(reply, etag, size)
+    bytes_in(alloc, reply, etag, size)
 }
 
 /// Puts an object into a bucket that is there, by PUT of its file (Object Storage API v1, "Create or replace object"):
@@ -110,7 +111,7 @@ pub fn put_object<W: Swift>(
 }
 
 /// The PUT of an object's file, whose body has this ETag.
-#[tactic(auto, using(crate::proofs::Fits::put_fits, crate::proofs::Fits::tag_has_text))]
+#[tactic(auto, using(crate::proofs::lemmas::Fits::put_fits, crate::proofs::lemmas::Fits::tag_has_text))]
 fn put_request(
     alloc: Global,
     bucket: Bytes,
@@ -159,7 +160,7 @@ fn tag_text(alloc: Global, content_type: Bytes, etag: &[u8], moment: u64) -> Res
 /// commits. At most one call. After Ok the S3 state has no object under the key; also one that wasn't there is gone.
 /// After Failed, which comes only where the store's count of faults rose, and after Memory the state is the old one or
 /// the new one. Inconsistent never comes over an observable consistent account.
-#[tactic(auto, using(crate::proofs::Names::container_name, crate::proofs::Names::object_name))]
+#[tactic(auto, using(crate::proofs::lemmas::Names::container_name, crate::proofs::lemmas::Names::object_name))]
 pub fn delete_object<W: Swift>(
     state: &mut Settled<'_, W>,
     bucket: Bytes,

@@ -1,13 +1,22 @@
 //! The store as an operation finds it: a completion may be sealed on it, or none is.
-ghost use Rattle.std.specs.Prelude.{◌≡◌};
-ghost use Rattle.swift_calls.specs.History.{Calls};
+ghost use Rattle.std.specs.Prelude.{◌≡◌, ◌≢◌, map, IfOk, IsTrue, Ok, Err};
+ghost use Rattle.list_pages.specs.Listing.{name_in, page_request, AsksPage, IsPageOf};
+ghost use Rattle.swift_calls.specs.History.{present, Calls};
 ghost use Rattle.swift_calls.specs.Step.{Fit};
-ghost use Rattle.recovery.specs.Settling.{Settles};
+ghost use Rattle.upload_records.specs.Native.{IsSettled};
+ghost use Rattle.recovery.specs.Calls.{always, Any, Asks};
+ghost use Rattle.recovery.specs.Lent.{Stays};
+ghost use Rattle.recovery.specs.Settling.{absent_due, IsNamedFault, MakesItsOwn, Settles, SettlesIt};
+ghost use Rattle.recovery.specs.declared.fault.PlanFault.TheVariants as fault;
 
-use gate_base::Bytes;
+use crate::PlanFault;
+use crate::beside::placed_in;
+use gate_base::{Bytes, List};
+use list_pages::{PageFault, names};
 use s3_machine::Settings;
 use std::alloc::Global;
-use swift_calls::{Swift, SwiftFault, SwiftReply, SwiftRequest};
+use swift_calls::{NameItem, ReadList, Swift, SwiftFault, SwiftReply, SwiftRequest};
+use upload_records::{gateway_container, sealed_name};
 
 /// What is known of a store between two operations.
 #[derive(Clone, Copy, Debug, PartialEq, Eq)]
@@ -60,17 +69,19 @@ impl<'a, W: Swift> Unsure<'a, W> {
         }
     }
 
-    /// Settles the store, so that it can be held as [`Settled`]: a sealed completion is finished, by at most five calls,
-    /// and the S3 state stays. Failed comes only where the store's count of faults rose; Memory where memory ran out;
-    /// Inconsistent never over an observable consistent account. After a fault a completion may still be sealed.
-    ///
-    /// Nothing that is built seals a completion, so it makes no call and is Ok.
+    /// Settles the store, so that it can be held as [`Settled`], by two calls: the gateway's own container is made, and what
+    /// is sealed there is looked for. A completion that is found can't be finished by this version: that is Inconsistent, of
+    /// the file that it stands in. The S3 state stays. Failed comes only where the store's count of faults rose; Memory where
+    /// memory ran out; Inconsistent never over an observable consistent account. After a fault a completion may be sealed.
     pub fn settle(&mut self) -> Result<(), SettleFault>
         ensures same { self.new.store.ghost_name ≡ self.old.store.ghost_name }
         ensures settings { self.new.settings.now ≡ self.old.settings.now }
         ensures settles { Settles (W.history self.old.store.now) (W.history self.new.store.now) result }
     {
-        Ok(())
+        match settle_store(self.alloc, self.store) {
+            Ok(()) => Ok(()),
+            Err(fault) => Err(settle_fault(self.alloc, fault)),
+        }
     }
 
     /// The store.
@@ -121,6 +132,31 @@ impl<'a, W: Swift> Settled<'a, W> {
         self.settings
     }
 
+    /// One call of the store, for a plan that makes its own. The request is given away, as for [`ask`].
+    pub fn call(&mut self, request: SwiftRequest) -> Result<SwiftReply, SwiftFault>
+        requires { Fit request }
+        ensures stays { Stays self.old self.new }
+        ensures calls { Calls (W.history self.old.store.now) (W.history self.new.store.now) request result }
+    {
+        ask(self.store, request)
+    }
+
+    /// One page of the names of a container, for a plan that makes its own calls ([`list_pages::names`]).
+    pub fn names(
+        &mut self,
+        alloc: Global,
+        container: &[u8],
+        prefix: &[u8],
+        marker: &[u8],
+    ) -> Result<List<NameItem>, PageFault>
+        requires { Fit (page_request container.now prefix.now marker.now) }
+        ensures stays { Stays self.old self.new }
+        ensures asks { AsksPage (W.history self.old.store.now) (W.history self.new.store.now) container.now prefix.now marker.now result }
+        ensures page { IfOk result (λ items. IsPageOf prefix.now marker.now (map name_in items)) }
+    {
+        names(alloc, self.store, container, prefix, marker)
+    }
+
     /// The store, given back.
     pub fn release(self) -> &'a mut W
         ensures same { result.ghost_name ≡ self.entry.store.ghost_name }
@@ -128,6 +164,76 @@ impl<'a, W: Swift> Settled<'a, W> {
     {
         let Settled { store, .. } = self;
         store
+    }
+}
+
+/// Makes the gateway's own container, and looks that nothing is sealed there.
+fn settle_store<W: Swift>(alloc: Global, store: &mut W) -> Result<(), PlanFault>
+    ensures asks { Asks (always 5) (W.history store.old) (W.history store.new) Any SettlesIt result }
+    ensures done { IsTrue (W.history store.old).observable → result ≡ Ok tt → IsSettled (present (W.history store.new)) }
+{
+    put_gateway(alloc, store)?;
+    look_sealed(alloc, store)
+}
+
+/// Makes the gateway's own container, which may be there, by PUT of it (Object Storage API v1, "Create container").
+#[tactic(auto, using(crate::proofs::Settling::gateway_is_container))]
+fn put_gateway<W: Swift>(alloc: Global, store: &mut W) -> Result<(), PlanFault>
+    ensures asks { Asks (always 1) (W.history store.old) (W.history store.new) Any MakesItsOwn result }
+{
+    let reply = ask(
+        store,
+        SwiftRequest::PutContainer {
+            container: gateway_container(alloc)?,
+            readers: ReadList::Nobody,
+            created: None,
+        },
+    )?;
+    placed_in(&reply)
+}
+
+/// Looks that nothing is sealed in the gateway's own container, by GET of what would be (Object Storage API v1, "Get object
+/// content and metadata").
+#[tactic(auto, using(crate::proofs::Settling::gateway_is_container, crate::proofs::Settling::sealed_is_object))]
+fn look_sealed<W: Swift>(alloc: Global, store: &mut W) -> Result<(), PlanFault>
+    ensures asks { Asks (always 1) (W.history store.old) (W.history store.new) Any SettlesIt result }
+    ensures done { IsTrue (W.history store.old).observable → result ≡ Ok tt → IsSettled (present (W.history store.new)) }
+{
+    let container = gateway_container(alloc)?;
+    let name = sealed_name(alloc)?;
+    let reply = ask(
+        store,
+        SwiftRequest::GetObject {
+            container,
+            name,
+            range: None,
+        },
+    )?;
+    absent_in(&reply)
+}
+
+/// The answer to GET of what is sealed, which may be there no more.
+fn absent_in(reply: &SwiftReply) -> Result<(), PlanFault>
+    ensures due { result ≡ absent_due reply.now }
+    ensures own { result ≢ Err fault.Failed }
+{
+    match reply {
+        SwiftReply::NotFound => Ok(()),
+        _ => Err(PlanFault::Inconsistent),
+    }
+}
+
+/// The fault of settling, which names what is sealed.
+fn settle_fault(alloc: Global, fault: PlanFault) -> SettleFault
+    ensures { IsNamedFault fault result }
+{
+    match fault {
+        PlanFault::Failed => SettleFault::Failed,
+        PlanFault::Memory => SettleFault::Memory,
+        PlanFault::Inconsistent => match (gateway_container(alloc), sealed_name(alloc)) {
+            (Ok(container), Ok(name)) => SettleFault::Inconsistent { container, name },
+            _ => SettleFault::Memory,
+        },
     }
 }
 

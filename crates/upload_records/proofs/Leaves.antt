@@ -11,13 +11,16 @@ use Rattle.upload_records.specs.Consistent.{IsConsistent}
 use Rattle.upload_records.specs.Laws.{ChangesBy}
 use Rattle.upload_records.proofs.lemmas.Settled.{OffSame, same_off, unsealed_same, s3_state_by_plain}
 
+-- a call that leaves another account, where the gateway's own container is the same
+pub changes_same : (tree new : SwiftAccount) (request : SwiftRequest) (f : State → State) → IsUnsealed tree → SameGateway tree new
+    → (swift_step request tree).tree ≡ new → IsConsistent new → plain new ≡ f (plain tree) → ChangesBy tree request f
+changes_same tree new request f unsealed same leaves sound state = record {
+  sound = subst IsConsistent (sym leaves) sound;
+  state = ap s3_state leaves ∙ s3_state_by_plain tree new f unsealed (unsealed_same tree new same unsealed) state;
+  gateway = subst (SameGateway tree) (sym leaves) same;
+}
+
 -- a call that leaves another account, which differs in a bucket's container alone
 pub changes_by : (tree new : SwiftAccount) (b : List ℕ) (request : SwiftRequest) (f : State → State) → is_bucket b ≡ true → IsUnsealed tree → OffSame tree new b
     → (swift_step request tree).tree ≡ new → IsConsistent new → plain new ≡ f (plain tree) → ChangesBy tree request f
-changes_by tree new b request f is unsealed off leaves sound state =
-    let same = same_off tree new b is off in
-    record {
-      sound = subst IsConsistent (sym leaves) sound;
-      state = ap s3_state leaves ∙ s3_state_by_plain tree new f unsealed (unsealed_same tree new same unsealed) state;
-      gateway = subst (SameGateway tree) (sym leaves) same;
-    }
+changes_by tree new b request f is unsealed off leaves sound state = changes_same tree new request f unsealed (same_off tree new b is off) leaves sound state

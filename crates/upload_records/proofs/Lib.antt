@@ -1,5 +1,14 @@
 pub mod Apart
+pub mod Beside
 pub mod Carried
+pub mod GatewayPut
 pub mod Leaves
+pub mod PartPut
+pub mod Parts
 pub mod Plain
+pub mod RecordGone
+pub mod RecordPut
+pub mod Segments
+pub mod SideCalls
+pub mod Sides
 pub mod lemmas

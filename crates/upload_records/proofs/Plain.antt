@@ -50,45 +50,34 @@ plain_changes tree b h g is along =
 
 -- ---- a new container
 
--- what takes nothing over of any entry gives the empty map
-no_entry : {X Y : Type 0} → List ℕ → X → Option Y
-no_entry q x = None
-
-of_none : {X Y : Type 0} (q : List ℕ) (o : Option X) → option_and_then (no_entry {X = X} {Y = Y} q) o ≡ None
-unfolding no_entry
-of_none q None = refl
-of_none q (Some x) = refl
-
-nothing : {X Y : Type 0} (m : Names X) (f : List ℕ → X → Option Y) → f ≡ no_entry → picked f m ≡ empty
-nothing m f e = ap (λ g. picked g m) e ∙ same_names _ _ (λ q. get-picked by_name no_entry m q ∙ of_none q (get m q) ∙ sym (get_empty by_name q))
-
--- a container without objects is a bucket without any
-bucket_of_new : (records segments : Names SwiftObject) (readers : ReadList) (created : Option ℕ) → bucket_from records segments (new_folder readers created) ≡ new_bucket (unwrap_or created 0) (acl_of readers)
-unfolding no_entry
-bucket_of_new records segments readers created = λ i. record {
+-- a container without objects, beside which no record stands, is a bucket without any
+bucket_of_new : (segments : Names SwiftObject) (readers : ReadList) (created : Option ℕ) → bucket_from empty segments (new_folder readers created) ≡ new_bucket (unwrap_or created 0) (acl_of readers)
+bucket_of_new segments readers created = λ i. record {
   created = unwrap_or created 0;
   acl = acl_of readers;
   objects = picked_empty by_name (object_of segments) i;
-  uploads = nothing records (upload_of segments) refl i;
-  kept = nothing records kept_of refl i;
+  uploads = picked_empty by_name (upload_of segments) i;
+  kept = picked_empty by_name kept_of i;
 }
 
 read_back : (acl : Acl) → acl_of (readers_of acl) ≡ acl
 read_back Private = refl
 read_back PublicRead = refl
 
-made_of : (tree : SwiftAccount) (b : List ℕ) (acl : Acl) (moment : ℕ) → is_bucket b ≡ true → bucket_of tree b (new_folder (readers_of acl) (Some moment)) ≡ Some (new_bucket moment acl)
-made_of tree b acl moment is =
+made_of : (tree : SwiftAccount) (b : List ℕ) (acl : Acl) (moment : ℕ) → is_bucket b ≡ true → files tree (uploads_name b) ≡ empty → bucket_of tree b (new_folder (readers_of acl) (Some moment)) ≡ Some (new_bucket moment acl)
+made_of tree b acl moment is bare =
     ap (λ t. cond t (Some (bucket_from (files tree (uploads_name b)) (files tree (segments_name b)) (new_folder (readers_of acl) (Some moment)))) None) is
-    ∙ ap Some (bucket_of_new (files tree (uploads_name b)) (files tree (segments_name b)) (readers_of acl) (Some moment) ∙ (λ i. new_bucket moment (read_back acl i)))
+    ∙ ap Some ((λ i. bucket_from (bare i) (files tree (segments_name b)) (new_folder (readers_of acl) (Some moment)))
+    ∙ bucket_of_new (files tree (segments_name b)) (readers_of acl) (Some moment) ∙ (λ i. new_bucket moment (read_back acl i)))
 
--- the PUT of a new container is the making of the bucket
-pub plain_made : (tree : SwiftAccount) (b : List ℕ) (acl : Acl) (moment : ℕ) → is_bucket b ≡ true → plain (insert tree b (new_folder (readers_of acl) (Some moment))) ≡ insert (plain tree) b (new_bucket moment acl)
+-- the PUT of a new container, beside which no record stands, is the making of the bucket
+pub plain_made : (tree : SwiftAccount) (b : List ℕ) (acl : Acl) (moment : ℕ) → is_bucket b ≡ true → files tree (uploads_name b) ≡ empty
+    → plain (insert tree b (new_folder (readers_of acl) (Some moment))) ≡ insert (plain tree) b (new_bucket moment acl)
 unfolding plain
-plain_made tree b acl moment is =
+plain_made tree b acl moment is bare =
     let folder : SwiftContainer = new_folder (readers_of acl) (Some moment) in
     plain_by_old tree (insert tree b folder) b is (off_insert by_name tree b folder)
-    ∙ picked_insert by_name (bucket_of tree) tree b folder (new_bucket moment acl) (made_of tree b acl moment is)
+    ∙ picked_insert by_name (bucket_of tree) tree b folder (new_bucket moment acl) (made_of tree b acl moment is bare)
 
 -- the account without a container
 pub plain_empty : plain empty ≡ empty

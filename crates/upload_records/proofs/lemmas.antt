@@ -4,3 +4,4 @@ pub mod Objects
 pub mod Off
 pub mod Readers
 pub mod Settled
+pub mod SideCalls

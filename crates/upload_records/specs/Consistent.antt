@@ -1,21 +1,35 @@
 -- What holds of each account that only the gateway writes. Source: this profile.
-use Rattle.std.specs.Prelude.{◌≡◌, ◌⊎◌, ◌<◌, ◌≤◌, ◌^◌, ℕ, List, true, false, length, Contains, IsUtf8, is_some, Option, Some, None}
+use Rattle.std.specs.Prelude.{◌≡◌, ◌⊎◌, ◌<◌, ◌≤◌, ◌^◌, ℕ, List, [], ◌∷◌, map, cond, true, false, bytes_eq, length, Contains, IsUtf8, is_some, Option, Some, None, IfSome}
 use Rattle.std.specs.Option.{option_map}
-use Rattle.std.specs.FinMap.{get}
+use Rattle.std.specs.FinMap.{get, empty}
 use Rattle.gate_base.specs.Maps.{Names}
 use Rattle.gate_base.specs.Told.{moment_limit}
 use Rattle.gate_base.specs.declared.page.Pair.{Pair}
 use Rattle.s3_names.specs.Bucket.{is_bucket}
+use Rattle.s3_names.specs.Id.{id_digits}
 use Rattle.s3_names.specs.Key.{is_key}
 use Rattle.s3_machine.specs.ETag.{body_etag}
 use Rattle.s3_machine.specs.Limits.{is_proper_meta, most_body_bytes}
+use Rattle.s3_machine.specs.Uploads.{greatest_part, IsPartNumber, upload_etag, rises}
+use Rattle.slo_manifest.specs.declared.manifest.TheConstants.{MOST_SEGMENTS}
+use Rattle.slo_manifest.specs.declared.Segment.{Segment}
 use Rattle.swift_marks.specs.Tag.{read_tag}
 use Rattle.swift_marks.specs.Pack.{unpacked}
 use Rattle.swift_calls.specs.declared.account.ReadList.{ReadList}
 use Rattle.swift_calls.specs.declared.account.ReadList.TheVariants.{Nobody}
-use Rattle.swift_calls.specs.declared.account.Content.TheVariants.{Plain}
+use Rattle.swift_calls.specs.declared.account.Content.{Content}
+use Rattle.swift_calls.specs.declared.account.Content.TheVariants.{Plain, Segments}
 use Rattle.swift_calls.specs.Account.{SwiftObject, SwiftContainer, SwiftAccount, files, find_object, size_of}
-use Rattle.upload_records.specs.Layout.{uploads_name, segments_name, gateway_name}
+use Rattle.swift_calls.specs.Bodies.{etag_text, is_list}
+use Rattle.upload_texts.specs.Records.{read_record}
+use Rattle.upload_texts.specs.declared.record.Record.{Record}
+use Rattle.upload_texts.specs.declared.record.Record.TheVariants.{Open, Done}
+use Rattle.upload_texts.specs.declared.sealed.Sealed.{Sealed}
+use Rattle.upload_texts.specs.declared.sealed.SealedPart.{SealedPart}
+use Rattle.upload_records.specs.Layout.{uploads_name, segments_name, gateway_name, segment_name}
+use Rattle.upload_records.specs.Native.{record_at, seal_of, listed_of}
+
+-- ---- containers
 
 -- a container, but for its objects
 pub record Head : Type 0 where
@@ -37,12 +51,21 @@ pub record IsBeside (name bucket : List ℕ) : Type 0 where
 abbrev pub IsFolderName : List ℕ → Type 0
 IsFolderName name = (is_bucket name ≡ true) ⊎ (((bucket : List ℕ) × IsBeside name bucket) ⊎ (name ≡ gateway_name))
 
--- the containers: their names, that only a bucket can be read by others, and that each bucket has the moment at which it was made
+-- something stands under the name
+abbrev pub IsHere : (List ℕ → Option Head) → List ℕ → Type 0
+IsHere at name = is_some (at name) ≡ true
+
+-- the containers: their names, that only a bucket can be read by others, that each bucket has the moment at which it was made,
+-- and that beside each bucket both containers stand
 pub record ConsistentContainers (at : List ℕ → Option Head) : Type 0 where
   pub names : (name : List ℕ) (head : Head) → at name ≡ Some head → IsFolderName name
   pub hidden : (name : List ℕ) (head : Head) → at name ≡ Some head → is_bucket name ≡ false → head.readers ≡ Nobody
   pub timed : (name : List ℕ) (head : Head) → at name ≡ Some head → is_bucket name ≡ true
       → (moment : ℕ) × (head.created ≡ Some moment) × (moment < moment_limit)
+  pub records_beside : (name : List ℕ) → is_bucket name ≡ true → IsHere at name → IsHere at (uploads_name name)
+  pub segments_beside : (name : List ℕ) → is_bucket name ≡ true → IsHere at name → IsHere at (segments_name name)
+
+-- ---- objects
 
 -- a file that is an object as it was put: its bytes are its own, its type is the tag of the object, with the MD5 of the
 -- bytes and no upload, and its metadata is the pack of the object's
@@ -57,18 +80,146 @@ pub record IsPlainObject (file : SwiftObject) : Type 0 where
   pub packed : unpacked file.meta ≡ Some meta
   pub described : is_proper_meta meta ≡ true
 
+-- a segment of a list that is the part of a number, by the text of the upload's id: it stands in the container of that name
+-- with bytes of its own, of which there are some, and as the list says
+pub record IsListedPart (segments : Names SwiftObject) (folder id : List ℕ) (number : ℕ) (s : Segment) : Type 0 where
+  pub file : SwiftObject
+  pub bytes : List ℕ
+  pub contained : s.container ≡ folder
+  pub named : s.name ≡ segment_name id number
+  pub there : get segments (segment_name id number) ≡ Some file
+  pub own : file.content ≡ Plain bytes
+  pub etag : s.etag ≡ etag_text bytes
+  pub size : s.size ≡ length bytes
+  pub filled : 0 < length bytes
+
+-- segments that are parts of one upload, with numbers that ascend strictly and are above this one
+abbrev pub AreParts : Names SwiftObject → List ℕ → List ℕ → ℕ → List Segment → Type 0
+AreParts segments folder id above [] = Unit {0}
+AreParts segments folder id above (s ∷ list) =
+    (number : ℕ) × (above < number) × (number ≤ greatest_part) × IsListedPart segments folder id number s × AreParts segments folder id number list
+
+-- the segments that a completed object lists, by the form of the list: the parts themselves
+pub data IsSegmentList (segments : Names SwiftObject) (folder id : List ℕ) (listed : List Segment) : Type 0 where
+  of_parts : 0 < length listed → length listed ≤ MOST_SEGMENTS → AreParts segments folder id 0 listed → IsSegmentList segments folder id listed
+
+-- what a completed object has as its body: nothing, or the segments of its upload
+pub data IsCompletedBody (segments : Names SwiftObject) (folder id : List ℕ) (content : Content) : Type 0 where
+  of_none : content ≡ Plain [] → IsCompletedBody segments folder id content
+  of_segments : (listed : List Segment) → content ≡ Segments listed → IsSegmentList segments folder id listed → IsCompletedBody segments folder id content
+
+-- a file that is the object of a completed upload: its type is the tag of the object, with an ETag of parts and the upload
+pub record IsCompletedObject (segments : Names SwiftObject) (folder : List ℕ) (file : SwiftObject) : Type 0 where
+  pub content_type : List ℕ
+  pub etag : List ℕ
+  pub meta : List Pair
+  pub moment : ℕ
+  pub id : ℕ
+  pub tagged : read_tag file.content_type ≡ Some (record { content_type = content_type; etag = etag; moment = moment; id = Some id })
+  pub of_upload : 32 < length etag
+  pub packed : unpacked file.meta ≡ Some meta
+  pub described : is_proper_meta meta ≡ true
+  pub body : IsCompletedBody segments folder (id_digits id) file.content
+
 -- an object of a bucket, beside which stand these segments in the container of that name, by the form of its file: put
--- in one piece
+-- in one piece, or completed from parts
 pub data IsObject (segments : Names SwiftObject) (folder key : List ℕ) (file : SwiftObject) : Type 0 where
   in_one_piece : is_key key ≡ true → IsPlainObject file → IsObject segments folder key file
+  in_parts : is_key key ≡ true → IsCompletedObject segments folder file → IsObject segments folder key file
 
--- a bucket: its objects, the records and the segments beside it, and the id of a completion that is sealed in it
+-- ---- beside a bucket
+
+-- a file that is the part of an upload: its name is the id and the number, its type a tag with the MD5 of its bytes and the id
+pub record IsPart (name : List ℕ) (file : SwiftObject) : Type 0 where
+  pub id : ℕ
+  pub number : ℕ
+  pub bytes : List ℕ
+  pub content_type : List ℕ
+  pub moment : ℕ
+  pub named : name ≡ segment_name (id_digits id) number
+  pub fits : id < 2 ^ 128
+  pub counted : IsPartNumber number
+  pub own : file.content ≡ Plain bytes
+  pub sized : length bytes ≤ most_body_bytes
+  pub tagged : read_tag file.content_type ≡ Some (record { content_type = content_type; etag = body_etag bytes; moment = moment; id = Some id })
+
+-- a file beside a bucket, by its form: a part
+pub data IsSegment (name : List ℕ) (file : SwiftObject) : Type 0 where
+  is_part : IsPart name file → IsSegment name file
+
+-- a file that is the record of an upload, whose id is its name
+pub record IsRecord (name : List ℕ) (file : SwiftObject) : Type 0 where
+  pub id : ℕ
+  pub text : List ℕ
+  pub is : Record
+  pub named : name ≡ id_digits id
+  pub fits : id < 2 ^ 128
+  pub own : file.content ≡ Plain text
+  pub reads : read_record text ≡ Some is
+
+abbrev pub IsOpen : Option Record → Type 0
+IsOpen None = ⊥
+IsOpen (Some (Open key content_type meta started)) = Unit {0}
+IsOpen (Some (Done key list etag started moment)) = ⊥
+
+-- a file whose segments are listed under an id
+pub record IsListOf (file : SwiftObject) (id : ℕ) : Type 0 where
+  pub content_type : List ℕ
+  pub etag : List ℕ
+  pub moment : ℕ
+  pub tagged : read_tag file.content_type ≡ Some (record { content_type = content_type; etag = etag; moment = moment; id = Some id })
+  pub lists : is_list file.content ≡ true
+
+-- the segments of an id are listed in a bucket: by an object
+pub data HasList (objects segments : Names SwiftObject) (id : ℕ) : Type 0 where
+  by_object : (key : List ℕ) (file : SwiftObject) → get objects key ≡ Some file → IsListOf file id → HasList objects segments id
+
+-- a bucket: its objects, the records and the segments beside it, and the id of a completion that is sealed in it. No upload is
+-- open whose segments are listed, but that one
 pub record ConsistentBucket (folder : List ℕ) (objects records segments : Names SwiftObject) (sealed : Option ℕ) : Type 0 where
   pub of_objects : (key : List ℕ) (file : SwiftObject) → get objects key ≡ Some file → IsObject segments folder key file
+  pub of_segments : (name : List ℕ) (file : SwiftObject) → get segments name ≡ Some file → IsSegment name file
+  pub of_records : (name : List ℕ) (file : SwiftObject) → get records name ≡ Some file → IsRecord name file
+  pub apart : (id : ℕ) → HasList objects segments id → IsOpen (record_at records (id_digits id)) → sealed ≡ Some id
 
--- no completion is sealed by what is built
+-- ---- a completion that is sealed
+
+abbrev pub sealed_in : Option Sealed → List ℕ → Option ℕ
+sealed_in None bucket = None
+sealed_in (Some s) bucket = cond (bytes_eq s.bucket bucket) (Some s.id) None
+
+-- the id of a completion that is sealed in a bucket
 abbrev pub sealed_id : SwiftAccount → List ℕ → Option ℕ
-sealed_id tree bucket = None
+sealed_id tree bucket = sealed_in (seal_of tree) bucket
+
+-- a part that is sealed is there with its ETag and its size
+pub record IsSealedPart (segments : Names SwiftObject) (id : List ℕ) (p : SealedPart) : Type 0 where
+  pub file : SwiftObject
+  pub bytes : List ℕ
+  pub there : get segments (segment_name id p.number) ≡ Some file
+  pub own : file.content ≡ Plain bytes
+  pub etag : p.etag ≡ etag_text bytes
+  pub size : p.size ≡ length bytes
+
+abbrev pub AreSealedParts : Names SwiftObject → List ℕ → List SealedPart → Type 0
+AreSealedParts segments id [] = Unit {0}
+AreSealedParts segments id (p ∷ list) = IsSealedPart segments id p × AreSealedParts segments id list
+
+-- the record of its id, open or done, says the same in each field that both have
+abbrev pub Agrees : Sealed → Option Record → Type 0
+Agrees s None = ⊥
+Agrees s (Some (Open key content_type meta started)) = (key ≡ s.key) × (content_type ≡ s.content_type) × (meta ≡ s.meta) × (started ≡ s.started)
+Agrees s (Some (Done key list etag started moment)) =
+    (key ≡ s.key) × (list ≡ map listed_of s.list) × (etag ≡ s.etag) × (started ≡ s.started) × IfSome moment (λ m. m ≡ s.moment)
+
+-- a completion that is sealed in a bucket, by the records and the segments beside it
+pub record ConsistentSealed (records segments : Names SwiftObject) (s : Sealed) : Type 0 where
+  pub ascends : rises (map listed_of s.list) ≡ true
+  pub parts : AreSealedParts segments (id_digits s.id) s.list
+  pub etag : s.etag ≡ upload_etag (map (λ p. p.etag) s.list)
+  pub agrees : Agrees s (record_at records (id_digits s.id))
+
+-- ---- the account
 
 abbrev pub bucket_sound : SwiftAccount → List ℕ → Type 0
 bucket_sound tree bucket =
@@ -90,9 +241,26 @@ pub record IsStored (name : List ℕ) (file : SwiftObject) : Type 0 where
 abbrev pub IsThere : SwiftAccount → List ℕ → Type 0
 IsThere tree bucket = is_some (get tree bucket) ≡ true
 
--- an account that only the gateway writes. Of the files beside a bucket and in the gateway's own container nothing is asked
--- but a name and a size that a store takes
+-- a container that is there and has no file
+pub record IsBareContainer (tree : SwiftAccount) (name : List ℕ) : Type 0 where
+  pub there : IsThere tree name
+  pub holds : files tree name ≡ empty
+
+-- both containers beside a bucket are there without a file, so that it may be made
+pub record HasBareSides (tree : SwiftAccount) (bucket : List ℕ) : Type 0 where
+  pub records : IsBareContainer tree (uploads_name bucket)
+  pub segments : IsBareContainer tree (segments_name bucket)
+
+-- a completion that is sealed on an account: its bucket is there, beside which it stands
+pub record SealedIn (tree : SwiftAccount) (s : Sealed) : Type 0 where
+  pub there : IsThere tree s.bucket
+  pub stands : ConsistentSealed (files tree (uploads_name s.bucket)) (files tree (segments_name s.bucket)) s
+
+-- an account that only the gateway writes. Nothing stands in the gateway's own container, since no completion is built that
+-- would be sealed there; of what stands beside a missing bucket nothing is asked but a name and a size that a store takes
 pub record IsConsistent (tree : SwiftAccount) : Type 0 where
   pub folders : ConsistentContainers (heads tree)
   pub buckets : (bucket : List ℕ) → is_bucket bucket ≡ true → IsThere tree bucket → bucket_sound tree bucket
+  pub gateway : (name : List ℕ) (file : SwiftObject) → find_object tree gateway_name name ≡ Some file → ⊥
+  pub sealed : (s : Sealed) → seal_of tree ≡ Some s → SealedIn tree s
   pub stored : (folder name : List ℕ) (file : SwiftObject) → find_object tree folder name ≡ Some file → IsStored name file

@@ -1,25 +1,31 @@
 -- What the laws of this crate say.
-use Rattle.std.specs.Prelude.{◌≡◌, ◌<◌, ℕ, List, true, is_some, Option, None, Some}
+use Rattle.std.specs.Prelude.{◌≡◌, ◌<◌, ◌^◌, ℕ, List, true, is_some, Option, None, Some}
 use Rattle.std.specs.Option.{option_map}
 use Rattle.std.specs.FinMap.{empty, get, insert, remove}
 use Rattle.gate_base.specs.Maps.{adjust}
 use Rattle.gate_base.specs.Told.{moment_limit}
+use Rattle.gate_base.specs.declared.page.Pair.{Pair}
 use Rattle.s3_names.specs.declared.acl.Acl.{Acl}
 use Rattle.s3_names.specs.Bucket.{is_bucket}
+use Rattle.s3_names.specs.Id.{id_digits}
 use Rattle.s3_names.specs.Key.{is_key}
 use Rattle.s3_machine.specs.ETag.{body_etag}
-use Rattle.s3_machine.specs.State.{Object, State}
+use Rattle.s3_machine.specs.State.{Object, Part, Upload, State}
 use Rattle.s3_machine.specs.Step.{new_bucket, with_acl, put_object, drop_object}
 use Rattle.s3_machine.specs.Step as machine
+use Rattle.s3_machine.specs.Uploads.{new_upload, open_upload, drop_upload, on_upload, new_part, with_part}
 use Rattle.swift_calls.specs.Account.{SwiftObject, SwiftAccount, files, find_object}
 use Rattle.swift_calls.specs.Step.{swift_step, only_reads}
 use Rattle.swift_calls.specs.Step as store
 use Rattle.swift_calls.specs.declared.account.Content.TheVariants.{Plain}
+use Rattle.swift_calls.specs.declared.account.ReadList.TheVariants.{Nobody}
 use Rattle.swift_calls.specs.declared.calls.SwiftRequest.{SwiftRequest}
 use Rattle.swift_calls.specs.declared.calls.SwiftRequest.TheVariants.{PutContainer, PostContainer, DeleteContainer, PutObject, DeleteObject}
-use Rattle.upload_records.specs.Layout.{segments_name, readers_of}
-use Rattle.upload_records.specs.Native.{object_of, object_at, SameGateway, IsUnsealed, s3_state}
-use Rattle.upload_records.specs.Consistent.{IsConsistent, IsPlainObject, IsObject, IsStored}
+use Rattle.upload_texts.specs.Records.{read_record}
+use Rattle.upload_texts.specs.declared.record.Record.TheVariants.{Open}
+use Rattle.upload_records.specs.Layout.{uploads_name, segments_name, gateway_name, segment_name, readers_of}
+use Rattle.upload_records.specs.Native.{object_of, object_at, record_at, SameGateway, IsUnsealed, s3_state}
+use Rattle.upload_records.specs.Consistent.{IsBeside, HasBareSides, IsConsistent, IsPlainObject, IsObject, IsPart, IsOpen, HasList, IsStored, IsThere}
 
 -- a call is quiet on an account: the account after it is consistent, and represents the same state
 pub record DoesStutter (tree : SwiftAccount) (request : SwiftRequest) : Type 0 where
@@ -37,10 +43,10 @@ pub record ChangesBy (tree : SwiftAccount) (request : SwiftRequest) (f : State �
   pub state : s3_state (swift_step request tree).tree ≡ f (s3_state tree)
   pub gateway : SameGateway tree (swift_step request tree).tree
 
--- the PUT of a bucket's container that is missing makes the bucket
+-- the PUT of a bucket's container that is missing, beside which both containers are there and empty, makes the bucket
 abbrev pub BucketMade : Type 0
 BucketMade = (tree : SwiftAccount) (name : List ℕ) (acl : Acl) (moment : ℕ) → is_bucket name ≡ true → moment < moment_limit → IsConsistent tree
-    → IsUnsealed tree → get tree name ≡ None
+    → IsUnsealed tree → get tree name ≡ None → HasBareSides tree name
     → ChangesBy tree (PutContainer name (readers_of acl) (Some moment)) (λ state. insert state name (new_bucket moment acl))
 
 -- a bucket is there exactly where its container is
@@ -96,3 +102,103 @@ FindsObject tree bucket key (Some file) = IsObject (files tree (segments_name bu
 abbrev pub ObjectFound : Type 0
 ObjectFound = (tree : SwiftAccount) (bucket key : List ℕ) → is_bucket bucket ≡ true → IsConsistent tree → IsUnsealed tree
     → FindsObject tree bucket key (find_object tree bucket key)
+
+-- ---- uploads
+
+-- a call leaves the state as it is: the account after it is consistent, and the gateway's own container is as it was
+abbrev pub IsQuiet : SwiftAccount → SwiftRequest → Type 0
+IsQuiet tree request = ChangesBy tree request (λ state. state)
+
+-- the part that a file is
+abbrev pub part_in : {name : List ℕ} {file : SwiftObject} → IsPart name file → Part
+part_in part = new_part part.moment part.bytes
+
+-- the PUT of a part's file under an upload that is open puts the part in place of the one of its number
+abbrev pub PartPut : Type 0
+PartPut = (tree : SwiftAccount) (bucket name content_type : List ℕ) (meta : List (List ℕ)) (body : List ℕ) (part : IsPart name (file_put content_type meta body))
+    → is_bucket bucket ≡ true → IsOpen (record_at (files tree (uploads_name bucket)) (id_digits part.id)) → IsStored name (file_put content_type meta body)
+    → IsConsistent tree → IsUnsealed tree
+    → ChangesBy tree (PutObject (segments_name bucket) name content_type meta body) (adjust bucket (on_upload (id_digits part.id) (with_part part.number (part_in part))))
+
+-- nothing stands beside a bucket under the text of an id, neither a record nor a segment
+pub record IsUnused (tree : SwiftAccount) (bucket id : List ℕ) : Type 0 where
+  pub unrecorded : get (files tree (uploads_name bucket)) id ≡ None
+  pub bare : (number : ℕ) → get (files tree (segments_name bucket)) (segment_name id number) ≡ None
+
+-- a text that is the record of an upload that is open
+pub record IsOpenText (text : List ℕ) : Type 0 where
+  pub key : List ℕ
+  pub content_type : List ℕ
+  pub meta : List Pair
+  pub started : ℕ
+  pub reads : read_record text ≡ Some (Open key content_type meta started)
+
+-- the upload, as it is created
+abbrev pub upload_in : {text : List ℕ} → IsOpenText text → Upload
+upload_in opens = new_upload opens.key opens.content_type opens.meta opens.started
+
+-- the PUT of an open record under an id under which nothing stands opens the upload, without parts
+abbrev pub UploadOpened : Type 0
+UploadOpened = (tree : SwiftAccount) (bucket : List ℕ) (id : ℕ) (content_type : List ℕ) (meta : List (List ℕ)) (text : List ℕ) (opens : IsOpenText text)
+    → is_bucket bucket ≡ true → id < 2 ^ 128 → IsUnused tree bucket (id_digits id) → IsStored (id_digits id) (file_put content_type meta text)
+    → IsConsistent tree → IsUnsealed tree
+    → ChangesBy tree (PutObject (uploads_name bucket) (id_digits id) content_type meta text) (adjust bucket (open_upload (id_digits id) (upload_in opens)))
+
+-- the DELETE of an open record drops the upload
+abbrev pub UploadDropped : Type 0
+UploadDropped = (tree : SwiftAccount) (bucket id : List ℕ) → is_bucket bucket ≡ true → IsOpen (record_at (files tree (uploads_name bucket)) id)
+    → IsConsistent tree → IsUnsealed tree → ChangesBy tree (DeleteObject (uploads_name bucket) id) (adjust bucket (drop_upload id))
+
+-- what is there stays there
+abbrev pub StaysThere : SwiftAccount → SwiftAccount → Type 0
+StaysThere tree new = (name : List ℕ) → IsThere tree name → IsThere new name
+
+-- a call that leaves the state and the files of each container, and after which a container is there
+pub record MakesSide (tree : SwiftAccount) (request : SwiftRequest) (name : List ℕ) : Type 0 where
+  pub quiet : IsQuiet tree request
+  pub there : IsThere (swift_step request tree).tree name
+  pub stays : StaysThere tree (swift_step request tree).tree
+  pub holds : (folder : List ℕ) → files (swift_step request tree).tree folder ≡ files tree folder
+
+-- the PUT of a container beside a bucket, which may be there
+abbrev pub SideMade : Type 0
+SideMade = (tree : SwiftAccount) (bucket name : List ℕ) (created : Option ℕ) → IsBeside name bucket → IsConsistent tree → IsUnsealed tree
+    → MakesSide tree (PutContainer name Nobody created) name
+
+-- a call that leaves the state, and each container where it is
+pub record LeavesContainers (tree : SwiftAccount) (request : SwiftRequest) : Type 0 where
+  pub quiet : IsQuiet tree request
+  pub stays : StaysThere tree (swift_step request tree).tree
+
+-- the DELETE of a file beside a bucket that is missing leaves the state
+abbrev pub SideFileGone : Type 0
+SideFileGone = (tree : SwiftAccount) (bucket folder name : List ℕ) → IsBeside folder bucket → get tree bucket ≡ None → IsConsistent tree → IsUnsealed tree
+    → LeavesContainers tree (DeleteObject folder name) × (get (swift_step (DeleteObject folder name) tree).tree bucket ≡ None)
+
+-- no upload is open under the text of an id, and no object of the bucket lists its segments
+pub record IsAbandoned (tree : SwiftAccount) (bucket id : List ℕ) : Type 0 where
+  pub closed : IsOpen (record_at (files tree (uploads_name bucket)) id) → ⊥
+  pub unlisted : (j : ℕ) → id_digits j ≡ id → HasList (files tree bucket) (files tree (segments_name bucket)) j → ⊥
+
+-- the DELETE of an open record leaves the segments of the upload to be deleted
+abbrev pub UploadAbandoned : Type 0
+UploadAbandoned = (tree : SwiftAccount) (bucket id : List ℕ) → is_bucket bucket ≡ true → IsThere tree bucket → IsOpen (record_at (files tree (uploads_name bucket)) id)
+    → IsConsistent tree → IsUnsealed tree → IsAbandoned (swift_step (DeleteObject (uploads_name bucket) id) tree).tree bucket id
+
+-- the DELETE of a segment of an upload that nothing names leaves the state, and the other segments as such
+abbrev pub OrphanGone : Type 0
+OrphanGone = (tree : SwiftAccount) (bucket id : List ℕ) (number : ℕ) → is_bucket bucket ≡ true → IsAbandoned tree bucket id → IsConsistent tree → IsUnsealed tree
+    → IsQuiet tree (DeleteObject (segments_name bucket) (segment_name id number))
+    × IsAbandoned (swift_step (DeleteObject (segments_name bucket) (segment_name id number)) tree).tree bucket id
+
+-- ---- the gateway's own container
+
+-- a call that leaves the state, be a completion sealed or not, and after which the gateway's own container is there
+pub record MakesGateway (tree : SwiftAccount) (request : SwiftRequest) : Type 0 where
+  pub sound : IsConsistent (swift_step request tree).tree
+  pub same : s3_state (swift_step request tree).tree ≡ s3_state tree
+  pub there : IsThere (swift_step request tree).tree gateway_name
+
+-- the PUT of the gateway's own container, which may be there
+abbrev pub GatewayMade : Type 0
+GatewayMade = (tree : SwiftAccount) (created : Option ℕ) → IsConsistent tree → MakesGateway tree (PutContainer gateway_name Nobody created)

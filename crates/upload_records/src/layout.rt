@@ -1,7 +1,11 @@
-ghost use Rattle.std.specs.Prelude.{◌≡◌};
-ghost use Rattle.upload_records.specs.Layout.{acl_of, readers_of};
+ghost use Rattle.std.specs.Prelude.{◌≡◌, ◌≤◌, ◌+◌, IfOk};
+ghost use Rattle.s3_names.specs.Id.{id_digits};
+ghost use Rattle.s3_machine.specs.Uploads.{greatest_part};
+ghost use Rattle.upload_records.specs.Layout.{acl_of, five_digits, gateway_name, readers_of, sealed_name, segment_name, segments_name, segments_prefix, uploads_name};
 
-use s3_names::Acl;
+use gate_base::{Bytes, Memory};
+use s3_names::{Acl, id_digits};
+use std::alloc::Global;
 use swift_calls::ReadList;
 
 /// The read list that a bucket's container has for a canned access control list (this profile).
@@ -22,4 +26,82 @@ pub fn acl(readers: ReadList) -> Acl
         ReadList::Nobody => Acl::Private,
         ReadList::Everybody => Acl::PublicRead,
     }
+}
+
+/// The name of the container of a bucket's upload records (this profile).
+#[tactic(auto, unfolding(crate::specs::Layout::uploads_name))]
+pub fn uploads_container(alloc: Global, bucket: &[u8]) -> Result<Bytes, Memory>
+    ensures { IfOk result (λ name. name ≡ uploads_name bucket.now) }
+{
+    let mut name = Bytes::from_slice(alloc, bucket)?;
+    name.append(b"+uploads")?;
+    Ok(name)
+}
+
+/// The name of the container of a bucket's segments (this profile).
+#[tactic(auto, unfolding(crate::specs::Layout::segments_name))]
+pub fn segments_container(alloc: Global, bucket: &[u8]) -> Result<Bytes, Memory>
+    ensures { IfOk result (λ name. name ≡ segments_name bucket.now) }
+{
+    let mut name = Bytes::from_slice(alloc, bucket)?;
+    name.append(b"+segments")?;
+    Ok(name)
+}
+
+/// The name of the one container of the gateway's own (this profile).
+#[tactic(auto, unfolding(crate::specs::Layout::gateway_name))]
+pub fn gateway_container(alloc: Global) -> Result<Bytes, Memory>
+    ensures { IfOk result (λ name. name ≡ gateway_name) }
+{
+    Bytes::from_slice(alloc, b"+gateway")
+}
+
+/// The name in it of a completion that is sealed (this profile).
+#[tactic(auto, unfolding(crate::specs::Layout::sealed_name))]
+pub fn sealed_name(alloc: Global) -> Result<Bytes, Memory>
+    ensures { IfOk result (λ name. name ≡ sealed_name) }
+{
+    Bytes::from_slice(alloc, b"sealed")
+}
+
+/// What the names of all segments of an upload begin with (this profile).
+#[tactic(auto, unfolding(crate::specs::Layout::segments_prefix))]
+pub fn segments_prefix(alloc: Global, id: u128) -> Result<Bytes, Memory>
+    ensures { IfOk result (λ prefix. prefix ≡ segments_prefix (id_digits id)) }
+{
+    let mut prefix = Bytes::from_slice(alloc, &id_digits(id))?;
+    prefix.push(b'/')?;
+    Ok(prefix)
+}
+
+/// The name of the part of a number (this profile).
+#[tactic(auto, unfolding(crate::specs::Layout::segment_name, crate::specs::Layout::segments_prefix, s3_machine::specs::Uploads::greatest_part))]
+pub fn segment_name(alloc: Global, id: u128, number: u32) -> Result<Bytes, Memory>
+    requires { number ≤ greatest_part }
+    ensures { IfOk result (λ name. name ≡ segment_name (id_digits id) number) }
+{
+    let mut name = segments_prefix(alloc, id)?;
+    name.append(&five_digits(number))?;
+    Ok(name)
+}
+
+/// A number of at most five digits, in five.
+fn five_digits(number: u32) -> [u8; 5]
+    requires { number ≤ 99999 }
+    ensures { result ≡ five_digits number }
+{
+    [
+        digit(number / 10000),
+        digit(number / 1000 % 10),
+        digit(number / 100 % 10),
+        digit(number / 10 % 10),
+        digit(number % 10),
+    ]
+}
+
+fn digit(value: u32) -> u8
+    requires { value ≤ 9 }
+    ensures { result ≡ 48 + value }
+{
+    b'0' + value as u8
 }

@@ -3,9 +3,17 @@
 
 mod laws;
 mod layout;
+mod upload_laws;
 
 pub use laws::{
     law_acl_replaced, law_bucket_bare, law_bucket_gone, law_bucket_made, law_bucket_there,
     law_empty_consistent, law_object_found, law_object_gone, law_object_put, law_reads_stutter,
 };
-pub use layout::{acl, readers};
+pub use layout::{
+    acl, gateway_container, readers, sealed_name, segment_name, segments_container,
+    segments_prefix, uploads_container,
+};
+pub use upload_laws::{
+    law_gateway_made, law_orphan_gone, law_part_put, law_side_file_gone, law_side_made,
+    law_upload_abandoned, law_upload_dropped, law_upload_opened,
+};

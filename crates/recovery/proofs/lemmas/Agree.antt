@@ -19,7 +19,7 @@ use Rattle.upload_records.specs.Native.{s3_state}
 use Rattle.upload_records.specs.Consistent.{IsConsistent}
 use Rattle.recovery.specs.Stutters.{Stutters, OldBefore, LastFailed}
 use Rattle.recovery.specs.Calls.{Commits}
-use Rattle.recovery.specs.Answers.{steps_of, IsStage, before_step, after_step, Passes, is_old_if_failed, is_old_if_out_of_memory, OldIf, AnswersBy, machine, unavailable, memory, Answers, Beside, nothing_beside, opens_in, clears, upload_at, IsFirstFree, SaysBeside}
+use Rattle.recovery.specs.Answers.{steps_of, IsStage, before_step, after_step, Passes, is_old_if_failed, is_old_if_out_of_memory, OldIf, AnswersBy, machine, unavailable, memory, Answers, Beside, nothing_beside, opens_in, clears, upload_at, IsFirstFree, ClearsOrFails, SaysBeside}
 
 -- ---- later histories
 
@@ -111,6 +111,17 @@ fault_free_before {old = old} {new = new} kept none j k from order to (inl rose)
     none j k from order to (inl (subst (λ n. Rose n (new.faults_at k)) (sym (kept.counts j (omega arith))) (subst (Rose (old.faults_at j)) (sym (kept.counts k to)) rose)))
 fault_free_before kept none j k from order to (inr spent) = none j k from order to (inr spent)
 
+clears_agree : {old new : History} {bucket id : List ℕ} {p q : ℕ} → p ≤ q → Extends q old new → ClearsOrFails bucket id old p q → ClearsOrFails bucket id new p q
+clears_agree {old = old} {new = new} {bucket = bucket} {p = p} {q = q} ordered kept says = record {
+  cleared = λ none name named.
+      ap (λ tree. get (files tree (segments_name bucket)) name) (kept.accounts q (omega arith)) ∙ says.cleared (fault_free_before kept none) name named;
+  last = by says.last;
+}
+  where
+    by : (old.faults_at q ≡ old.faults_at p) ⊎ LastFailed old p q → (new.faults_at q ≡ new.faults_at p) ⊎ LastFailed new p q
+    by (inl same) = inl (kept.counts q (omega arith) ∙ same ∙ sym (kept.counts p ordered))
+    by (inr failed) = inr (last_failed_agree ordered kept failed)
+
 -- what is said of the account beside the state
 pub beside_agree : (b : Beside) {old new : History} (label : Label) {p q : ℕ} (reply : Reply) → p ≤ q → Extends q old new → SaysBeside b label old p q reply → SaysBeside b label new p q reply
 beside_agree nothing_beside label reply ordered kept says = tt
@@ -119,8 +130,7 @@ beside_agree (opens_in bucket) label {p = p} {q = q} reply ordered kept says = �
     let last = kept.accounts q (omega arith) in
     subst (λ tree. IsFirstFree tree bucket label.draw id) (sym first)
     (says id (ap (λ tree. upload_at (get (s3_state tree) bucket) id) (sym first) ∙ none) (ap (λ tree. is_some (upload_at (get (s3_state tree) bucket) id)) (sym last) ∙ some))
-beside_agree (clears bucket id) label {q = q} reply ordered kept says = λ gone none name named.
-    ap (λ tree. get (files tree (segments_name bucket)) name) (kept.accounts q (omega arith)) ∙ says gone (fault_free_before kept none) name named
+beside_agree (clears bucket id) label reply ordered kept says = λ gone. clears_agree ordered kept (says gone)
 
 -- where no call was made and memory ran out, it is nothing
 pub beside_memory : (b : Beside) (label : Label) (h : History) (p : ℕ) → SaysBeside b label h p p Memory
@@ -253,6 +263,10 @@ passes_rest {settings = settings} {h = h} {p = p} {t = t} {q = q} {r = r} {op = 
     stage_at' : {m n : ℕ} {one other : State} → m ≡ n → one ≡ other → IsStage settings (s3_state (h.account_at p)) op label m one → IsStage settings (s3_state (h.account_at p)) op label n other
     stage_at' to same stage = subst {A = ℕ × State} (λ s. IsStage settings (s3_state (h.account_at p)) op label s.0 s.1) (λ i. (to i, same i)) stage
 
+-- calls of which none failed, and then one that did
+pub failed_behind : {h : History} {p q r : ℕ} → p ≤ q → h.faults_at q ≡ h.faults_at p → LastFailed h q r → LastFailed h p r
+failed_behind ordered same failed = let after_q = failed.after_p in record { last = failed.last; after_p = omega arith; no_fault = failed.no_fault ∙ same; fails = failed.fails }
+
 module _ {h : History} {p q : ℕ} (quiet : Stutters h p q) where
   same_state : s3_state (h.account_at q) ≡ s3_state (h.account_at p)
   same_state = quiet.same q quiet.ordered (omega arith)
@@ -266,10 +280,7 @@ module _ {h : History} {p q : ℕ} (quiet : Stutters h p q) where
       ]
 
   pub failed_after : {r : ℕ} → h.faults_at q ≡ h.faults_at p → LastFailed h q r → LastFailed h p r
-  failed_after same failed =
-      let ordered = quiet.ordered in
-      let after_q = failed.after_p in
-      record { last = failed.last; after_p = omega arith; no_fault = failed.no_fault ∙ same; fails = failed.fails }
+  failed_after same failed = failed_behind quiet.ordered same failed
 
   old_if_after : (t : Bool) (r : ℕ) → OldIf t h q r → OldIf t h p r
   old_if_after true r old = before_after old
@@ -283,7 +294,7 @@ module _ {settings : Settings} {h : History} {p q : ℕ} {op : Op} {label : Labe
   stage_after {n = n} stage = stage_at settings op label n (same_state quiet) refl stage
 
   by_after : {r takes : ℕ} {reply : Reply} → h.faults_at q ≡ h.faults_at p → AnswersBy settings h q r op label takes reply → AnswersBy settings h p r op label takes reply
-  unfolding failed_after
+  unfolding failed_after failed_behind
   by_after same (machine all step) = machine all (step_after step)
   by_after same (unavailable is failed old) = unavailable is (failed_after quiet same failed) (old_if_after quiet (is_old_if_failed op) (failed.last + 1) old)
   by_after {r = r} same (memory is old) = memory is (old_if_after quiet (is_old_if_out_of_memory op) r old)

@@ -21,13 +21,13 @@ use Rattle.recovery.specs.declared.state.Known.TheVariants.{Settled, Unsure}
 use Rattle.recovery.specs.Fault.{CausesFault}
 use Rattle.recovery.specs.Stutters.{Stutters, OldBefore, LastFailed}
 use Rattle.recovery.specs.Calls.{Bound, always, by_account, amount, IsWithin, Met, Grows, GivenOf, Given, Keeps, Tells, Asks, Commits, CommitsUntold, Writes, Changes, Any}
-use Rattle.recovery.specs.Answers.{steps_of, is_old_if_failed, is_old_if_out_of_memory, OldIf, machine, unavailable, memory, ends_by_commit, beside_of, nothing_beside, SaysBeside}
+use Rattle.recovery.specs.Answers.{steps_of, is_old_if_failed, is_old_if_out_of_memory, OldIf, machine, unavailable, memory, ends_by_commit, beside_of, nothing_beside, SaysBeside, is_upload}
 use Rattle.recovery.proofs.lemmas.Agree.{last_within, quiet_agree, passes_still, passes_at_once, passes_once, answers_after}
 use Rattle.recovery.proofs.lemmas.Causes.{due_cause}
 use Rattle.recovery.proofs.lemmas.Faults.{err_is}
 use Rattle.recovery.proofs.lemmas.Idle.{none_made, goes_trans, grows_none}
-use Rattle.planner.specs.Plan.{reply_of, IsOwnReply, EndsPlan, ended, CausesEnd, Plans, Answered}
-use Rattle.planner.proofs.Replies.{rose_of, steady_of, consistent_of, showable_of}
+use Rattle.recovery.specs.Plan.{reply_of, IsOwnReply, EndsPlan, ended, CausesEnd, Plans, Answered}
+use Rattle.recovery.proofs.lemmas.Replies.{rose_of, steady_of, consistent_of, showable_of}
 
 -- quiet calls leave the old state at each number
 old_quiet : {h : History} {p n q : ℕ} → n ≤ q + 1 → Stutters h p q → OldBefore h p n
@@ -211,7 +211,7 @@ module _ {settings : Settings} {given : SwiftAccount → Type 0} {op : Op} {labe
   pub needs_none : (h : History) {reply : Reply} → IsOwnReply reply → ((tree : SwiftAccount) → given tree → S3Step settings (s3_state tree) op label reply (s3_state tree)) → Plans most h h settings (GivenOf given) op label Settled (Ok reply)
   needs_none h {reply = reply} own step = record {
     grows = grows_none most (GivenOf given) h;
-    cause = cause_of (ends_by_commit op) h.faults h.faults (Ok reply) refl;
+    cause = cause_of (ends_by_commit op reply) h.faults h.faults (Ok reply) refl;
     own = own;
     effect = λ met. quiet_step settings h h.called h.called op label reply (none_made refl met.sound) (step _ met.has.is);
     knows = λ observable settled is. settled;
@@ -221,7 +221,7 @@ module _ {settings : Settings} {given : SwiftAccount → Type 0} {op : Op} {labe
   pub out_of_memory : (h : History) (end : Result Reply PlanFault) → IsErrAnd end (λ e. e ≡ Memory) → Plans most h h settings (GivenOf given) op label Settled end
   out_of_memory h end is = subst (Plans most h h settings (GivenOf given) op label Settled) (sym (err_is end Memory is)) (record {
     grows = grows_none most (GivenOf given) h;
-    cause = cause_of (ends_by_commit op) h.faults h.faults (Err Memory) refl;
+    cause = cause_of (ends_by_commit op (reply_of (Err Memory))) h.faults h.faults (Err Memory) refl;
     own = tt;
     effect = λ met. quiet_memory settings h h.called h.called op label (none_made refl met.sound);
     knows = λ observable settled is. settled;
@@ -232,7 +232,7 @@ module _ {settings : Settings} {given : SwiftAccount → Type 0} {op : Op} {labe
     pub calls_in_vain : {fault : PlanFault} → Asks m a b asked (Tells P) (Err fault) → (end : Result Reply PlanFault) → IsErrAnd end (λ e. e ≡ fault) → Plans most a b settings (GivenOf given) op label Settled end
     calls_in_vain {fault = fault} asks end is = subst (Plans most a b settings (GivenOf given) op label Settled) (sym (err_is end fault is)) (record {
       grows = grows_more within under asks.grows;
-      cause = cause_of (ends_by_commit op) a.faults b.faults (Err fault) (cause_same fault asks.cause);
+      cause = cause_of (ends_by_commit op (reply_of (Err fault))) a.faults b.faults (Err fault) (cause_same fault asks.cause);
       own = tt;
       effect = λ met. not_read settings b a.called b.called op label (Tells P) fault (asks.effect (under met));
       knows = λ observable settled is. asks.settled observable settled;
@@ -248,7 +248,7 @@ module _ {settings : Settings} {given : SwiftAccount → Type 0} {op : Op} {labe
         → ((tree : SwiftAccount) → given tree → P (s3_state tree) told → (reply : Reply) × (end ≡ Ok reply) × S3Step settings (s3_state tree) op label reply (s3_state tree)) → Plans most a b settings (GivenOf given) op label Settled end
     calls_end told is end asks own no_failure step = record {
       grows = grows_more within under asks.grows;
-      cause = cause_of (ends_by_commit op) a.faults b.faults end (due_cause a.faults b.faults end asks.cause no_failure);
+      cause = cause_of (ends_by_commit op (reply_of end)) a.faults b.faults end (due_cause a.faults b.faults end asks.cause no_failure);
       own = own;
       effect = λ met.
           let reads = asks.effect (under met) in
@@ -282,7 +282,7 @@ module _ {settings : Settings} {given : SwiftAccount → Type 0} {op : Op} {labe
       on = goes_trans asks.grows.on plans.grows.on;
       calls = within_both n m most a.called b.called c.called both under (met_after asks under gives) told asks.grows.calls plans.grows.calls;
     };
-    cause = cause_from (ends_by_commit op) a.faults b.faults c.faults end asks.cause plans.cause;
+    cause = cause_from (ends_by_commit op (reply_of end)) a.faults b.faults c.faults end asks.cause plans.cause;
     own = plans.own;
     effect = λ met.
         let reads = asks.effect (under met) in
@@ -315,7 +315,7 @@ module _ {settings : Settings} {given : SwiftAccount → Type 0} {op : Op} {labe
       → Plans most a b settings (GivenOf given) op label Settled (ended end reply)
   commits {T = T} {given' = given'} {S = S} {a = a} {b = b} {end = end} reply within changes own gives step = record {
     grows = grows_more within (met_within gives) changes.grows;
-    cause = cause_of (ends_by_commit op) a.faults b.faults (ended end reply) (cause_ended end changes.cause);
+    cause = cause_of (ends_by_commit op (reply_of (ended end reply))) a.faults b.faults (ended end reply) (cause_ended end changes.cause);
     own = own_ended end;
     effect = λ met.
         let from : b.account_at a.called ≡ present a = (changes.grows.on.kept met.observable).accounts a.called (omega arith) in
@@ -343,9 +343,9 @@ pub answered_by : {most : Bound} {a b : History} {settings : Settings} {op : Op}
 answered_by {most = most} {a = a} {b = b} {op = op} {label = label} {end = end} none plans = record {
   grows = record { on = plans.grows.on; calls = within_same most a.called b.called any plans.grows.calls };
   showable = showable_of end plans.own;
-  unavailable = rose_of (ends_by_commit op) a.faults b.faults end plans.own plans.cause;
+  unavailable = rose_of (ends_by_commit op (reply_of end)) a.faults b.faults end plans.own plans.cause;
   unsure = λ is. absurd (let no : Settled ≡ Unsure = is in cc);
-  steady = steady_of (ends_by_commit op) a.faults b.faults end plans.cause;
+  steady = steady_of (ends_by_commit op (reply_of end)) a.faults b.faults end plans.cause;
   effect = λ met. let ends = plans.effect (any met) in (ends.committed, ends.takes, ends.answers);
   beside = λ met. subst (λ w. SaysBeside w label b a.called b.called (reply_of end)) (sym none) tt;
   consistent = λ met. consistent_of end plans.own (plans.effect (any met)).consistent;
@@ -359,24 +359,24 @@ answered_by {most = most} {a = a} {b = b} {op = op} {label = label} {end = end} 
     within_same (always n) p q from within = within
     within_same (by_account n) p q from within = λ met. within (from met)
 
--- nothing is asked of the account beside the state
-pub none_beside : (op : Op) → beside_of op ≡ nothing_beside
-none_beside op.ListBuckets = refl
-none_beside (op.CreateBucket bucket acl) = refl
-none_beside (op.DeleteBucket bucket) = refl
-none_beside (op.HeadBucket bucket) = refl
-none_beside (op.GetLocation bucket) = refl
-none_beside (op.GetBucketAcl bucket) = refl
-none_beside (op.PutBucketAcl bucket acl) = refl
-none_beside (op.ListObjects bucket asked) = refl
-none_beside (op.PutObject bucket key acl content_type meta body) = refl
-none_beside (op.GetObject bucket key range conditions) = refl
-none_beside (op.HeadObject bucket key range conditions) = refl
-none_beside (op.DeleteObject bucket key) = refl
-none_beside (op.GetObjectAcl bucket key) = refl
-none_beside (op.ListUploads bucket prefix key_marker id_marker max) = refl
-none_beside (op.CreateUpload bucket key acl content_type meta) = refl
-none_beside (op.UploadPart bucket key id number body) = refl
-none_beside (op.ListParts bucket key id marker max) = refl
-none_beside (op.CompleteUpload bucket key id list) = refl
-none_beside (op.AbortUpload bucket key id) = refl
+-- of an operation that isn't one on uploads nothing is asked of the account beside the state
+pub none_beside : (op : Op) → is_upload op ≡ false → beside_of op ≡ nothing_beside
+none_beside op.ListBuckets other = refl
+none_beside (op.CreateBucket bucket acl) other = refl
+none_beside (op.DeleteBucket bucket) other = refl
+none_beside (op.HeadBucket bucket) other = refl
+none_beside (op.GetLocation bucket) other = refl
+none_beside (op.GetBucketAcl bucket) other = refl
+none_beside (op.PutBucketAcl bucket acl) other = refl
+none_beside (op.ListObjects bucket asked) other = refl
+none_beside (op.PutObject bucket key acl content_type meta body) other = refl
+none_beside (op.GetObject bucket key range conditions) other = refl
+none_beside (op.HeadObject bucket key range conditions) other = refl
+none_beside (op.DeleteObject bucket key) other = refl
+none_beside (op.GetObjectAcl bucket key) other = refl
+none_beside (op.ListUploads bucket prefix key_marker id_marker max) other = cc
+none_beside (op.CreateUpload bucket key acl content_type meta) other = cc
+none_beside (op.UploadPart bucket key id number body) other = cc
+none_beside (op.ListParts bucket key id marker max) other = cc
+none_beside (op.CompleteUpload bucket key id list) other = cc
+none_beside (op.AbortUpload bucket key id) other = cc

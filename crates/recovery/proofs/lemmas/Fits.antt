@@ -25,8 +25,8 @@ use Rattle.swift_marks.specs.Pack.{is_short, has_pack, pack_of}
 use Rattle.swift_marks.proofs.lemmas.TagLaws.{weaken}
 use Rattle.swift_marks.proofs.lemmas.FieldLaws.{tag_is_field, pack_is_small}
 use Rattle.recovery.specs.Interpret.{plain_tag}
-use Rattle.recovery.proofs.Etags.{etag_is_etag}
-use Rattle.recovery.proofs.Names.{container_name, object_name}
+use Rattle.recovery.proofs.lemmas.Etags.{etag_is_etag}
+use Rattle.recovery.proofs.lemmas.Names.{container_name, object_name}
 
 -- ---- the content type
 

@@ -21,7 +21,7 @@ use Rattle.swift_calls.specs.Account.{SwiftContainer, SwiftAccount}
 use Rattle.swift_calls.specs.Limits.{IsMarker}
 use Rattle.upload_records.specs.Consistent.{IsConsistent, IsFolderName, head_of}
 use Rattle.upload_records.specs.Layout.{uploads_name, segments_name, gateway_name}
-use Rattle.recovery.proofs.Ascending.{front, back, lt_is}
+use Rattle.recovery.proofs.lemmas.Ascending.{front, back, lt_is}
 
 -- ---- what is found under the name of an entry
 
@@ -108,7 +108,7 @@ beside_is_marker bucket more is bytes near =
     let long = bucket_length bucket is in
     text_is_marker (bucket ++ more) (with_more bucket more (of_bucket bucket (bucket_bytes bucket is)) bytes) (omega (arith, length-append bucket more))
 
-folder_is_marker : (name : List ℕ) → IsFolderName name → IsMarker name
+pub folder_is_marker : (name : List ℕ) → IsFolderName name → IsMarker name
 unfolding uploads_name segments_name gateway_name
 folder_is_marker name (inl is) = let long = bucket_length name is in text_is_marker name (of_bucket name (bucket_bytes name is)) (omega arith)
 folder_is_marker name (inr (inl (bucket, beside))) = elim beside.is [

@@ -15,13 +15,13 @@ use Rattle.swift_calls.specs.Step.{page, is_listed}
 use Rattle.swift_calls.specs.declared.calls.SwiftRequest.TheVariants.{ListContainers}
 use Rattle.upload_records.specs.Consistent.{IsConsistent}
 use Rattle.recovery.specs.Listing.{after, ascends, most_names, names_due, next_marker, MayListAfter, GoesOnAfter, TellsPage, TellsNext}
-use Rattle.recovery.proofs.Ascending.{after_at, after_later, filter_ascends, keys_ascend}
-use Rattle.recovery.proofs.One.{IsReadingOf}
+use Rattle.recovery.proofs.lemmas.Ascending.{after_at, after_later, filter_ascends, keys_ascend}
+use Rattle.recovery.proofs.lemmas.One.{IsReadingOf}
 use Rattle.list_pages.specs.Listing.{Ascends}
 use Rattle.list_pages.proofs.lemmas.Sorted.{sorted_filter}
 use Rattle.recovery.specs.declared.fault.PlanFault.TheVariants.{Inconsistent}
 use Rattle.recovery.proofs.KeyPages.{below_chosen, ascends_by, ascends_take}
-use Rattle.recovery.proofs.Markers.{IsKey, keys_are, entry_is_marker}
+use Rattle.recovery.proofs.lemmas.Markers.{IsKey, keys_are, entry_is_marker}
 
 -- ---- what a page is
 

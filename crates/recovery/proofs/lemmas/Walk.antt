@@ -24,7 +24,7 @@ use Rattle.recovery.specs.Calls.{always, by_account, GoesOn, Met, Keeps, Asks}
 use Rattle.recovery.proofs.lemmas.Agree.{quiet_agree, quiet_trans, failed_after}
 use Rattle.recovery.proofs.lemmas.Faults.{err_is}
 use Rattle.recovery.proofs.lemmas.Idle.{none_made, goes_none, goes_trans}
-use Rattle.recovery.proofs.Markers.{IsKey, keys_are, text_is_marker}
+use Rattle.recovery.proofs.lemmas.Markers.{IsKey, keys_are, text_is_marker}
 
 -- ---- all names stand after the empty marker
 

@@ -18,7 +18,7 @@ use Rattle.swift_calls.specs.Step.{put_container, post_container, delete_contain
 use Rattle.swift_calls.specs.Step as store
 use Rattle.upload_records.specs.Layout.{segments_name, uploads_name, readers_of}
 use Rattle.upload_records.specs.Native.{object_of, bucket_from, bucket_of, IsUnsealed, s3_state}
-use Rattle.upload_records.specs.Consistent.{IsConsistent}
+use Rattle.upload_records.specs.Consistent.{HasBareSides, IsConsistent}
 use Rattle.upload_records.specs.Laws.{ChangesBy}
 use Rattle.upload_records.proofs.lemmas.Settled.{s3_state_unsealed}
 use Rattle.upload_records.proofs.lemmas.Readers.{acl_of_folder}
@@ -54,12 +54,12 @@ s3_state_bare tree b is sound unsealed =
 put_leaves : (o : Option SwiftContainer) (name : List ℕ) (readers : ReadList) (created : Option ℕ) (tree : SwiftAccount) → o ≡ None → (put_container o name readers created tree).tree ≡ insert tree name (new_folder readers created)
 put_leaves o name readers created tree none = ap (λ v. (put_container v name readers created tree).tree) none
 
-pub bucket_made : (tree : SwiftAccount) (b : List ℕ) (acl : Acl) (moment : ℕ) → is_bucket b ≡ true → moment < moment_limit → IsConsistent tree → IsUnsealed tree → get tree b ≡ None
+pub bucket_made : (tree : SwiftAccount) (b : List ℕ) (acl : Acl) (moment : ℕ) → is_bucket b ≡ true → moment < moment_limit → IsConsistent tree → IsUnsealed tree → get tree b ≡ None → HasBareSides tree b
     → ChangesBy tree (PutContainer b (readers_of acl) (Some moment)) (λ state. insert state b (new_bucket moment acl))
-bucket_made tree b acl moment is below sound unsealed none =
+bucket_made tree b acl moment is below sound unsealed none sides =
     let folder : SwiftContainer = new_folder (readers_of acl) (Some moment) in
     changes_by tree (insert tree b folder) b (PutContainer b (readers_of acl) (Some moment)) (λ state. insert state b (new_bucket moment acl)) is unsealed (off_insert by_name tree b folder)
-    (put_leaves (get tree b) b (readers_of acl) (Some moment) tree none) (sound_made tree b acl moment is below sound) (plain_made tree b acl moment is)
+    (put_leaves (get tree b) b (readers_of acl) (Some moment) tree none) (sound_made tree b acl moment is below sound unsealed sides) (plain_made tree b acl moment is sides.records.holds)
 
 -- what the DELETE of a container that is empty leaves
 drop_leaves : (o : Option SwiftContainer) (name : List ℕ) (tree : SwiftAccount) → option_map store.is_bare o ≡ Some true → (delete_container o name tree).tree ≡ remove tree name
@@ -69,7 +69,7 @@ drop_leaves (Some folder) name tree e = let bare : store.is_bare folder ≡ true
 pub bucket_gone : (tree : SwiftAccount) (b : List ℕ) → is_bucket b ≡ true → IsConsistent tree → IsUnsealed tree → option_map store.is_bare (get tree b) ≡ Some true → ChangesBy tree (DeleteContainer b) (λ state. remove state b)
 bucket_gone tree b is sound unsealed bare =
     changes_by tree (remove tree b) b (DeleteContainer b) (λ state. remove state b) is unsealed (off_remove by_name tree b)
-    (drop_leaves (get tree b) b tree bare) (sound_dropped tree b is sound) (plain_dropped tree b is)
+    (drop_leaves (get tree b) b tree bare) (sound_dropped tree b is sound unsealed) (plain_dropped tree b is)
 
 -- what the POST of a container leaves, also where it is missing
 post_leaves : (o : Option SwiftContainer) (name : List ℕ) (readers : ReadList) (tree : SwiftAccount) → get tree name ≡ o → (post_container o name readers tree).tree ≡ adjust name (with_readers readers) tree
@@ -79,4 +79,4 @@ post_leaves (Some folder) name readers tree there = refl
 pub acl_replaced : (tree : SwiftAccount) (b : List ℕ) (acl : Acl) → is_bucket b ≡ true → IsConsistent tree → IsUnsealed tree → ChangesBy tree (PostContainer b (readers_of acl)) (adjust b (with_acl acl))
 acl_replaced tree b acl is sound unsealed =
     changes_by tree (adjust b (with_readers (readers_of acl)) tree) b (PostContainer b (readers_of acl)) (adjust b (with_acl acl)) is unsealed (off_adjust by_name b (with_readers (readers_of acl)) tree)
-    (post_leaves (get tree b) b (readers_of acl) tree refl) (sound_posted tree b (readers_of acl) is sound) (plain_posted tree b acl is)
+    (post_leaves (get tree b) b (readers_of acl) tree refl) (sound_posted tree b (readers_of acl) is sound unsealed) (plain_posted tree b acl is)

@@ -15,11 +15,12 @@ use Rattle.swift_calls.specs.Bodies.{bytes_of}
 use Rattle.swift_calls.specs.Step as store
 use Rattle.upload_records.specs.Layout.{segments_name}
 use Rattle.upload_records.specs.Native.{within, object_by, object_of, object_at, IsUnsealed, s3_state}
-use Rattle.upload_records.specs.Consistent.{IsConsistent, IsPlainObject, IsObject, in_one_piece, IsStored}
+use Rattle.upload_records.specs.Consistent.{IsConsistent, IsPlainObject, IsCompletedObject, IsObject, in_one_piece, in_parts, IsStored}
 use Rattle.upload_records.specs.Laws.{ChangesBy, FindsObject, file_put, object_in}
 use Rattle.upload_records.proofs.lemmas.Settled.{s3_state_unsealed}
 use Rattle.upload_records.proofs.Plain.{plain_at, plain_put, plain_removed}
 use Rattle.upload_records.proofs.Carried.{sound_object, sound_put, sound_removed}
+use Rattle.upload_records.proofs.Parts.{completed_bytes}
 use Rattle.upload_records.proofs.Leaves.{changes_by}
 
 -- ---- what a file represents
@@ -27,9 +28,16 @@ use Rattle.upload_records.proofs.Leaves.{changes_by}
 pub plain_object : (segments : Names SwiftObject) (key : List ℕ) (file : SwiftObject) (plain : IsPlainObject file) → object_of segments key file ≡ Some (object_in plain)
 plain_object segments key file plain = λ i. object_by (plain.tagged i) (plain.packed i) (bytes_of (within segments) (plain.own i))
 
+-- the object that a completed file is, by the bytes of its parts
+completed_object : (segments : Names SwiftObject) (folder key : List ℕ) (file : SwiftObject) → IsCompletedObject segments folder file → (o : Object) × (object_of segments key file ≡ Some o)
+completed_object segments folder key file object =
+    let all = completed_bytes segments folder file object in
+    (record { bytes = all.0; etag = object.etag; content_type = object.content_type; meta = object.meta; modified = object.moment }, (λ i. object_by (object.tagged i) (object.packed i) (all.1 i)))
+
 -- each form of a file that is an object represents one
 pub reads_as : (segments : Names SwiftObject) (folder key : List ℕ) (file : SwiftObject) → IsObject segments folder key file → (o : Object) × (object_of segments key file ≡ Some o)
 reads_as segments folder key file (in_one_piece keyed plain) = (object_in plain, plain_object segments key file plain)
+reads_as segments folder key file (in_parts keyed object) = completed_object segments folder key file object
 
 pub object_reads : (tree : SwiftAccount) (b key : List ℕ) (file : SwiftObject) → IsConsistent tree → is_bucket b ≡ true → find_object tree b key ≡ Some file → is_some (object_of (files tree (segments_name b)) key file) ≡ true
 object_reads tree b key file sound is found = ap is_some (reads_as (files tree (segments_name b)) (segments_name b) key file (sound_object tree b key file sound is found)).1
@@ -58,12 +66,12 @@ found tree b key is sound unsealed = finds tree b key (find_object tree b key) i
 -- ---- an object comes, or goes
 
 -- what the PUT of a file leaves, also where the container is missing
-put_leaves : (o : Option SwiftContainer) (b key : List ℕ) (file : SwiftObject) (tree : SwiftAccount) → get tree b ≡ o → (store.put_object o b key file tree).tree ≡ put_file b key file tree
+pub put_leaves : (o : Option SwiftContainer) (b key : List ℕ) (file : SwiftObject) (tree : SwiftAccount) → get tree b ≡ o → (store.put_object o b key file tree).tree ≡ put_file b key file tree
 put_leaves None b key file tree none = sym (adjust_missing by_name b _ tree none)
 put_leaves (Some folder) b key file tree there = refl
 
 -- what the DELETE of a file leaves, also where the file is missing
-delete_leaves : (o : Option SwiftObject) (b key : List ℕ) (tree : SwiftAccount) → find_object tree b key ≡ o → (store.delete_object o b key tree).tree ≡ remove_file b key tree
+pub delete_leaves : (o : Option SwiftObject) (b key : List ℕ) (tree : SwiftAccount) → find_object tree b key ≡ o → (store.delete_object o b key tree).tree ≡ remove_file b key tree
 delete_leaves None b key tree none =
     sym (adjust_stays by_name b _ tree (λ folder is i. record folder { files = remove_missing by_name folder.files key (ap (λ v. get (files_of v) key) (sym is) ∙ none) i }))
 delete_leaves (Some file) b key tree there = refl
@@ -74,10 +82,10 @@ pub object_put : (tree : SwiftAccount) (b key content_type : List ℕ) (meta : L
 object_put tree b key content_type meta body plain is keyed stored sound unsealed =
     let file : SwiftObject = file_put content_type meta body in
     changes_by tree (put_file b key file tree) b (PutObject b key content_type meta body) (adjust b (put_object key (object_in plain))) is unsealed (off_adjust by_name b (on_files (λ fs. insert fs key file)) tree)
-    (put_leaves (get tree b) b key file tree refl) (sound_put tree b key file is sound (in_one_piece keyed plain) stored)
+    (put_leaves (get tree b) b key file tree refl) (sound_put tree b key file is sound unsealed (in_one_piece keyed plain) refl stored)
     (plain_put tree b key file (object_in plain) (plain_object (files tree (segments_name b)) key file plain) is)
 
 pub object_gone : (tree : SwiftAccount) (b key : List ℕ) → is_bucket b ≡ true → IsConsistent tree → IsUnsealed tree → ChangesBy tree (DeleteObject b key) (adjust b (drop_object key))
 object_gone tree b key is sound unsealed =
     changes_by tree (remove_file b key tree) b (DeleteObject b key) (adjust b (drop_object key)) is unsealed (off_adjust by_name b (on_files (λ fs. remove fs key)) tree)
-    (delete_leaves (find_object tree b key) b key tree refl) (sound_removed tree b key is sound) (plain_removed tree b key is)
+    (delete_leaves (find_object tree b key) b key tree refl) (sound_removed tree b key is sound unsealed) (plain_removed tree b key is)

@@ -12,7 +12,7 @@ use Rattle.upload_records.specs.Native.{SameGateway}
 use Rattle.upload_records.specs.Laws.{file_put}
 use Rattle.upload_records.proofs.lemmas.Settled.{OffSame, same_off}
 
-put_off : (o : Option SwiftContainer) (b : List ℕ) (readers : ReadList) (created : Option ℕ) (tree : SwiftAccount) → OffSame tree (put_container o b readers created tree).tree b
+pub put_off : (o : Option SwiftContainer) (b : List ℕ) (readers : ReadList) (created : Option ℕ) (tree : SwiftAccount) → OffSame tree (put_container o b readers created tree).tree b
 put_off None b readers created tree = off_insert by_name tree b _
 put_off (Some folder) b readers created tree = off_adjust by_name b (with_head readers created) tree
 

@@ -1,6 +1,6 @@
 use Rattle.std.specs.Prelude.{None, Some}
 use Rattle.std.proofs.Common.{lit≤, rules}
-use Rattle.planner.proofs.Ends.{told_nothing, answers}
+use Rattle.recovery.proofs.lemmas.Ends.{told_nothing, answers}
 use Rattle.planner.proofs.BucketSteps.{object_acl_none, object_acl_told}
 use Rattle.planner.proofs.acls.acl_within.Goals as goal
 

@@ -2,7 +2,7 @@ use Rattle.std.proofs.Common.{refl, rules}
 use Rattle.s3_machine.specs.declared.operation.Op.TheVariants.{ListBuckets}
 use Rattle.swift_calls.specs.History.{present}
 use Rattle.recovery.specs.Answers.{most_calls}
-use Rattle.planner.proofs.Ends.{as_wide, met_settled, calls_in_vain, calls_end}
+use Rattle.recovery.proofs.lemmas.Ends.{as_wide, met_settled, calls_in_vain, calls_end}
 use Rattle.planner.proofs.BucketSteps.{buckets_listed}
 use Rattle.planner.proofs.Replies.{buckets_is_own}
 use Rattle.planner.proofs.buckets.list_buckets.Goals as goal

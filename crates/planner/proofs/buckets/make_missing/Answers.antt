@@ -1,14 +1,17 @@
-use Rattle.std.proofs.Common.{sym, subst, lit≤, rules}
-use Rattle.planner.specs.Plan.{Plans}
-use Rattle.planner.proofs.Ends.{out_of_memory, commits, becomes}
-use Rattle.planner.proofs.CreateBucket.{steps_made, missing_of}
+use Rattle.std.proofs.Common.{ap, arith, ◌∙◌}
+use Rattle.upload_records.specs.Layout.{uploads_name}
+use Rattle.recovery.proofs.lemmas.Ends.{out_of_memory}
+use Rattle.planner.proofs.MakeBucket.{made_uploads, not_made}
 use Rattle.planner.proofs.buckets.make_missing.Goals as goal
 
-pub returns-clause-plans : goal.returns-clause-plans
-returns-clause-plans g c =
-    subst (Plans _ _ _ _ _ _ _ _) (sym c.made_end.ensures)
-    (commits _ (lit≤ tt) c.make_bucket.ensures.changes (λ done. search rules) (λ tree missing. missing_of _ _ missing)
-    (λ tree done new missing is. becomes (steps_made _ _ _ _ _ _ c.in_ok-name.ensures missing) is))
+pub returns-in_err-uploads-clause-plans : goal.returns-in_err-uploads-clause-plans
+returns-in_err-uploads-clause-plans g c = out_of_memory _ _ c.from_residual.ensures.1
 
-pub returns-in_err-name-clause-plans : goal.returns-in_err-name-clause-plans
-returns-in_err-name-clause-plans g c = out_of_memory _ _ c.from_residual.ensures.1
+pub returns-in_err-segments-clause-plans : goal.returns-in_err-segments-clause-plans
+returns-in_err-segments-clause-plans g c = out_of_memory _ _ c.from_residual-in_err-segments.ensures.1
+
+pub returns-in_err-make_beside-clause-plans : goal.returns-in_err-make_beside-clause-plans
+returns-in_err-make_beside-clause-plans g c = not_made (omega arith) c.in_err-make_beside.ensures.asks _ c.from_residual-in_err-make_beside.ensures.1
+
+pub returns-clause-plans : goal.returns-clause-plans
+returns-clause-plans g c = made_uploads c.args.bucket c.requires.name c.make_beside.ensures.stays.settings (c.in_ok-uploads.ensures ∙ ap uploads_name c.as_slice.ensures) c.in_ok-make_beside.ensures.asks c.make_segments.ensures.plans

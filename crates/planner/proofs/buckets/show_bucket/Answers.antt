@@ -1,6 +1,6 @@
 use Rattle.std.specs.Prelude.{None, Some}
 use Rattle.std.proofs.Common.{sym, ◌∙◌, lit≤, rules}
-use Rattle.planner.proofs.Ends.{told_nothing, answers}
+use Rattle.recovery.proofs.lemmas.Ends.{told_nothing, answers}
 use Rattle.planner.proofs.BucketSteps.{show_missing, show_refused, shown}
 use Rattle.planner.proofs.buckets.show_bucket.Goals as goal
 

@@ -5,8 +5,8 @@ use Rattle.swift_calls.specs.Account.{files}
 use Rattle.swift_calls.specs.History.{present}
 use Rattle.recovery.specs.Answers.{pages}
 use Rattle.recovery.specs.Calls.{by_account}
-use Rattle.planner.specs.Plan.{IsOwnReply}
-use Rattle.planner.proofs.Ends.{as_wide, met_settled, needs_none, calls_in_vain, calls_end}
+use Rattle.recovery.specs.Plan.{IsOwnReply}
+use Rattle.recovery.proofs.lemmas.Ends.{as_wide, met_settled, needs_none, calls_in_vain, calls_end}
 use Rattle.planner.proofs.Listings.{items_are_own, list_refused, list_told}
 use Rattle.planner.proofs.listing.list_within.Goals as goal
 

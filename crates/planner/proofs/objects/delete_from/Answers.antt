@@ -1,6 +1,6 @@
 use Rattle.std.proofs.Common.{sym, subst, lit≤, rules}
-use Rattle.planner.specs.Plan.{Plans}
-use Rattle.planner.proofs.Ends.{commits, becomes}
+use Rattle.recovery.specs.Plan.{Plans}
+use Rattle.recovery.proofs.lemmas.Ends.{commits, becomes}
 use Rattle.planner.proofs.Steps.{deletes}
 use Rattle.planner.proofs.objects.delete_from.Goals as goal
 

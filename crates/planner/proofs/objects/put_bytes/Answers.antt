@@ -1,6 +1,6 @@
 use Rattle.std.proofs.Common.{sym, subst, ◌∙◌, lit≤, rules}
-use Rattle.planner.specs.Plan.{Plans}
-use Rattle.planner.proofs.Ends.{out_of_memory, commits, becomes}
+use Rattle.recovery.specs.Plan.{Plans}
+use Rattle.recovery.proofs.lemmas.Ends.{out_of_memory, commits, becomes}
 use Rattle.planner.proofs.Steps.{put_stored}
 use Rattle.planner.proofs.objects.put_bytes.Goals as goal
 

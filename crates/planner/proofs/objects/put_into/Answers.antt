@@ -1,5 +1,5 @@
 use Rattle.std.proofs.Common.{sym, ◌∙◌, rules}
-use Rattle.planner.proofs.Ends.{needs_none}
+use Rattle.recovery.proofs.lemmas.Ends.{needs_none}
 use Rattle.planner.proofs.Steps.{put_other}
 use Rattle.planner.proofs.objects.put_into.Goals as goal
 

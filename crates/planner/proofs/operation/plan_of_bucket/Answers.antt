@@ -1,7 +1,7 @@
 use Rattle.std.specs.Prelude.{Err}
 use Rattle.std.proofs.Common.{refl}
 use Rattle.recovery.specs.declared.fault.PlanFault.TheVariants.{Memory}
-use Rattle.planner.proofs.Ends.{out_of_memory}
+use Rattle.recovery.proofs.lemmas.Ends.{out_of_memory}
 use Rattle.planner.proofs.operation.plan_of_bucket.Goals as goal
 
 pub returns-in-DeleteBucket-clause-plans : goal.returns-in-DeleteBucket-clause-plans

@@ -1,6 +1,6 @@
 use Rattle.std.proofs.Common.{refl}
 use Rattle.recovery.proofs.Drop.{drops}
-use Rattle.recovery.proofs.One.{sent_in_vain, sent}
+use Rattle.recovery.proofs.lemmas.One.{sent_in_vain, sent}
 use Rattle.recovery.proofs.bucket.drop_bucket.Goals as goal
 
 pub returns-in_err-reply-clause-changes : goal.returns-in_err-reply-clause-changes

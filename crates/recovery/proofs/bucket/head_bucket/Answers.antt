@@ -1,6 +1,6 @@
 use Rattle.std.proofs.Common.{inr}
 use Rattle.recovery.proofs.Head.{head_reads}
-use Rattle.recovery.proofs.One.{not_asked, asked_in_vain, asked}
+use Rattle.recovery.proofs.lemmas.One.{not_asked, asked_in_vain, asked}
 use Rattle.recovery.proofs.bucket.head_bucket.Goals as goal
 
 pub returns-in_err-copy-clause-asks : goal.returns-in_err-copy-clause-asks

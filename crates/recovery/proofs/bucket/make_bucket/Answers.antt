@@ -1,5 +1,5 @@
 use Rattle.std.proofs.Common.{refl}
-use Rattle.recovery.proofs.One.{sent_in_vain, sent}
+use Rattle.recovery.proofs.lemmas.One.{sent_in_vain, sent}
 use Rattle.recovery.proofs.Put.{puts}
 use Rattle.recovery.proofs.bucket.make_bucket.Goals as goal
 

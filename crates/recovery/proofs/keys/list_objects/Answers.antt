@@ -3,7 +3,7 @@ use Rattle.swift_calls.specs.Limits.{IsMarker}
 use Rattle.list_pages.specs.Rolls.{Rolls}
 use Rattle.recovery.proofs.AskedMarkers.{asked_is_marker}
 use Rattle.recovery.proofs.KeyWalk.{none_wanted, not_truncated, rolling_end, rolling_fault, rolling_more, rolling_none, some_wanted}
-use Rattle.recovery.proofs.One.{not_asked}
+use Rattle.recovery.proofs.lemmas.One.{not_asked}
 use Rattle.recovery.proofs.keys.list_objects.Goals as goal
 
 pub returns-in_err-roll-clause-asks : goal.returns-in_err-roll-clause-asks

@@ -5,7 +5,7 @@ use Rattle.swift_calls.specs.Limits.{IsMarker}
 use Rattle.swift_calls.specs.declared.heads.NameItem.{NameItem}
 use Rattle.list_pages.specs.Listing.{is_name_with, name_in}
 use Rattle.recovery.specs.Keys.{TellsKeys}
-use Rattle.recovery.proofs.Ask.{asks_told}
+use Rattle.recovery.proofs.lemmas.Ask.{asks_told}
 use Rattle.recovery.proofs.KeyAsks.{asks_rolled}
 use Rattle.recovery.proofs.Taken.{last_is_marker, not_false, taken_full, taken_next}
 use Rattle.recovery.proofs.keys.take_page.Goals as goal

@@ -2,7 +2,7 @@ use Rattle.std.proofs.Common.{ap, drop, sym, ◌+◌, ◌∙◌}
 use Rattle.std.specs.Ordering.{is_lt}
 use Rattle.gate_base.specs.Maps.{name_cmp}
 use Rattle.recovery.specs.Listing.{ascends}
-use Rattle.recovery.proofs.Pages.{ascends_end, ascends_on, ascends_start, ascends_stop}
+use Rattle.recovery.proofs.lemmas.Pages.{ascends_end, ascends_on, ascends_start, ascends_stop}
 use Rattle.recovery.proofs.listing.ascends.Goals as goal
 
 pub loop-name-init : goal.loop-name-init

@@ -1,5 +1,5 @@
 use Rattle.std.proofs.Common.{refl, ◌∙◌}
-use Rattle.recovery.proofs.Walk.{walked_none, walked_more, walked_end, walked_fault}
+use Rattle.recovery.proofs.lemmas.Walk.{walked_none, walked_more, walked_end, walked_fault}
 use Rattle.recovery.proofs.listing.container_names.Goals as goal
 
 pub pages-init : goal.pages-init

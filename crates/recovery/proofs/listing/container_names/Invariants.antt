@@ -1,7 +1,7 @@
 use Rattle.std.proofs.Common.{◌-◌}
 use Rattle.swift_calls.specs.History.{budget}
 use Rattle.recovery.specs.Lent.{Stays}
-use Rattle.recovery.proofs.Walk.{Walked}
+use Rattle.recovery.proofs.lemmas.Walk.{Walked}
 use Rattle.recovery.proofs.listing.container_names.Given as goal
 
 abbrev pub decreases-pages : goal.decreases-pages

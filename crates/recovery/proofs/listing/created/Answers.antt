@@ -1,6 +1,6 @@
 use Rattle.std.proofs.Common.{inr}
 use Rattle.recovery.proofs.Created.{created_reads}
-use Rattle.recovery.proofs.One.{not_asked, asked_of, asked_of_in_vain}
+use Rattle.recovery.proofs.lemmas.One.{not_asked, asked_of, asked_of_in_vain}
 use Rattle.recovery.proofs.listing.created.Goals as goal
 
 pub returns-in_err-copy-clause-asks : goal.returns-in_err-copy-clause-asks

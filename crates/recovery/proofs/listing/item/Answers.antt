@@ -1,7 +1,7 @@
 use Rattle.std.proofs.Common.{ℕ, List}
 use Rattle.s3_machine.specs.declared.items.BucketItem.{BucketItem}
-use Rattle.recovery.proofs.Ask.{asks_fault, asks_told}
-use Rattle.recovery.proofs.One.{not_asked}
+use Rattle.recovery.proofs.lemmas.Ask.{asks_fault, asks_told}
+use Rattle.recovery.proofs.lemmas.One.{not_asked}
 use Rattle.recovery.proofs.listing.item.Goals as goal
 
 abbrev made : List ℕ → ℕ → BucketItem

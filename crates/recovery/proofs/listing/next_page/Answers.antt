@@ -1,7 +1,7 @@
 use Rattle.std.proofs.Common.{◌++◌, ap, ◌∙◌}
 use Rattle.recovery.specs.Listing.{next_marker}
-use Rattle.recovery.proofs.Ask.{asks_fault, asks_told}
-use Rattle.recovery.proofs.Pages.{tells_next}
+use Rattle.recovery.proofs.lemmas.Ask.{asks_fault, asks_told}
+use Rattle.recovery.proofs.lemmas.Pages.{tells_next}
 use Rattle.recovery.proofs.listing.next_page.Goals as goal
 
 pub returns-in_err-page-clause-asks : goal.returns-in_err-page-clause-asks

@@ -1,7 +1,7 @@
 use Rattle.std.proofs.Common.{ap, ◌∙◌, inr}
 use Rattle.recovery.specs.Listing.{names_due}
-use Rattle.recovery.proofs.One.{asked_of, asked_of_in_vain}
-use Rattle.recovery.proofs.Pages.{page_reads}
+use Rattle.recovery.proofs.lemmas.One.{asked_of, asked_of_in_vain}
+use Rattle.recovery.proofs.lemmas.Pages.{page_reads}
 use Rattle.recovery.proofs.listing.page.Goals as goal
 
 pub returns-in_err-reply-clause-asks : goal.returns-in_err-reply-clause-asks

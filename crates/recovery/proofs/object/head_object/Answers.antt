@@ -1,5 +1,5 @@
 use Rattle.recovery.proofs.Files.{head_reads}
-use Rattle.recovery.proofs.One.{not_asked, asked_in_vain, asked}
+use Rattle.recovery.proofs.lemmas.One.{not_asked, asked_in_vain, asked}
 use Rattle.recovery.proofs.object.head_object.Goals as goal
 
 pub returns-in_err-container-clause-asks : goal.returns-in_err-container-clause-asks

@@ -1,7 +1,7 @@
 use Rattle.std.proofs.Common.{ap, ◌∙◌}
 use Rattle.recovery.specs.Interpret.{stored_due}
 use Rattle.recovery.proofs.Files.{puts}
-use Rattle.recovery.proofs.One.{not_sent, sent_in_vain, sent}
+use Rattle.recovery.proofs.lemmas.One.{not_sent, sent_in_vain, sent}
 use Rattle.recovery.proofs.object.put_object.Goals as goal
 
 pub returns-in_err-request-clause-changes : goal.returns-in_err-request-clause-changes

@@ -1,7 +1,7 @@
 use Rattle.std.proofs.Common.{ap, ◌∙◌}
 use Rattle.swift_marks.specs.Tag.{tag_text}
 use Rattle.recovery.specs.Interpret.{plain_tag}
-use Rattle.recovery.proofs.Fits.{put_fits}
+use Rattle.recovery.proofs.lemmas.Fits.{put_fits}
 use Rattle.recovery.proofs.object.put_request.Goals as goal
 
 pub returns-clause-fits : goal.returns-clause-fits

@@ -1,5 +1,9 @@
-use Rattle.recovery.proofs.Settling.{settles_idle}
+use Rattle.std.proofs.Common.{refl}
+use Rattle.recovery.proofs.Settling.{settles_done, settles_fault}
 use Rattle.recovery.proofs.state.Unsure.settle.Goals as goal
 
-pub returns-clause-settles : goal.returns-clause-settles
-returns-clause-settles g c = settles_idle _
+pub returns-in-Ok-clause-settles : goal.returns-in-Ok-clause-settles
+returns-in-Ok-clause-settles g c = settles_done c.in-Ok.ensures.asks (λ observable. c.in-Ok.ensures.done observable refl)
+
+pub returns-in-Err-clause-settles : goal.returns-in-Err-clause-settles
+returns-in-Err-clause-settles g c = settles_fault c.settle_fault.ensures c.in-Err.ensures.asks

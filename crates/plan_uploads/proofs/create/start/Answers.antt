@@ -1,0 +1,22 @@
+use Rattle.std.proofs.Common.{sym, subst, lit≤, rules}
+use Rattle.recovery.specs.Plan.{Plans}
+use Rattle.recovery.proofs.lemmas.Ends.{out_of_memory, commits, becomes}
+use Rattle.plan_uploads.proofs.Beside.{beside_none}
+use Rattle.plan_uploads.proofs.Creating.{may_open, new_id, opens_first}
+use Rattle.plan_uploads.proofs.Steps.{created, it}
+use Rattle.plan_uploads.proofs.create.start.Goals as goal
+
+pub returns-in_err-name-clause-plans : goal.returns-in_err-name-clause-plans
+returns-in_err-name-clause-plans g c = out_of_memory _ _ c.from_residual.ensures.1
+
+pub returns-in_err-name-clause-beside : goal.returns-in_err-name-clause-beside
+returns-in_err-name-clause-beside g c = beside_none _ _ _ _ _ c.from_residual.ensures.1
+
+pub returns-clause-plans : goal.returns-clause-plans
+returns-clause-plans g c =
+    subst (Plans _ _ _ _ _ _ _ _) (sym c.started_end.ensures)
+    (commits _ (lit≤ tt) c.put_record.ensures.changes (λ done. search rules) (λ tree may. may_open may)
+    (λ tree done new may is. becomes (created _ _ _ _ _ may.listed _ _ _ _ _ c.args.id c.in_ok-name.ensures c.requires.acl (new_id may c.requires.place.named c.ranges.id.fits (it c.args.state.now.settings.now _ _ c.args.label.now _ may.listed).1)) is))
+
+pub returns-clause-beside : goal.returns-clause-beside
+returns-clause-beside g c = opens_first c.in_ok-name.name c.args.content_type c.args.meta c.args.label.now.moment c.put_record.ensures.changes _

@@ -1,0 +1,12 @@
+use Rattle.std.specs.Prelude.{Err}
+use Rattle.std.proofs.Common.{refl}
+use Rattle.recovery.specs.declared.fault.PlanFault.TheVariants.{Memory}
+use Rattle.recovery.proofs.lemmas.Ends.{out_of_memory}
+use Rattle.plan_uploads.proofs.Beside.{beside_none}
+use Rattle.plan_uploads.proofs.operation.plan_abort.Goals as goal
+
+pub returns-in-AbortUpload-clause-plans : goal.returns-in-AbortUpload-clause-plans
+returns-in-AbortUpload-clause-plans g c = rw c.in-AbortUpload.is (c.abort_upload.ensures.plans c.args.label.now)
+
+pub returns-in_default : goal.returns-in_default
+returns-in_default g c = record { stays = record { store = refl; settings = refl }; plans = out_of_memory _ (Err Memory) refl; beside = beside_none _ _ _ _ (Err Memory) refl }

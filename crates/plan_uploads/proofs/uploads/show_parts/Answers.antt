@@ -1,0 +1,28 @@
+use Rattle.std.proofs.Common.{ap, arith, rules}
+use Rattle.recovery.specs.Answers.{pages}
+use Rattle.recovery.specs.Calls.{always}
+use Rattle.recovery.proofs.lemmas.Ends.{met_settled, goes_on_from}
+use Rattle.plan_uploads.specs.declared.found.Found.TheVariants.{NoBucket, NoUpload, Open}
+use Rattle.plan_uploads.proofs.Asking.{after_told_of, asked_in_vain, asked_reply}
+use Rattle.plan_uploads.proofs.Finding.{named_same}
+use Rattle.plan_uploads.proofs.Steps.{parts_lost, parts_missing}
+use Rattle.plan_uploads.proofs.uploads.show_parts.Goals as goal
+
+pub returns-in_err-find_upload-clause-plans : goal.returns-in_err-find_upload-clause-plans
+returns-in_err-find_upload-clause-plans g c = λ label. asked_in_vain (always 2) (omega arith) met_settled c.in_err-find_upload.ensures.asks _ c.from_residual.ensures.1
+
+pub returns-in-NoBucket-clause-plans : goal.returns-in-NoBucket-clause-plans
+returns-in-NoBucket-clause-plans g c = λ label.
+    asked_reply (always 2) (omega arith) (λ tree has. has.settled) NoBucket c.in-NoBucket.is _ c.in_ok-find_upload.ensures.asks (search rules)
+    (λ tree sound has missing. parts_missing _ _ _ _ missing _ _ _ _)
+
+pub returns-in-NoUpload-clause-plans : goal.returns-in-NoUpload-clause-plans
+returns-in-NoUpload-clause-plans g c = λ label.
+    asked_reply (always 2) (omega arith) (λ tree has. has.settled) NoUpload c.in-NoUpload.is _ c.in_ok-find_upload.ensures.asks (search rules)
+    (λ tree sound has lacks. parts_lost _ _ _ _ _ tree c.requires.name lacks _ _)
+
+pub returns-in-Open-clause-plans : goal.returns-in-Open-clause-plans
+returns-in-Open-clause-plans g c = λ label.
+    goes_on_from met_settled c.find_upload.ensures.stays.settings c.in_ok-find_upload.ensures.asks (c.parts_within.ensures.plans c.args.text.now label)
+    (λ any tells. after_told_of (Open c.in-Open.id) c.in-Open.is tells)
+    (λ x. let same = ap pages (named_same c.in-Open.is x.1) in omega (arith, same))

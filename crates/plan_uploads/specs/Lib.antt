@@ -1,0 +1,5 @@
+pub mod Interpret
+pub mod Listing
+pub mod Plans
+pub mod Records
+pub mod Taken

@@ -1,0 +1,107 @@
+//! The plan of AbortUpload.
+ghost use Rattle.std.specs.Prelude.{◌≡◌, ◌+◌, ℕ, true, List};
+ghost use Rattle.s3_names.specs.Bucket.{is_bucket};
+ghost use Rattle.s3_names.specs.Id.{id_digits};
+ghost use Rattle.s3_machine.specs.declared.operation.Label.{Label};
+ghost use Rattle.s3_machine.specs.declared.operation.Op.TheVariants.{AbortUpload};
+ghost use Rattle.swift_calls.specs.History.{present};
+ghost use Rattle.upload_records.specs.Layout.{segments_name, segments_prefix};
+ghost use Rattle.recovery.specs.Answers.{clears, named_by, pages};
+ghost use Rattle.recovery.specs.Calls.{by_account, Any, Given, GivenOf};
+ghost use Rattle.recovery.specs.Lent.{Stays};
+ghost use Rattle.recovery.specs.declared.state.Known.TheVariants as known;
+ghost use Rattle.recovery.specs.Plan.{Plans};
+ghost use Rattle.plan_uploads.specs.Plans.{IsOpenUpload, LeavesBeside, gone_behind};
+
+use crate::found::{Found, find_upload};
+use crate::records::drop_record;
+use gate_base::Bytes;
+use recovery::{PlanFault, Settled, purge};
+use s3_machine::{Code, Reply};
+use std::alloc::Global;
+use swift_calls::Swift;
+use upload_records::{segments_container, segments_prefix};
+
+/// AbortUpload: HEAD of the bucket's container, GET of the upload's record, DELETE of the record, which commits, and then the
+/// upload's segments are deleted page by page. Over an observable consistent account at most three calls more than there are
+/// pages and segments. That the store failed behind the DELETE of the record is no failure of the operation: the reply is Gone
+/// all the same, and segments may be left; where no call failed none is. The faults are those of the calls before, and Memory
+/// where memory ran out behind it.
+pub(crate) fn abort_upload<W: Swift>(
+    alloc: Global,
+    state: &mut Settled<'_, W>,
+    bucket: &Bytes,
+    key: &Bytes,
+    text: &Bytes,
+) -> Result<Reply, PlanFault>
+    requires { is_bucket bucket.now ≡ true }
+    ensures stays { Stays state.old state.new }
+    ensures plans { (label : Label) → Plans (by_account (3 + pages (named_by (present (W.history state.old.store.now)) bucket.now text.now)
+        + named_by (present (W.history state.old.store.now)) bucket.now text.now))
+        (W.history state.old.store.now) (W.history state.new.store.now) state.old.settings.now
+        (Given Any) (AbortUpload bucket.now key.now text.now) label known.Settled result }
+    ensures beside { (label : Label) → LeavesBeside (clears bucket.now text.now) label
+        (W.history state.old.store.now) (W.history state.new.store.now) (Given Any) result }
+{
+    match find_upload(alloc, state, bucket, key, text)? {
+        Found::NoBucket => Ok(Reply::Refused(Code::NoSuchBucket)),
+        Found::NoUpload => Ok(Reply::Refused(Code::NoSuchUpload)),
+        Found::Open(id) => abort_open(alloc, state, bucket, id),
+    }
+}
+
+/// The rest of AbortUpload, of an upload that is open. The names are written before the DELETE of the record, so that behind it
+/// the deletion of the segments alone may want memory.
+fn abort_open<W: Swift>(
+    alloc: Global,
+    state: &mut Settled<'_, W>,
+    bucket: &Bytes,
+    id: u128,
+) -> Result<Reply, PlanFault>
+    requires { is_bucket bucket.now ≡ true }
+    ensures stays { Stays state.old state.new }
+    ensures plans { (key text : List ℕ) (label : Label) → Plans (by_account (1 + pages (named_by (present (W.history state.old.store.now)) bucket.now (id_digits id))
+        + named_by (present (W.history state.old.store.now)) bucket.now (id_digits id)))
+        (W.history state.old.store.now) (W.history state.new.store.now) state.old.settings.now
+        (GivenOf (IsOpenUpload bucket.now key text id)) (AbortUpload bucket.now key text) label known.Settled result }
+    ensures beside { (key text : List ℕ) (label : Label) → LeavesBeside (clears bucket.now text) label
+        (W.history state.old.store.now) (W.history state.new.store.now) (GivenOf (IsOpenUpload bucket.now key text id)) result }
+{
+    let folder = segments_container(alloc, bucket.as_slice())?;
+    let prefix = segments_prefix(alloc, id)?;
+    drop_and_purge(alloc, state, bucket, id, &folder, &prefix)
+}
+
+/// The calls of AbortUpload from the one that commits on.
+fn drop_and_purge<W: Swift>(
+    alloc: Global,
+    state: &mut Settled<'_, W>,
+    bucket: &Bytes,
+    id: u128,
+    folder: &Bytes,
+    prefix: &Bytes,
+) -> Result<Reply, PlanFault>
+    requires name { is_bucket bucket.now ≡ true }
+    requires folder { folder.now ≡ segments_name bucket.now }
+    requires prefix { prefix.now ≡ segments_prefix (id_digits id) }
+    ensures stays { Stays state.old state.new }
+    ensures plans { (key text : List ℕ) (label : Label) → Plans (by_account (1 + pages (named_by (present (W.history state.old.store.now)) bucket.now (id_digits id))
+        + named_by (present (W.history state.old.store.now)) bucket.now (id_digits id)))
+        (W.history state.old.store.now) (W.history state.new.store.now) state.old.settings.now
+        (GivenOf (IsOpenUpload bucket.now key text id)) (AbortUpload bucket.now key text) label known.Settled result }
+    ensures beside { (key text : List ℕ) (label : Label) → LeavesBeside (clears bucket.now text) label
+        (W.history state.old.store.now) (W.history state.new.store.now) (GivenOf (IsOpenUpload bucket.now key text id)) result }
+{
+    drop_record(alloc, state, bucket, id)?;
+    gone_end(purge(alloc, state, bucket, folder, prefix))
+}
+
+/// The end of AbortUpload behind the call that commits.
+fn gone_end(end: Result<(), PlanFault>) -> Result<Reply, PlanFault>
+    ensures { result ≡ gone_behind end }
+{
+    match end {
+        Ok(()) | Err(PlanFault::Failed) => Ok(Reply::Gone),
+        Err(fault) => Err(fault),
+    }
+}

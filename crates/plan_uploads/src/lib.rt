@@ -1,0 +1,17 @@
+//! The plan of each operation on uploads in parts: which calls of the store answer it, in which order, and which one commits.
+#![tactic(auto)]
+
+mod abort;
+mod create;
+mod found;
+mod ids;
+mod listed_parts;
+mod listed_uploads;
+mod operation;
+mod pages;
+mod part;
+mod parts;
+mod records;
+mod uploads;
+
+pub use operation::answer;

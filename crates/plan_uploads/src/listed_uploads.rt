@@ -1,0 +1,306 @@
+//! The listing of the open uploads of a bucket.
+ghost use Rattle.std.specs.Prelude.{[], ◌≡◌, ◌≤◌, ◌<◌, ◌+◌, ◌&&◌, ◌++◌, true, length, map, IfOk, IfSome, OnOk};
+ghost use Rattle.std.specs.List.{All};
+ghost use Rattle.std.specs.FinMap.{entries};
+ghost use Rattle.s3_names.specs.Bucket.{is_bucket};
+ghost use Rattle.s3_names.specs.Id.{id_digits};
+ghost use Rattle.s3_machine.specs.Items.{begins};
+ghost use Rattle.s3_machine.specs.Shown.{IsShownUpload};
+ghost use Rattle.s3_machine.specs.Step.{IsProperUploads};
+ghost use Rattle.s3_machine.specs.Uploads.{cut, is_upload_after, upload_place};
+ghost use Rattle.swift_calls.specs.History.{budget, present};
+ghost use Rattle.swift_calls.specs.Limits.{IsMarker};
+ghost use Rattle.upload_records.specs.Layout.{uploads_name};
+ghost use Rattle.recovery.specs.Answers.{pages, records_of};
+ghost use Rattle.recovery.specs.Calls.{always, by_account, Asks, GivenOf, Tells};
+ghost use Rattle.recovery.specs.Lent.{Stays};
+ghost use Rattle.recovery.specs.Listing.{TellsOf};
+ghost use Rattle.plan_uploads.specs.Listing.{
+  added,
+  id_due,
+  Adds,
+  AddsRow,
+  AllShown,
+  TellsIds,
+  TellsListed,
+  TellsNext,
+  TellsRow,
+  TellsRows,
+};
+ghost use Rattle.plan_uploads.specs.Records.{InBucket, TellsUploads};
+
+use crate::pages::{next_marker, page};
+use crate::records::get_record;
+use gate_base::{Bytes, Copying, List, MOMENT_LIMIT, Memory};
+use name_table::Table;
+use recovery::{PlanFault, Settled};
+use s3_machine::UploadItem;
+use s3_names::{id_digits, id_of};
+use std::alloc::Global;
+use swift_calls::{NameItem, Swift};
+use upload_records::uploads_container;
+use upload_texts::Record;
+
+// ---- the ids of the records
+
+/// Adds the ids that the names of a page write.
+fn add_ids(ids: &mut List<u128>, page: &[NameItem]) -> Result<(), PlanFault>
+    ensures { Adds id_due ids.old ids.new page.now result }
+{
+    for item in page {
+        let Some(id) = id_of(item.name.as_slice()) else {
+            return Err(PlanFault::Inconsistent);
+        };
+        ids.push(id)?;
+    }
+    Ok(())
+}
+
+/// Adds a page of ids. What is told is the marker of the next page, and `None` after the last one.
+fn next_ids<W: Swift>(
+    alloc: Global,
+    state: &mut Settled<'_, W>,
+    bucket: &Bytes,
+    marker: &Bytes,
+    ids: &mut List<u128>,
+) -> Result<Option<Bytes>, PlanFault>
+    requires name { is_bucket bucket.now ≡ true }
+    requires marker { IsMarker marker.now }
+    ensures stays { Stays state.old state.new }
+    ensures counted { IfOk result (λ _. (W.history state.old.store.now).called < budget
+        × ((W.history state.new.store.now).called ≡ (W.history state.old.store.now).called + 1)) }
+    ensures is_marker { IfOk result (λ next. IfSome next IsMarker) }
+    ensures asks { Asks (always 1) (W.history state.old.store.now) (W.history state.new.store.now)
+        (GivenOf (InBucket bucket.now)) (TellsOf (TellsNext id_due (uploads_name bucket.now) [] marker.now ids.old ids.new)) result }
+{
+    let folder = uploads_container(alloc, bucket.as_slice())?;
+    let page = page(alloc, state, folder.as_slice(), b"", marker.as_slice())?;
+    add_ids(ids, page.as_slice())?;
+    Ok(next_marker(page.as_slice())?)
+}
+
+/// The ids of all records of a bucket, page by page.
+fn record_ids<W: Swift>(
+    alloc: Global,
+    state: &mut Settled<'_, W>,
+    bucket: &Bytes,
+) -> Result<List<u128>, PlanFault>
+    requires { is_bucket bucket.now ≡ true }
+    ensures stays { Stays state.old state.new }
+    ensures asks { Asks (by_account (pages (records_of (present (W.history state.old.store.now)) bucket.now)))
+        (W.history state.old.store.now) (W.history state.new.store.now)
+        (GivenOf (InBucket bucket.now)) (TellsOf (TellsIds bucket.now)) result }
+{
+    let mut ids = List::new(alloc);
+    let mut behind = Bytes::new(alloc);
+    'pages: loop {
+        match next_ids(alloc, state, bucket, &behind, &mut ids)? {
+            Some(next) => behind = next,
+            None => return Ok(ids),
+        }
+    }
+}
+
+// ---- the uploads among them
+
+/// What is asked of the listing: the prefix of the keys, and the markers.
+#[derive(Drop)]
+struct AskedUploads {
+    prefix: Bytes,
+    key_marker: Bytes,
+    id_marker: Bytes,
+}
+
+fn begins(front: &[u8], text: &[u8]) -> bool
+    ensures { result ≡ begins front.now text.now }
+{
+    text.starts_with(front)
+}
+
+/// Whether an upload of this key and id comes after the markers.
+fn is_after(key_marker: &[u8], id_marker: &[u8], key: &[u8], id: &[u8]) -> bool
+    ensures { result ≡ is_upload_after key_marker.now id_marker.now key.now id.now }
+{
+    key.cmp(key_marker).is_gt()
+        || (key == key_marker && id_marker.len() > 0 && id.cmp(id_marker).is_gt())
+}
+
+/// Where an upload stands among others.
+fn place(alloc: Global, key: &[u8], id: &[u8]) -> Result<Bytes, Memory>
+    ensures { IfOk result (λ place. place ≡ upload_place key.now id.now) }
+{
+    let mut place = Bytes::from_slice(alloc, key)?;
+    place.push(0)?;
+    place.append(id)?;
+    Ok(place)
+}
+
+impl AskedUploads {
+    fn is_listed(&self, key: &[u8], id: &[u8]) -> bool
+        ensures { result ≡ (begins self.now.prefix key.now && is_upload_after self.now.key_marker self.now.id_marker key.now id.now) }
+    {
+        begins(self.prefix.as_slice(), key)
+            && is_after(
+                self.key_marker.as_slice(),
+                self.id_marker.as_slice(),
+                key,
+                id,
+            )
+    }
+}
+
+/// Adds a row at its place, unless one is there. Where memory runs out, the rows are as before.
+fn add_row(rows: &mut Table<UploadItem>, place: &[u8], item: UploadItem) -> Result<(), Memory>
+    ensures { OnOk result (rows.new ≡ added (place.now, item) rows.old) }
+{
+    if rows.get(place).is_some() {
+        return Ok(());
+    }
+    rows.put(place, item)
+}
+
+/// Adds an open upload, where it is listed.
+fn add_open(
+    alloc: Global,
+    asked: &AskedUploads,
+    rows: &mut Table<UploadItem>,
+    id: u128,
+    key: Bytes,
+    started: u64,
+) -> Result<(), PlanFault>
+    ensures due { AddsRow asked.now id key started rows.old rows.new result }
+    ensures dated { AllShown rows.old → OnOk result (AllShown rows.new) }
+{
+    let digits = id_digits(id);
+    if !asked.is_listed(key.as_slice(), &digits) {
+        return Ok(());
+    }
+    if started >= MOMENT_LIMIT {
+        return Err(PlanFault::Inconsistent);
+    }
+    let place = place(alloc, key.as_slice(), &digits)?;
+    add_row(rows, place.as_slice(), UploadItem { key, id, started })?;
+    Ok(())
+}
+
+/// Adds the upload of an id, where it is open and listed.
+fn add_upload<W: Swift>(
+    alloc: Global,
+    state: &mut Settled<'_, W>,
+    bucket: &Bytes,
+    asked: &AskedUploads,
+    rows: &mut Table<UploadItem>,
+    id: u128,
+) -> Result<(), PlanFault>
+    requires { is_bucket bucket.now ≡ true }
+    ensures stays { Stays state.old state.new }
+    ensures dated { AllShown rows.old → OnOk result (AllShown rows.new) }
+    ensures asks { Asks (always 1) (W.history state.old.store.now) (W.history state.new.store.now)
+        (GivenOf (InBucket bucket.now)) (TellsOf (TellsRow asked.now bucket.now id rows.old rows.new)) result }
+{
+    match get_record(alloc, state, bucket, id)? {
+        Some(Record::Open { key, started, .. }) => add_open(alloc, asked, rows, id, key, started),
+        _ => Ok(()),
+    }
+}
+
+/// The uploads of these ids, where they are open and listed.
+fn upload_rows<W: Swift>(
+    alloc: Global,
+    state: &mut Settled<'_, W>,
+    bucket: &Bytes,
+    asked: &AskedUploads,
+    ids: &[u128],
+) -> Result<Table<UploadItem>, PlanFault>
+    requires { is_bucket bucket.now ≡ true }
+    ensures stays { Stays state.old state.new }
+    ensures dated { IfOk result AllShown }
+    ensures asks { Asks (always (length ids.now)) (W.history state.old.store.now) (W.history state.new.store.now)
+        (GivenOf (InBucket bucket.now)) (TellsOf (TellsRows asked.now bucket.now ids.now)) result }
+{
+    let mut rows = Table::new(alloc);
+    for id in ids {
+        add_upload(alloc, state, bucket, asked, &mut rows, *id)?;
+    }
+    Ok(rows)
+}
+
+// ---- the listing
+
+/// The items in the order of their places.
+fn items_in(alloc: Global, rows: &Table<UploadItem>) -> Result<List<UploadItem>, Memory>
+    ensures { IfOk result (λ items. items ≡ map (λ row. row.1) (entries rows.now)) }
+{
+    let mut items = List::new(alloc);
+    for (_place, item) in rows.as_map() {
+        items.push(item.copy()?)?;
+    }
+    Ok(items)
+}
+
+/// The first items, and whether one is left over; where none is asked for, none is.
+fn cut_to(items: List<UploadItem>, max: u32) -> (List<UploadItem>, bool)
+    ensures cut { result ≡ cut max items }
+    ensures dated { All IsShownUpload items → All IsShownUpload result.0 }
+{
+    let max = max as usize;
+    let more = 0 < max && max < items.len();
+    let mut items = items.into_vec();
+    items.truncate(max);
+    (List::from_vec(items), more)
+}
+
+/// All open uploads of a bucket that are listed, by their places.
+fn listed_rows<W: Swift>(
+    alloc: Global,
+    state: &mut Settled<'_, W>,
+    bucket: &Bytes,
+    asked: &AskedUploads,
+) -> Result<Table<UploadItem>, PlanFault>
+    requires { is_bucket bucket.now ≡ true }
+    ensures stays { Stays state.old state.new }
+    ensures dated { IfOk result AllShown }
+    ensures asks { Asks (by_account (pages (records_of (present (W.history state.old.store.now)) bucket.now)
+        + records_of (present (W.history state.old.store.now)) bucket.now))
+        (W.history state.old.store.now) (W.history state.new.store.now)
+        (GivenOf (InBucket bucket.now)) (TellsOf (TellsListed asked.now bucket.now)) result }
+{
+    let ids = record_ids(alloc, state, bucket)?;
+    upload_rows(alloc, state, bucket, asked, ids.as_slice())
+}
+
+/// The first open uploads of a bucket after two markers, whose keys begin with a prefix, at most so many, by key and then by id,
+/// and whether one is left over (Amazon S3 API Reference, "ListMultipartUploads"): the names of all records page by page, and
+/// GET of each. At most as many calls as there are pages and records, where the store is observable and its account consistent;
+/// and the S3 state stays. Failed comes only where the store's count of faults rose; Memory where memory ran out; Inconsistent
+/// never over an observable consistent account on which the bucket is there.
+pub(crate) fn list_uploads<W: Swift>(
+    alloc: Global,
+    state: &mut Settled<'_, W>,
+    bucket: &Bytes,
+    prefix: &Bytes,
+    key_marker: &Bytes,
+    id_marker: &Bytes,
+    max: u32,
+) -> Result<(List<UploadItem>, bool), PlanFault>
+    requires name { is_bucket bucket.now ≡ true }
+    requires proper { IsProperUploads prefix.now key_marker.now id_marker.now max }
+    ensures stays { Stays state.old state.new }
+    ensures dated { IfOk result (λ told. All IsShownUpload told.0) }
+    ensures asks { Asks (by_account (pages (records_of (present (W.history state.old.store.now)) bucket.now)
+        + records_of (present (W.history state.old.store.now)) bucket.now))
+        (W.history state.old.store.now) (W.history state.new.store.now)
+        (GivenOf (InBucket bucket.now)) (Tells (TellsUploads bucket.now prefix.now key_marker.now id_marker.now max)) result }
+{
+    if max == 0 {
+        return Ok((List::new(alloc), false));
+    }
+    let asked = AskedUploads {
+        prefix: prefix.copy()?,
+        key_marker: key_marker.copy()?,
+        id_marker: id_marker.copy()?,
+    };
+    let rows = listed_rows(alloc, state, bucket, &asked)?;
+    let items = items_in(alloc, &rows)?;
+    Ok(cut_to(items, max))
+}

@@ -1,0 +1,188 @@
+//! The answer to each operation on uploads.
+ghost use Rattle.std.specs.Prelude.{◌≡◌, true};
+ghost use Rattle.s3_machine.specs.Step.{IsProper};
+ghost use Rattle.swift_calls.specs.History.{present};
+ghost use Rattle.recovery.specs.Answers.{beside_of, is_upload, most_calls};
+ghost use Rattle.recovery.specs.declared.state.Known.TheVariants as known;
+ghost use Rattle.recovery.specs.Calls.{Any, Given};
+ghost use Rattle.recovery.specs.Lent.{Stays};
+ghost use Rattle.recovery.specs.Plan.{reply_of, Plans, Answered};
+ghost use Rattle.plan_uploads.specs.Plans.{LeavesBeside};
+
+use crate::abort::abort_upload;
+use crate::create::create_upload;
+use crate::part::upload_part;
+use crate::uploads::{show_parts, show_uploads};
+use recovery::{PlanFault, Settled};
+use s3_machine::{Code, Label, Op, Reply};
+use std::alloc::Global;
+use swift_calls::Swift;
+
+/// Answers one operation of Amazon S3 on uploads in parts. The reply is the service's own, and then the state is as its step
+/// leaves it. Or it is ServiceUnavailable, only where the store's count of faults rose in this call: the last call failed, no
+/// earlier one did, and the state is the old one or the step's. Or it is `Memory`, where memory ran out, with the same two
+/// states. Or it is InconsistentStore, never over an observable consistent account. How many calls there are is bounded by the
+/// operation, also where the reply is a refusal. An upload that is created has the first id that is free from the label's word
+/// of chance on; where one was aborted and no call failed, none of its segments is left. CompleteUpload isn't built: it ends as
+/// where memory ran out, without a call.
+pub fn answer<W: Swift>(alloc: Global, state: &mut Settled<'_, W>, op: Op, label: &Label) -> Reply
+    requires proper { IsProper op label.now }
+    requires own { is_upload op ≡ true }
+    ensures stays { Stays state.old state.new }
+
+    // The calls amount to the operation, with at most one commit.
+    ensures answered { Answered (most_calls op (present (W.history state.old.store.now))) (W.history state.old.store.now) (W.history state.new.store.now)
+        state.old.settings.now op label.now known.Settled result }
+{
+    reply_to(plan(alloc, state, op, label))
+}
+
+/// Makes the calls of an operation's plan. Which function has the plan is asked first, so that each owns few kinds of
+/// operation, or none.
+fn plan<W: Swift>(
+    alloc: Global,
+    state: &mut Settled<'_, W>,
+    op: Op,
+    label: &Label,
+) -> Result<Reply, PlanFault>
+    requires { IsProper op label.now }
+    ensures stays { Stays state.old state.new }
+    ensures plans { Plans (most_calls op (present (W.history state.old.store.now))) (W.history state.old.store.now) (W.history state.new.store.now) state.old.settings.now
+        (Given Any) op label.now known.Settled result }
+    ensures beside { LeavesBeside (beside_of op) label.now (W.history state.old.store.now) (W.history state.new.store.now) (Given Any) result }
+{
+    if is_create(&op) {
+        plan_create(alloc, state, op, label)
+    } else if is_part(&op) {
+        plan_part(alloc, state, op, label)
+    } else if is_abort(&op) {
+        plan_abort(alloc, state, &op, label)
+    } else {
+        plan_listing(alloc, state, op, label)
+    }
+}
+
+fn is_create(op: &Op) -> bool {
+    matches!(op, Op::CreateUpload { .. })
+}
+
+fn is_part(op: &Op) -> bool {
+    matches!(op, Op::UploadPart { .. })
+}
+
+fn is_abort(op: &Op) -> bool {
+    matches!(op, Op::AbortUpload { .. })
+}
+
+/// The plan of CreateUpload. It is asked for no other operation; one ends as where memory ran out, without a call.
+fn plan_create<W: Swift>(
+    alloc: Global,
+    state: &mut Settled<'_, W>,
+    op: Op,
+    label: &Label,
+) -> Result<Reply, PlanFault>
+    requires { IsProper op label.now }
+    ensures stays { Stays state.old state.new }
+    ensures plans { Plans (most_calls op (present (W.history state.old.store.now))) (W.history state.old.store.now) (W.history state.new.store.now) state.old.settings.now
+        (Given Any) op label.now known.Settled result }
+    ensures beside { LeavesBeside (beside_of op) label.now (W.history state.old.store.now) (W.history state.new.store.now) (Given Any) result }
+{
+    match op {
+        Op::CreateUpload {
+            bucket,
+            key,
+            acl,
+            content_type,
+            meta,
+        } => create_upload(alloc, state, bucket, key, acl, content_type, meta, label),
+        _ => Err(PlanFault::Memory),
+    }
+}
+
+/// The plan of UploadPart; any other operation ends as where memory ran out, without a call.
+fn plan_part<W: Swift>(
+    alloc: Global,
+    state: &mut Settled<'_, W>,
+    op: Op,
+    label: &Label,
+) -> Result<Reply, PlanFault>
+    requires { IsProper op label.now }
+    ensures stays { Stays state.old state.new }
+    ensures plans { Plans (most_calls op (present (W.history state.old.store.now))) (W.history state.old.store.now) (W.history state.new.store.now) state.old.settings.now
+        (Given Any) op label.now known.Settled result }
+    ensures beside { LeavesBeside (beside_of op) label.now (W.history state.old.store.now) (W.history state.new.store.now) (Given Any) result }
+{
+    match op {
+        Op::UploadPart {
+            bucket,
+            key,
+            id,
+            number,
+            body,
+        } => upload_part(alloc, state, &bucket, &key, &id, number, body, label),
+        _ => Err(PlanFault::Memory),
+    }
+}
+
+/// The plan of AbortUpload; any other operation ends as where memory ran out, without a call.
+fn plan_abort<W: Swift>(
+    alloc: Global,
+    state: &mut Settled<'_, W>,
+    op: &Op,
+    label: &Label,
+) -> Result<Reply, PlanFault>
+    requires { IsProper op.now label.now }
+    ensures stays { Stays state.old state.new }
+    ensures plans { Plans (most_calls op.now (present (W.history state.old.store.now))) (W.history state.old.store.now) (W.history state.new.store.now) state.old.settings.now
+        (Given Any) op.now label.now known.Settled result }
+    ensures beside { LeavesBeside (beside_of op.now) label.now (W.history state.old.store.now) (W.history state.new.store.now) (Given Any) result }
+{
+    match op {
+        Op::AbortUpload { bucket, key, id } => abort_upload(alloc, state, bucket, key, id),
+        _ => Err(PlanFault::Memory),
+    }
+}
+
+/// The plan of a listing; any other operation ends as where memory ran out, without a call.
+fn plan_listing<W: Swift>(
+    alloc: Global,
+    state: &mut Settled<'_, W>,
+    op: Op,
+    label: &Label,
+) -> Result<Reply, PlanFault>
+    requires { IsProper op label.now }
+    ensures stays { Stays state.old state.new }
+    ensures plans { Plans (most_calls op (present (W.history state.old.store.now))) (W.history state.old.store.now) (W.history state.new.store.now) state.old.settings.now
+        (Given Any) op label.now known.Settled result }
+    ensures beside { LeavesBeside (beside_of op) label.now (W.history state.old.store.now) (W.history state.new.store.now) (Given Any) result }
+{
+    match op {
+        Op::ListUploads {
+            bucket,
+            prefix,
+            key_marker,
+            id_marker,
+            max,
+        } => show_uploads(alloc, state, bucket, prefix, key_marker, id_marker, max),
+        Op::ListParts {
+            bucket,
+            key,
+            id,
+            marker,
+            max,
+        } => show_parts(alloc, state, bucket, key, &id, marker, max),
+        _ => Err(PlanFault::Memory),
+    }
+}
+
+/// The reply by the end of a plan.
+fn reply_to(end: Result<Reply, PlanFault>) -> Reply
+    ensures { result ≡ reply_of end }
+{
+    match end {
+        Ok(reply) => reply,
+        Err(PlanFault::Failed) => Reply::Refused(Code::ServiceUnavailable),
+        Err(PlanFault::Memory) => Reply::Memory,
+        Err(PlanFault::Inconsistent) => Reply::Refused(Code::InconsistentStore),
+    }
+}

@@ -1,0 +1,51 @@
+//! A page of the names of a container, for the listings.
+ghost use Rattle.std.specs.Prelude.{◌≡◌, ◌<◌, ◌+◌, map, IfOk, IfSome};
+ghost use Rattle.swift_calls.specs.History.{budget};
+ghost use Rattle.swift_calls.specs.Limits.{IsMarker};
+ghost use Rattle.swift_calls.specs.Step.{IsContainerName};
+ghost use Rattle.list_pages.specs.Listing.{name_in, IsPageOf};
+ghost use Rattle.recovery.specs.Calls.{always, Any, Asks};
+ghost use Rattle.recovery.specs.Lent.{Stays};
+ghost use Rattle.recovery.specs.Listing.{TellsOf};
+ghost use Rattle.plan_uploads.specs.Listing.{next_after, TellsPage};
+
+use gate_base::{Bytes, Copying, List, Memory};
+use list_pages::MOST_NAMES;
+use recovery::{PlanFault, Settled};
+use std::alloc::Global;
+use swift_calls::{NameItem, Swift};
+
+/// A page of the files of a container whose names begin with a prefix and come after a marker, by GET of the container (Object
+/// Storage API v1, "Show container details and list objects").
+pub(crate) fn page<W: Swift>(
+    alloc: Global,
+    state: &mut Settled<'_, W>,
+    folder: &[u8],
+    prefix: &[u8],
+    marker: &[u8],
+) -> Result<List<NameItem>, PlanFault>
+    requires folder { IsContainerName folder.now }
+    requires prefix { IsMarker prefix.now }
+    requires marker { IsMarker marker.now }
+    ensures stays { Stays state.old state.new }
+    ensures counted { IfOk result (λ _. (W.history state.old.store.now).called < budget
+        × ((W.history state.new.store.now).called ≡ (W.history state.old.store.now).called + 1)) }
+    ensures page { IfOk result (λ items. IsPageOf prefix.now marker.now (map name_in items)) }
+    ensures asks { Asks (always 1) (W.history state.old.store.now) (W.history state.new.store.now)
+        Any (TellsOf (TellsPage folder.now prefix.now marker.now)) result }
+{
+    Ok(state.names(alloc, folder, prefix, marker)?)
+}
+
+/// The name that the next page begins behind: the last one of a whole page.
+pub(crate) fn next_marker(page: &[NameItem]) -> Result<Option<Bytes>, Memory>
+    ensures { IfOk result (λ marker. marker ≡ next_after (map name_in page.now)) }
+{
+    if page.len() < MOST_NAMES as usize {
+        return Ok(None);
+    }
+    match page.last() {
+        Some(item) => Ok(Some(item.name.copy()?)),
+        None => Ok(None),
+    }
+}

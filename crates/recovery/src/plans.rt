@@ -1,0 +1,31 @@
+ghost use Rattle.std.specs.Prelude.{◌≡◌};
+ghost use Rattle.recovery.specs.Answers.{is_upload};
+
+use s3_machine::Op;
+
+/// The operation is one on uploads in parts, which have plans of their own.
+pub fn is_upload(op: &Op) -> bool
+    ensures { result ≡ is_upload op.now }
+{
+    match op {
+        Op::ListBuckets
+        | Op::CreateBucket { .. }
+        | Op::DeleteBucket { .. }
+        | Op::HeadBucket { .. }
+        | Op::GetLocation { .. }
+        | Op::GetBucketAcl { .. }
+        | Op::PutBucketAcl { .. }
+        | Op::ListObjects { .. }
+        | Op::PutObject { .. }
+        | Op::GetObject { .. }
+        | Op::HeadObject { .. }
+        | Op::DeleteObject { .. }
+        | Op::GetObjectAcl { .. } => false,
+        Op::ListUploads { .. }
+        | Op::CreateUpload { .. }
+        | Op::UploadPart { .. }
+        | Op::ListParts { .. }
+        | Op::CompleteUpload { .. }
+        | Op::AbortUpload { .. } => true,
+    }
+}
