@@ -1,4 +1,13 @@
 pub mod Appends
+pub mod Back
 pub mod Digits
+pub mod Finds
+pub mod Given
+pub mod Made
+pub mod Ordering
+pub mod Parts
+pub mod Paths
+pub mod Pieces
+pub mod Shuffles
 pub mod Taken
 pub mod Times

@@ -6,3 +6,4 @@ pub mod KeysLemmas
 pub mod OrderLemmas
 pub mod SortLemmas
 pub mod VerdictLemmas
+pub mod lemmas
