@@ -16,6 +16,7 @@ import email.utils
 import hashlib
 import hmac
 import importlib.util
+import json
 import os
 import queue
 import random
@@ -55,6 +56,9 @@ KEYS = os.path.join(ROOT, "examples/keys.txt")
 USAGE = b"usage: s3gate session|serve|recover|sweep|check|sign|trial|presign\n"
 SETUP = b"s3gate: setup\n"
 BUILT = b"s3gate: built are session, serve, sign and presign\n"
+
+# The calls that the first operation of a run makes before its own, by which the store is found to be settled.
+SETTLING = 2
 
 # A store that is never called: nothing listens there.
 NOWHERE = "127.0.0.1:1"
@@ -152,6 +156,12 @@ class Gate(Program):
         """The reply to one request on a connection of its own."""
         with self.client(request(*words, close=True, **more)) as client:
             return client.reply(words[0] == "HEAD")
+
+    def settled(self, store):
+        """This one, once an operation has settled that store, whose calls then count from 1."""
+        self.ask("HEAD", "/none", owner=False)
+        store.begin({})
+        return self
 
 
 class Swiftd(Program):
@@ -272,6 +282,17 @@ def both(reply):
     return reply and (reply.status, reply.body)
 
 
+def listed(reply):
+    """The status and how many uploads or parts are listed; of any other reply as `brief`."""
+    root = re.search(rb"<List(?:Multipart)?(Upload|Part)sResult ", reply.body)
+    return (reply.status, reply.body.count(b"<%s>" % root[1])) if root else brief(reply)
+
+
+def text_of(name, body):
+    """The texts of the elements of that name."""
+    return [it.decode() for it in re.findall(rb"<%s>([^<]*)</%s>" % (name, name), body)]
+
+
 def request(method, target, headers=(), body=b"", owner=True, close=False, length=None):
     """A request, signed for now where it is the owner's."""
     lines = [f"{method} {target} HTTP/1.1"] + [f"{name}: {value}" for name, value in headers]
@@ -306,14 +327,36 @@ CREATED = ("X-Container-Meta-S3-Created", str(MADE))
 PUBLIC = [("X-Container-Read", ".r:*,.rlistings"), CREATED]
 
 
-def account(objects=None, readers=PUBLIC):
-    """An account of that bucket: the names and the bytes of its objects, put as text/plain."""
+def stored(body, type_, id_="-", tagged=True):
+    """A file as the scripted store keeps it, of that type, with its tag unless it has none."""
+    etag = hashlib.md5(body).hexdigest()
+    return [("Content-Type", f"{type_};s3={etag}.{MADE}.{id_}" if tagged else type_), ("Etag", etag)], body
+
+
+def record(key, **more):
+    """The record of an open upload, as docs/PROFILE.md has it."""
+    fields = {"at": MADE, "key": key, "meta": [], "state": "open", "type": "binary/octet-stream", "v": 1}
+    return json.dumps({**fields, **more}, separators=(",", ":"), sort_keys=True, ensure_ascii=False).encode()
+
+
+def beside(bucket, uploads):
+    """The containers beside a bucket, with these uploads: of each id the key, and the bytes of its parts by their numbers."""
+    records = {id_.encode(): stored(record(key), "application/json", tagged=False) for id_, (key, _) in uploads.items()}
+    parts = {f"{id_}/{number:05}".encode(): stored(body, "application/octet-stream", id_) for id_, (_, its) in uploads.items() for number, body in its.items()}
+    return {bucket + "+uploads": ([], records), bucket + "+segments": ([], parts)}
+
+
+# An upload of `v` into that bucket, with its first part.
+UPLOAD = "0000000000000000000000000000000a"
+UPLOADS = {UPLOAD: ("v", {1: b"abc"})}
+V = f"/photos/v?uploadId={UPLOAD}"
+
+
+def account(objects=None, readers=PUBLIC, uploads=None):
+    """An account of that bucket: the names and the bytes of its objects, put as text/plain, and its open uploads."""
     given = {b"a": b"abc"} if objects is None else objects
-    made = {}
-    for name, body in given.items():
-        etag = hashlib.md5(body).hexdigest()
-        made[name] = ([("Content-Type", f"text/plain;s3={etag}.{MADE}.-"), ("Etag", etag)], body)
-    return {"photos": (list(readers), made)}
+    made = {name: stored(body, "text/plain") for name, body in given.items()}
+    return {"photos": (list(readers), made), **beside("photos", uploads or {})}
 
 
 GET, FOUND = ("GET", "/photos/a"), (200, b"abc")
@@ -742,8 +785,8 @@ def signals(check):
                 gate.signal(signal.SIGCONT)
                 check("a program that was stopped for a while goes on", ["abc", None], client.replies(2))
     put = request("PUT", "/photos/k", body=b"x")
-    with Store({2: silent}, account=account()) as store, Gate(store.text) as gate, gate.client(put) as client:
-        wait_for(lambda: len(store.calls) == 2)
+    with Store({SETTLING + 2: silent}, account=account()) as store, Gate(store.text) as gate, gate.client(put) as client:
+        wait_for(lambda: len(store.calls) == SETTLING + 2)
         gate.signal(signal.SIGTERM)
         check("a program that is ended within a request says nothing of it", ((-signal.SIGTERM, b""), b""), (gate.ended(), client.rest()))
     with Swiftd() as store:
@@ -790,6 +833,10 @@ KINDS = [
     (request("GET", "/", owner=False, close=True), "GET /"),
     (request("GET", "/photos/a", [("Authorization", "AWS4-HMAC-SHA256 Credential=KEY, Signature=" + SIGNATURE)], owner=False, close=True), "GET /photos/a"),
     (request("POST", "/photos/v?uploads", close=True), "POST /photos/v?uploads"),
+    (request("GET", "/photos?uploads", close=True), "GET /photos?uploads"),
+    (request("PUT", V + "&partNumber=1", body=b"the body", close=True), f"PUT {V}&partNumber=1"),
+    (request("POST", V, body=b"the body", close=True), f"POST {V}"),
+    (request("DELETE", V, close=True), f"DELETE {V}"),
     (request("PATCH", "/photos", owner=False, close=True), "PATCH /photos"),
     (request("GET", "/photos/%zz", owner=False, close=True), "GET /photos/%zz"),
     (request("GET", f"/photos/a?{PRESIGNED}{SIGNATURE}", owner=False, close=True), "GET /photos/a?X-Amz-Algorithm=AWS4-HMAC-SHA256&X-Amz-Credential=...&X-Amz-Date=20261128T000000Z&X-Amz-Expires=60&X-Amz-SignedHeaders=host&X-Amz-Signature=..."),
@@ -911,35 +958,80 @@ def the_log_of_swiftd(check):
 # Swift stores that fail.
 
 
+def spelled(store, line, *headers, body=""):
+    """A call as the store hears it, byte by byte."""
+    lines = [f"{line} HTTP/1.1", f"Host: {store.text}", f"X-Auth-Token: {TOKEN}", *headers, f"Content-Length: {len(body)}"]
+    return "\r\n".join(lines) + "\r\n\r\n" + body
+
+
+def moment_of(reply):
+    return int(email.utils.parsedate_to_datetime(reply.headers["date"]).timestamp())
+
+
 @group()
 def calls_are_spelled(check):
     """What the store hears of a request, byte by byte."""
     with Store(account={}) as store, Gate(store.text) as gate:
-        first = f"Host: {store.text}\r\nX-Auth-Token: {TOKEN}\r\n"
-        reply = gate.ask("PUT", "/photos", [("x-amz-acl", "public-read")])
-        moment = int(email.utils.parsedate_to_datetime(reply.headers["date"]).timestamp())
-        bucket = f"/v1/{ACCOUNT}/photos"
-        head = f"HEAD {bucket} HTTP/1.1\r\n{first}Content-Length: 0\r\n\r\n"
-        put = f"PUT {bucket} HTTP/1.1\r\n{first}X-Container-Read: .r:*,.rlistings\r\nX-Container-Meta-S3-Created: {moment}\r\nContent-Length: 0\r\n\r\n"
-        check("the calls of CreateBucket", [head, put], heard(store))
-        reply = gate.ask("PUT", "/photos/a%20b/%C3%BC", [("Content-Type", "text/plain"), ("x-amz-meta-colour", "red")], b"abc")
-        moment = int(email.utils.parsedate_to_datetime(reply.headers["date"]).timestamp())
+
+        def call(line, *headers, body=""):
+            return spelled(store, line, *headers, body=body)
+
+        root = f"/v1/{ACCOUNT}"
+        bucket, page = f"{root}/photos", "?format=json&limit=1000&marker=&prefix="
+        head, nobody = call(f"HEAD {bucket}"), "X-Container-Read: "
+        moment = moment_of(gate.ask("PUT", "/photos", [("x-amz-acl", "public-read")]))
+        came = heard(store)
+        check("the calls that settle the store", [call(f"PUT {root}/%2Bgateway", nobody), call(f"GET {root}/%2Bgateway/sealed")], came[:SETTLING])
+        sides = [call(f"PUT {bucket}%2B{it}", nobody) for it in ("uploads", "segments")] + [call(f"GET {bucket}%2B{it}{page}") for it in ("uploads", "segments")]
+        put = call(f"PUT {bucket}", "X-Container-Read: .r:*,.rlistings", f"X-Container-Meta-S3-Created: {moment}")
+        check("the calls of CreateBucket", [head, *sides, put], came[SETTLING:])
+        moment = moment_of(gate.ask("PUT", "/photos/a%20b/%C3%BC", [("Content-Type", "text/plain"), ("x-amz-meta-colour", "red")], b"abc"))
         file = f"{bucket}/a%20b/%C3%BC"
-        put = f"PUT {file} HTTP/1.1\r\n{first}Content-Type: text/plain;s3={ABC}.{moment}.-\r\nX-Object-Meta-S3-0: [7.3.-colourred]\r\nContent-Length: 3\r\n\r\nabc"
+        put = call(f"PUT {file}", f"Content-Type: text/plain;s3={ABC}.{moment}.-", "X-Object-Meta-S3-0: [7.3.-colourred]", body="abc")
         check("the calls of PutObject", [head, put], heard(store))
         reply = gate.ask("GET", "/photos/a%20b/%C3%BC", [("Range", "bytes=1-")], owner=False)
-        look = f"HEAD {file} HTTP/1.1\r\n{first}Content-Length: 0\r\n\r\n"
-        get = f"GET {file} HTTP/1.1\r\n{first}Range: bytes=1-2\r\nContent-Length: 0\r\n\r\n"
-        check("the calls of a GetObject of a range", [head, look, get], heard(store))
+        check("the calls of a GetObject of a range", [head, call(f"HEAD {file}"), call(f"GET {file}", "Range: bytes=1-2")], heard(store))
         check("and its reply", (206, "bytes 1-2/3", b"bc"), (reply.status, reply.headers.get("content-range"), reply.body))
         gate.ask("GET", "/photos?prefix=a%20&marker=%C3", owner=False)
         check("a marker that is no UTF-8 makes no call", [], heard(store))
         gate.ask("GET", "/photos?prefix=a%20&marker=a%2B", owner=False)
-        names = f"GET {bucket}?format=json&limit=1000&marker=a%2B&prefix=a%20 HTTP/1.1\r\n{first}Content-Length: 0\r\n\r\n"
-        check("the calls of ListObjects", [head, names], heard(store))
+        check("the calls of ListObjects", [head, call(f"GET {bucket}?format=json&limit=1000&marker=a%2B&prefix=a%20")], heard(store))
         gate.ask("DELETE", "/photos/a%20b/%C3%BC")
         gate.ask("DELETE", "/photos")
         check("the calls of DeleteObject and DeleteBucket", ["HEAD " + bucket, "DELETE " + file, "DELETE " + bucket], [it.split(" HTTP")[0] for it in heard(store)])
+
+
+@group()
+def calls_of_uploads_are_spelled(check):
+    with Store(account=account({})) as store, Gate(store.text).settled(store) as gate:
+
+        def call(line, *headers, body=""):
+            return spelled(store, line, *headers, body=body)
+
+        bucket = f"/v1/{ACCOUNT}/photos"
+        head, segments = call(f"HEAD {bucket}"), f"{bucket}%2Bsegments"
+        reply = gate.ask("POST", "/photos/a%20b?uploads", [("Content-Type", "text/plain"), ("x-amz-meta-colour", "red")])
+        id_, moment = text_of(b"UploadId", reply.body)[0], moment_of(reply)
+        file = f"{bucket}%2Buploads/{id_}"
+        found = call(f"GET {file}")
+        text = f'{{"at":{moment},"key":"a b","meta":[["-colour","red"]],"state":"open","type":"text/plain","v":1}}'
+        put = call(f"PUT {file}", "Content-Type: application/json", body=text)
+        check("the calls of CreateUpload", [head, call(f"HEAD {file}"), call(f"GET {segments}?format=json&limit=1&marker=&prefix={id_}%2F"), put], heard(store))
+        reply = gate.ask("PUT", f"/photos/a%20b?partNumber=3&uploadId={id_}", body=b"abc")
+        put = call(f"PUT {segments}/{id_}/00003", f"Content-Type: application/octet-stream;s3={ABC}.{moment_of(reply)}.{id_}", body="abc")
+        check("the calls of UploadPart", [head, found, put], heard(store))
+        check("and its reply", (200, f'"{ABC}"'), (reply.status, reply.headers.get("etag")))
+        gate.ask("GET", f"/photos/a%20b?part-number-marker=2&uploadId={id_}")
+        check("the calls of ListParts", [head, found, call(f"GET {segments}?format=json&limit=1000&marker={id_}%2F00002&prefix={id_}%2F")], heard(store))
+        gate.ask("GET", "/photos?uploads")
+        check("the calls of ListUploads", [head, call(f"GET {bucket}%2Buploads?format=json&limit=1000&marker=&prefix="), found], heard(store))
+        gate.ask("DELETE", f"/photos/a%20b?uploadId={id_}")
+        purge = [call(f"GET {segments}?format=json&limit=1000&marker=&prefix={id_}%2F"), call(f"DELETE {segments}/{id_}/00003")]
+        check("the calls of AbortUpload", [head, found, call(f"DELETE {file}"), *purge], heard(store))
+        for method, query in (("GET", "uploadId=A"), ("PUT", f"partNumber=1&uploadId={UPLOAD.upper()}"), ("DELETE", "uploadId=")):
+            check(f"an id that is none, to {method}", ((404, "NoSuchUpload"), [head]), (brief(gate.ask(method, f"/photos/a?{query}")), heard(store)))
+        for method, query in (("POST", "uploads"), ("PUT", f"partNumber=1&uploadId={id_}"), ("GET", f"uploadId={id_}"), ("DELETE", f"uploadId={id_}")):
+            check(f"nobody's {method} with {query[:8]} makes no call", ((403, "AccessDenied"), []), (brief(gate.ask(method, f"/photos/a?{query}", owner=False)), heard(store)))
 
 
 def heard(store):
@@ -950,7 +1042,8 @@ def heard(store):
 
 
 def shouted(call, status, headers, body):
-    """Names in capitals, an ETag in quotes, and headers that belong to no call, as proxies add them."""
+    """Names in capitals, an ETag in quotes, headers that belong to no call, as proxies add them, and a body where none is due."""
+    body = body or b"<html></html>" * (status in (202, 404))
     given = [("X-TRANS-ID", "tx1"), ("DATE", "Thu, 01 Jan 1970 00:00:00 GMT"), ("VARY", "Accept")]
     given += [(name.upper(), f'"{value}"' if name == "Etag" else value) for name, value in reversed(headers)]
     return plain(call, status, given, body)
@@ -963,7 +1056,8 @@ def terse(call, status, headers, body):
     given = [(name.lower(), value) for name, value in headers]
     if status == 204:
         return http(status, given, length=False)
-    return plain(call, status, given, body).replace(b": ", b":")
+    head, end, body = plain(call, status, given, body).partition(b"\r\n\r\n")
+    return head.replace(b": ", b":") + end + body
 
 
 @group()
@@ -977,6 +1071,10 @@ def answers_spelled_otherwise(check):
                 check("and the bucket is there", (409, "BucketAlreadyOwnedByYou"), brief(client.reply()))
                 *found, _ = told(client.rest())
                 check("and its object goes and comes", [STATUSES[1:], PIECES[1:], True, True], found)
+            id_ = text_of(b"UploadId", gate.ask("POST", "/photos/v?uploads").body)[0]
+            asked = [("PUT", f"/photos/v?partNumber=1&uploadId={id_}", [], b"abc"), ("GET", f"/photos/v?uploadId={id_}"), ("GET", "/photos?uploads"), ("DELETE", f"/photos/v?uploadId={id_}")]
+            check("and an upload begins and ends", [200, (200, 1), (200, 1), 204], [listed(gate.ask(*it)) for it in asked])
+            check("and the bucket is made over what was left beside it", [204, 200], [brief(gate.ask(it, "/photos")) for it in ("DELETE", "PUT")])
             check("over one connection", 1, store.connections)
 
 
@@ -1012,7 +1110,7 @@ NO_ANSWERS = {
 @group()
 def answers_that_are_none(check):
     unavailable = (503, "ServiceUnavailable")
-    with Store(account=account()) as store, Gate(store.text) as gate:
+    with Store(account=account()) as store, Gate(store.text).settled(store) as gate:
         for title, bytes_ in NO_ANSWERS.items():
             store.begin({3: raw(bytes_)})
             begun = time.monotonic()
@@ -1029,26 +1127,27 @@ def a_connection_to_the_store_is_made_anew(check):
         ("has bytes that nobody asked for", unasked, lambda store: store.said_more.is_set()),
         ("the store will close", raw(http(200, LIKE + [("Connection", "close")], b"abc")), lambda store: True),
     ):
-        with Store({3: act}, account=account()) as store, Gate(store.text) as gate, gate.client(request(*GET, owner=False)) as client:
+        with Store({SETTLING + 3: act}, account=account()) as store, Gate(store.text) as gate, gate.client(request(*GET, owner=False)) as client:
             check("an object is fetched", FOUND, both(client.reply()))
             wait_for(lambda: is_so(store))
             client.send(request(*GET, owner=False))
             check(f"and once more over a new connection, where the first one {title}", FOUND, both(client.reply()))
-            check("and no call was repeated", [1, 1, 1, 2, 2, 2], [call.connection for call in store.calls])
+            check("and no call was repeated", [1] * (SETTLING + 3) + [2] * 3, [call.connection for call in store.calls])
 
 
 @group(first=True)
 def limits_of_time_of_the_store(check):
     unavailable = (503, "ServiceUnavailable")
-    with Store({1: silent, 3: silent}, account=account()) as store, Gate(store.text, S3GATE_STORE_TIMEOUT=str(SILENCE)) as gate, gate.client() as client:
-        for number in (1, 2):
+    silences = [1, 1 + SETTLING + 2]
+    with Store({number: silent for number in silences}, account=account()) as store, Gate(store.text, S3GATE_STORE_TIMEOUT=str(SILENCE)) as gate, gate.client() as client:
+        for number in silences:
             client.send(request(*GET, owner=False))
             check("a store that never answers", unavailable, brief(client.reply()))
-            check("is waited for up to the limit, and asked once", (True, 2 * number - 1), (client.took() > SILENCE * ALMOST, len(store.calls)))
+            check("is waited for up to the limit, and asked once", (True, number), (client.took() > SILENCE * ALMOST, len(store.calls)))
         client.send(request(*GET, owner=False))
         check("and once it answers the next request is served", FOUND, both(client.reply()))
     slow = raw(*(bytes([it]) for it in http(200, LIKE, b"abc")[:4]), http(200, LIKE, b"abc")[4:], pause=SILENCE * 0.3)
-    with Store({3: slow}, account=account()) as store, Gate(store.text, S3GATE_STORE_TIMEOUT=str(SILENCE)) as gate:
+    with Store({SETTLING + 3: slow}, account=account()) as store, Gate(store.text, S3GATE_STORE_TIMEOUT=str(SILENCE)) as gate:
         check("a store that is slow and never silent for so long", FOUND, both(gate.ask(*GET, owner=False)))
 
 
@@ -1077,18 +1176,18 @@ def a_gateway_that_stops_and_goes_on(check):
 
     put = request("PUT", "/photos/k", body=b"abc" * 10000)
     pieces = raw(*(bytes([it]) for it in http(204, PUBLIC)[:4]), http(204, PUBLIC)[4:], pause=0.3)
-    with Store({1: pieces, 4: pieces}, account=account()) as store, Gate(store.text) as gate:
+    with Store({SETTLING + 1: pieces, SETTLING + 4: pieces}, account=account()) as store, Gate(store.text) as gate:
         with gate.client(request(*GET, owner=False)) as client:
             for _ in range(4):
                 stop(gate)
-            check("within an answer of the store", (FOUND, 3), (both(client.reply()), len(store.calls)))
+            check("within an answer of the store", (FOUND, SETTLING + 3), (both(client.reply()), len(store.calls)))
             client.send(put[:1000])
             for at in range(1000, len(put), 10000):
                 stop(gate)
                 client.send(put[at : at + 10000])
             for _ in range(4):
                 stop(gate)
-            check("within a body, and within the calls for it", ([200], 5), (client.replies(1), len(store.calls)))
+            check("within a body, and within the calls for it", ([200], SETTLING + 5), (client.replies(1), len(store.calls)))
 
 
 @group()
@@ -1130,45 +1229,75 @@ def a_store_that_is_killed_and_returns(check):
             check("and takes its place", [(404, "NoSuchBucket"), 200], client.replies(2))
 
 
-# Each call of a request loses its request, its answer, or the last byte of its answer: the reply is ServiceUnavailable, no call follows and
-# none is repeated, and the request is done if its commit was applied. A request made again is answered as one that was made twice.
+# Each call of a request loses its request, its answer, or the last byte of its answer: no call follows, none is repeated, and the
+# request is done if its commit was applied. The reply is ServiceUnavailable, but behind the commit, where it is that of the
+# request done. A request made again is answered as one that was made twice.
 SWEPT = [
-    ("CreateBucket", ("PUT", "/new"), None, 2, 2, 200, (409, "BucketAlreadyOwnedByYou"), ("GET", "/new?location"), ((404, "NoSuchBucket"), 200)),
+    ("CreateBucket", ("PUT", "/new"), None, 6, 6, 200, (409, "BucketAlreadyOwnedByYou"), ("GET", "/new?location"), ((404, "NoSuchBucket"), 200)),
     ("DeleteBucket", ("DELETE", "/photos"), {}, 1, 1, 204, (404, "NoSuchBucket"), ("GET", "/photos?location"), (200, (404, "NoSuchBucket"))),
-    ("PutBucketAcl", ("PUT", "/photos?acl"), None, 1, 1, 200, 200, ("GET", "/photos?location"), (200, 200)),
+    ("PutBucketAcl", ("PUT", "/photos?acl", [("x-amz-acl", "public-read")]), None, 1, 1, 200, 200, ("GET", "/photos?location"), (200, 200)),
     ("PutObject", ("PUT", "/photos/k"), None, 2, 2, 200, 200, ("GET", "/photos/k"), ((404, "NoSuchKey"), 200)),
     ("DeleteObject", ("DELETE", "/photos/a"), None, 2, 2, 204, 204, ("GET", "/photos/a"), (200, (404, "NoSuchKey"))),
     ("GetObject", ("GET", "/photos/a"), None, 3, 0, 200, 200, ("GET", "/photos/a"), (200, 200)),
     ("ListObjects", ("GET", "/photos"), None, 2, 0, 200, 200, ("GET", "/photos/a"), (200, 200)),
     ("ListBuckets", ("GET", "/"), None, 2, 0, 200, 200, ("GET", "/photos/a"), (200, 200)),
+    ("CreateUpload", ("POST", "/photos/w?uploads"), None, 4, 4, 200, 200, ("GET", "/photos?uploads"), ((200, 1), (200, 2))),
+    ("UploadPart", ("PUT", V + "&partNumber=2", [], b"abc"), None, 3, 3, 200, 200, ("GET", V), ((200, 1), (200, 2))),
+    ("ListParts", ("GET", V), None, 3, 0, (200, 1), (200, 1), ("GET", "/photos/a"), (200, 200)),
+    ("ListUploads", ("GET", "/photos?uploads"), None, 3, 0, (200, 1), (200, 1), ("GET", "/photos/a"), (200, 200)),
+    ("AbortUpload", ("DELETE", V), None, 5, 3, 204, (404, "NoSuchUpload"), ("GET", V), ((200, 1), (404, "NoSuchUpload"))),
 ]
 
 
 @group()
 def each_call_is_lost(check):
-    with Store() as store, Gate(store.text) as gate, gate.client() as client:
+    with Store() as store, Gate(store.text).settled(store) as gate, gate.client() as client:
 
         def ask(*words):
-            headers = [("x-amz-acl", "public-read")] if words[1].endswith("?acl") else []
-            client.send(request(*words, headers))
-            return brief(client.reply())
+            client.send(request(*words))
+            return listed(client.reply())
 
         for title, words, objects, calls, commit, done, again, probe, (before, after) in SWEPT:
             wanted, found = [], []
             for number in range(1, calls + 1):
                 for act in (lose_request, lose_answer, cut_answer(1)):
-                    store.account = account(objects)
+                    store.account = account(objects, uploads=UPLOADS)
                     store.begin({number: act})
                     reply, made = ask(*words), len(store.calls)
-                    is_done = number == commit and act is not lose_request
+                    is_behind = 0 < commit < number
+                    is_done = is_behind or number == commit and act is not lose_request
                     store.begin({})
                     found.append((reply, made, ask(*probe), ask(*words)))
-                    wanted.append(((503, "ServiceUnavailable"), number, after if is_done else before, again if is_done else done))
+                    wanted.append((done if is_behind else (503, "ServiceUnavailable"), number, after if is_done else before, again if is_done else done))
             check(f"{title} with each of its calls lost in three ways", wanted, found)
 
 
+@group()
+def the_store_is_settled_first(check):
+    """The first operation of the run finds out that no completion is sealed, and each one does so until that is known."""
+    with Store(account=account()) as store, Gate(store.text) as gate:
+
+        def ask():
+            store.calls = []
+            reply = gate.ask(*GET, owner=False)
+            return (FOUND if both(reply) == FOUND else brief(reply)), len(store.calls)
+
+        for number in range(1, SETTLING + 1):
+            for title, act in (("its request", lose_request), ("its answer", lose_answer), ("a byte of its answer", cut_answer(1)), ("all by 500", answer(500)), ("all by 204", answer(204))):
+                store.begin({number: act})
+                check(f"call {number} of those that settle the store loses {title}", ((503, "ServiceUnavailable"), number), ask())
+        store.begin({})
+        sealed = record("v", state="sealed", bucket="photos", id=UPLOAD, etag=f"{ABC}-1", list=[[1, ABC, 3]], started=MADE)
+        for title, text in (("nothing", b""), ("no text", b"\xff"), ("{}", b"{}"), ("a completion", sealed)):
+            store.account["+gateway"][1][b"sealed"] = stored(text, "application/json", tagged=False)
+            check(f"a file that is sealed, and has {title}", ((500, "InconsistentStore"), SETTLING), ask())
+        del store.account["+gateway"][1][b"sealed"]
+        check("and without it the store is settled", (FOUND, SETTLING + 3), ask())
+        check("which the next connection knows", (FOUND, 3), ask())
+
+
 # Answers that no consistent account gives. Each list answers the calls of the request in turn; all of them are taken.
-MISSING, THERE, UNTIMED, OPEN = answer(404), answer(202), answer(204), answer(204, PUBLIC)
+MISSING, MADE_NOW, THERE, UNTIMED, OPEN = answer(404), answer(201), answer(202), answer(204), answer(204, PUBLIC)
 PUT_ABC = ("PUT", "/photos/a", [], b"abc")
 
 
@@ -1188,9 +1317,39 @@ def part(size, etag=ABC):
 
 PART = ("GET", "/photos/a", [("Range", "bytes=1-2")])
 
+# The containers beside a missing bucket are there, and the first of them is empty.
+BESIDE = [MISSING, MADE_NOW, THERE, answer(200, body=b"[]")]
+
+
+def files_named(*items):
+    """The answer to a listing of a container: names, each with a type."""
+    fields = [{"name": name, "hash": ABC, "bytes": 3, "content_type": type_, "last_modified": "2026-01-02T03:04:05.678900"} for name, type_ in items]
+    return answer(200, body=json.dumps(fields).encode())
+
+
+def record_text(body):
+    """The answer to GET of the record of an upload."""
+    return answer(200, [("Content-Type", "application/json"), ("Etag", hashlib.md5(body).hexdigest())], body)
+
+
+def segment(number="00001", id_=UPLOAD, type_=f"application/octet-stream;s3={ABC}.{MADE}.{UPLOAD}"):
+    return f"{id_}/{number}", type_
+
+
+def one_segment(store, call, stream):
+    """The answer to a listing of the segments of an id: it has one."""
+    return files_named(segment(id_=call.query["prefix"].rstrip("/")))(store, call, stream)
+
+
+RECORD, OTHER = record_text(record("v")), "0000000000000000000000000000000b"
+RECORDS = files_named((UPLOAD, "application/json"))
+DONE = json.dumps({"at": MADE, "etag": f"{ABC}-1", "key": "v", "list": [[1, ABC]], "state": "done", "v": 1}, separators=(",", ":")).encode()
+CREATE, PART_ABC, ABORT, PARTS_OF_V, OPEN_ONES = ("POST", "/photos/v?uploads"), ("PUT", V + "&partNumber=1", [], b"abc"), ("DELETE", V), ("GET", V), ("GET", "/photos?uploads")
+
 ODD = [
     ("a bucket without its moment", ("PUT", "/photos"), [UNTIMED]),
-    ("a container that wasn't there and is", ("PUT", "/photos"), [MISSING, THERE]),
+    ("a container that wasn't there and is", ("PUT", "/photos"), [*BESIDE, answer(200, body=b"[]"), THERE]),
+    ("names beside a missing bucket out of order", ("PUT", "/photos"), [*BESIDE, files_named(segment("00002"), segment("00001"))]),
     ("a file stored with another ETag", PUT_ABC, [OPEN, answer(201, [("Etag", ABD)])]),
     ("a file whose ETag isn't its tag's", GET, [OPEN, file(ABD)]),
     ("a file past the largest size", GET, [OPEN, file(size=LARGEST + 1)]),
@@ -1207,7 +1366,22 @@ ODD = [
     ("containers out of order", ("GET", "/"), [containers("zoo", "photos")]),
     ("a container that goes", ("GET", "/"), [containers("photos"), MISSING]),
     ("a listed bucket without its moment", ("GET", "/"), [containers("photos"), UNTIMED]),
+    ("a record stored with another ETag", CREATE, [OPEN, MISSING, files_named(), answer(201, [("Etag", ABD)])]),
+    ("a record that can't be stored", CREATE, [OPEN, MISSING, files_named(), MISSING]),
+    ("a part stored with another ETag", PART_ABC, [OPEN, RECORD, answer(201, [("Etag", ABD)])]),
+    ("a part that can't be stored", PART_ABC, [OPEN, RECORD, MISSING]),
+    ("parts of another upload, behind the DELETE of the record", ABORT, [OPEN, RECORD, answer(204), files_named(segment(id_=OTHER))]),
+    ("a part of another upload", PARTS_OF_V, [OPEN, RECORD, files_named(segment(id_=OTHER))]),
+    ("a part without five digits", PARTS_OF_V, [OPEN, RECORD, files_named(segment("1"))]),
+    ("a part whose number is none", PARTS_OF_V, [OPEN, RECORD, files_named(segment("0000x"))]),
+    ("parts out of order", PARTS_OF_V, [OPEN, RECORD, files_named(segment("00002"), segment("00001"))]),
+    ("a part without a tag", PARTS_OF_V, [OPEN, RECORD, files_named(segment(type_="application/octet-stream"))]),
+    ("records out of order", OPEN_ONES, [OPEN, files_named((OTHER, "application/json"), (UPLOAD, "application/json"))]),
+    ("a record whose name is no id", OPEN_ONES, [OPEN, files_named(("photo", "application/json"))]),
 ]
+for ending, body in (("is empty", b""), ("is {}", b"{}"), ("is no JSON", b"open"), ("has a space", record("v") + b" "), ("lacks its key", record("v").replace(b'"key":"v",', b"")), ("has another version", record("v", v=3)), ("has another state", record("v", state="shut")), ("has a key that is none", record("")), ("is no UTF-8", record("v").replace(b'"v"', b'"\xff"'))):
+    ODD += [(f"a record that {ending}, to {words[0]}", words, [OPEN, record_text(body)]) for words in (PART_ABC, PARTS_OF_V, ABORT)]
+    ODD.append((f"a record that {ending}, listed", OPEN_ONES, [OPEN, RECORDS, record_text(body)]))
 
 # And answers that their call can't have, which spell nothing: the call has failed.
 MISPLACED = [
@@ -1223,12 +1397,23 @@ MISPLACED = [
     ("201 to HEAD of a file", ("GET", "/photos/a?acl"), [OPEN, answer(201)]),
     ("204 to PUT of a container", ("PUT", "/photos"), [MISSING, answer(204)]),
     ("200 to DELETE of a container", ("DELETE", "/photos"), [answer(200)]),
+    ("404 to PUT of a container beside a bucket", ("PUT", "/photos"), [MISSING, MADE_NOW, MISSING]),
+    ("201 to a listing of a container beside a bucket", ("PUT", "/photos"), [MISSING, THERE, THERE, answer(201, body=b"[]")]),
+    ("200 to DELETE of what was left", ("PUT", "/photos"), [*BESIDE, files_named(segment()), answer(200)]),
+    ("201 to HEAD of a record", CREATE, [OPEN, answer(201)]),
+    ("201 to a listing of a segment", CREATE, [OPEN, MISSING, answer(201, body=b"[]")]),
+    ("201 without an ETag to PUT of a record", CREATE, [OPEN, MISSING, files_named(), answer(201)]),
+    ("206 to GET of a record", PART_ABC, [OPEN, answer(206)]),
+    ("200 to PUT of a part", PART_ABC, [OPEN, RECORD, answer(200, [("Etag", ABC)])]),
+    ("201 to a listing of parts", PARTS_OF_V, [OPEN, RECORD, answer(201, body=b"[]")]),
+    ("201 to a listing of records", OPEN_ONES, [OPEN, answer(201, body=b"[]")]),
+    ("200 to DELETE of a record", ABORT, [OPEN, RECORD, answer(200)]),
 ]
 
 
 @group()
 def odd_answers_are_found_out(check):
-    with Store() as store, Gate(store.text) as gate:
+    with Store() as store, Gate(store.text).settled(store) as gate:
         for rows, wanted in ((ODD, (500, "InconsistentStore")), (MISPLACED, (503, "ServiceUnavailable"))):
             for title, words, answers in rows:
                 store.begin(answers)
@@ -1242,6 +1427,32 @@ def odd_answers_are_found_out(check):
         store.begin([OPEN, file(size=5), part(5)])
         reply = gate.ask(*PART)
         check("nor is one of them its part", (206, "bytes 1-2/5", b"bc"), (reply.status, reply.headers["content-range"], reply.body))
+        gone, failed, stays = answer(204), answer(500), files_named(segment("00001"), segment("00003"))
+        for title, words, wanted, answers in (
+            ("its part", PART_ABC, 200, [OPEN, RECORD, answer(201, [("Etag", f'"{ABC}"')])]),
+            ("its parts", PARTS_OF_V, (200, 2), [OPEN, RECORD, stays]),
+            ("its bucket's uploads", OPEN_ONES, (200, 1), [OPEN, RECORDS, RECORD]),
+            ("its end", ABORT, 204, [OPEN, RECORD, gone, stays, gone, gone]),
+            ("its end, where its record was gone, and a part", ABORT, 204, [OPEN, RECORD, MISSING, stays, MISSING, gone]),
+            ("its end, where its parts can't be listed", ABORT, 204, [OPEN, RECORD, gone, failed]),
+            ("its end, where a part can't be deleted", ABORT, 204, [OPEN, RECORD, gone, stays, failed]),
+            ("its end, where the last part can't be deleted", ABORT, 204, [OPEN, RECORD, gone, stays, gone, failed]),
+            ("an upload of another key", ("GET", V.replace("/v?", "/w?")), (404, "NoSuchUpload"), [OPEN, RECORD]),
+            ("an upload without a record", PART_ABC, (404, "NoSuchUpload"), [OPEN, MISSING]),
+            ("an upload that was completed", ABORT, (404, "NoSuchUpload"), [OPEN, record_text(DONE)]),
+            ("the list of uploads with a completed one", OPEN_ONES, (200, 0), [OPEN, RECORDS, record_text(DONE)]),
+            ("the list of uploads of which one goes", OPEN_ONES, (200, 0), [OPEN, RECORDS, MISSING]),
+            ("a bucket beside which a part was left, and gone", ("PUT", "/photos"), 200, [*BESIDE, files_named(segment()), MISSING, MADE_NOW]),
+            ("an upload into a missing bucket", CREATE, (404, "NoSuchBucket"), [MISSING]),
+            ("a part for a missing bucket", PART_ABC, (404, "NoSuchBucket"), [MISSING]),
+        ):
+            store.begin(answers)
+            check(f"nor {title}", (wanted, len(answers)), (listed(gate.ask(*words)), len(store.calls)))
+        store.begin(taken := [OPEN, file(), MISSING, one_segment, MISSING, files_named(), answer(500)])
+        gate.ask(*CREATE)
+        ids = [it for call in store.calls for it in re.findall("[0-9a-f]{32}", call.target)]
+        due = [(int(ids[0], 16) + at) % 2**128 for at in (0, 1, 1, 2, 2, 2)]
+        check("an id with a record, one with a segment, and the next", (len(taken), due), (len(store.calls), [int(it, 16) for it in ids]))
 
 
 def keys(count):
@@ -1251,7 +1462,7 @@ def keys(count):
 @group()
 def many_keys(check):
     """Listings of a bucket of more keys than a page of the store has."""
-    with Store(account=keys(1001)) as store, Gate(store.text) as gate:
+    with Store(account=keys(1001)) as store, Gate(store.text).settled(store) as gate:
 
         def listing(target):
             store.begin({})
@@ -1264,7 +1475,7 @@ def many_keys(check):
         body, calls = listing("/photos?marker=d%2F0999")
         check("and the last one another", (2, 1, 1), (calls, body.count(b"<Contents><Key>d/1000</Key>"), body.count(b"<IsTruncated>false</IsTruncated>")))
     rolled = ("GET", "/photos?list-type=2&delimiter=%2F")
-    with Store(account=keys(2500)) as store, Gate(store.text) as gate:
+    with Store(account=keys(2500)) as store, Gate(store.text).settled(store) as gate:
         for lost in range(5):
             store.begin({lost: lose_answer})
             with gate.client(request(*rolled, owner=False) * 2) as client:
@@ -1274,6 +1485,109 @@ def many_keys(check):
                 check("2500 keys roll up into one prefix, twice", (8, [200, 200], [2, 2]), (len(store.calls), [brief(it) for it in replies], whole))
             else:
                 check(f"page {lost} of the store is lost, and then none", (lost + 4, [(503, "ServiceUnavailable"), 200], [0, 2]), (len(store.calls), [brief(it) for it in replies], whole))
+
+
+@group(first=True)
+def many_uploads(check):
+    """Listings of more uploads than a page has, and of as many parts as an upload may have."""
+    many = {f"{at:032x}": (f"k{at:04}", {}) for at in range(1001)}
+    with Store(account=account(uploads={**many, UPLOAD: ("v", {number: b"" for number in range(1, 1001)})})) as store, Gate(store.text).settled(store) as gate:
+
+        def listing(target):
+            store.begin({})
+            body = gate.ask("GET", target).body
+            return len(re.findall(b"<(?:Upload|Part)>", body)), text_of(b"IsTruncated", body), len(store.calls)
+
+        keys = text_of(b"Key", gate.ask("GET", "/photos?uploads").body)
+        check("a thousand uploads are a reply, in the order of their keys", sorted(key for key, _ in many.values() if key != "k0010")[:1000], keys)
+        check("and its calls", (1000, ["true"], 2 + 1 + 1001), listing("/photos?uploads"))
+        check("and the last one another", (1, ["false"]), listing("/photos?uploads&key-marker=k1000")[:2])
+        check("a thousand parts are a reply", (1000, ["false"], 4), listing(V))
+        check("also where more are asked for", (1000, ["false"], 4), listing(V + "&max-parts=5000"))
+        check("and one page of some", (10, ["true"], 3), listing(V + "&max-parts=10&part-number-marker=500"))
+
+
+@group(first=True)
+def a_bucket_is_made_over_what_was_left(check):
+    """All that stands beside a missing bucket is deleted before it is made: by as many calls as there are files and pages."""
+    left = {f"{at:032x}": (f"k{at}", {number: b"" for number in range(1, parts + 1)}) for at, parts in enumerate((1000, 1000, 500))}
+    with Store(account=beside("photos", left)) as store, Gate(store.text).settled(store) as gate:
+        store.begin({1500: lose_answer})
+        check("a call of those that delete what was left is lost", ((503, "ServiceUnavailable"), 1500), (brief(gate.ask("PUT", "/photos")), len(store.calls)))
+        # HEAD, two PUTs, a page and 3 DELETEs of records, a page and 1000 DELETEs of segments, a page and 491 of 1000 were made.
+        rest = 2500 - 1491
+        store.begin({})
+        check("and the rest is deleted by the next request", (200, 4 + 1 + 2 + rest), (brief(gate.ask("PUT", "/photos")), len(store.calls)))
+        check("and nothing is left", [0, 0, 0], [len(store.account[it][1]) for it in ("photos", "photos+uploads", "photos+segments")])
+        check("and no upload is open", (200, 0), listed(gate.ask("GET", "/photos?uploads")))
+
+
+@group()
+def a_bucket_of_an_earlier_version(check):
+    """It has no containers beside it, until the operator makes them."""
+    with Store(account={"photos": account()["photos"]}) as store, Gate(store.text) as gate:
+        check("its objects are as they were", [FOUND, (200, b"")], [both(gate.ask(*GET)), both(gate.ask("PUT", "/photos/k", body=b"abc"))])
+        check("no upload can begin", True, brief(gate.ask(*CREATE)) in ((500, "InconsistentStore"), (503, "ServiceUnavailable")))
+        store.account.update({"photos+uploads": ([], {}), "photos+segments": ([], {})})
+        check("and then one can", 200, brief(gate.ask(*CREATE)))
+
+
+# The replies to requests on uploads, behind their first line.
+STARTED = '<InitiateMultipartUploadResult xmlns="http://s3.amazonaws.com/doc/2006-03-01/"><Bucket>photos</Bucket><Key>v.bin</Key><UploadId>{}</UploadId></InitiateMultipartUploadResult>'
+
+
+@group()
+def uploads(check):
+    no_upload, argument = (404, "NoSuchUpload"), (400, "InvalidArgument")
+    for title, store in (("a scripted store", Store()), ("swiftd", Swiftd())):
+        with store, Gate(store.text) as gate, gate.client(request("PUT", "/photos")) as client:
+            client.reply()
+
+            def ask(*words):
+                client.send(request(*words))
+                return client.reply()
+
+            def parts(more=""):
+                body = ask("GET", v + more).body
+                shown = zip(*(text_of(it, body) for it in (b"PartNumber", b"ETag", b"Size")))
+                return list(shown), [text_of(it, body) for it in (b"PartNumberMarker", b"NextPartNumberMarker", b"IsTruncated")]
+
+            def open_ones(more=""):
+                body = ask("GET", "/photos?uploads" + more).body
+                return list(zip(text_of(b"Key", body), text_of(b"UploadId", body))), text_of(b"IsTruncated", body)
+
+            check(f"{title}: an upload into a missing bucket", (404, "NoSuchBucket"), brief(ask("POST", "/none/v.bin?uploads")))
+            reply = ask("POST", "/photos/v.bin?uploads", [("x-amz-meta-colour", "red")])
+            id_ = (text_of(b"UploadId", reply.body) or ["none"])[0]
+            v = f"/photos/v.bin?uploadId={id_}"
+            check("an upload begins", (200, True, STARTED.format(id_)), (reply.status, bool(re.fullmatch("[0-9a-f]{32}", id_)), reply.body.decode().partition("\n")[2]))
+            etags = {body: hashlib.md5(body).hexdigest() for body in (b"abc", b"world", b"hello", b"")}
+            for number, body in ((1, b"abc"), (3, b"world"), (1, b"hello"), (1000, b"")):
+                reply = ask("PUT", f"{v}&partNumber={number}", [], body)
+                check(f"part {number} goes", (200, f'"{etags[body]}"'), (reply.status, reply.headers.get("etag")))
+            for number in ("0", "1001", "x", "+1", "", "1000000000"):
+                check(f"part {number!r} doesn't", argument, brief(ask("PUT", f"{v}&partNumber={number}")))
+            shown = [(str(number), f"&quot;{etags[body]}&quot;", str(len(body))) for number, body in ((1, b"hello"), (3, b"world"), (1000, b""))]
+            check("its parts", (shown, [["0"], [], ["false"]]), parts())
+            check("the first of them", (shown[:1], [["0"], ["1"], ["true"]]), parts("&max-parts=1"))
+            check("those behind it", (shown[1:], [["1"], [], ["false"]]), parts("&part-number-marker=1"))
+            check("none of them", ([], [["0"], [], ["false"]]), parts("&max-parts=0"))
+            check("a number of parts that is none", argument, brief(ask("GET", v + "&max-parts=-1")))
+            check("parts of another key, and of another id", [no_upload] * 2, [brief(ask("GET", it)) for it in (v.replace("v.bin", "w.bin"), "/photos/v.bin?uploadId=A")])
+            others = {text_of(b"UploadId", ask("POST", f"/photos/{key}?uploads").body)[0]: key for key in ("v.bin", "a/b", "a%2Fc")}
+            due = sorted([("v.bin", id_)] + [(key.replace("%2F", "/"), it) for it, key in others.items()])
+            check("all uploads, by key and then by id", (due, ["false"]), open_ones())
+            check("those with a prefix", (due[:2], ["false"]), open_ones("&prefix=a%2F"))
+            check("the first of them", (due[:1], ["true"]), open_ones("&max-uploads=1&prefix=a%2F"))
+            check("those behind a key", (due[2:], ["false"]), open_ones("&key-marker=a%2Fc"))
+            check("those behind a key and an id", (due[3:], ["false"]), open_ones(f"&key-marker=v.bin&upload-id-marker={due[2][1]}"))
+            check("none of them", ([], ["false"]), open_ones("&max-uploads=0"))
+            check("a completion isn't built", (501, "NotImplemented"), brief(ask("POST", v, [], b"<CompleteMultipartUpload><Part><PartNumber>1</PartNumber><ETag>x</ETag></Part></CompleteMultipartUpload>")))
+            check("and no object is there", (404, "NoSuchKey"), brief(ask("GET", "/photos/v.bin")))
+            check("the upload ends, and once", [204, no_upload], [brief(ask("DELETE", v)) for _ in range(2)])
+            check("and takes no part, and shows none", [no_upload] * 2, [brief(ask("PUT", v + "&partNumber=1", [], b"abc")), brief(ask("GET", v))])
+            check("the others are left", (sorted(set(due) - {("v.bin", id_)}), ["false"]), open_ones())
+            check("the bucket goes with them, and is made without them", [204, 200, (200, 0)], [brief(ask("DELETE", "/photos")), brief(ask("PUT", "/photos")), listed(ask("GET", "/photos?uploads"))])
 
 
 @group()
@@ -1286,6 +1600,10 @@ def the_largest_bodies(check):
         reply = gate.ask("HEAD", "/photos/large", owner=False)
         check("a HEAD has its length and no body", (200, str(LARGEST), b""), (reply.status, reply.headers.get("content-length"), reply.body))
         check("and it comes whole", large, gate.ask("GET", "/photos/large", owner=False).body)
+        id_ = text_of(b"UploadId", gate.ask("POST", "/photos/v?uploads").body)[0]
+        reply = gate.ask("PUT", f"/photos/v?partNumber=1&uploadId={id_}", [], large)
+        check("a part of 16 MiB goes", (200, f'"{hashlib.md5(large).hexdigest()}"'), (reply.status, reply.headers.get("etag")))
+        check("and stands in the store", large, store.account["photos+segments"][1][f"{id_}/00001".encode()][1])
 
 
 # swiftd by itself.

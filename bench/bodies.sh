@@ -1,6 +1,6 @@
 #!/usr/bin/env bash
-# What `s3gate session` takes for bodies of 16 MiB, beside `cat`, `md5sum` and `sha256sum` of the same bytes in the same run;
-# for a head of 16,384 bytes that comes byte by byte; and for a key file of 30,000 lines.
+# What `s3gate session` takes for bodies of 16 MiB, of objects and of parts, beside `cat`, `md5sum` and `sha256sum` of the same
+# bytes in the same run; for a head of 16,384 bytes that comes byte by byte; and for a key file of 30,000 lines.
 #
 #   bench/bodies.sh [PROGRAM] [REQUESTS]
 #
@@ -10,7 +10,7 @@
 set -euo pipefail
 cd "$(dirname "$0")/.."
 exec python3 - "$@" <<'PYTHON'
-import base64, datetime, fcntl, hashlib, importlib.util, os, random, struct, subprocess, sys, tempfile, termios, threading, time
+import base64, datetime, fcntl, hashlib, importlib.util, os, queue, random, re, struct, subprocess, sys, tempfile, termios, threading, time
 
 sys.dont_write_bytecode = True
 spec = importlib.util.spec_from_file_location("sign", "examples/sign.py")
@@ -115,6 +115,29 @@ def session(pieces, wanted):
     return run
 
 
+def parts(bucket):
+    """The session of an upload of these bodies, as one part again and again, for its id comes with the reply to its first request."""
+    ids, wanted = queue.Queue(), [200] * (REQUESTS + 2)
+
+    def write(pipe):
+        all_of([bucket, request("POST /photos/v?uploads")])(pipe)
+        id_ = ids.get()
+        if id_:
+            all_of([request(f"PUT /photos/v?partNumber=1&uploadId={id_}", BODY)] * REQUESTS)(pipe)
+
+    def read(output):
+        replies = [take_reply(output), take_reply(output)]
+        found = re.search(rb"<UploadId>(\w+)</UploadId>", replies[1][1])
+        ids.put(found and found[1].decode())
+        return replies + [take_reply(output) for _ in range(REQUESTS if found else 0)]
+
+    run = Run([PROGRAM, "session"], write, read)
+    got = [status for status, _ in run.read]
+    if run.status or got != wanted:
+        sys.exit(f"the upload ended with status {run.status}, and was answered {got}, not {wanted}")
+    return run
+
+
 def byte_by_byte(data):
     """Writes each byte once the one before was read."""
 
@@ -141,6 +164,8 @@ def body_rows():
     for name, put in ("PUT, UNSIGNED-PAYLOAD", plain), ("PUT, with Content-MD5", digested), ("PUT, its hash signed", hashed):
         run = session([bucket] + [put] * REQUESTS, [200] * (REQUESTS + 1))
         yield name, run.clock - empty.clock, run.processor - empty.processor, run.memory
+    run = parts(bucket)
+    yield "PUT of a part", run.clock - empty.clock, run.processor - empty.processor, run.memory
     run = session([bucket, plain] + [request("GET /photos/k")] * REQUESTS, [200] * (REQUESTS + 2))
     yield "GET", run.clock - one.clock, run.processor - one.processor, run.memory
 

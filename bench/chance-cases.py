@@ -49,11 +49,13 @@ class Bucket:
 
 
 class Service:
-    """The buckets by name."""
+    """The buckets by name, and the names of all that were ever made, beside which two containers stay."""
 
     def __init__(self):
         self.buckets = {}
-        self.calls = 0
+        self.made = set()
+        # The first operation of a run settles the store: the gateway's container is made, and a sealed completion looked for.
+        self.calls = 2
 
     def answer(self, act, bucket, key, body, moment, acl, is_signed):
         """The status and the code or ETag of a request."""
@@ -79,8 +81,10 @@ class Service:
     def create(self, bucket, moment, acl):
         if bucket in self.buckets:
             return "409 BucketAlreadyOwnedByYou"
-        self.calls += 1
+        # Both containers beside it are made, and listed to find them empty; then the bucket is made.
+        self.calls += 5
         self.buckets[bucket] = Bucket(moment, acl == "public-read")
+        self.made.add(bucket)
         return "200"
 
     def drop(self, bucket):
@@ -158,16 +162,20 @@ def case(chance, name):
     clock = " ".join(str(MOMENT + turn) for turn in range(REQUESTS))
     etags = " ".join(str(turn) for turn, line in enumerate(wanted, 1) if line.endswith('"'))
     told = ["brief", f"etags {etags}", "tell left"]
-    return [f"case {name}", "pieces 1000", f"clock {clock}", *told, "connection", *given, "= status 0", *wanted, *left(service.buckets)]
+    return [f"case {name}", "pieces 1000", f"clock {clock}", *told, "connection", *given, "= status 0", *wanted, *left(service)]
 
 
-def left(buckets):
+def left(service):
     """What is left on the store, as it is told."""
-    names = ", ".join(f'"{name}"' for name in sorted(buckets))
+    beside = [name + behind for name in service.made for behind in ("+segments", "+uploads")]
+    containers = sorted(["+gateway", *beside, *service.buckets])
+    names = ", ".join(f'"{name}"' for name in containers)
     lines = [f"= left [{names}]"]
-    for _, bucket in sorted(buckets.items()):
-        readers = "Everybody" if bucket.is_open else "Nobody"
-        lines += [f"= Readers {{ readers: {readers}, created: Some({bucket.made}) }}", f"= objects {len(bucket.objects)}"]
+    for name in containers:
+        bucket = service.buckets.get(name)
+        readers = "Everybody" if bucket and bucket.is_open else "Nobody"
+        created = f"Some({bucket.made})" if bucket else "None"
+        lines += [f"= Readers {{ readers: {readers}, created: {created} }}", f"= objects {len(bucket.objects) if bucket else 0}"]
     return lines
 
 

@@ -20,7 +20,7 @@ GIVEN = {
     "words": r".*", "key": r"\S+ \S+", "nokeys": r"", "keytext": r".*", "pieces": NUMBERS, "clock": NUMBERS,
     "before": NUMBERS, "after": NUMBERS, "stop": r"\d+", "fails": NUMBERS, "unreported": NUMBERS, "connection": r"",
     "sweep": r"", "probe": r"", "nomodel": r"", "brief": r"", "whole": NUMBERS, "etags": NUMBERS,
-    "tell": r"calls|left|objects",
+    "tell": r"calls|left|objects|bodies",
 }
 # Those that may stand more than once in a case, and those below which lines `>` stand.
 OFTEN = {"key", "connection", "tell"}

@@ -1,15 +1,16 @@
 #!/usr/bin/env bash
-# What a listing of 1,000 keys takes out of 1,000, 10,000 and 100,000, by `s3gate serve` over `swiftd` and by the store alone.
+# What a listing of 1,000 keys takes out of 1,000, 10,000 and 100,000, by `s3gate serve` over `swiftd` and by the store alone;
+# and what requests on uploads take that make a call for each upload or part, for 100 of them and for 1,000.
 #
 #   bench/listings.sh [FOLDER] [ROUNDS]
 #
 # FOLDER has the programs s3gate and swiftd; without it those of crates/*/out are taken (README.md, "Run it"). Each listing is
-# asked for 20 times unless told otherwise. The keys are put by plain Swift calls, with the mark that the gateway gives an
-# object (docs/PROFILE.md). Only Python's own libraries are used.
+# asked for 20 times unless told otherwise. The keys, records and parts are put by plain Swift calls, as the gateway puts them
+# (docs/PROFILE.md). Only Python's own libraries are used.
 set -euo pipefail
 cd "$(dirname "$0")/.."
 exec python3 - "$@" <<'PYTHON'
-import contextlib, datetime, hashlib, http.client, importlib.util, os, socket, subprocess, sys, time
+import contextlib, datetime, hashlib, http.client, importlib.util, json, os, socket, subprocess, sys, tempfile, time
 
 sys.dont_write_bytecode = True
 spec = importlib.util.spec_from_file_location("sign", "examples/sign.py")
@@ -36,8 +37,8 @@ def free_place():
 
 
 @contextlib.contextmanager
-def started(words, place, **variables):
-    with subprocess.Popen(words, env={**os.environ, **variables}, stdout=subprocess.DEVNULL, stderr=subprocess.DEVNULL) as process:
+def started(words, place, report=subprocess.DEVNULL, **variables):
+    with subprocess.Popen(words, env={**os.environ, **variables}, stdout=subprocess.DEVNULL, stderr=report) as process:
         host, _, port = place.rpartition(":")
         for _ in range(200):
             with contextlib.suppress(ConnectionRefusedError), socket.create_connection((host, int(port))):
@@ -49,8 +50,8 @@ def started(words, place, **variables):
             process.kill()
 
 
-def swift(client, method, path, headers=()):
-    client.request(method, f"/v1/{ACCOUNT}{path}", b"", {"X-Auth-Token": TOKEN, "Content-Length": "0", **dict(headers)})
+def swift(client, method, path, headers=(), body=b""):
+    client.request(method, f"/v1/{ACCOUNT}{path}", body, {"X-Auth-Token": TOKEN, "Content-Length": str(len(body)), **dict(headers)})
     answer = client.getresponse()
     return answer.status, answer.read()
 
@@ -62,15 +63,73 @@ def s3(client, place, method, path):
     return answer.status, answer.read()
 
 
-def middle(ask):
+def middle(ask, rounds=ROUNDS):
     times = []
-    for _ in range(ROUNDS):
+    for _ in range(rounds):
         begun = time.perf_counter()
         status, body = ask()
         times.append(time.perf_counter() - begun)
-        if status != 200:
-            sys.exit(f"a listing is answered {status}: {body[:300]}")
-    return sorted(times)[ROUNDS // 2] * 1000, body
+        if status not in (200, 204):
+            sys.exit(f"a request is answered {status}: {body[:300]}")
+    return sorted(times)[rounds // 2] * 1000, body
+
+
+def put_uploads(client, bucket, uploads):
+    """A bucket with so many open uploads, by their ids, and of each so many parts."""
+    for side in ("", "%2Buploads", "%2Bsegments"):
+        created = {"X-Container-Meta-S3-Created": "1369353600"} if not side else {}
+        swift(client, "PUT", f"/{bucket}{side}", {"X-Container-Read": "", **created}.items())
+    for id_, parts in uploads.items():
+        text = json.dumps({"at": 1369353600, "key": f"v{id_}", "meta": [], "state": "open", "type": "binary/octet-stream", "v": 1}, separators=(",", ":")).encode()
+        calls = [(f"%2Buploads/{id_}", "application/json", text)]
+        calls += [(f"%2Bsegments/{id_}/{number:05}", f"application/octet-stream;s3={EMPTY}.1369353600.{id_}", b"") for number in range(1, parts + 1)]
+        for name, kind, body in calls:
+            status, body = swift(client, "PUT", f"/{bucket}{name}", {"Content-Type": kind}.items(), body)
+            if status != 201:
+                sys.exit(f"a PUT is answered {status}: {body}")
+
+
+def upload_rows(s3gate, store, gate, many):
+    """Requests on many uploads or parts: what is asked, of how many, by how many calls, and the milliseconds."""
+    one, first = "f" * 32, f"{0:032x}"
+    for number in 100, 1000:
+        client = http.client.HTTPConnection(store, timeout=60)
+        put_uploads(client, f"uploads{number}", {f"{at:032x}": 0 for at in range(number)})
+        put_uploads(client, f"parts{number}", {one: number})
+        put_uploads(client, f"left{number}", {one: number})
+        swift(client, "DELETE", f"/left{number}")
+        client.close()
+        place = {"S3GATE_KEYS": os.path.abspath("examples/keys.txt"), "S3GATE_LISTEN": gate, "S3GATE_STORE": store, "S3GATE_ACCOUNT": ACCOUNT, "S3GATE_TOKEN": TOKEN}
+        with tempfile.TemporaryFile() as log, started([s3gate, "serve", *many], gate, log, **place):
+            gateway = http.client.HTTPConnection(gate, timeout=600)
+            s3(gateway, gate, "HEAD", "/none")
+            for title, method, path, item, due, rounds in (
+                ("ListUploads", "GET", f"/uploads{number}?uploads", b"<Upload>", number, max(1, ROUNDS // 4)),
+                ("ListUploads, the first ten", "GET", f"/uploads{number}?uploads&max-uploads=10", b"<Upload>", 10, max(1, ROUNDS // 4)),
+                ("CreateUpload beside them", "POST", f"/uploads{number}/v?uploads", b"<UploadId>", 1, ROUNDS),
+                ("UploadPart beside them", "PUT", f"/uploads{number}/v{first}?partNumber=1&uploadId={first}", b"", None, ROUNDS),
+                ("ListParts", "GET", f"/parts{number}/v{one}?uploadId={one}", b"<Part>", number, ROUNDS),
+                ("ListParts, the first ten", "GET", f"/parts{number}/v{one}?uploadId={one}&max-parts=10", b"<Part>", 10, ROUNDS),
+                ("AbortUpload of so many parts", "DELETE", f"/parts{number}/v{one}?uploadId={one}", b"", None, 1),
+                ("CreateBucket where so many were left", "PUT", f"/left{number}", b"", None, 1),
+            ):
+                took, body = middle(lambda: s3(gateway, gate, method, path), rounds)
+                if due is not None and body.count(item) != due:
+                    sys.exit(f"{title} has {body.count(item)} of {due}: {body[:300]}")
+                yield title, number, calls_of(log), took
+            gateway.close()
+
+
+def calls_of(log):
+    """The calls that the last reply took, by the log, whose line comes once the reply is sent."""
+    size = 0
+    while True:
+        time.sleep(0.05)
+        log.seek(0)
+        text = log.read()
+        if len(text) == size and text:
+            return int(text.splitlines()[-1].split()[-2])
+        size = len(text)
 
 
 def main():
@@ -106,6 +165,10 @@ def main():
                 gateway.close()
             client = http.client.HTTPConnection(store, timeout=60)
             print(f"| {number:,} | {plain:.1f} | {first:.1f} | {last:.1f} | {rolled:.1f} |", flush=True)
+        client.close()
+        print("\n| request | of | calls | ms |\n|---|---|---|---|")
+        for title, number, calls, took in upload_rows(s3gate, store, gate, many):
+            print(f"| {title} | {number:,} | {calls:,} | {took:.1f} |", flush=True)
 
 
 main()

@@ -26,6 +26,12 @@ FAULTS = [
     ("recovery put_request: metadata dropped", "recovery/src/object.rt", 1, "pack(alloc, meta)?", "pack(alloc, &Meta::new(alloc))?"),
     ("recovery tag_text: another moment", "recovery/src/object.rt", 1, "        moment,\n        id: None,", "        moment: moment / 2,\n        id: None,"),
     ("recovery make_bucket: the bucket has no moment", "recovery/src/bucket.rt", 1, "created: Some(moment)", "created: None"),
+    ("recovery settle_store: the gateway's own container is made twice", "recovery/src/state.rt", 1, "    put_gateway(alloc, store)?;\n", "    put_gateway(alloc, store)?;\n    put_gateway(alloc, store)?;\n", ["uploads.txt"]),
+    ("recovery delete_names: the first file of a page stays", "recovery/src/beside.rt", 1, "    for item in items {\n        delete_name(", "    for item in items.iter().skip(1) {\n        delete_name(", ["uploads.txt"]),
+    ("plan_uploads free_id: the id behind the draw", "plan_uploads/src/ids.rt", 1, "draw.wrapping_add(u128::from(tries))", "draw.wrapping_add(u128::from(tries) + 1)", ["uploads.txt"]),
+    ("plan_uploads is_taken: segments don't count", "plan_uploads/src/ids.rt", 1, "    has_segment(alloc, state, bucket, id)\n", "    let _ = has_segment(alloc, state, bucket, id)?;\n    Ok(false)\n", ["uploads.txt"]),
+    ("plan_uploads gone_end: a call that failed behind the commit is told", "plan_uploads/src/abort.rt", 1, "Ok(()) | Err(PlanFault::Failed) => Ok(Reply::Gone),", "Ok(()) => Ok(Reply::Gone),", ["uploads.txt"]),
+    ("plan_uploads list_parts: the part of the marker too", "plan_uploads/src/listed_parts.rt", 1, "segment_name(alloc, id, marker)?", "segment_name(alloc, id, marker.saturating_sub(1))?", ["uploads.txt"]),
     ("http_wire closes: HTTP/1.0 stays open", "http_wire/src/closing.rt", 1, "message.old || close_header", "close_header", ["http_wire.txt", "buckets.txt"]),
     ("http_wire take_offered: the interim line after the body", "http_wire/src/take.rt", 1, "    offer(message, size, line, store)?;\n    take_body(pending, body, start, size, line, store)\n", "    let taken = take_body(pending, body, start, size, line, store)?;\n    offer(message, size, line, store)?;\n    Ok(taken)\n", ["interim.txt"]),
     ("gateway answer: a reply before the call", "gateway/src/serve.rt", 1, "    match handle_request(alloc, store, known, service, line, clock, draws, received) {", "    if line.write(&*store, b\"HTTP/1.1 200 OK\\r\\n\").is_err() {\n        return Some(Ended::LineFailed);\n    }\n    match handle_request(alloc, store, known, service, line, clock, draws, received) {"),
@@ -54,8 +60,9 @@ def expected(files):
 
 
 def places_of(top, file, number, old):
-    """The text of a file, cut at a text, if that stands there so many times."""
-    text = open(f"{top}/{file}", encoding="utf-8").read()
+    """The text of a file, cut at a text, if the file is there and has that so many times."""
+    path = f"{top}/{file}"
+    text = open(path, encoding="utf-8").read() if os.path.exists(path) else ""
     places = text.split(old)
     return (text, places) if len(places) > number else (text, None)
 

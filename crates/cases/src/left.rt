@@ -11,7 +11,8 @@ const MOST_NAMES: u32 = 1000;
 
 const OTHER: Fault = Fault::Unread("a store that answers something else");
 
-/// Tells the containers of a store whose calls don't fail, each with its readers, and how many objects it has; and the objects.
+/// Tells the containers of a store whose calls don't fail, each with its readers, and how many objects it has; and the objects, and
+/// the bytes of each.
 pub(crate) fn tell_left<W: Swift>(alloc: Global, given: Given<'_>, store: &mut W, told: &mut Told) {
     if says(given, "tell left") {
         let request = SwiftRequest::ListContainers {
@@ -83,9 +84,12 @@ fn tell_names<W: Swift>(
     };
     told.say("objects ");
     tell(&items.len(), told);
-    if says(given, "tell objects") {
-        for item in items.as_slice() {
+    for item in items.as_slice() {
+        if says(given, "tell objects") {
             ask_head(alloc, store, container, &item.name, told);
+        }
+        if says(given, "tell bodies") {
+            ask_body(alloc, store, container, &item.name, told);
         }
     }
 }
@@ -116,6 +120,33 @@ fn tell_object(name: &Bytes, answer: &Result<SwiftReply, SwiftFault>, told: &mut
     told.show(&head.content_type);
     told.say(" ");
     tell(&head.meta, told);
+}
+
+fn ask_body<W: Swift>(
+    alloc: Global,
+    store: &mut W,
+    container: &[u8],
+    name: &Bytes,
+    told: &mut Told,
+) {
+    let container = bytes_of(alloc, container, told);
+    let copied = bytes_of(alloc, name.as_slice(), told);
+    let request = SwiftRequest::GetObject {
+        container,
+        name: copied,
+        range: None,
+    };
+    tell_body(&ask(store, request), told);
+}
+
+fn tell_body(answer: &Result<SwiftReply, SwiftFault>, told: &mut Told) {
+    match answer {
+        Ok(SwiftReply::Bytes { body, .. }) => {
+            told.say("body ");
+            tell(body, told);
+        }
+        _ => told.note(OTHER),
+    }
 }
 
 fn ask<W: Swift>(store: &mut W, request: SwiftRequest) -> Result<SwiftReply, SwiftFault> {

@@ -25,9 +25,13 @@
 //! `tag` tells the tag of a text, and the text of that tag. `tag-write TYPE | ETAG | MOMENT | ID` does the latter for one that
 //! perhaps has none. `pack` tells the pieces of metadata, given as `NAME:VALUE;`; `unpack` the metadata of pieces, one a line,
 //! and their pieces again.
+//!
+//! `record` tells the record of an upload that a text is, and `sealed` the completion that is sealed; and whether the text that is
+//! written of it is the same.
 pub(crate) mod calls;
 pub(crate) mod manifests;
 pub(crate) mod marks;
+pub(crate) mod records;
 pub(crate) mod served;
 pub(crate) mod start;
 pub(crate) mod wire;

@@ -4,7 +4,7 @@ use crate::http_verbs::{fronts, pages, presigned, signatures};
 use crate::s3_verbs;
 use crate::s3_verbs_meaning::meaning_verb;
 use crate::s3_verbs_pages::page_verb;
-use crate::swift_verbs::{calls, manifests, marks, served, wire};
+use crate::swift_verbs::{calls, manifests, marks, records, served, wire};
 use crate::told::{Told, tell};
 use gate_base::Bytes;
 use http_wire::print_memory;
@@ -45,6 +45,8 @@ fn answer_swift(alloc: Global, verb: &str, text: &str, given: &[u8], told: &mut 
         "tag-write" => marks::tag_write(alloc, text, told),
         "pack" => marks::packed(alloc, given, told),
         "unpack" => marks::unpacked(alloc, given, told),
+        "record" => records::record(alloc, given, told),
+        "sealed" => records::sealed(alloc, given, told),
         "manifest" | "manifest-size" => manifests::manifest(alloc, verb, text, given, told),
         "cover" => manifests::covered(alloc, text, told),
         "is-segment" | "is-manifest" | "joined-etag" | "manifest-write" => {
