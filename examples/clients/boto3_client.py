@@ -8,7 +8,7 @@ import boto3
 from boto3.s3.transfer import TransferConfig
 from botocore.config import Config
 
-# A file of up to 16 MiB goes in one PUT; a larger one would be sent in parts, which s3gate answers 501 NotImplemented.
+# A file of up to 16 MiB goes in one PUT; a larger one is sent in parts, whose completion s3gate answers 501 NotImplemented.
 transfer = TransferConfig(multipart_threshold=16777217)
 
 # Since 1.36 botocore sends a checksum that nobody asked for, over TLS in chunks, which s3gate answers 501 too. Older ones know no such

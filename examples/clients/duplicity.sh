@@ -6,7 +6,8 @@
 #   examples/clients/duplicity.sh verify boto3+s3://backup/home /home
 #   examples/clients/duplicity.sh restore boto3+s3://backup/home /tmp/restored
 #
-# --volsize 10: a volume has some 10 MB, and goes in one PUT. duplicity's own 200 MB are sent in parts, which s3gate answers 501.
+# --volsize 10: a volume has some 10 MB, and goes in one PUT. duplicity's own 200 MB are sent in parts, whose completion is
+# answered 501.
 # S3GATE_ENDPOINT is s3gate's place, or a front's. With botocore from 1.36 on and TLS: export
 # AWS_REQUEST_CHECKSUM_CALCULATION=when_required AWS_RESPONSE_CHECKSUM_VALIDATION=when_required.
 set -euo pipefail
