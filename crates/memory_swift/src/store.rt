@@ -13,7 +13,7 @@ use crate::reading::message_in;
 use gate_base::{Bytes, Memory};
 use http_wire::Message;
 use std::alloc::Global;
-use swift_replies::refusal;
+use swift_replies::{law_reads_back, refusal};
 use swift_requests::Place;
 use swift_store::{Shelf, StoreFault, serve};
 
@@ -61,6 +61,7 @@ impl<S: Shelf> Store<S> {
         ensures hands { out.old ≡ [] → length out.new < 2 ^ 63 → IsTrue (S.model self.old.shelf).observable → (call : SwiftRequest) → Fit call
             → SpellsRequest self.old.place call bytes.now → Hands call (S.model self.old.shelf).account (S.model self.new.shelf).account out.new result }
     {
+        law_reads_back();
         match message_in(self.alloc, bytes)? {
             Some(message) => match self.serve(message, out) {
                 Ok(()) => Ok(false),

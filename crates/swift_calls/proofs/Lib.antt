@@ -1,6 +1,7 @@
 pub mod ByName
 pub mod Fitting
 pub mod Joining
+pub mod Manifests
 pub mod Paging
 pub mod Reading
 pub mod Replaying

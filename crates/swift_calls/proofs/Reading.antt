@@ -5,7 +5,7 @@ use Rattle.swift_calls.specs.Account.{SwiftAccount, SwiftContainer}
 use Rattle.swift_calls.specs.Step.{swift_step, head_container, only_reads}
 use Rattle.swift_calls.specs.History.{History, Called, Either}
 use Rattle.swift_calls.specs.declared.calls.SwiftRequest.{SwiftRequest}
-use Rattle.swift_calls.specs.declared.calls.SwiftRequest.TheVariants.{ListContainers, HeadContainer, PutContainer, PostContainer, DeleteContainer, ListNames, PutObject, HeadObject, GetObject, DeleteObject}
+use Rattle.swift_calls.specs.declared.calls.SwiftRequest.TheVariants.{ListContainers, HeadContainer, PutContainer, PostContainer, DeleteContainer, ListNames, PutObject, PutManifest, HeadObject, GetObject, GetManifest, DeleteObject}
 use Rattle.swift_calls.specs.declared.calls.SwiftReply.{SwiftReply}
 use Rattle.swift_calls.specs.declared.calls.SwiftFault.{SwiftFault}
 use Rattle.swift_calls.specs.declared.calls.SwiftFault.TheVariants.{Failed, Memory}
@@ -22,8 +22,10 @@ reads_leave (PostContainer n readers) tree is = absurd (true≢false (sym is))
 reads_leave (DeleteContainer n) tree is = absurd (true≢false (sym is))
 reads_leave (ListNames n prefix marker limit) tree is = refl
 reads_leave (PutObject c n content_type meta body) tree is = absurd (true≢false (sym is))
+reads_leave (PutManifest c n content_type meta segments) tree is = absurd (true≢false (sym is))
 reads_leave (HeadObject c n) tree is = refl
 reads_leave (GetObject c n range) tree is = refl
+reads_leave (GetManifest c n) tree is = refl
 reads_leave (DeleteObject c n) tree is = absurd (true≢false (sym is))
 
 either_keeps : (h : History) (p q : ℕ) (request : SwiftRequest) → only_reads request ≡ true → Either h p q request → h.account_at q ≡ h.account_at p

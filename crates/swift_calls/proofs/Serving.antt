@@ -11,19 +11,20 @@ use Rattle.gate_base.proofs.lemmas.Maps.{by_name, get_empty, adjust_missing, adj
 use Rattle.gate_base.specs.Named.{ascends, map_of, named, index_named, changed}
 use Rattle.gate_base.proofs.lemmas.Named.{first_of_two, second_of_two, get-map_of, map_placed, map_changed, index_changed}
 use Rattle.swift_calls.specs.Account.{SwiftAccount, SwiftObject, SwiftContainer, file_of, folder_of, files_of, find_object, tree_of, size_of, is_sized_object, with_head, with_readers as with_list_of, put_file, remove_file, on_files}
-use Rattle.swift_calls.specs.Bodies.{etag_of, head_of, item_of}
-use Rattle.swift_calls.specs.Step.{page, swift_step, items_reply, head_container, put_container, post_container, delete_container, delete_by, is_bare, put_object, head_reply, get_reply, delete_object, is_listed}
+use Rattle.slo_manifest.specs.declared.Segment.{Segment}
+use Rattle.swift_calls.specs.Bodies.{etag_of, head_of, is_good_list, item_of, listed_in}
+use Rattle.swift_calls.specs.Step.{page, swift_step, items_reply, head_container, put_container, post_container, delete_container, delete_by, is_bare, put_object, put_listed, put_manifest, manifest_by, manifest_reply, head_reply, get_reply, delete_object, is_listed}
 use Rattle.swift_calls.specs.Lists.{name_of, object_name, listed, look_in, stored, stored_in, stored_item, AreOrdered, AreSized, AreSizedObjects, is_nil, without, with_readers, with_list, with_object, without_object, with_container, without_container, served}
 use Rattle.swift_calls.specs.declared.account.ReadList.{ReadList}
-use Rattle.swift_calls.specs.declared.account.Content.TheVariants.{Plain}
+use Rattle.swift_calls.specs.declared.account.Content.TheVariants.{Plain, Segments}
 use Rattle.swift_calls.specs.declared.account.Stored.{Stored as StoredObject}
 use Rattle.swift_calls.specs.declared.account.Container.{Container}
 use Rattle.swift_calls.specs.declared.account.Account.{Account}
 use Rattle.swift_calls.specs.declared.heads.NameItem.{NameItem}
 use Rattle.swift_calls.specs.declared.calls.SwiftRequest.{SwiftRequest}
-use Rattle.swift_calls.specs.declared.calls.SwiftRequest.TheVariants.{ListContainers, HeadContainer, PutContainer, PostContainer, DeleteContainer, ListNames, PutObject, HeadObject, GetObject, DeleteObject}
+use Rattle.swift_calls.specs.declared.calls.SwiftRequest.TheVariants.{ListContainers, HeadContainer, PutContainer, PostContainer, DeleteContainer, ListNames, PutObject, PutManifest, HeadObject, GetObject, GetManifest, DeleteObject}
 use Rattle.swift_calls.specs.declared.calls.SwiftReply.{SwiftReply}
-use Rattle.swift_calls.specs.declared.calls.SwiftReply.TheVariants.{Made, There, Gone, Stored, NotFound, NotEmpty, Containers, Readers, Names, Head}
+use Rattle.swift_calls.specs.declared.calls.SwiftReply.TheVariants.{Made, There, Gone, Stored, NotFound, NotEmpty, BadManifest, Containers, Readers, Names, Head}
 use Rattle.swift_calls.proofs.ByName.{found_at, found_none, all_named, changed_missing, map_without, entries_list, filled}
 use Rattle.swift_calls.proofs.Paging.{page_map}
 
@@ -180,6 +181,25 @@ stored_there n s cs i c etag e at is = ap Stored is ∙ ap (λ v. (put_object v 
 pub stored_put : (n : List ℕ) (s : StoredObject) (cs : List Container) (i : ℕ) (c : Container) → index_named name_of n cs ≡ Some i → slice_get cs i ≡ Some c → slice_set cs i (with_object s c) ≡ changed name_of n (with_object s) cs
 stored_put n s cs i c e at = index_changed name_of n (with_object s) cs i c e at
 
+-- ---- PUT of an object that lists segments
+
+module _ (c n content_type : List ℕ) (meta : List (List ℕ)) (segments : List Segment) (cs : List Container) where
+  abbrev manifest_answer : Option SwiftContainer → SwiftReply
+  manifest_answer v = (put_manifest v c n content_type meta segments (tree_of (listed cs))).reply
+
+  pub manifest_nowhere : None ≡ named name_of c cs → (swift_step (PutManifest c n content_type meta segments) (tree_of (listed cs))).reply ≡ NotFound
+  manifest_nowhere e = ap manifest_answer (get_named c cs None e)
+
+  pub manifest_refused : (x : Container) → Some x ≡ named name_of c cs → false ≡ is_good_list (look_in cs) segments → (swift_step (PutManifest c n content_type meta segments) (tree_of (listed cs))).reply ≡ BadManifest
+  manifest_refused x e bad =
+      ap manifest_answer (get_named c cs (Some x) e)
+      ∙ ap (λ b. (put_listed b (Some (folder_of x)) c n (record { content_type = content_type; meta = meta; content = Segments segments }) (tree_of (listed cs))).reply) (sym bad)
+
+-- nothing is put into a container that isn't there, whether the segments may be listed or not
+pub manifest_missed : (c : List ℕ) (f : Container → Container) (b : Bool) (cs : List Container) → None ≡ named name_of c cs → cs ≡ (cond b (listed (changed name_of c f cs)) (listed cs)).containers
+manifest_missed c f true cs e = changed_missing name_of c f cs e
+manifest_missed c f false cs e = refl
+
 -- ---- HEAD, GET and DELETE of an object
 
 pub head_object_some : (c n : List ℕ) (cs : List Container) (s : StoredObject) → Some s ≡ stored c n cs → (swift_step (HeadObject c n) (tree_of (listed cs))).reply ≡ Head (head_of (file_of s))
@@ -193,6 +213,12 @@ get_object_some c n range cs s e = ap (get_reply (look_in cs) range) (look_named
 
 pub get_object_none : (c n : List ℕ) (range : Option (ℕ × ℕ)) (cs : List Container) → None ≡ stored c n cs → (swift_step (GetObject c n range) (tree_of (listed cs))).reply ≡ NotFound
 get_object_none c n range cs e = ap (get_reply (look_in cs) range) (look_named c n cs None e)
+
+pub manifest_some : (c n : List ℕ) (cs : List Container) (s : StoredObject) → Some s ≡ stored c n cs → (swift_step (GetManifest c n) (tree_of (listed cs))).reply ≡ manifest_by (listed_in s.content)
+manifest_some c n cs s e = ap manifest_reply (look_named c n cs (Some s) e)
+
+pub manifest_none_there : (c n : List ℕ) (cs : List Container) → None ≡ stored c n cs → (swift_step (GetManifest c n) (tree_of (listed cs))).reply ≡ NotFound
+manifest_none_there c n cs e = ap manifest_reply (look_named c n cs None e)
 
 delete_object_at : (c n : List ℕ) (cs : List Container) (v : Option Container) → v ≡ named name_of c cs → look_in cs c n ≡ option_map file_of (stored_in n v)
 delete_object_at c n cs v e = look_named c n cs (stored_in n v) (ap (stored_in n) e)
@@ -261,6 +287,21 @@ with_object_tree c s cs = map_changed name_of folder_of c (with_object s) (on_fi
 without_object_tree : (c n : List ℕ) (cs : List Container) → tree_of (listed (changed name_of c (without_object n) cs)) ≡ remove_file c n (tree_of (listed cs))
 without_object_tree c n cs = map_changed name_of folder_of c (without_object n) (on_files (λ fs. remove fs n)) (λ x. refl) (λ x i. record { readers = x.readers; created = x.created; files = map_without object_name file_of n x.objects i }) cs
 
+module _ (c n content_type : List ℕ) (meta : List (List ℕ)) (segments : List Segment) (tree : SwiftAccount) where
+  manifest_none : (t : Bool) → get tree c ≡ None → tree ≡ cond t (put_file c n (record { content_type = content_type; meta = meta; content = Segments segments }) tree) tree
+  manifest_none true none = sym (adjust_missing by_name c (on_files (λ fs. insert fs n (record { content_type = content_type; meta = meta; content = Segments segments }))) tree none)
+  manifest_none false none = refl
+
+  manifest_there : (t : Bool) (folder : SwiftContainer)
+      → (put_listed t (Some folder) c n (record { content_type = content_type; meta = meta; content = Segments segments }) tree).tree ≡ cond t (put_file c n (record { content_type = content_type; meta = meta; content = Segments segments }) tree) tree
+  manifest_there true folder = refl
+  manifest_there false folder = refl
+
+  manifest_tree : (v : Option SwiftContainer) → get tree c ≡ v
+      → (put_manifest v c n content_type meta segments tree).tree ≡ cond (is_good_list (find_object tree) segments) (put_file c n (record { content_type = content_type; meta = meta; content = Segments segments }) tree) tree
+  manifest_tree None none = manifest_none (is_good_list (find_object tree) segments) none
+  manifest_tree (Some folder) there = manifest_there (is_good_list (find_object tree) segments) folder
+
 -- the account after a call with effect is the step's, as maps
 pub tree_served : (request : SwiftRequest) (account : Account) → tree_of (served request account) ≡ (swift_step request (tree_of account)).tree
 tree_served (ListContainers marker limit) account = refl
@@ -278,6 +319,14 @@ tree_served (ListNames n prefix marker limit) account = refl
 tree_served (PutObject c n content_type meta body) account =
     let s : StoredObject = record { name = n; content_type = content_type; meta = meta; content = Plain body } in
     with_object_tree c s account.containers ∙ sym (object_tree c n (file_of s) (tree_of account) _ refl)
+tree_served (PutManifest c n content_type meta segments) account =
+    let s : StoredObject = record { name = n; content_type = content_type; meta = meta; content = Segments segments } in
+    elim (is_good_list (look_in account.containers) segments) as (λ b. tree_of (cond b (record { containers = changed name_of c (with_object s) account.containers }) account) ≡ cond b (put_file c n (file_of s) (tree_of account)) (tree_of account)) [
+      | true ↦ with_object_tree c s account.containers
+      | false ↦ refl
+    ]
+    ∙ sym (manifest_tree c n content_type meta segments (tree_of account) _ refl)
 tree_served (HeadObject c n) account = refl
 tree_served (GetObject c n range) account = refl
+tree_served (GetManifest c n) account = refl
 tree_served (DeleteObject c n) account = without_object_tree c n account.containers ∙ sym (gone_tree c n (tree_of account) _ refl)

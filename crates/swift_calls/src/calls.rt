@@ -5,6 +5,7 @@ ghost use Rattle.swift_calls.specs.declared.calls.SwiftFault.TheVariants as faul
 
 use crate::{NameItem, ReadList, StoredHead};
 use gate_base::{Bytes, Copying, Counted, Failed, List, Memory};
+use slo_manifest::Segment;
 use std::alloc::{AllocError, AllocFailed};
 
 /// A call of Object Storage API v1 on one account. Names, prefixes and markers are bytes of UTF-8; a range is its
@@ -52,6 +53,14 @@ pub enum SwiftRequest {
         meta: List<Bytes>,
         body: Bytes,
     },
+    /// Puts an object that lists these segments, in place of the one that is there ("Static large objects").
+    PutManifest {
+        container: Bytes,
+        name: Bytes,
+        content_type: Bytes,
+        meta: List<Bytes>,
+        segments: List<Segment>,
+    },
     /// Asks for an object's head ("Show object metadata").
     HeadObject {
         container: Bytes,
@@ -62,6 +71,11 @@ pub enum SwiftRequest {
         container: Bytes,
         name: Bytes,
         range: Option<(u64, u64)>,
+    },
+    /// Asks for the segments that an object lists ("Static large objects").
+    GetManifest {
+        container: Bytes,
+        name: Bytes,
     },
     /// Takes an object away, and leaves the segments that it lists ("Delete object").
     DeleteObject {
@@ -109,12 +123,20 @@ impl Copying for SwiftRequest {
                 meta,
                 body,
             } => copy_put(container, name, content_type, meta, body),
+            SwiftRequest::PutManifest {
+                container,
+                name,
+                content_type,
+                meta,
+                segments,
+            } => copy_manifest(container, name, content_type, meta, segments),
             SwiftRequest::HeadObject { container, name } => copy_head(container, name),
             SwiftRequest::GetObject {
                 container,
                 name,
                 range,
             } => copy_get(container, name, *range),
+            SwiftRequest::GetManifest { container, name } => copy_get_manifest(container, name),
             SwiftRequest::DeleteObject { container, name } => copy_delete(container, name),
         }
     }
@@ -168,6 +190,13 @@ fn copy_get(
     })
 }
 
+fn copy_get_manifest(container: &Bytes, name: &Bytes) -> Result<SwiftRequest, Memory>
+    ensures { IfOk result (λ copied. copied ≡ SwiftRequest.GetManifest container.now name.now) }
+{
+    let (container, name) = copy_both(container, name)?;
+    Ok(SwiftRequest::GetManifest { container, name })
+}
+
 fn copy_delete(container: &Bytes, name: &Bytes) -> Result<SwiftRequest, Memory>
     ensures { IfOk result (λ copied. copied ≡ SwiftRequest.DeleteObject container.now name.now) }
 {
@@ -196,6 +225,27 @@ fn copy_put(
     })
 }
 
+fn copy_manifest(
+    container: &Bytes,
+    name: &Bytes,
+    content_type: &Bytes,
+    meta: &List<Bytes>,
+    segments: &List<Segment>,
+) -> Result<SwiftRequest, Memory>
+    ensures { IfOk result (λ copied. copied ≡ SwiftRequest.PutManifest container.now name.now content_type.now meta.now segments.now) }
+{
+    let meta = meta.copy()?;
+    let (container, name) = copy_both(container, name)?;
+    let content_type = content_type.copy()?;
+    Ok(SwiftRequest::PutManifest {
+        container,
+        name,
+        content_type,
+        meta,
+        segments: segments.copy()?,
+    })
+}
+
 /// What a store answers.
 #[derive(Debug, Drop)]
 pub enum SwiftReply {
@@ -213,6 +263,9 @@ pub enum SwiftReply {
     NotFound,
     /// 409 Conflict: the container has objects.
     NotEmpty,
+    /// 400 Bad Request: the segments may not be listed. There are none or too many of them, or one isn't there as it
+    /// is listed or lists a list.
+    BadManifest,
     /// 416 Range Not Satisfiable: the range begins past the last byte.
     Unsatisfiable,
     /// 200 OK, with the names of containers, in byte order.
@@ -231,6 +284,8 @@ pub enum SwiftReply {
         head: StoredHead,
         body: Bytes,
     },
+    /// 200 OK, with the segments that an object lists.
+    Manifest(List<Segment>),
 }
 
 impl Copying for SwiftReply {
@@ -242,6 +297,7 @@ impl Copying for SwiftReply {
             SwiftReply::Stored { etag } => Ok(SwiftReply::Stored { etag: etag.copy()? }),
             SwiftReply::NotFound => Ok(SwiftReply::NotFound),
             SwiftReply::NotEmpty => Ok(SwiftReply::NotEmpty),
+            SwiftReply::BadManifest => Ok(SwiftReply::BadManifest),
             SwiftReply::Unsatisfiable => Ok(SwiftReply::Unsatisfiable),
             SwiftReply::Containers(names) => Ok(SwiftReply::Containers(names.copy()?)),
             SwiftReply::Readers { readers, created } => Ok(SwiftReply::Readers {
@@ -254,6 +310,7 @@ impl Copying for SwiftReply {
                 head: head.copy()?,
                 body: body.copy()?,
             }),
+            SwiftReply::Manifest(segments) => Ok(SwiftReply::Manifest(segments.copy()?)),
         }
     }
 }

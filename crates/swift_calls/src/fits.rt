@@ -1,13 +1,14 @@
 //! Whether a call is within the limits of a store.
 ghost use Rattle.std.specs.Prelude.{◌≡◌, ◌≤◌, ◌↔◌, length, IsTrue, IfSome, IsUtf8, Contains};
-ghost use Rattle.std.specs.List.{list_all};
+ghost use Rattle.std.specs.List.{All, list_all};
 ghost use Rattle.gate_base.specs.Fields.{is_field};
-ghost use Rattle.swift_calls.specs.Limits.{IsText, IsObjectName, IsMarker, IsLimit, IsRange, is_content_type, is_meta, most_body};
-ghost use Rattle.swift_calls.specs.Step.{IsContainerName, IsMoment, Fit};
+ghost use Rattle.swift_calls.specs.Limits.{IsText, IsObjectName, IsMarker, IsLimit, IsRange, is_content_type, is_meta, most_body, most_segments};
+ghost use Rattle.swift_calls.specs.Step.{IsContainerName, IsMoment, IsSegmentPlace, Fit};
 ghost use Rattle.swift_calls.specs.declared.calls.SwiftRequest.TheVariants as asked;
 
 use crate::SwiftRequest;
 use gate_base::{Bytes, List, is_field};
+use slo_manifest::{MOST_SEGMENTS, Segment, is_segment};
 
 /// The greatest body that a call puts, in bytes: 16 MiB.
 pub const MOST_BODY: usize = 16_777_216;
@@ -133,6 +134,41 @@ fn puts_fit(
     is_place(container, name) && is_content(content_type, meta, body)
 }
 
+/// Whether a call may list a segment.
+#[tactic(auto, using(crate::proofs::Fitting::segment_place_is))]
+fn is_segment_place(segment: &Segment) -> bool
+    ensures { IsTrue result ↔ IsSegmentPlace segment.now }
+{
+    is_place(&segment.container, &segment.name) && is_segment(segment)
+}
+
+fn are_segment_places(segments: &[Segment]) -> bool
+    ensures { IsTrue result ↔ All IsSegmentPlace segments.now }
+{
+    segments.iter().all(|segment| is_segment_place(segment))
+}
+
+fn is_manifest(content_type: &Bytes, meta: &List<Bytes>, segments: &List<Segment>) -> bool
+    ensures { IsTrue result ↔ (IsTrue (is_content_type content_type.now) × IsTrue (is_meta meta.now) × (length segments.now ≤ most_segments) × All IsSegmentPlace segments.now) }
+{
+    is_field(content_type.as_slice(), 512)
+        && is_meta(meta.as_slice())
+        && segments.len() <= MOST_SEGMENTS
+        && are_segment_places(segments.as_slice())
+}
+
+fn puts_manifest_fit(
+    container: &Bytes,
+    name: &Bytes,
+    content_type: &Bytes,
+    meta: &List<Bytes>,
+    segments: &List<Segment>,
+) -> bool
+    ensures { IsTrue result ↔ Fit (asked.PutManifest container.now name.now content_type.now meta.now segments.now) }
+{
+    is_place(container, name) && is_manifest(content_type, meta, segments)
+}
+
 fn gets_fit(container: &Bytes, name: &Bytes, range: Option<(u64, u64)>) -> bool
     ensures { IsTrue result ↔ Fit (asked.GetObject container.now name.now range) }
 {
@@ -143,7 +179,8 @@ fn gets_fit(container: &Bytes, name: &Bytes, range: Option<(u64, u64)>) -> bool
 /// markers at most 1028, all of UTF-8 without byte 0; a content type has 1 to 512 bytes, and each of at most 11
 /// pieces of metadata 1 to 256, of visible ASCII and spaces without a space at either end; a body has at most
 /// 16,777,216 bytes; a limit is 1 to 1000; a range ends at or after its first byte, below 2^63; a creation time is
-/// before the year 10000.
+/// before the year 10000; and each of at most 1000 segments has names of these lengths, an ETag of 32 lower-case
+/// hexadecimal digits and a size from 1 to below 2^63, and no `/` in its container.
 pub fn is_fit(request: &SwiftRequest) -> bool
     ensures { IsTrue result ↔ Fit request.now }
 {
@@ -170,12 +207,20 @@ pub fn is_fit(request: &SwiftRequest) -> bool
             meta,
             body,
         } => puts_fit(container, name, content_type, meta, body),
+        SwiftRequest::PutManifest {
+            container,
+            name,
+            content_type,
+            meta,
+            segments,
+        } => puts_manifest_fit(container, name, content_type, meta, segments),
         SwiftRequest::HeadObject { container, name } => is_place(container, name),
         SwiftRequest::GetObject {
             container,
             name,
             range,
         } => gets_fit(container, name, *range),
+        SwiftRequest::GetManifest { container, name } => is_place(container, name),
         SwiftRequest::DeleteObject { container, name } => is_place(container, name),
     }
 }

@@ -7,6 +7,7 @@ mod calls;
 mod fits;
 mod heads;
 mod laws;
+mod listable;
 mod listing;
 mod memory;
 mod objects;

@@ -95,7 +95,7 @@ pub(crate) fn head_of(alloc: Global, object: &Stored) -> Result<StoredHead, Memo
     })
 }
 
-fn is_list(content: &Content) -> bool
+pub(crate) fn is_list(content: &Content) -> bool
     ensures { result ≡ is_list content.now }
 {
     match content {

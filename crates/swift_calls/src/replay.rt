@@ -1,5 +1,5 @@
 //! A store in memory: its calls, and its accounts again.
-ghost use Rattle.std.specs.Prelude.{◌≡◌, ℕ, ◌≤◌, take, ◌+◌, ◌&&◌, ◌==◌, nat_lt, nat_le, refl, IfOk, OnErr, OnOk, IsErrOf};
+ghost use Rattle.std.specs.Prelude.{◌≡◌, ℕ, ◌≤◌, take, ◌+◌, ◌++◌, ◌∷◌, [], ◌&&◌, ◌==◌, nat_lt, nat_le, refl, IfOk, OnErr, OnOk, IsErrOf};
 ghost use Rattle.std.specs.List.{list_any};
 ghost use Rattle.std.proofs.Common.{ap, subst};
 ghost use Rattle.std.proofs.Math.Seq.{take-length};
@@ -99,19 +99,42 @@ impl MemSwift {
         ensures logs { Logs (planned self.old (calls_of self.old + 1)) request.now result self.old.log.items self.new.log.items }
         ensures reply { IfOk result (λ reply. reply ≡ (swift_step request.now (tree_of self.old.present)).reply) }
     {
-        self.log.reserve(1)?;
-        let number = self.log.as_slice().len() as u64 + 1;
-        let entry = Entry {
-            request: request.copy()?,
-            outcome: self.outcome(number),
-        };
-        let reply = entry.go(self.alloc, &mut self.present)?;
-        self.log.push(entry).unwrap();
-        match reply {
-            Some(reply) => Ok(reply),
-            None => Err(SwiftFault::Failed),
-        }
+        let outcome = self.outcome(self.log.as_slice().len() as u64 + 1);
+        let reply = enter(
+            self.alloc,
+            &mut self.log,
+            &mut self.present,
+            request,
+            outcome,
+        )?;
+        reply.ok_or(SwiftFault::Failed)
     }
+}
+
+/// Makes a call as its outcome says, and records it. Where memory runs out, all is as it was.
+fn enter(
+    alloc: Global,
+    log: &mut Vec<Entry>,
+    account: &mut Account,
+    request: &SwiftRequest,
+    outcome: Outcome,
+) -> Result<Option<SwiftReply>, Memory>
+    requires ordered { IsOrdered account.old }
+    requires sized { IsSized account.old }
+    ensures reply { IfOk result (λ reply. reply ≡ reply_by outcome (swift_step request.now (tree_of account.old)).reply) }
+    ensures effect { OnOk result (account.new ≡ left_by outcome request.now account.old) }
+    ensures logs { OnOk result (log.new.items ≡ log.old.items ++ record { request = request.now; outcome = outcome } ∷ []) }
+    ensures kept { OnErr result (account.new ≡ account.old) }
+    ensures same { OnErr result (log.new.items ≡ log.old.items) }
+{
+    log.reserve(1)?;
+    let entry = Entry {
+        request: request.copy()?,
+        outcome,
+    };
+    let reply = entry.go(alloc, account)?;
+    log.push(entry).unwrap();
+    Ok(reply)
 }
 
 /// How the call of a number goes, by what a store was told of its calls.

@@ -12,7 +12,7 @@ use slo_manifest::Segment;
 use std::alloc::Global;
 
 /// Whether an object is as a segment says: with its ETag and its size.
-fn is_segment(alloc: Global, object: &Stored, segment: &Segment) -> Result<bool, Memory>
+pub(crate) fn is_segment(alloc: Global, object: &Stored, segment: &Segment) -> Result<bool, Memory>
     requires { size_of object.now.content < 2 ^ 63 }
     ensures { IfOk result (λ is. is ≡ is_segment segment.now (file_of object.now)) }
 {

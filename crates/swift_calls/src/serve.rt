@@ -4,15 +4,18 @@ ghost use Rattle.std.specs.FinMap.{get};
 ghost use Rattle.std.specs.Option.{option_map};
 ghost use Rattle.gate_base.specs.Named.{has_name, named, changed};
 ghost use Rattle.swift_calls.specs.Account.{tree_of, file_of, IsOrdered, IsSized};
-ghost use Rattle.swift_calls.specs.Step.{swift_step, put_object};
-ghost use Rattle.swift_calls.specs.declared.account.Content.TheVariants.{Plain};
+ghost use Rattle.swift_calls.specs.Step.{swift_step, put_object, manifest_by};
+ghost use Rattle.swift_calls.specs.Bodies.{listed_in};
+ghost use Rattle.swift_calls.specs.declared.account.Content.TheVariants.{Plain, Segments};
 ghost use Rattle.swift_calls.specs.Lists.{served, name_of, object_name, is_nil, without, with_object, listed, AreOrdered, AreSized};
 
+use crate::listable::is_good_list;
 use crate::listing::{list_containers, list_objects};
 use crate::objects::{etag_of, head_of, item_at, object_at};
 use crate::segments::read_object;
 use crate::{Account, Container, Content, ReadList, Stored, SwiftReply, SwiftRequest};
 use gate_base::{Bytes, Copying, List, Memory, Named};
+use slo_manifest::Segment;
 use std::alloc::Global;
 use std::mem;
 
@@ -189,6 +192,51 @@ fn serve_put_object(
     }
 }
 
+/// An object that lists these segments.
+fn list_object(
+    name: &Bytes,
+    content_type: &Bytes,
+    meta: &List<Bytes>,
+    segments: &List<Segment>,
+) -> Result<Stored, Memory>
+    ensures { IfOk result (λ object. object ≡ record { name = name.now; content_type = content_type.now; meta = meta.now; content = Segments segments.now }) }
+{
+    Ok(Stored {
+        name: name.copy()?,
+        content_type: content_type.copy()?,
+        meta: meta.copy()?,
+        content: Content::Segments(segments.copy()?),
+    })
+}
+
+/// Puts an object that lists these segments into a container that is there. Where memory runs out, nothing changes.
+#[tactic(auto, using(crate::proofs::Serving::manifest_nowhere, crate::proofs::Serving::manifest_refused, crate::proofs::Serving::manifest_missed))]
+fn serve_put_manifest(
+    alloc: Global,
+    containers: &mut List<Container>,
+    container: &[u8],
+    name: &Bytes,
+    content_type: &Bytes,
+    meta: &List<Bytes>,
+    segments: &List<Segment>,
+) -> Result<SwiftReply, Memory>
+    requires { AreSized containers.old }
+    ensures reply { IfOk result (λ reply. reply ≡ (swift_step (SwiftRequest.PutManifest container.now name.now content_type.now meta.now segments.now) (tree_of (listed containers.old))).reply) }
+    ensures effect { OnOk result (containers.new ≡ (served (SwiftRequest.PutManifest container.now name.now content_type.now meta.now segments.now) (listed containers.old)).containers) }
+    ensures err { OnErr result (containers.new ≡ containers.old) }
+{
+    match item_at(containers, container) {
+        Some(_) => {
+            if !is_good_list(alloc, containers, segments.as_slice())? {
+                return Ok(SwiftReply::BadManifest);
+            }
+            let object = list_object(name, content_type, meta, segments)?;
+            serve_put_object(alloc, containers, container, object)
+        }
+        None => Ok(SwiftReply::NotFound),
+    }
+}
+
 /// Asks for an object's head.
 #[tactic(auto, using(crate::proofs::Serving::head_object_some, crate::proofs::Serving::head_object_none, crate::proofs::Serving::sized_stored))]
 fn serve_head_object(
@@ -221,6 +269,31 @@ fn serve_get_object(
     match object_at(containers, container, name) {
         Some(object) => read_object(alloc, containers, object, range),
         None => Ok(SwiftReply::NotFound),
+    }
+}
+
+/// Asks for the segments that an object lists.
+#[tactic(auto, using(crate::proofs::Serving::manifest_some, crate::proofs::Serving::manifest_none_there))]
+fn serve_get_manifest(
+    containers: &List<Container>,
+    container: &[u8],
+    name: &[u8],
+) -> Result<SwiftReply, Memory>
+    ensures { IfOk result (λ reply. reply ≡ (swift_step (SwiftRequest.GetManifest container.now name.now) (tree_of (listed containers.now))).reply) }
+{
+    match object_at(containers, container, name) {
+        Some(object) => manifest_of(&object.content),
+        None => Ok(SwiftReply::NotFound),
+    }
+}
+
+/// The segments that a body lists.
+fn manifest_of(content: &Content) -> Result<SwiftReply, Memory>
+    ensures { IfOk result (λ reply. reply ≡ manifest_by (listed_in content.now)) }
+{
+    match content {
+        Content::Plain(_) => Ok(SwiftReply::NotFound),
+        Content::Segments(segments) => Ok(SwiftReply::Manifest(segments.copy()?)),
     }
 }
 
@@ -333,6 +406,21 @@ pub(crate) fn serve(
             let object = plain_object(name, content_type, meta, body)?;
             serve_put_object(alloc, containers, container.as_slice(), object)
         }
+        SwiftRequest::PutManifest {
+            container,
+            name,
+            content_type,
+            meta,
+            segments,
+        } => serve_put_manifest(
+            alloc,
+            containers,
+            container.as_slice(),
+            name,
+            content_type,
+            meta,
+            segments,
+        ),
         SwiftRequest::HeadObject { container, name } => {
             serve_head_object(alloc, containers, container.as_slice(), name.as_slice())
         }
@@ -347,6 +435,9 @@ pub(crate) fn serve(
             name.as_slice(),
             *range,
         ),
+        SwiftRequest::GetManifest { container, name } => {
+            serve_get_manifest(containers, container.as_slice(), name.as_slice())
+        }
         SwiftRequest::DeleteObject { container, name } => Ok(serve_delete_object(
             alloc,
             containers,

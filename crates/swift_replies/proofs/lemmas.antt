@@ -11,5 +11,6 @@ pub mod ReadBack
 pub mod ReadersRow
 pub mod ReadsBack
 pub mod Sizes
+pub mod SegmentRows
 pub mod SmallHeads
 pub mod ValueRows

@@ -35,6 +35,10 @@ use Rattle.http1.specs.Head.{is_trimmed_value, section_text, status_digits}
 use Rattle.serde_json.specs.Data.{Data, array, object, number, unsigned, string, no_members, member}
 use Rattle.serde_json.specs.View.{items_of}
 use Rattle.serde_json.specs.Written.{compact_text}
+use Rattle.slo_manifest.specs.Segments.{is_manifest}
+use Rattle.slo_manifest.specs.Text.{manifest_text}
+use Rattle.slo_manifest.specs.declared.Segment.{Segment}
+use Rattle.slo_manifest.specs.declared.manifest.Form.TheVariants.{Got}
 use Rattle.swift_calls.specs.declared.account.ReadList.{ReadList}
 use Rattle.swift_calls.specs.declared.account.ReadList.TheVariants.{Nobody, Everybody}
 use Rattle.swift_calls.specs.declared.heads.StoredHead.{StoredHead}
@@ -48,8 +52,10 @@ use Rattle.swift_calls.specs.declared.calls.SwiftRequest.TheVariants.{
   DeleteContainer,
   ListNames,
   PutObject,
+  PutManifest,
   HeadObject,
   GetObject,
+  GetManifest,
   DeleteObject,
 }
 use Rattle.swift_calls.specs.declared.calls.SwiftReply.{SwiftReply}
@@ -60,12 +66,14 @@ use Rattle.swift_calls.specs.declared.calls.SwiftReply.TheVariants.{
   Stored,
   NotFound,
   NotEmpty,
+  BadManifest,
   Unsatisfiable,
   Containers,
   Readers,
   Names,
   Head,
   Bytes,
+  Manifest,
 }
 use Rattle.http_answers.specs.declared.head.TheConstants.{HEAD_LIMIT}
 use Rattle.swift_replies.specs.Fields.{everybody, is_tag_byte}
@@ -244,6 +252,15 @@ containers_sent names = if list_all is_utf8 names then Some (list_sent (list_tex
 abbrev pub names_sent : List NameItem → Option Sent
 names_sent items = if list_all is_item items then Some (list_sent (list_text (map item_value items))) else None
 
+-- ---- segments
+
+-- an answer with the text of segments, which says so
+abbrev pub segments_by : List ℕ → Sent
+segments_by text = record { status = 200; headers = length_field (length text) ∷ manifest_fields true; body = text }
+
+abbrev pub segments_sent : List Segment → Option Sent
+segments_sent segments = if is_manifest segments then Some (segments_by (manifest_text Got segments)) else None
+
 -- ---- each reply, if it is one to the call
 
 abbrev pub put_sent : SwiftReply → Option Sent
@@ -279,6 +296,10 @@ put_object_sent (Stored etag) = stored_sent etag
 put_object_sent NotFound = Some (bare 404)
 put_object_sent reply = None
 
+abbrev pub put_manifest_sent : SwiftReply → Option Sent
+put_manifest_sent BadManifest = Some (bare 400)
+put_manifest_sent reply = put_object_sent reply
+
 abbrev pub head_object_sent : SwiftReply → Option Sent
 head_object_sent (Head head) = head_sent head
 head_object_sent NotFound = Some (bare 404)
@@ -294,6 +315,11 @@ get_sent range NotFound = Some (bare 404)
 get_sent range Unsatisfiable = beyond_sent range
 get_sent range reply = None
 
+abbrev pub get_manifest_sent : SwiftReply → Option Sent
+get_manifest_sent (Manifest segments) = segments_sent segments
+get_manifest_sent NotFound = Some (bare 404)
+get_manifest_sent reply = None
+
 abbrev pub sent_of : SwiftRequest → SwiftReply → Option Sent
 sent_of (ListContainers marker limit) reply = list_containers_sent reply
 sent_of (HeadContainer container) reply = head_container_sent reply
@@ -302,8 +328,10 @@ sent_of (PostContainer container readers) reply = post_sent reply
 sent_of (DeleteContainer container) reply = delete_sent reply
 sent_of (ListNames container prefix marker limit) reply = list_names_sent reply
 sent_of (PutObject container name content_type meta body) reply = put_object_sent reply
+sent_of (PutManifest container name content_type meta segments) reply = put_manifest_sent reply
 sent_of (HeadObject container name) reply = head_object_sent reply
 sent_of (GetObject container name range) reply = get_sent range reply
+sent_of (GetManifest container name) reply = get_manifest_sent reply
 sent_of (DeleteObject container name) reply = post_sent reply
 
 -- the reply has a spelling to the call

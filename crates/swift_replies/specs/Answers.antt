@@ -9,6 +9,7 @@ use Rattle.std.specs.Prelude.{
   ◌&&◌,
   ◌==◌,
   nat_lt,
+  nat_le,
   if◌then◌else◌,
   ◌+◌,
   ◌-◌,
@@ -32,8 +33,12 @@ use Rattle.gate_base.specs.declared.page.Pair.{Pair}
 use Rattle.httparse.specs.Grammar.{ResponseHead, status_code}
 use Rattle.serde_json.specs.Data.{Data, Items, no_items, item}
 use Rattle.serde_json.specs.Find.{as_array}
-use Rattle.slo_manifest.specs.Entry.{text_at, number_at}
-use Rattle.slo_manifest.specs.Manifest.{json_of}
+use Rattle.slo_manifest.specs.Entry.{Entry, whole, bad, empty, text_at, number_at}
+use Rattle.slo_manifest.specs.Manifest.{json_of, entries_of}
+use Rattle.slo_manifest.specs.declared.Segment.{Segment}
+use Rattle.slo_manifest.specs.declared.manifest.TheConstants.{MOST_SEGMENTS}
+use Rattle.slo_manifest.specs.declared.manifest.Form.{Form}
+use Rattle.slo_manifest.specs.declared.manifest.Form.TheVariants.{Got}
 use Rattle.swift_calls.specs.declared.heads.StoredHead.{StoredHead}
 use Rattle.swift_calls.specs.declared.heads.NameItem.{NameItem}
 use Rattle.swift_calls.specs.declared.calls.SwiftRequest.{SwiftRequest}
@@ -45,8 +50,10 @@ use Rattle.swift_calls.specs.declared.calls.SwiftRequest.TheVariants.{
   DeleteContainer,
   ListNames,
   PutObject,
+  PutManifest,
   HeadObject,
   GetObject,
+  GetManifest,
   DeleteObject,
 }
 use Rattle.swift_calls.specs.declared.calls.SwiftReply.{SwiftReply}
@@ -57,15 +64,17 @@ use Rattle.swift_calls.specs.declared.calls.SwiftReply.TheVariants.{
   Stored,
   NotFound,
   NotEmpty,
+  BadManifest,
   Unsatisfiable,
   Containers,
   Readers,
   Names,
   Head,
   Bytes,
+  Manifest,
 }
 use Rattle.http_answers.specs.Framing.{IsAnswer, headers_in}
-use Rattle.swift_replies.specs.Fields.{readers_in, created_in, etag_in, whole_size_in, head_in}
+use Rattle.swift_replies.specs.Fields.{readers_in, created_in, etag_in, whole_size_in, head_in, lists_in}
 use Rattle.http_answers.specs.Fields.{size_in}
 use Rattle.swift_replies.specs.declared.fault.WireFault.{WireFault}
 use Rattle.swift_replies.specs.declared.fault.WireFault.TheVariants.{NotACall, NotAnAnswer, Memory}
@@ -115,6 +124,23 @@ container_names body = option_and_then (each container_name) (items_in body)
 abbrev pub name_items : List ℕ → Option (List NameItem)
 name_items body = option_and_then (each name_item) (items_in body)
 
+-- ---- lists of segments
+
+-- the segments, where each entry is one
+unfoldable pub segments_of : List Entry → Option (List Segment)
+segments_of [] = Some []
+segments_of (whole s ∷ es) = option_map (λ segments. s ∷ segments) (segments_of es)
+segments_of (bad ∷ es) = None
+segments_of (empty ∷ es) = None
+
+-- where there are no more than one manifest lists
+abbrev pub segments_within : List Entry → Option (List Segment)
+segments_within es = if nat_le (length es) MOST_SEGMENTS then segments_of es else None
+
+-- the segments that a text lists, in a form
+unfoldable pub segments_in : Form → List ℕ → Option (List Segment)
+segments_in form text = option_and_then segments_within (entries_of form text)
+
 -- ---- the reply of each status
 
 abbrev pub missing : ℕ → Option SwiftReply
@@ -148,6 +174,19 @@ stored_reply headers = option_map (λ etag. Stored etag) (etag_in headers)
 
 abbrev pub put_object_reply : ℕ → List Pair → Option SwiftReply
 put_object_reply status headers = if status == 201 then stored_reply headers else missing status
+
+-- 400, which only a list of segments is answered with
+abbrev pub put_manifest_reply : ℕ → List Pair → Option SwiftReply
+put_manifest_reply status headers = if status == 400 then Some BadManifest else put_object_reply status headers
+
+-- the segments of an answer that has some, which it says; else it is the object's own bytes
+abbrev pub manifest_by : Option Bool → List ℕ → Option SwiftReply
+manifest_by None body = None
+manifest_by (Some false) body = Some NotFound
+manifest_by (Some true) body = option_map (λ segments. Manifest segments) (segments_in Got body)
+
+abbrev pub get_manifest_reply : ℕ → List Pair → List ℕ → Option SwiftReply
+get_manifest_reply status headers body = if status == 200 then manifest_by (lists_in headers) body else missing status
 
 abbrev pub head_reply : List Pair → Option SwiftReply
 head_reply headers = option_map (λ head. Head head) (head_in (size_in headers) headers)
@@ -188,8 +227,10 @@ reply_of (PostContainer container readers) s = gone s.status
 reply_of (DeleteContainer container) s = delete_reply s.status
 reply_of (ListNames container prefix marker limit) s = names_reply s.status s.body
 reply_of (PutObject container name content_type meta body) s = put_object_reply s.status s.headers
+reply_of (PutManifest container name content_type meta segments) s = put_manifest_reply s.status s.headers
 reply_of (HeadObject container name) s = head_object_reply s.status s.headers
 reply_of (GetObject container name range) s = bytes_reply range s.status s.headers s.body
+reply_of (GetManifest container name) s = get_manifest_reply s.status s.headers s.body
 reply_of (DeleteObject container name) s = gone s.status
 
 -- ---- spellings
@@ -203,8 +244,10 @@ asks_head (PostContainer container readers) = false
 asks_head (DeleteContainer container) = false
 asks_head (ListNames container prefix marker limit) = false
 asks_head (PutObject container name content_type meta body) = false
+asks_head (PutManifest container name content_type meta segments) = false
 asks_head (HeadObject container name) = true
 asks_head (GetObject container name range) = false
+asks_head (GetManifest container name) = false
 asks_head (DeleteObject container name) = false
 
 -- the body, where the bytes are a head of this length and exactly the body that has to follow

@@ -107,6 +107,15 @@ manifest_from (Some (Some value)) = if bytes_eq value (codes "True") then Some t
 abbrev pub manifest_in : List Pair → Option Bool
 manifest_in headers = manifest_from (field (codes "x-static-large-object") headers)
 
+-- whether an answer lists segments: `True`, and nothing else says so
+abbrev pub lists_from : Option (Option (List ℕ)) → Option Bool
+lists_from None = None
+lists_from (Some None) = Some false
+lists_from (Some (Some value)) = Some (bytes_eq value (codes "True"))
+
+abbrev pub lists_in : List Pair → Option Bool
+lists_in headers = lists_from (field (codes "x-static-large-object") headers)
+
 -- the name of a piece of metadata, in lower case
 abbrev pub meta_name : ℕ → List ℕ
 meta_name i = codes "x-object-meta-s3-" ++ decimal i

@@ -2,11 +2,12 @@
 ghost use Rattle.std.specs.Prelude.{◌≡◌, ◌≤◌, ◌-◌, ◌+◌, min, drop, length, option_map, IfOk, Some};
 ghost use Rattle.http_answers.specs.Head.{Shows};
 ghost use Rattle.http_answers.specs.declared.head.Front.TheVariants.{Whole};
-ghost use Rattle.swift_replies.specs.Answers.{ReadsAnswer, asks_head, body_by, reply_of, missing, gone, put_reply, delete_reply, containers_reply, names_reply, head_container_reply, readers_reply, put_object_reply, stored_reply, head_object_reply, head_reply, is_part, bytes_from, part_reply, beyond, bytes_reply};
+ghost use Rattle.swift_replies.specs.Answers.{ReadsAnswer, asks_head, body_by, reply_of, missing, gone, put_reply, delete_reply, containers_reply, names_reply, head_container_reply, readers_reply, put_object_reply, stored_reply, put_manifest_reply, head_object_reply, head_reply, is_part, bytes_from, part_reply, beyond, bytes_reply};
 
 use crate::WireFault;
 use crate::fields::created_in;
 use crate::lists::{container_names, name_items};
+use crate::manifests::get_manifest_reply;
 use crate::objects::head_in;
 use crate::values::{etag_in, readers_in, whole_size_in};
 use gate_base::{Bytes, List, Memory, Pair};
@@ -94,13 +95,15 @@ fn reply_of(
         SwiftRequest::DeleteContainer { .. } => Ok(delete_reply(status)),
         SwiftRequest::ListNames { .. } => names_reply(alloc, status, body),
         SwiftRequest::PutObject { .. } => put_object_reply(alloc, status, headers),
+        SwiftRequest::PutManifest { .. } => put_manifest_reply(alloc, status, headers),
         SwiftRequest::HeadObject { .. } => head_object_reply(alloc, status, headers),
         SwiftRequest::GetObject { range, .. } => bytes_reply(alloc, *range, status, headers, body),
+        SwiftRequest::GetManifest { .. } => get_manifest_reply(alloc, status, headers, body),
         SwiftRequest::DeleteObject { .. } => Ok(gone(status)),
     }
 }
 
-fn missing(status: u16) -> Option<SwiftReply>
+pub(crate) fn missing(status: u16) -> Option<SwiftReply>
     ensures { result ≡ missing status }
 {
     if status == 404 {
@@ -215,6 +218,20 @@ fn stored_reply(alloc: Global, headers: &[Pair]) -> Result<Option<SwiftReply>, M
             etag: Bytes::from_slice(alloc, etag)?,
         })),
         None => Ok(None),
+    }
+}
+
+fn put_manifest_reply(
+    alloc: Global,
+    status: u16,
+    headers: &[Pair],
+) -> Result<Option<SwiftReply>, Memory>
+    ensures { IfOk result (λ reply. reply ≡ put_manifest_reply status headers.now) }
+{
+    if status == 400 {
+        Ok(Some(SwiftReply::BadManifest))
+    } else {
+        put_object_reply(alloc, status, headers)
     }
 }
 

@@ -2,7 +2,7 @@
 ghost use Rattle.std.specs.Prelude.{◌≡◌, Some};
 ghost use Rattle.std.specs.List.{list_all};
 ghost use Rattle.std.specs.Option.{option_copied};
-ghost use Rattle.swift_replies.specs.Fields.{readers_in, is_tag_byte, is_quoted, unquoted, tag_in, etag_in, manifest_from, manifest_in, size_behind, whole_size_in};
+ghost use Rattle.swift_replies.specs.Fields.{readers_in, is_tag_byte, is_quoted, unquoted, tag_in, etag_in, manifest_from, manifest_in, lists_in, size_behind, whole_size_in};
 
 use crate::fields::readers_by;
 use gate_base::{Pair, cut};
@@ -81,6 +81,17 @@ fn is_true(value: &[u8]) -> Option<bool>
         Some(true)
     } else {
         None
+    }
+}
+
+/// Whether an answer says that it lists segments.
+pub(crate) fn lists_in(headers: &[Pair]) -> Option<bool>
+    ensures { result ≡ lists_in headers.now }
+{
+    match field(headers, b"x-static-large-object") {
+        Some(Some(value)) => Some(value == b"True".as_slice()),
+        Some(None) => Some(false),
+        None => None,
     }
 }
 

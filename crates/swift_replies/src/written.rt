@@ -3,7 +3,7 @@ ghost use Rattle.std.specs.Prelude.{◌≡◌, ◌++◌, ◌&&◌, ◌∷◌, []
 ghost use Rattle.std.specs.List.{list_all};
 ghost use Rattle.swift_replies.specs.Answers.{is_part};
 ghost use Rattle.http1.specs.Head.{is_trimmed_value, print_header, print_headers};
-ghost use Rattle.swift_replies.specs.AnswerText.{answer_text, text_by, refusal, status_line, length_field, put_sent, post_sent, delete_sent, list_containers_sent, head_container_sent, list_names_sent, put_object_sent, head_object_sent, get_sent, is_created, readers_fields, readers_sent, etag_field, stored_sent, manifest_fields, object_fields, is_size, is_meta, is_head, head_sent, range_text, within_limit, bytes_by, bytes_sent, containers_sent, names_sent, list_sent, sent_text};
+ghost use Rattle.swift_replies.specs.AnswerText.{answer_text, text_by, refusal, status_line, length_field, put_sent, post_sent, delete_sent, list_containers_sent, head_container_sent, list_names_sent, put_object_sent, head_object_sent, get_sent, is_created, readers_fields, readers_sent, etag_field, stored_sent, manifest_fields, object_fields, is_size, is_meta, is_head, head_sent, range_text, within_limit, bytes_by, bytes_sent, containers_sent, names_sent, list_sent, sent_text, put_manifest_sent, get_manifest_sent, segments_by, segments_sent};
 
 use crate::answers::is_part;
 use crate::header_text::{
@@ -14,6 +14,7 @@ use crate::values::is_tag;
 use gate_base::{Bytes, MOMENT_LIMIT, Memory};
 use http_answers::{HEAD_LIMIT, append_decimal};
 use httparse::{is_header_value, is_space_or_tab};
+use slo_manifest::{Form, Segment, is_manifest, write};
 use std::alloc::Global;
 use swift_calls::{NameItem, ReadList, StoredHead, SwiftReply, SwiftRequest};
 
@@ -40,8 +41,10 @@ pub fn write_answer(alloc: Global, call: &SwiftRequest, reply: &SwiftReply) -> R
         SwiftRequest::DeleteContainer { .. } => delete_answer(alloc, reply),
         SwiftRequest::ListNames { .. } => list_names_answer(alloc, reply),
         SwiftRequest::PutObject { .. } => put_object_answer(alloc, reply),
+        SwiftRequest::PutManifest { .. } => put_manifest_answer(alloc, reply),
         SwiftRequest::HeadObject { .. } => head_object_answer(alloc, reply),
         SwiftRequest::GetObject { range, .. } => get_answer(alloc, *range, reply),
+        SwiftRequest::GetManifest { .. } => get_manifest_answer(alloc, reply),
         SwiftRequest::DeleteObject { .. } => post_answer(alloc, reply),
     }
 }
@@ -125,6 +128,15 @@ fn put_object_answer(alloc: Global, reply: &SwiftReply) -> Result<Bytes, Memory>
     }
 }
 
+fn put_manifest_answer(alloc: Global, reply: &SwiftReply) -> Result<Bytes, Memory>
+    ensures { IfOk result (λ text. text ≡ text_by (put_manifest_sent reply.now)) }
+{
+    match reply {
+        SwiftReply::BadManifest => refusal(alloc, 400),
+        _ => put_object_answer(alloc, reply),
+    }
+}
+
 fn head_object_answer(alloc: Global, reply: &SwiftReply) -> Result<Bytes, Memory>
     ensures { IfOk result (λ text. text ≡ text_by (head_object_sent reply.now)) }
 {
@@ -145,6 +157,16 @@ fn get_answer(alloc: Global, range: Option<(u64, u64)>, reply: &SwiftReply) -> R
             Some(_) => refusal(alloc, 416),
             None => refusal(alloc, 500),
         },
+        _ => refusal(alloc, 500),
+    }
+}
+
+fn get_manifest_answer(alloc: Global, reply: &SwiftReply) -> Result<Bytes, Memory>
+    ensures { IfOk result (λ text. text ≡ text_by (get_manifest_sent reply.now)) }
+{
+    match reply {
+        SwiftReply::Manifest(segments) => segments_answer(alloc, segments.as_slice()),
+        SwiftReply::NotFound => refusal(alloc, 404),
         _ => refusal(alloc, 500),
     }
 }
@@ -396,6 +418,26 @@ fn list_answer(alloc: Global, body: &[u8]) -> Result<Bytes, Memory>
     ensures { IfOk result (λ text. text ≡ sent_text (list_sent body.now)) }
 {
     let mut text = begin(alloc, 200, body.len() as u64, body.len())?;
+    finish(&mut text, body)?;
+    Ok(text)
+}
+
+fn segments_answer(alloc: Global, segments: &[Segment]) -> Result<Bytes, Memory>
+    ensures { IfOk result (λ text. text ≡ text_by (segments_sent segments.now)) }
+{
+    if !is_manifest(segments) {
+        return refusal(alloc, 500);
+    }
+    let body = write(alloc, segments, Form::Got)?;
+    listed_answer(alloc, body.as_slice())
+}
+
+#[tactic(auto, using(crate::proofs::SentLemmas::join_headers, crate::proofs::SentLemmas::sent_parts))]
+fn listed_answer(alloc: Global, body: &[u8]) -> Result<Bytes, Memory>
+    ensures { IfOk result (λ text. text ≡ sent_text (segments_by body.now)) }
+{
+    let mut text = begin(alloc, 200, body.len() as u64, body.len())?;
+    append_manifest(&mut text, true)?;
     finish(&mut text, body)?;
     Ok(text)
 }

@@ -21,14 +21,17 @@ use Rattle.swift_calls.specs.declared.calls.SwiftRequest.TheVariants.{
   DeleteContainer,
   ListNames,
   PutObject,
+  PutManifest,
   HeadObject,
   GetObject,
+  GetManifest,
   DeleteObject,
 }
 use Rattle.swift_replies.specs.AnswerText.{readers_text, created_fields}
 use Rattle.swift_requests.specs.CallText.{own_fields, call_fields, body_of, range_fields}
 use Rattle.swift_requests.specs.Place.{IsPlace, is_place_text}
 use Rattle.swift_requests.specs.declared.place.Place.{Place}
+use Rattle.swift_requests.proofs.ManifestLemmas.{text_size}
 use Rattle.swift_replies.proofs.lemmas.Sizes.{few}
 use Rattle.swift_replies.proofs.lemmas.GoodFields.{AreGood, decimal_visible, good-append, meta_good, named_ok, value_trimmed, visible_trimmed}
 
@@ -83,8 +86,12 @@ own_good (ListNames container prefix marker limit) fit = refl
 own_good (PutObject container name content_type meta body) fit =
     and_from _ _ (named_ok (codes "Content-Type") content_type tokens.type (value_trimmed 512 content_type fit.2))
     (meta_good 0 meta (omega (arith, few meta fit.3)) (pieces_trimmed meta (and_parts _ (list_all (is_field 256) meta) fit.3).1))
+own_good (PutManifest container name content_type meta segments) fit =
+    and_from _ _ (named_ok (codes "Content-Type") content_type tokens.type (value_trimmed 512 content_type fit.2))
+    (meta_good 0 meta (omega (arith, few meta fit.3)) (pieces_trimmed meta (and_parts _ (list_all (is_field 256) meta) fit.3).1))
 own_good (HeadObject container name) fit = refl
 own_good (GetObject container name range) fit = range_good range fit.2
+own_good (GetManifest container name) fit = refl
 own_good (DeleteObject container name) fit = refl
 
 place_visible : (text : List ℕ) → is_place_text text ≡ true → list_all is_visible text ≡ true
@@ -98,8 +105,10 @@ body_small (PostContainer container readers) fit = omega arith
 body_small (DeleteContainer container) fit = omega arith
 body_small (ListNames container prefix marker limit) fit = omega arith
 body_small (PutObject container name content_type meta body) fit = fit.4
+body_small (PutManifest container name content_type meta segments) fit = text_size segments fit.4 fit.5
 body_small (HeadObject container name) fit = omega arith
 body_small (GetObject container name range) fit = omega arith
+body_small (GetManifest container name) fit = omega arith
 body_small (DeleteObject container name) fit = omega arith
 
 pub fields_good : (place : Place) (call : SwiftRequest) → IsPlace place → Fit call → are_headers (call_fields place call) ≡ true

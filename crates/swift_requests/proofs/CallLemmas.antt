@@ -1,8 +1,8 @@
 -- The message of a call that is written spells the call.
-use Rattle.std.proofs.Common.{◌≡◌, ℕ, ◌<◌, ◌≤◌, true, not, ◌&&◌, cond, List, [], ◌∷◌, ◌++◌, length, map, All, Some, None, Option, refl, ap, ap₂, ◌∙◌, arith, append_assoc}
+use Rattle.std.proofs.Common.{◌≡◌, ℕ, ◌<◌, ◌≤◌, true, false, not, ◌&&◌, cond, List, [], ◌∷◌, ◌++◌, length, map, All, Some, None, Option, refl, ap, ap₂, ◌∙◌, arith, append_assoc}
 use Rattle.std.specs.Prelude.{codes, decimal, bytes_eq, option_map, option_and_then, nat_lt, nat_le, IfSome}
 use Rattle.std.specs.List.{list_all}
-use Rattle.std.proofs.lemmas.Bool.{and_parts, cond-true}
+use Rattle.std.proofs.lemmas.Bool.{and_parts, cond-true, cond-false}
 use Rattle.std.proofs.lemmas.Bool.Decides.{nat_tests}
 use Rattle.std.proofs.lemmas.List.Elements.{All-nil, All-cons}
 use Rattle.gate_base.specs.Ascii.{is_visible, is_digit}
@@ -10,6 +10,11 @@ use Rattle.gate_base.specs.Told.{moment_limit}
 use Rattle.http_wire.specs.declared.message.Message.{Message}
 use Rattle.s3_names.specs.Escapes.{escaped_all, escaped_path}
 use Rattle.s3_names.specs.Target.{is_question, query_text}
+use Rattle.slo_manifest.specs.Laws.{TextReadsBack}
+use Rattle.slo_manifest.specs.Segments.{is_manifest}
+use Rattle.slo_manifest.specs.Text.{manifest_text}
+use Rattle.slo_manifest.specs.declared.Segment.{Segment}
+use Rattle.slo_manifest.specs.declared.manifest.Form.TheVariants.{Put}
 use Rattle.swift_calls.specs.Limits.{IsText, IsMarker, IsRange}
 use Rattle.swift_calls.specs.Step.{IsContainerName, IsMoment, Fit}
 use Rattle.swift_calls.specs.declared.account.ReadList.{ReadList}
@@ -23,17 +28,19 @@ use Rattle.swift_calls.specs.declared.calls.SwiftRequest.TheVariants.{
   DeleteContainer,
   ListNames,
   PutObject,
+  PutManifest,
   HeadObject,
   GetObject,
+  GetManifest,
   DeleteObject,
 }
 use Rattle.swift_replies.specs.AnswerText.{readers_text, meta_fields, header_pair}
-use Rattle.swift_replies.specs.Answers.{both}
+use Rattle.swift_replies.specs.Answers.{both, segments_in}
 use Rattle.swift_requests.specs.CallText.{account_text, container_text, object_text, listing_text, target_text, call_fields, call_message}
-use Rattle.swift_requests.specs.Calls.{is_dash, place_of, places_of, range_of, limit_of, up_to, containers_listing, names_listing, unasked, call_at, call_within, account_in, call_of, account_names, container_names}
+use Rattle.swift_requests.specs.Calls.{is_dash, place_of, places_of, range_of, limit_of, up_to, containers_listing, names_listing, unasked, is_word, asks_manifest, put_listed, put_manifest, listed_by, put_object, bare_object_call, call_at, call_within, account_in, call_of, account_names, container_names}
 use Rattle.swift_replies.specs.Fields.{before_limit, moment_in, readers_by, meta_in}
 use Rattle.http_answers.specs.Fields.{needed, at_most_one}
-use Rattle.swift_requests.specs.Paths.{path_of, values_named}
+use Rattle.swift_requests.specs.Paths.{path_of, last_value, values_named}
 use Rattle.swift_requests.specs.Place.{IsPlace, is_place_text}
 use Rattle.swift_requests.specs.declared.paths.Path.{Path}
 use Rattle.swift_requests.specs.declared.paths.Path.TheVariants.{Account, Container, Object}
@@ -41,9 +48,11 @@ use Rattle.swift_requests.specs.declared.place.Place.{Place}
 use Rattle.swift_replies.proofs.lemmas.CutLemmas.{IsByte, Lacks, weaker, Lacks-append, before_at, after_at, utf8_bytes}
 use Rattle.swift_replies.proofs.lemmas.GivenLemmas.{given, given-append, given_meta}
 use Rattle.swift_replies.proofs.lemmas.MetaFieldLemmas.{meta_read}
+use Rattle.swift_replies.proofs.lemmas.SegmentRows.{segments_back}
+use Rattle.swift_requests.proofs.ManifestLemmas.{manifest_fits}
 use Rattle.swift_requests.proofs.PathLemmas.{no_question, no_question_path, account_path, container_path, whole_path, path_bare, query_bare, path_asked, query_asked}
 use Rattle.http_answers.proofs.lemmas.NumberLemmas.{same_bytes, decimal_digits, plain_decimal}
-use Rattle.swift_requests.proofs.QueryLemmas.{account_query, container_query, account_values, container_values}
+use Rattle.swift_requests.proofs.QueryLemmas.{account_query, container_query, account_values, container_values, itself, last_is}
 use Rattle.swift_replies.proofs.lemmas.Sizes.{few}
 
 -- ---- the bytes of a place and of names
@@ -159,6 +168,22 @@ object_row place call c n small little tiny target at =
     found place (call_message place call) (Object place.account c n) call (ap path_of target ∙ object_named place c n small little tiny) refl
     (at ∙ bare (query_text (target_text place call)) (Some call) (ap query_text target ∙ object_unasked place c n small little tiny))
 
+-- without a query nothing asks for a list of segments
+asks_none : (word query : List ℕ) → query ≡ [] → is_word word (last_value (codes "multipart-manifest") query) ≡ false
+asks_none word query none = ap (λ q. is_word word (last_value (codes "multipart-manifest") q)) none
+
+no_get : (place : Place) (c n : List ℕ) (message : Message) (call : Option SwiftRequest) → All IsByte place.account → All IsByte c → All IsByte n
+    → message.target ≡ object_text place c n → cond (asks_manifest (codes "get") message) (Some (GetManifest c n)) call ≡ call
+no_get place c n message call small little tiny target =
+    cond-false (asks_manifest (codes "get") message) (Some (GetManifest c n)) call
+    (asks_none (codes "get") (query_text message.target) (ap query_text target ∙ object_unasked place c n small little tiny))
+
+no_put : (place : Place) (c n : List ℕ) (message : Message) (listed call : Option SwiftRequest) → All IsByte place.account → All IsByte c → All IsByte n
+    → message.target ≡ object_text place c n → cond (asks_manifest (codes "put") message) listed call ≡ call
+no_put place c n message listed call small little tiny target =
+    cond-false (asks_manifest (codes "put") message) listed call
+    (asks_none (codes "put") (query_text message.target) (ap query_text target ∙ object_unasked place c n small little tiny))
+
 -- ---- values that are read back
 
 limit_read : (limit : ℕ) → limit ≤ 1000 → limit_of (decimal limit) ≡ Some limit
@@ -247,10 +272,16 @@ post_container_read place c readers small name =
 
 get_object_read : (place : Place) (c n : List ℕ) (range : Option (ℕ × ℕ)) → All IsByte place.account → All IsByte c → All IsByte n → IfSome range IsRange
     → call_of place (call_message place (GetObject c n range)) ≡ Some (GetObject c n range)
-get_object_read place c n None small little tiny within = object_row place (GetObject c n None) c n small little tiny refl refl
+get_object_read place c n None small little tiny within =
+    let call = GetObject c n None in
+    object_row place call c n small little tiny refl
+    (no_get place c n (call_message place call) (unasked (call_message place call) (Some call)) small little tiny refl)
 get_object_read place c n (Some range) small little tiny within =
-    object_row place (GetObject c n (Some range)) c n small little tiny refl
-    (ap (λ r. unasked (call_message place (GetObject c n (Some range))) (option_map (λ x. GetObject c n x) (option_map (λ x. Some x) r)))
+    let call = GetObject c n (Some range) in
+    let message = call_message place call in
+    object_row place call c n small little tiny refl
+    (no_get place c n message (unasked message (bare_object_call c n message)) small little tiny refl
+    ∙ ap (λ r. unasked (call_message place (GetObject c n (Some range))) (option_map (λ x. GetObject c n x) (option_map (λ x. Some x) r)))
     (range_read range.0 range.1 (omega (arith, within.0, within.1)) (omega (arith, within.1))))
 
 put_object_read : (place : Place) (c n content_type : List ℕ) (meta : List (List ℕ)) (body : List ℕ) → All IsByte place.account → All IsByte c → All IsByte n
@@ -264,22 +295,89 @@ put_object_read place c n content_type meta body small little tiny few =
     (given-append (codes "content-type") (meta_fields 0 meta) back ∙ ap (λ values. values ++ []) (given_meta (codes "content-type") (λ index. refl) 0 meta)) in
     let pieces : meta_in (map header_pair (call_fields place call)) ≡ Some meta = meta_read front back meta (λ i. refl) (λ i. refl) few in
     object_row place call c n small little tiny refl
-    (ap₂ (λ values m. unasked (call_message place call) (both (λ x y. PutObject c n x y body) (needed (at_most_one values)) m)) type pieces)
+    (no_put place c n (call_message place call) (put_manifest c n (call_message place call)) (unasked (call_message place call) (put_object c n (call_message place call)))
+    small little tiny refl
+    ∙ ap₂ (λ values m. unasked (call_message place call) (both (λ x y. PutObject c n x y body) (needed (at_most_one values)) m)) type pieces)
+
+-- ---- lists of segments
+
+abbrev word_query : List ℕ → List ℕ
+word_query word = codes "multipart-manifest" ++ 61 ∷ word
+
+abbrev object_asked : Place → List ℕ → List ℕ → List ℕ → List ℕ
+object_asked place c n word = object_text place c n ++ 63 ∷ word_query word
+
+asked_is : (place : Place) (c n word : List ℕ) → object_asked place c n word ≡ (codes "/v1/" ++ below_container place c n) ++ 63 ∷ word_query word
+asked_is place c n word = ap (λ t. t ++ 63 ∷ word_query word) (object_is place c n)
+
+asked_named : (place : Place) (c n word : List ℕ) → All IsByte place.account → All IsByte c → All IsByte n
+    → path_of (object_asked place c n word) ≡ Some (Object place.account c n)
+asked_named place c n word small little tiny =
+    ap path_of (asked_is place c n word) ∙ path_asked (below_container place c n) (word_query word) (object_lacks place c n small little tiny)
+    ∙ whole_path place.account c n small little tiny
+
+asked_query : (place : Place) (c n word : List ℕ) → All IsByte place.account → All IsByte c → All IsByte n
+    → query_text (object_asked place c n word) ≡ word_query word
+asked_query place c n word small little tiny =
+    ap query_text (asked_is place c n word) ∙ query_asked (below_container place c n) (word_query word) (object_lacks place c n small little tiny)
+
+asks_put : (place : Place) (c n : List ℕ) → All IsByte place.account → All IsByte c → All IsByte n
+    → last_value (codes "multipart-manifest") (query_text (object_asked place c n (codes "put"))) ≡ Some (codes "put")
+asks_put place c n small little tiny =
+    ap (last_value (codes "multipart-manifest")) (asked_query place c n (codes "put") small little tiny)
+    ∙ last_is (codes "multipart-manifest") (codes "put") (codes "put") refl refl refl (itself (codes "put") refl)
+
+asks_get : (place : Place) (c n : List ℕ) → All IsByte place.account → All IsByte c → All IsByte n
+    → last_value (codes "multipart-manifest") (query_text (object_asked place c n (codes "get"))) ≡ Some (codes "get")
+asks_get place c n small little tiny =
+    ap (last_value (codes "multipart-manifest")) (asked_query place c n (codes "get") small little tiny)
+    ∙ last_is (codes "multipart-manifest") (codes "get") (codes "get") refl refl refl (itself (codes "get") refl)
+
+put_manifest_read : TextReadsBack → (place : Place) (c n content_type : List ℕ) (meta : List (List ℕ)) (segments : List Segment) → All IsByte place.account
+    → All IsByte c → All IsByte n → length meta ≤ 11 → is_manifest segments ≡ true
+    → call_of place (call_message place (PutManifest c n content_type meta segments)) ≡ Some (PutManifest c n content_type meta segments)
+put_manifest_read law place c n content_type meta segments small little tiny few is =
+    let call = PutManifest c n content_type meta segments in
+    let message = call_message place call in
+    let body = manifest_text Put segments in
+    let front = (codes "Host", place.host) ∷ (codes "X-Auth-Token", place.token) ∷ (codes "Content-Type", content_type) ∷ [] in
+    let back = (codes "Content-Length", decimal (length body)) ∷ [] in
+    let type : given (codes "content-type") (call_fields place call) ≡ content_type ∷ [] =
+    ap (λ values. content_type ∷ values)
+    (given-append (codes "content-type") (meta_fields 0 meta) back ∙ ap (λ values. values ++ []) (given_meta (codes "content-type") (λ index. refl) 0 meta)) in
+    let pieces : meta_in (map header_pair (call_fields place call)) ≡ Some meta = meta_read front back meta (λ i. refl) (λ i. refl) few in
+    let asked : Option SwiftRequest = put_manifest c n message in
+    found place message (Object place.account c n) call (asked_named place c n (codes "put") small little tiny) refl
+    (ap (λ value. cond (is_word (codes "put") value) asked (unasked message (put_object c n message))) (asks_put place c n small little tiny)
+    ∙ ap₂ (λ values m. listed_by c n (segments_in Put body) (needed (at_most_one values)) m) type pieces
+    ∙ ap (put_listed c n content_type meta) (segments_back law Put segments is))
+
+get_manifest_read : (place : Place) (c n : List ℕ) → All IsByte place.account → All IsByte c → All IsByte n
+    → call_of place (call_message place (GetManifest c n)) ≡ Some (GetManifest c n)
+get_manifest_read place c n small little tiny =
+    let call = GetManifest c n in
+    let message = call_message place call in
+    found place message (Object place.account c n) call (asked_named place c n (codes "get") small little tiny) refl
+    (ap (λ value. cond (is_word (codes "get") value) (Some call) (unasked message (bare_object_call c n message))) (asks_get place c n small little tiny))
 
 -- the message of a call within its limits spells it
-pub call_read : (place : Place) (call : SwiftRequest) → IsPlace place → Fit call → call_of place (call_message place call) ≡ Some call
-call_read place (ListContainers marker limit) is fit = list_containers_read place marker limit (account_bytes place is) fit.0 fit.1.1
-call_read place (HeadContainer c) is fit = container_row place (HeadContainer c) c (account_bytes place is) (name_bytes c fit) refl refl
-call_read place (PutContainer c readers created) is fit = put_container_read place c readers created (account_bytes place is) fit.0 fit.1
-call_read place (PostContainer c readers) is fit = post_container_read place c readers (account_bytes place is) fit
-call_read place (DeleteContainer c) is fit = container_row place (DeleteContainer c) c (account_bytes place is) (name_bytes c fit) refl refl
-call_read place (ListNames c prefix marker limit) is fit = list_names_read place c prefix marker limit (account_bytes place is) fit.0 fit.1 fit.2 fit.3.1
-call_read place (PutObject c n content_type meta body) is fit =
+pub call_read : TextReadsBack → (place : Place) (call : SwiftRequest) → IsPlace place → Fit call → call_of place (call_message place call) ≡ Some call
+call_read law place (ListContainers marker limit) is fit = list_containers_read place marker limit (account_bytes place is) fit.0 fit.1.1
+call_read law place (HeadContainer c) is fit = container_row place (HeadContainer c) c (account_bytes place is) (name_bytes c fit) refl refl
+call_read law place (PutContainer c readers created) is fit = put_container_read place c readers created (account_bytes place is) fit.0 fit.1
+call_read law place (PostContainer c readers) is fit = post_container_read place c readers (account_bytes place is) fit
+call_read law place (DeleteContainer c) is fit = container_row place (DeleteContainer c) c (account_bytes place is) (name_bytes c fit) refl refl
+call_read law place (ListNames c prefix marker limit) is fit = list_names_read place c prefix marker limit (account_bytes place is) fit.0 fit.1 fit.2 fit.3.1
+call_read law place (PutObject c n content_type meta body) is fit =
     put_object_read place c n content_type meta body (account_bytes place is) (name_bytes c fit.0) (text_bytes 1024 n fit.1.1)
     (few meta fit.3)
-call_read place (HeadObject c n) is fit =
+call_read law place (PutManifest c n content_type meta segments) is fit =
+    put_manifest_read law place c n content_type meta segments (account_bytes place is) (name_bytes c fit.0) (text_bytes 1024 n fit.1.1) (few meta fit.3)
+    (manifest_fits segments fit.4 fit.5)
+call_read law place (HeadObject c n) is fit =
     object_row place (HeadObject c n) c n (account_bytes place is) (name_bytes c fit.0) (text_bytes 1024 n fit.1.1) refl refl
-call_read place (GetObject c n range) is fit =
+call_read law place (GetObject c n range) is fit =
     get_object_read place c n range (account_bytes place is) (name_bytes c fit.0) (text_bytes 1024 n fit.1.1) fit.2
-call_read place (DeleteObject c n) is fit =
+call_read law place (GetManifest c n) is fit = get_manifest_read place c n (account_bytes place is) (name_bytes c fit.0) (text_bytes 1024 n fit.1.1)
+call_read law place (DeleteObject c n) is fit =
     object_row place (DeleteObject c n) c n (account_bytes place is) (name_bytes c fit.0) (text_bytes 1024 n fit.1.1) refl refl

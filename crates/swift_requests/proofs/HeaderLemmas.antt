@@ -11,8 +11,10 @@ use Rattle.swift_calls.specs.declared.calls.SwiftRequest.TheVariants.{
   DeleteContainer,
   ListNames,
   PutObject,
+  PutManifest,
   HeadObject,
   GetObject,
+  GetManifest,
   DeleteObject,
 }
 use Rattle.swift_requests.specs.CallText.{own_fields, call_fields, body_of, call_message}
@@ -29,9 +31,11 @@ token_own (PostContainer container readers) = refl
 token_own (DeleteContainer container) = refl
 token_own (ListNames container prefix marker limit) = refl
 token_own (PutObject container name content_type meta body) = given_meta (codes "x-auth-token") (λ index. refl) 0 meta
+token_own (PutManifest container name content_type meta segments) = given_meta (codes "x-auth-token") (λ index. refl) 0 meta
 token_own (HeadObject container name) = refl
 token_own (GetObject container name None) = refl
 token_own (GetObject container name (Some range)) = refl
+token_own (GetManifest container name) = refl
 token_own (DeleteObject container name) = refl
 
 length_own : (call : SwiftRequest) → given (codes "content-length") (own_fields call) ≡ []
@@ -43,9 +47,11 @@ length_own (PostContainer container readers) = refl
 length_own (DeleteContainer container) = refl
 length_own (ListNames container prefix marker limit) = refl
 length_own (PutObject container name content_type meta body) = given_meta (codes "content-length") (λ index. refl) 0 meta
+length_own (PutManifest container name content_type meta segments) = given_meta (codes "content-length") (λ index. refl) 0 meta
 length_own (HeadObject container name) = refl
 length_own (GetObject container name None) = refl
 length_own (GetObject container name (Some range)) = refl
+length_own (GetManifest container name) = refl
 length_own (DeleteObject container name) = refl
 
 coding_own : (call : SwiftRequest) → given (codes "transfer-encoding") (own_fields call) ≡ []
@@ -57,9 +63,11 @@ coding_own (PostContainer container readers) = refl
 coding_own (DeleteContainer container) = refl
 coding_own (ListNames container prefix marker limit) = refl
 coding_own (PutObject container name content_type meta body) = given_meta (codes "transfer-encoding") (λ index. refl) 0 meta
+coding_own (PutManifest container name content_type meta segments) = given_meta (codes "transfer-encoding") (λ index. refl) 0 meta
 coding_own (HeadObject container name) = refl
 coding_own (GetObject container name None) = refl
 coding_own (GetObject container name (Some range)) = refl
+coding_own (GetManifest container name) = refl
 coding_own (DeleteObject container name) = refl
 
 abbrev length_field : SwiftRequest → Header

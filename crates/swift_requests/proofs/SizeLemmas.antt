@@ -26,12 +26,14 @@ use Rattle.swift_calls.specs.declared.calls.SwiftRequest.TheVariants.{
   DeleteContainer,
   ListNames,
   PutObject,
+  PutManifest,
   HeadObject,
   GetObject,
+  GetManifest,
   DeleteObject,
 }
 use Rattle.swift_replies.specs.AnswerText.{readers_text, created_fields, meta_fields}
-use Rattle.swift_requests.specs.CallText.{method_text, target_text, account_text, container_text, object_text, listing_text, line_text, own_fields, call_fields, body_of, range_fields}
+use Rattle.swift_requests.specs.CallText.{method_text, target_text, account_text, container_text, object_text, listing_text, manifest_put, manifest_get, line_text, own_fields, call_fields, body_of, range_fields}
 use Rattle.swift_requests.specs.Place.{IsPlace, is_place_text}
 use Rattle.swift_requests.specs.declared.place.Place.{Place}
 use Rattle.swift_requests.proofs.AcceptLemmas.{fields_good, body_small}
@@ -52,8 +54,10 @@ method_good (PostContainer container readers) = refl
 method_good (DeleteContainer container) = refl
 method_good (ListNames container prefix marker limit) = refl
 method_good (PutObject container name content_type meta body) = refl
+method_good (PutManifest container name content_type meta segments) = refl
 method_good (HeadObject container name) = refl
 method_good (GetObject container name range) = refl
+method_good (GetManifest container name) = refl
 method_good (DeleteObject container name) = refl
 
 Graphic : List ℕ → Type 0
@@ -90,10 +94,12 @@ record Words : Type 0 where
   asks : Graphic (codes "?format=json&limit=")
   marks : Graphic (codes "&marker=")
   begins : Graphic (codes "&prefix=")
+  puts : Graphic manifest_put
+  gets : Graphic manifest_get
 
 words : Words
 unfolding Graphic
-words = record { version = refl; slash = refl; asks = refl; marks = refl; begins = refl }
+words = record { version = refl; slash = refl; asks = refl; marks = refl; begins = refl; puts = refl; gets = refl }
 
 account_graphic : (place : Place) → All IsByte place.account → Graphic (account_text place)
 account_graphic place small = both_graphic (codes "/v1/") (escaped_all place.account) words.version (all_graphic place.account small)
@@ -126,8 +132,12 @@ target_graphic place (ListNames c prefix marker limit) is fit =
     (both_graphic (container_text place c) (listing_text limit marker) (container_graphic place c (account_bytes place is) (name_bytes c fit.0))
     (listing_graphic limit marker (omega (arith, fit.3.1)) (text_bytes 1028 marker fit.2))) words.begins) (all_graphic prefix (text_bytes 1028 prefix fit.1))
 target_graphic place (PutObject c n content_type meta body) is fit = object_graphic place c n (account_bytes place is) (name_bytes c fit.0) (text_bytes 1024 n fit.1.1)
+target_graphic place (PutManifest c n content_type meta segments) is fit =
+    both_graphic (object_text place c n) manifest_put (object_graphic place c n (account_bytes place is) (name_bytes c fit.0) (text_bytes 1024 n fit.1.1)) words.puts
 target_graphic place (HeadObject c n) is fit = object_graphic place c n (account_bytes place is) (name_bytes c fit.0) (text_bytes 1024 n fit.1.1)
 target_graphic place (GetObject c n range) is fit = object_graphic place c n (account_bytes place is) (name_bytes c fit.0) (text_bytes 1024 n fit.1.1)
+target_graphic place (GetManifest c n) is fit =
+    both_graphic (object_text place c n) manifest_get (object_graphic place c n (account_bytes place is) (name_bytes c fit.0) (text_bytes 1024 n fit.1.1)) words.gets
 target_graphic place (DeleteObject c n) is fit = object_graphic place c n (account_bytes place is) (name_bytes c fit.0) (text_bytes 1024 n fit.1.1)
 
 -- ---- sizes
@@ -247,10 +257,24 @@ short place (PutObject c n content_type meta body) most fit =
       filled = base.0;
       within = omega (arith, base.1, one, header_size (codes "Content-Type") content_type, value_most 512 content_type fit.2, rest, count);
     }
+short place (PutManifest c n content_type meta segments) most fit =
+    let base = object_size place c n most fit.0.within fit.1.1.within in
+    let whole = length-append (object_text place c n) manifest_put in
+    let one = headers_size (codes "Content-Type", content_type) (meta_fields 0 meta) in
+    let count = few meta fit.3 in
+    let rest = meta_size 0 meta (omega (arith, count)) (and_parts _ (list_all (is_field 256) meta) fit.3).1 in
+    record {
+      filled = omega (arith, base.0, whole);
+      within = omega (arith, base.1, whole, one, header_size (codes "Content-Type") content_type, value_most 512 content_type fit.2, rest, count);
+    }
 short place (HeadObject c n) most fit = let base = object_size place c n most fit.0.within fit.1.1.within in record { filled = base.0; within = omega (arith, base.1) }
 short place (GetObject c n range) most fit =
     let base = object_size place c n most fit.0.within fit.1.1.within in
     record { filled = base.0; within = omega (arith, base.1, range_size range fit.2) }
+short place (GetManifest c n) most fit =
+    let base = object_size place c n most fit.0.within fit.1.1.within in
+    let whole = length-append (object_text place c n) manifest_get in
+    record { filled = omega (arith, base.0, whole); within = omega (arith, base.1, whole) }
 short place (DeleteObject c n) most fit = let base = object_size place c n most fit.0.within fit.1.1.within in record { filled = base.0; within = omega (arith, base.1) }
 
 filled_test : (text : List ℕ) → 4 ≤ length text → nat_lt 0 (length text) ≡ true
@@ -309,8 +333,10 @@ method_size (PostContainer container readers) = omega arith
 method_size (DeleteContainer container) = omega arith
 method_size (ListNames container prefix marker limit) = omega arith
 method_size (PutObject container name content_type meta body) = omega arith
+method_size (PutManifest container name content_type meta segments) = omega arith
 method_size (HeadObject container name) = omega arith
 method_size (GetObject container name range) = omega arith
+method_size (GetManifest container name) = omega arith
 method_size (DeleteObject container name) = omega arith
 
 line_size : (method target : List ℕ) → length (method ++ codes " " ++ target ++ codes " HTTP/1.1" ++ crlf_bytes) ≡ length method + length target + 12
@@ -356,9 +382,11 @@ own_count (PostContainer container readers) fit = omega arith
 own_count (DeleteContainer container) fit = omega arith
 own_count (ListNames container prefix marker limit) fit = omega arith
 own_count (PutObject container name content_type meta body) fit = omega (arith, meta_count 0 meta, few meta fit.3)
+own_count (PutManifest container name content_type meta segments) fit = omega (arith, meta_count 0 meta, few meta fit.3)
 own_count (HeadObject container name) fit = omega arith
 own_count (GetObject container name None) fit = omega arith
 own_count (GetObject container name (Some range)) fit = omega arith
+own_count (GetManifest container name) fit = omega arith
 own_count (DeleteObject container name) fit = omega arith
 
 -- fewer than 100 fields

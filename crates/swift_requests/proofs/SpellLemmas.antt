@@ -16,6 +16,7 @@ use Rattle.httparse.specs.Spans.{name_and_value}
 use Rattle.http_wire.specs.declared.message.Message.{Message}
 use Rattle.http_wire.specs.FirstMessage.{Spells, header_of, message_of, judge, length_judged, value_judged, is_length, is_put}
 use Rattle.http_wire.specs.Headers.{has_name, has_header, values_of}
+use Rattle.slo_manifest.specs.Laws.{TextReadsBack}
 use Rattle.swift_calls.specs.Step.{Fit}
 use Rattle.swift_calls.specs.declared.calls.SwiftRequest.{SwiftRequest}
 use Rattle.swift_requests.specs.CallText.{method_text, target_text, call_fields, body_of, call_message, call_text}
@@ -98,8 +99,8 @@ spelled place call is fit =
     )
 
 -- what is written for a call spells it
-pub written_spells : (place : Place) (call : SwiftRequest) → IsPlace place → Fit call → SpellsRequest place call (call_text place call)
-written_spells place call is fit = (call_message place call, spelled place call is fit, has_token place call, (call_read place call is fit, fit))
+pub written_spells : TextReadsBack → (place : Place) (call : SwiftRequest) → IsPlace place → Fit call → SpellsRequest place call (call_text place call)
+written_spells law place call is fit = (call_message place call, spelled place call is fit, has_token place call, (call_read law place call is fit, fit))
 
 pub head_is_small : (place : Place) (call : SwiftRequest) → IsPlace place → Fit call → length (head_text place call) < 16384
 head_is_small place call is fit = omega (arith, head_size place call is fit)

@@ -6,6 +6,8 @@ use Rattle.s3_names.specs.Escapes.{escaped_all, escaped_path}
 use Rattle.httparse.specs.Ascii.{crlf_bytes}
 use Rattle.http1.specs.Head.{request_text}
 use Rattle.http1.specs.Fields.{Header}
+use Rattle.slo_manifest.specs.Text.{manifest_text}
+use Rattle.slo_manifest.specs.declared.manifest.Form.TheVariants.{Put}
 use Rattle.swift_calls.specs.declared.account.ReadList.{ReadList}
 use Rattle.swift_calls.specs.declared.calls.SwiftRequest.{SwiftRequest}
 use Rattle.swift_calls.specs.declared.calls.SwiftRequest.TheVariants.{
@@ -16,8 +18,10 @@ use Rattle.swift_calls.specs.declared.calls.SwiftRequest.TheVariants.{
   DeleteContainer,
   ListNames,
   PutObject,
+  PutManifest,
   HeadObject,
   GetObject,
+  GetManifest,
   DeleteObject,
 }
 use Rattle.swift_replies.specs.AnswerText.{readers_text, created_fields, meta_fields, header_pair}
@@ -31,8 +35,10 @@ method_text (PostContainer container readers) = codes "POST"
 method_text (DeleteContainer container) = codes "DELETE"
 method_text (ListNames container prefix marker limit) = codes "GET"
 method_text (PutObject container name content_type meta body) = codes "PUT"
+method_text (PutManifest container name content_type meta segments) = codes "PUT"
 method_text (HeadObject container name) = codes "HEAD"
 method_text (GetObject container name range) = codes "GET"
+method_text (GetManifest container name) = codes "GET"
 method_text (DeleteObject container name) = codes "DELETE"
 
 -- ---- the target
@@ -53,6 +59,13 @@ object_text place container name = container_text place container ++ codes "/" +
 abbrev pub listing_text : ℕ → List ℕ → List ℕ
 listing_text limit marker = codes "?format=json&limit=" ++ decimal limit ++ codes "&marker=" ++ escaped_all marker
 
+-- an object's list of segments, to be put or to be got
+abbrev pub manifest_put : List ℕ
+manifest_put = codes "?multipart-manifest=put"
+
+abbrev pub manifest_get : List ℕ
+manifest_get = codes "?multipart-manifest=get"
+
 abbrev pub target_text : Place → SwiftRequest → List ℕ
 target_text place (ListContainers marker limit) = account_text place ++ listing_text limit marker
 target_text place (HeadContainer container) = container_text place container
@@ -62,8 +75,10 @@ target_text place (DeleteContainer container) = container_text place container
 target_text place (ListNames container prefix marker limit) =
     container_text place container ++ listing_text limit marker ++ codes "&prefix=" ++ escaped_all prefix
 target_text place (PutObject container name content_type meta body) = object_text place container name
+target_text place (PutManifest container name content_type meta segments) = object_text place container name ++ manifest_put
 target_text place (HeadObject container name) = object_text place container name
 target_text place (GetObject container name range) = object_text place container name
+target_text place (GetManifest container name) = object_text place container name ++ manifest_get
 target_text place (DeleteObject container name) = object_text place container name
 
 -- ---- the header fields
@@ -78,6 +93,10 @@ abbrev pub range_fields : Option (ℕ × ℕ) → List Header
 range_fields None = []
 range_fields (Some range) = range_field range.0 range.1 ∷ []
 
+-- those of an object that is put
+abbrev pub content_fields : List ℕ → List (List ℕ) → List Header
+content_fields content_type meta = (codes "Content-Type", content_type) ∷ meta_fields 0 meta
+
 -- those of the call's own
 abbrev pub own_fields : SwiftRequest → List Header
 own_fields (ListContainers marker limit) = []
@@ -86,9 +105,11 @@ own_fields (PutContainer container readers created) = readers_field readers ∷ 
 own_fields (PostContainer container readers) = readers_field readers ∷ []
 own_fields (DeleteContainer container) = []
 own_fields (ListNames container prefix marker limit) = []
-own_fields (PutObject container name content_type meta body) = (codes "Content-Type", content_type) ∷ meta_fields 0 meta
+own_fields (PutObject container name content_type meta body) = content_fields content_type meta
+own_fields (PutManifest container name content_type meta segments) = content_fields content_type meta
 own_fields (HeadObject container name) = []
 own_fields (GetObject container name range) = range_fields range
+own_fields (GetManifest container name) = []
 own_fields (DeleteObject container name) = []
 
 abbrev pub body_of : SwiftRequest → List ℕ
@@ -99,8 +120,10 @@ body_of (PostContainer container readers) = []
 body_of (DeleteContainer container) = []
 body_of (ListNames container prefix marker limit) = []
 body_of (PutObject container name content_type meta body) = body
+body_of (PutManifest container name content_type meta segments) = manifest_text Put segments
 body_of (HeadObject container name) = []
 body_of (GetObject container name range) = []
+body_of (GetManifest container name) = []
 body_of (DeleteObject container name) = []
 
 -- all in their order

@@ -1,12 +1,14 @@
 -- Which message spells which call of an account. Source: Object Storage API v1, the call of each path by its method.
 -- Further headers are ignored, and neither `Host` nor the version is looked at.
-use Rattle.std.specs.Prelude.{◌≡◌, ⊤, ℕ, Bool, ◌==◌, nat_eq, nat_le, List, [], ◌∷◌, drop, codes, bytes_eq, if◌then◌else◌, Result, Ok, Err}
+use Rattle.std.specs.Prelude.{◌≡◌, ⊤, ℕ, Bool, false, ◌&&◌, ◌==◌, nat_eq, nat_le, List, [], ◌∷◌, drop, codes, bytes_eq, if◌then◌else◌, Result, Ok, Err}
 use Rattle.std.specs.List.{starts_with, before_first, after_first}
 use Rattle.std.specs.Prelude.{Option, None, Some, option_map, option_and_then}
 use Rattle.gate_base.specs.declared.page.Pair.{Pair}
 use Rattle.http_wire.specs.declared.message.Message.{Message}
 use Rattle.http_wire.specs.FirstMessage.{Spells}
 use Rattle.s3_names.specs.Target.{query_text}
+use Rattle.slo_manifest.specs.declared.Segment.{Segment}
+use Rattle.slo_manifest.specs.declared.manifest.Form.TheVariants.{Put}
 use Rattle.swift_calls.specs.Step.{Fit}
 use Rattle.swift_calls.specs.declared.account.ReadList.{ReadList}
 use Rattle.swift_calls.specs.declared.calls.SwiftRequest.{SwiftRequest}
@@ -18,14 +20,16 @@ use Rattle.swift_calls.specs.declared.calls.SwiftRequest.TheVariants.{
   DeleteContainer,
   ListNames,
   PutObject,
+  PutManifest,
   HeadObject,
   GetObject,
+  GetManifest,
   DeleteObject,
 }
-use Rattle.swift_replies.specs.Answers.{both}
+use Rattle.swift_replies.specs.Answers.{both, segments_in}
 use Rattle.http_answers.specs.Fields.{field, only, plain_number}
 use Rattle.swift_replies.specs.Fields.{readers_by, created_in, meta_in}
-use Rattle.swift_requests.specs.Paths.{path_of, values_named}
+use Rattle.swift_requests.specs.Paths.{path_of, last_value, values_named}
 use Rattle.swift_requests.specs.Place.{HasToken}
 use Rattle.swift_replies.specs.declared.fault.WireFault.{WireFault}
 use Rattle.swift_replies.specs.declared.fault.WireFault.TheVariants.{NotACall, NotAnAnswer, Memory}
@@ -145,6 +149,32 @@ put_object container name message =
     both (λ content_type meta. PutObject container name content_type meta message.body) (only (codes "content-type") message.headers)
     (meta_in message.headers)
 
+-- the query is `multipart-manifest=WORD`
+abbrev pub is_word : List ℕ → Option (List ℕ) → Bool
+is_word word None = false
+is_word word (Some value) = bytes_eq value word
+
+abbrev pub asks_manifest : List ℕ → Message → Bool
+asks_manifest word message = is_word word (last_value (codes "multipart-manifest") (query_text message.target))
+
+-- PUT of an object that lists segments
+abbrev pub put_listed : List ℕ → List ℕ → List ℕ → List (List ℕ) → Option (List Segment) → Option SwiftRequest
+put_listed container name content_type meta segments = option_map (λ listed. PutManifest container name content_type meta listed) segments
+
+abbrev pub listed_by : List ℕ → List ℕ → Option (List Segment) → Option (List ℕ) → Option (List (List ℕ)) → Option SwiftRequest
+listed_by container name segments None meta = None
+listed_by container name segments (Some content_type) None = None
+listed_by container name segments (Some content_type) (Some meta) = put_listed container name content_type meta segments
+
+abbrev pub put_manifest : List ℕ → List ℕ → Message → Option SwiftRequest
+put_manifest container name message =
+    listed_by container name (segments_in Put message.body) (only (codes "content-type") message.headers) (meta_in message.headers)
+
+-- PUT of an object, by its query
+abbrev pub put_call : List ℕ → List ℕ → Message → Option SwiftRequest
+put_call container name message =
+    if asks_manifest (codes "put") message then put_manifest container name message else unasked message (put_object container name message)
+
 -- HEAD, GET and DELETE of an object
 abbrev pub bare_object_call : List ℕ → List ℕ → Message → Option SwiftRequest
 bare_object_call container name message =
@@ -152,11 +182,19 @@ bare_object_call container name message =
     else (if has_method (codes "GET") message then option_map (λ range. GetObject container name range) (range_in message.headers)
     else (if has_method (codes "DELETE") message then Some (DeleteObject container name) else None))
 
--- those, and PUT of an object, which alone may have a body
+-- GET of the segments that an object lists
+abbrev pub asks_segments : Message → Bool
+asks_segments message = has_method (codes "GET") message && asks_manifest (codes "get") message
+
+-- those without a body
+abbrev pub small_object_call : List ℕ → List ℕ → Message → Option SwiftRequest
+small_object_call container name message =
+    if asks_segments message then Some (GetManifest container name) else unasked message (bare_object_call container name message)
+
+-- all; PUT of an object alone may have a body
 abbrev pub object_call : List ℕ → List ℕ → Message → Option SwiftRequest
 object_call container name message =
-    if has_method (codes "PUT") message then unasked message (put_object container name message)
-    else bodiless message (unasked message (bare_object_call container name message))
+    if has_method (codes "PUT") message then put_call container name message else bodiless message (small_object_call container name message)
 
 -- ---- the call of a message
 

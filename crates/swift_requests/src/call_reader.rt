@@ -3,18 +3,19 @@ ghost use Rattle.std.specs.Prelude.{◌≡◌, [], not, IfOk, bytes_eq};
 ghost use Rattle.http_wire.specs.declared.message.Message.{Message};
 ghost use Rattle.s3_names.specs.Target.{query_text};
 ghost use Rattle.swift_requests.specs.Place.{IsPlace};
-ghost use Rattle.swift_requests.specs.Calls.{account_in, has_method, unasked, bodiless, account_call, put_container, post_container, changed_container, container_call, readers_given, put_object, bare_object_call, object_call, call_at, call_of, ReadsCall};
+ghost use Rattle.swift_requests.specs.Calls.{account_in, has_method, unasked, bodiless, account_call, put_container, post_container, changed_container, container_call, readers_given, put_object, put_listed, put_manifest, put_call, is_word, asks_manifest, asks_segments, bare_object_call, small_object_call, object_call, call_at, call_of, ReadsCall};
 
 use crate::Place;
-use crate::listings::{containers_listing, names_listing};
+use crate::listings::{containers_listing, last_value, names_listing};
 use crate::paths::{Path, account_in, read_path};
 use crate::ranges::range_in;
 use gate_base::{Bytes, Memory, Pair, cut};
 use http_answers::only;
 use http_wire::Message;
+use slo_manifest::Form;
 use std::alloc::Global;
 use swift_calls::{ReadList, SwiftRequest, is_fit};
-use swift_replies::{WireFault, created_in, meta_in, readers_by};
+use swift_replies::{WireFault, created_in, meta_in, readers_by, segments_in};
 
 /// The call that a message spells at the place. `NotACall` exactly where it spells none that is within the limits of a
 /// store; whether it has the place's token is for `has_token` to say. The message is taken, so that the body of a
@@ -150,16 +151,58 @@ fn object_call(
 ) -> Result<Option<SwiftRequest>, Memory>
     ensures { IfOk result (λ call. call ≡ object_call container name message) }
 {
-    if has_query(&message) {
-        return Ok(None);
-    }
     if has_method(&message, b"PUT") {
-        return put_object(alloc, container, name, message);
+        return put_call(alloc, container, name, message);
     }
     if has_body(&message) {
         return Ok(None);
     }
-    Ok(bare_object_call(container, name, &message))
+    small_object_call(alloc, container, name, &message)
+}
+
+/// HEAD, GET and DELETE of an object, and GET of the segments that it lists.
+fn small_object_call(
+    alloc: Global,
+    container: Bytes,
+    name: Bytes,
+    message: &Message,
+) -> Result<Option<SwiftRequest>, Memory>
+    ensures { IfOk result (λ call. call ≡ small_object_call container name message.now) }
+{
+    if asks_segments(alloc, message)? {
+        return Ok(Some(SwiftRequest::GetManifest { container, name }));
+    }
+    if has_query(message) {
+        return Ok(None);
+    }
+    Ok(bare_object_call(container, name, message))
+}
+
+fn asks_segments(alloc: Global, message: &Message) -> Result<bool, Memory>
+    ensures { IfOk result (λ asks. asks ≡ asks_segments message.now) }
+{
+    if has_method(message, b"GET") {
+        asks_manifest(alloc, message, b"get")
+    } else {
+        Ok(false)
+    }
+}
+
+/// Whether the query is `multipart-manifest=WORD`.
+fn asks_manifest(alloc: Global, message: &Message, word: &[u8]) -> Result<bool, Memory>
+    ensures { IfOk result (λ asks. asks ≡ asks_manifest word.now message.now) }
+{
+    let value = last_value(alloc, query_of(message), b"multipart-manifest")?;
+    Ok(is_word(&value, word))
+}
+
+fn is_word(value: &Option<Bytes>, word: &[u8]) -> bool
+    ensures { result ≡ is_word word.now value.now }
+{
+    match value {
+        Some(value) => value.as_slice() == word,
+        None => false,
+    }
 }
 
 /// HEAD, GET and DELETE of an object.
@@ -181,6 +224,53 @@ fn bare_object_call(container: Bytes, name: Bytes, message: &Message) -> Option<
         Some(SwiftRequest::DeleteObject { container, name })
     } else {
         None
+    }
+}
+
+/// PUT of an object, by its query.
+fn put_call(
+    alloc: Global,
+    container: Bytes,
+    name: Bytes,
+    message: Message,
+) -> Result<Option<SwiftRequest>, Memory>
+    ensures { IfOk result (λ call. call ≡ put_call container name message) }
+{
+    if asks_manifest(alloc, &message, b"put")? {
+        return put_manifest(alloc, container, name, &message);
+    }
+    if has_query(&message) {
+        return Ok(None);
+    }
+    put_object(alloc, container, name, message)
+}
+
+/// PUT of an object that lists segments.
+fn put_manifest(
+    alloc: Global,
+    container: Bytes,
+    name: Bytes,
+    message: &Message,
+) -> Result<Option<SwiftRequest>, Memory>
+    ensures { IfOk result (λ call. call ≡ put_manifest container name message.now) }
+{
+    let headers = message.headers.as_slice();
+    let Some(content_type) = only(headers, b"content-type") else {
+        return Ok(None);
+    };
+    let content_type = Bytes::from_slice(alloc, content_type)?;
+    let Some(meta) = meta_in(alloc, headers)? else {
+        return Ok(None);
+    };
+    match segments_in(alloc, message.body.as_slice(), Form::Put)? {
+        Some(segments) => Ok(Some(SwiftRequest::PutManifest {
+            container,
+            name,
+            content_type,
+            meta,
+            segments,
+        })),
+        None => Ok(None),
     }
 }
 

@@ -1,7 +1,7 @@
 //! The target of a call that is written.
 ghost use Rattle.std.specs.Prelude.{◌≡◌, ◌++◌, OnOk, codes};
 ghost use Rattle.s3_names.specs.Escapes.{escaped_all, escaped_path};
-ghost use Rattle.swift_requests.specs.CallText.{account_text, container_text, object_text, listing_text, target_text};
+ghost use Rattle.swift_requests.specs.CallText.{account_text, container_text, object_text, listing_text, manifest_put, manifest_get, target_text};
 
 use crate::Place;
 use gate_base::{Bytes, Memory};
@@ -40,6 +40,18 @@ pub(crate) fn append_target(
         | SwiftRequest::DeleteContainer { container } => append_container(
             alloc, text, place, container,
         ),
+        SwiftRequest::PutManifest {
+            container,
+            name,
+            ..
+        } => {
+            append_object(alloc, text, place, container, name)?;
+            text.append(b"?multipart-manifest=put")
+        }
+        SwiftRequest::GetManifest { container, name } => {
+            append_object(alloc, text, place, container, name)?;
+            text.append(b"?multipart-manifest=get")
+        }
         SwiftRequest::PutObject {
             container,
             name,

@@ -1,16 +1,18 @@
 //! Calls written.
-ghost use Rattle.std.specs.Prelude.{◌≡◌, ◌++◌, IfOk, OnOk, codes, decimal};
+ghost use Rattle.std.specs.Prelude.{◌≡◌, ◌++◌, IfOk, OnOk, codes, decimal, length};
 ghost use Rattle.http1.specs.Head.{print_header, print_headers};
 ghost use Rattle.swift_calls.specs.Step.{Fit};
 ghost use Rattle.swift_requests.specs.Place.{IsPlace};
 ghost use Rattle.swift_requests.specs.Calls.{SpellsRequest};
-ghost use Rattle.swift_requests.specs.CallText.{method_text, body_of, line_text, call_fields, own_fields, readers_field, range_field, range_fields, call_text};
+ghost use Rattle.swift_requests.specs.CallText.{method_text, body_of, line_text, call_fields, own_fields, content_fields, readers_field, range_field, range_fields, call_text};
 ghost use Rattle.swift_replies.specs.AnswerText.{readers_text, created_fields, meta_fields};
 
 use crate::Place;
 use crate::call_target::append_target;
-use gate_base::{Bytes, Memory};
+use crate::laws::law_call_reads_back;
+use gate_base::{Bytes, List, Memory};
 use http_answers::append_decimal;
+use slo_manifest::{Form, write};
 use std::alloc::Global;
 use swift_calls::{ReadList, SwiftRequest};
 
@@ -26,22 +28,36 @@ pub fn write_call(alloc: Global, place: &Place, call: &SwiftRequest) -> Result<B
     ensures text { IfOk result (λ bytes. bytes ≡ call_text place.now call.now) }
     ensures spells { IfOk result (λ bytes. SpellsRequest place.now call.now bytes) }
 {
-    let body = body_of(call);
+    match call {
+        SwiftRequest::PutObject { body, .. } => write_with(alloc, place, call, body.as_slice()),
+        SwiftRequest::PutManifest { segments, .. } => {
+            let body = write(alloc, segments.as_slice(), Form::Put)?;
+            write_with(alloc, place, call, body.as_slice())
+        }
+        _ => write_with(alloc, place, call, b""),
+    }
+}
+
+/// The same with the call's body.
+fn write_with(
+    alloc: Global,
+    place: &Place,
+    call: &SwiftRequest,
+    body: &[u8],
+) -> Result<Bytes, Memory>
+    requires place { IsPlace place.now }
+    requires fit { Fit call.now }
+    requires body { body.now ≡ body_of call.now }
+    ensures text { IfOk result (λ bytes. bytes ≡ call_text place.now call.now) }
+    ensures spells { IfOk result (λ bytes. SpellsRequest place.now call.now bytes) }
+{
+    law_call_reads_back();
     let mut text = Bytes::with_room(alloc, body.len().saturating_add(HEAD_ROOM))?;
     append_line(alloc, &mut text, place, call)?;
-    append_fields(&mut text, place, call)?;
+    append_fields(&mut text, place, call, body.len())?;
     text.append(b"\r\n")?;
     text.append(body)?;
     Ok(text)
-}
-
-fn body_of(call: &SwiftRequest) -> &[u8]
-    ensures { result.now ≡ body_of call.now }
-{
-    match call {
-        SwiftRequest::PutObject { body, .. } => body.as_slice(),
-        _ => b"",
-    }
 }
 
 fn method_text(call: &SwiftRequest) -> &'static [u8]
@@ -55,8 +71,10 @@ fn method_text(call: &SwiftRequest) -> &'static [u8]
         SwiftRequest::DeleteContainer { .. } => b"DELETE",
         SwiftRequest::ListNames { .. } => b"GET",
         SwiftRequest::PutObject { .. } => b"PUT",
+        SwiftRequest::PutManifest { .. } => b"PUT",
         SwiftRequest::HeadObject { .. } => b"HEAD",
         SwiftRequest::GetObject { .. } => b"GET",
+        SwiftRequest::GetManifest { .. } => b"GET",
         SwiftRequest::DeleteObject { .. } => b"DELETE",
     }
 }
@@ -76,14 +94,20 @@ fn append_line(
     text.append(b" HTTP/1.1\r\n")
 }
 
-/// Adds the header fields.
-fn append_fields(text: &mut Bytes, place: &Place, call: &SwiftRequest) -> Result<(), Memory>
+/// Adds the header fields of a call whose body has so many bytes.
+fn append_fields(
+    text: &mut Bytes,
+    place: &Place,
+    call: &SwiftRequest,
+    size: usize,
+) -> Result<(), Memory>
+    requires { size ≡ length (body_of call.now) }
     ensures { OnOk result (text.new ≡ text.old ++ print_headers (call_fields place.now call.now)) }
 {
     append_field(text, b"Host", place.host.as_slice())?;
     append_field(text, b"X-Auth-Token", place.token.as_slice())?;
     append_own(text, call)?;
-    append_number(text, b"Content-Length", body_of(call).len() as u64)
+    append_number(text, b"Content-Length", size as u64)
 }
 
 /// Adds a field.
@@ -124,13 +148,23 @@ fn append_own(text: &mut Bytes, call: &SwiftRequest) -> Result<(), Memory>
             content_type,
             meta,
             ..
-        } => {
-            append_field(text, b"Content-Type", content_type.as_slice())?;
-            append_meta(text, meta.as_slice())
-        }
+        } => append_content(text, content_type, meta),
+        SwiftRequest::PutManifest {
+            content_type,
+            meta,
+            ..
+        } => append_content(text, content_type, meta),
         SwiftRequest::GetObject { range, .. } => append_range(text, *range),
         _ => Ok(()),
     }
+}
+
+/// Adds the type and the metadata of an object that is put.
+fn append_content(text: &mut Bytes, content_type: &Bytes, meta: &List<Bytes>) -> Result<(), Memory>
+    ensures { OnOk result (text.new ≡ text.old ++ print_headers (content_fields content_type.now meta.now)) }
+{
+    append_field(text, b"Content-Type", content_type.as_slice())?;
+    append_meta(text, meta.as_slice())
 }
 
 fn append_readers(text: &mut Bytes, readers: ReadList) -> Result<(), Memory>

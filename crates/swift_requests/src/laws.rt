@@ -8,10 +8,14 @@ ghost use Rattle.swift_requests.specs.Calls.{SpellsCall, SpellsRequest};
 ghost use Rattle.swift_requests.specs.CallText.{call_fields, call_head, call_text};
 ghost use Rattle.swift_requests.specs.declared.place.Place.{Place};
 
+use slo_manifest::law_text_reads_back;
+
 /// What is written for a call is one whole request that spells the call, and has the place's token.
 pub fn law_call_reads_back()
     ensures { (place : Place) (call : SwiftRequest) → IsPlace place → Fit call → SpellsRequest place call (call_text place call) }
-{}
+{
+    law_text_reads_back();
+}
 
 /// The head that is written for a call is within what a store reads: less than 16,384 bytes, fewer than 100 fields.
 pub fn law_call_head_is_small()

@@ -90,7 +90,7 @@ fn first_value<'a>(
 }
 
 /// The value of the last piece, which has the name.
-fn last_value(alloc: Global, text: &[u8], name: &[u8]) -> Result<Option<Bytes>, Memory>
+pub(crate) fn last_value(alloc: Global, text: &[u8], name: &[u8]) -> Result<Option<Bytes>, Memory>
     ensures { IfOk result (λ value. value ≡ last_value name.now text.now) }
 {
     if has_more(text) {

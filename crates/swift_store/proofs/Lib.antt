@@ -1,11 +1,15 @@
 pub mod Calls
+pub mod Joining
+pub mod Listed
 pub mod Listing
 pub mod MadeChanges
 pub mod MadeEntries
 pub mod MadeEtags
 pub mod MadeReplies
+pub mod Passing
 pub mod Replying
 pub mod Served
 pub mod Shelves
+pub mod Windows
 pub mod Writing
 pub mod lemmas

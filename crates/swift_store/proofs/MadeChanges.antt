@@ -1,15 +1,17 @@
 -- An account that calls make is still one after each change.
-use Rattle.std.specs.Prelude.{◌≡◌, ℕ, List, Option, None, Some, IfSome}
+use Rattle.std.specs.Prelude.{◌≡◌, ◌<◌, ◌^◌, ℕ, List, Option, None, Some, IfSome}
 use Rattle.std.specs.FinMap.{get, insert, remove, empty}
 use Rattle.std.specs.Option.{option_map}
 use Rattle.std.proofs.lemmas.Option.{none-some, same_Some}
-use Rattle.std.proofs.Common.{inl, inr, subst, refl, sym, ap, ◌∙◌}
+use Rattle.std.proofs.Common.{arith, inl, inr, subst, refl, sym, ap, ◌∙◌}
 use Rattle.gate_base.specs.Maps.{adjust}
 use Rattle.gate_base.proofs.lemmas.Maps.{by_name, get_empty, same_key, at_adjust, off_adjust, insert_is, remove_is}
-use Rattle.swift_calls.specs.Account.{SwiftAccount, SwiftContainer, SwiftObject, files_of, find_object, new_folder, on_files, put_file, remove_file, with_head, with_readers}
+use Rattle.swift_calls.specs.Account.{SwiftAccount, SwiftContainer, SwiftObject, files_of, find_object, new_folder, on_files, put_file, remove_file, size_of, with_head, with_readers}
 use Rattle.swift_calls.specs.Step.{IsContainerName, IsMoment}
 use Rattle.swift_calls.specs.declared.account.ReadList.{ReadList}
-use Rattle.swift_store.specs.Made.{IsMade, IsMadeContainer, IsMadeObject}
+use Rattle.swift_calls.specs.declared.account.Content.{Content}
+use Rattle.swift_calls.specs.declared.account.Content.TheVariants.{Plain, Segments}
+use Rattle.swift_store.specs.Made.{IsMade, IsMadeContainer, IsMadeContent, IsMadeObject}
 
 pub made_empty : IsMade empty
 made_empty c folder found = absurd (none-some folder (sym (get_empty by_name c) ∙ found))
@@ -78,3 +80,8 @@ made_taken c n account made =
       created = m.created;
       objects = λ k other there. remove_is by_name IsMadeObject folder.files n k other (m.objects k other) there;
     }) made
+
+-- what is put is below 2^63 bytes
+pub made_size : (content : Content) → IsMadeContent content → size_of content < 2 ^ 63
+made_size (Plain bytes) made = omega (arith, made.own bytes refl)
+made_size (Segments segments) made = (made.list segments refl).sized.size

@@ -3,20 +3,22 @@ use Rattle.std.specs.Prelude.{◌≡◌, ℕ, ◌+◌, ◌-◌, ◌^◌, ◌<◌
 use Rattle.std.specs.List.{All, list_all}
 use Rattle.std.specs.Str.{is_utf8}
 use Rattle.std.specs.FinMap.{entries, get}
-use Rattle.std.proofs.Common.{refl, ap, ◌∙◌, arith, true≢false}
-use Rattle.std.proofs.lemmas.Bool.{and_parts, and_from, eq-eqb, lt-ltb, ltb-true}
+use Rattle.std.proofs.Common.{refl, sym, ap, ◌∙◌, arith}
+use Rattle.std.proofs.lemmas.Bool.{and_parts, and_from, le-leb, eq-eqb, lt-ltb, ltb-true}
 use Rattle.std.proofs.lemmas.Bool.Decides.{nat_tests}
 use Rattle.std.proofs.lemmas.List.{length-drop, length-take-le}
 use Rattle.std.proofs.lemmas.List.Elements.{All-weaker}
-use Rattle.std.proofs.lemmas.List.Sums.{AllPass-from_list_all}
+use Rattle.std.proofs.lemmas.List.Sums.{AllPass-from_list_all, list_all-from_AllPass}
 use Rattle.std.proofs.lemmas.Str.{IsUtf8-from_ascii, is_utf8-from_IsUtf8}
 use Rattle.std.proofs.lemmas.Str.Ascii.{IsAscii-from_all}
 use Rattle.gate_base.specs.Told.{moment_limit}
 use Rattle.swift_calls.specs.Account.{SwiftAccount, SwiftContainer, SwiftObject, find_object, size_of}
-use Rattle.swift_calls.specs.Bodies.{Look, etag_text, head_of, item_of}
+use Rattle.slo_manifest.specs.Segments.{is_manifest, is_segment}
+use Rattle.slo_manifest.specs.declared.Segment.{Segment}
+use Rattle.swift_calls.specs.Bodies.{Look, is_good_list, listed_in, bytes_of, etag_of, etag_text, head_of, item_of, joined_etags}
 use Rattle.gate_base.specs.Fields.{is_field, is_printable}
-use Rattle.swift_calls.specs.Limits.{IsRange, is_content_type}
-use Rattle.swift_calls.specs.Step.{IsMoment, is_bare, is_listed, names_reply, items_reply, head_container, put_container, post_container, delete_by, delete_container, put_object, head_reply, get_reply, part_reply, delete_object}
+use Rattle.swift_calls.specs.Limits.{IsRange, is_content_type, most_segments}
+use Rattle.swift_calls.specs.Step.{IsMoment, IsSegmentPlace, manifest_by, manifest_reply, put_listed, put_manifest, is_bare, is_listed, names_reply, items_reply, head_container, put_container, post_container, delete_by, delete_container, put_object, head_reply, get_reply, body_reply, part_reply, delete_object}
 use Rattle.swift_calls.specs.declared.account.ReadList.{ReadList}
 use Rattle.swift_calls.specs.declared.account.Content.{Content}
 use Rattle.swift_calls.specs.declared.account.Content.TheVariants.{Plain, Segments}
@@ -25,6 +27,7 @@ use Rattle.swift_replies.specs.AnswerText.{
   Sent,
   is_created,
   is_item,
+  is_tag,
   list_containers_sent,
   head_container_sent,
   put_sent,
@@ -34,10 +37,13 @@ use Rattle.swift_replies.specs.AnswerText.{
   put_object_sent,
   head_object_sent,
   get_sent,
+  get_manifest_sent,
+  put_manifest_sent,
 }
 use Rattle.swift_replies.proofs.lemmas.SmallHeads.{IsSmallHead, stored_spelled, head_spelled, bytes_spelled}
-use Rattle.swift_store.specs.Made.{IsMade, IsMadeObject}
-use Rattle.swift_store.proofs.MadeChanges.{made_found}
+use Rattle.swift_store.specs.Made.{IsMade, IsMadeContent, IsMadeList, IsMadeObject}
+use Rattle.swift_store.proofs.MadeChanges.{made_found, made_size}
+use Rattle.swift_store.proofs.Joining.{bytes_sized}
 use Rattle.swift_store.proofs.MadeEntries.{IsEntry, entries_found, page_passes}
 use Rattle.swift_store.proofs.MadeEtags.{etag_length, etag_tag, etag_utf8}
 
@@ -67,6 +73,20 @@ created_read : (created : Option ℕ) → IfSome created IsMoment → is_created
 created_read None moment = refl
 created_read (Some at) moment = lt-ltb at moment_limit moment
 
+-- ---- ETags
+
+content_tag : (content : Content) → is_tag (etag_of content) ≡ true
+content_tag (Plain bytes) = etag_tag bytes
+content_tag (Segments segments) = etag_tag (joined_etags segments)
+
+content_length : (content : Content) → length (etag_of content) ≡ 32
+content_length (Plain bytes) = etag_length bytes
+content_length (Segments segments) = etag_length (joined_etags segments)
+
+content_utf8 : (content : Content) → is_utf8 (etag_of content) ≡ true
+content_utf8 (Plain bytes) = etag_utf8 bytes
+content_utf8 (Segments segments) = etag_utf8 (joined_etags segments)
+
 -- ---- objects
 
 module _ (n content_type : List ℕ) (meta : List (List ℕ)) where
@@ -75,26 +95,24 @@ module _ (n content_type : List ℕ) (meta : List (List ℕ)) where
 
   -- a number that JSON has
   item_size : (content : Content) → IsMadeObject n (object content) → nat_lt (size_of content) (2 ^ 64) ≡ true
-  item_size content own = lt-ltb (size_of content) (2 ^ 64) (omega (arith, own.within))
+  item_size content own = lt-ltb (size_of content) (2 ^ 64) (omega (arith, made_size content own.content))
 
   item_is : (content : Content) → IsMadeObject n (object content) → is_item (item_of n (object content)) ≡ true
-  item_is (Plain bytes) own =
+  item_is content own =
       and_from _ _ (is_utf8-from_IsUtf8 n own.named.1.utf8)
-      (and_from _ _ (etag_utf8 bytes) (and_from _ _ (type_utf8 content_type own.content_type) (item_size (Plain bytes) own)))
-  item_is (Segments segments) own = absurd (true≢false own.own)
+      (and_from _ _ (content_utf8 content) (and_from _ _ (type_utf8 content_type own.content_type) (item_size content own)))
 
-  head_small : (bytes : List ℕ) → IsMadeObject n (object (Plain bytes)) → IsSmallHead (head_of (object (Plain bytes)))
-  head_small bytes own = record {
+  head_small : (content : Content) → IsMadeObject n (object content) → IsSmallHead (head_of (object content))
+  head_small content own = record {
     content_type = own.content_type;
-    tag = etag_tag bytes;
-    etag = omega (arith, etag_length bytes);
-    size = omega (arith, own.within);
+    tag = content_tag content;
+    etag = omega (arith, content_length content);
+    size = omega (arith, made_size content own.content);
     meta = own.meta;
   }
 
   head_sent_is : (content : Content) → IsMadeObject n (object content) → is_some (head_object_sent (head_reply (Some (object content)))) ≡ true
-  head_sent_is (Plain bytes) own = head_spelled (head_of (object (Plain bytes))) (head_small bytes own)
-  head_sent_is (Segments segments) own = absurd (true≢false own.own)
+  head_sent_is content own = head_spelled (head_of (object content)) (head_small content own)
 
   -- the bytes of a range
   part_is : (range : ℕ × ℕ) (bytes : List ℕ) → IsRange range → nat_lt range.0 (length bytes) ≡ true
@@ -109,18 +127,32 @@ module _ (n content_type : List ℕ) (meta : List (List ℕ)) where
       (eq-eqb (length (slice_range bytes range.0 (min (range.1 + 1) (length bytes)))) (min (range.1 + 1) (length bytes) - range.0)
       (length-take-le (min (range.1 + 1) (length bytes) - range.0) (drop range.0 bytes) room))
 
-  range_is : (range : ℕ × ℕ) (bytes : List ℕ) → IsRange range → IsMadeObject n (object (Plain bytes)) → (b : Bool) → nat_lt range.0 (length bytes) ≡ b
+  range_is : (range : ℕ × ℕ) (content : Content) (bytes : List ℕ) → IsRange range → IsMadeObject n (object content) → length bytes ≡ size_of content → (b : Bool) → nat_lt range.0 (length bytes) ≡ b
       → is_some (get_sent (Some range)
-      (part_reply (head_of (object (Plain bytes))) (cond b (Some (slice_range bytes range.0 (min (range.1 + 1) (length bytes)))) None))) ≡ true
-  range_is range bytes within own true below = bytes_spelled (Some range) (head_of (object (Plain bytes))) _ (head_small bytes own) (part_is range bytes within below)
-  range_is range bytes within own false past = refl
+      (part_reply (head_of (object content)) (cond b (Some (slice_range bytes range.0 (min (range.1 + 1) (length bytes)))) None))) ≡ true
+  range_is range content bytes within own size true below =
+      bytes_spelled (Some range) (head_of (object content)) _ (head_small content own)
+      (sym (ap (λ k. is_part (Some range) k (length (slice_range bytes range.0 (min (range.1 + 1) (length bytes))))) size) ∙ part_is range bytes within below)
+  range_is range content bytes within own size false past = refl
+
+  -- the bytes of an object are as many as it is large
+  body_is : (range : Option (ℕ × ℕ)) (content : Content) → IfSome range IsRange → IsMadeObject n (object content) → (v : Option (List ℕ)) → ((bytes : List ℕ) → v ≡ Some bytes → length bytes ≡ size_of content)
+      → is_some (get_sent range (body_reply (head_of (object content)) range v)) ≡ true
+  body_is range content within own None sized = refl
+  body_is None content within own (Some bytes) sized =
+      bytes_spelled None (head_of (object content)) bytes (head_small content own) (eq-eqb (length bytes) (size_of content) (sized bytes refl))
+  body_is (Some range) content within own (Some bytes) sized = range_is range content bytes within own (sized bytes refl) (nat_lt range.0 (length bytes)) refl
 
   get_sent_is : (looks : Look) (range : Option (ℕ × ℕ)) (content : Content) → IfSome range IsRange → IsMadeObject n (object content)
       → is_some (get_sent range (get_reply looks range (Some (object content)))) ≡ true
-  get_sent_is looks None (Plain bytes) within own =
-      bytes_spelled None (head_of (object (Plain bytes))) bytes (head_small bytes own) (eq-eqb (length bytes) (length bytes) refl)
-  get_sent_is looks (Some range) (Plain bytes) within own = range_is range bytes within own (nat_lt range.0 (length bytes)) refl
-  get_sent_is looks range (Segments segments) within own = absurd (true≢false own.own)
+  get_sent_is looks range content within own = body_is range content within own (bytes_of looks content) (bytes_sized looks content)
+
+-- segments that a call lists have a text
+list_is : (segments : List Segment) → IsMadeList segments → is_manifest segments ≡ true
+unfolding is_manifest
+list_is segments made =
+    and_from _ _ (le-leb (length segments) most_segments made.within)
+    (list_all-from_AllPass is_segment segments (All-weaker IsSegmentPlace (λ s. is_segment s ≡ true) (λ s place. place.listable) segments made.places))
 
 -- ---- each row
 
@@ -158,6 +190,17 @@ module _ (account : SwiftAccount) (made : IsMade account) where
       by None at = refl
       by (Some file) at = head_sent_is n file.content_type file.meta file.content (made_found c n account file made at)
 
+  pub manifest_row : (c n : List ℕ) → is_some (get_manifest_sent (manifest_reply (find_object account c n))) ≡ true
+  manifest_row c n = by (find_object account c n) refl
+    where
+      of : (content : Content) → IsMadeContent content → is_some (get_manifest_sent (manifest_by (listed_in content))) ≡ true
+      of (Plain bytes) own = refl
+      of (Segments segments) own = sent_if (is_manifest segments) _ (list_is segments (own.list segments refl)) refl
+
+      by : (v : Option SwiftObject) → find_object account c n ≡ v → is_some (get_manifest_sent (manifest_reply v)) ≡ true
+      by None at = refl
+      by (Some file) at = of file.content (made_found c n account file made at).content
+
   pub get_row : (c n : List ℕ) (range : Option (ℕ × ℕ)) → IfSome range IsRange
       → is_some (get_sent range (get_reply (find_object account) range (find_object account c n))) ≡ true
   get_row c n range within = by (find_object account c n) refl
@@ -191,6 +234,15 @@ pub stored_row : (v : Option SwiftContainer) (c n content_type : List ℕ) (meta
 stored_row None c n content_type meta body account = refl
 stored_row (Some folder) c n content_type meta body account =
     stored_spelled (etag_text body) (etag_tag body) (omega (arith, etag_length body))
+
+pub list_row : (v : Option SwiftContainer) (c n content_type : List ℕ) (meta : List (List ℕ)) (segments : List Segment) (account : SwiftAccount)
+    → is_some (put_manifest_sent (put_manifest v c n content_type meta segments account).reply) ≡ true
+list_row None c n content_type meta segments account = refl
+list_row (Some folder) c n content_type meta segments account = by (is_good_list (find_object account) segments)
+  where
+    by : (b : Bool) → is_some (put_manifest_sent (put_listed b (Some folder) c n (record { content_type = content_type; meta = meta; content = Segments segments }) account).reply) ≡ true
+    by true = stored_spelled (etag_text (joined_etags segments)) (etag_tag (joined_etags segments)) (omega (arith, etag_length (joined_etags segments)))
+    by false = refl
 
 pub remove_row : (v : Option SwiftObject) (c n : List ℕ) (account : SwiftAccount) → is_some (post_sent (delete_object v c n account).reply) ≡ true
 remove_row None c n account = refl

@@ -1,5 +1,5 @@
 -- The reply to each call, by what a shelf tells.
-use Rattle.std.specs.Prelude.{◌≡◌, ℕ, ◌+◌, ◌-◌, ◌≤◌, min, true, false, ◌&&◌, nat_le, nat_lt, List, length, take, drop, slice_range, Option, None, Some, is_some}
+use Rattle.std.specs.Prelude.{◌≡◌, ℕ, ◌+◌, ◌-◌, ◌≤◌, min, Bool, true, false, ◌&&◌, cond, if◌then◌else◌, nat_le, nat_lt, List, length, take, drop, slice_range, Option, None, Some, is_some}
 use Rattle.std.specs.Option.{option_map}
 use Rattle.std.specs.FinMap.{get}
 use Rattle.std.proofs.Common.{refl, sym, ap, ◌∙◌, arith, inl, inr, true≢false}
@@ -7,19 +7,24 @@ use Rattle.std.proofs.lemmas.Bool.{cases_lt, cond-true, cond-false, le-leb, lt-l
 use Rattle.std.proofs.lemmas.Option.{none-some, same_Some}
 use Rattle.std.proofs.lemmas.List.{take_all}
 use Rattle.swift_calls.specs.Account.{SwiftAccount, SwiftContainer, SwiftObject, files, files_of, find_object, size_of}
-use Rattle.swift_calls.specs.Bodies.{Look, etag_text, head_of, is_list}
-use Rattle.swift_calls.specs.Step.{swift_step, is_bare, head_container, put_container, post_container, delete_container, delete_by, items_reply, put_object, head_reply, delete_object, get_reply, part_reply}
+use Rattle.std.specs.List.{list_all}
+use Rattle.slo_manifest.specs.Etag.{joined_etag}
+use Rattle.slo_manifest.specs.declared.Segment.{Segment}
+use Rattle.swift_calls.specs.Bodies.{Look, etag_text, head_of, is_list, joined, joined_etags, outer_bytes, ranged, is_good_list, listed_in}
+use Rattle.swift_calls.specs.Step.{swift_step, is_bare, head_container, put_container, post_container, delete_container, delete_by, items_reply, put_object, head_reply, delete_object, get_reply, body_reply, part_reply, manifest_by, manifest_reply, put_listed, put_manifest}
 use Rattle.swift_calls.specs.declared.account.ReadList.{ReadList}
 use Rattle.swift_calls.specs.declared.account.Content.{Content}
 use Rattle.swift_calls.specs.declared.account.Content.TheVariants.{Plain, Segments}
 use Rattle.swift_calls.specs.declared.heads.StoredHead.{StoredHead}
 use Rattle.swift_calls.specs.declared.heads.NameItem.{NameItem}
-use Rattle.swift_calls.specs.declared.calls.SwiftRequest.TheVariants.{HeadContainer, PutContainer, PostContainer, DeleteContainer, ListNames, PutObject, HeadObject, GetObject, DeleteObject}
-use Rattle.swift_calls.specs.declared.calls.SwiftReply.TheVariants.{Made, There, Gone, Stored, NotFound, NotEmpty, Unsatisfiable, Readers, Names, Head, Bytes}
-use Rattle.swift_store.specs.Made.{IsMade}
+use Rattle.swift_calls.specs.declared.calls.SwiftRequest.TheVariants.{HeadContainer, PutContainer, PostContainer, DeleteContainer, ListNames, PutObject, PutManifest, HeadObject, GetObject, GetManifest, DeleteObject}
+use Rattle.swift_calls.specs.declared.calls.SwiftReply.{SwiftReply}
+use Rattle.swift_calls.specs.declared.calls.SwiftReply.TheVariants.{Made, There, Gone, Stored, NotFound, NotEmpty, Unsatisfiable, Readers, Names, Head, Bytes, Manifest}
+use Rattle.swift_store.specs.Listed.{is_outer, segments_at, window}
 use Rattle.swift_store.specs.Shelf.{container_head, object_page, part, part_of}
-use Rattle.swift_store.proofs.MadeChanges.{made_found}
-use Rattle.swift_store.specs.Serving.{bounds}
+use Rattle.swift_store.proofs.Joining.{joined_length, outer_sized}
+use Rattle.swift_store.proofs.Listed.{joined_some}
+use Rattle.swift_store.specs.Serving.{bounds, listed_part, listed_reply, parted, reply_of}
 
 -- ---- containers
 
@@ -204,29 +209,54 @@ module _ (looks : Look) (content_type : List ℕ) (meta : List (List ℕ)) where
   beyond_content range (Plain bytes) plain e = beyond_plain range bytes e
   beyond_content range (Segments segments) plain e = absurd (true≢false plain)
 
--- an object that is found lists no segments
-own_found : (c n : List ℕ) (account : SwiftAccount) → IsMade account → (object : SwiftObject) → find_object account c n ≡ Some object → is_list object.content ≡ false
-own_found c n account made object found = (made_found c n account object made found).own
+  -- the bytes of a range, by the size
+  parted_by : (range : ℕ × ℕ) (bytes : List ℕ) → parted (Some range) (length bytes) bytes ≡ ranged (Some range) bytes
+  parted_by range bytes = by (nat_lt range.0 (length bytes))
+    where
+      by : (b : Bool) → option_map (λ (ends : ℕ × ℕ). window ends.0 (ends.1 - ends.0) bytes) (if b then Some (range.0, min (range.1 + 1) (length bytes)) else None) ≡ cond b (Some (slice_range bytes range.0 (min (range.1 + 1) (length bytes)))) None
+      by true = refl
+      by false = refl
+
+  parted_is : (range : Option (ℕ × ℕ)) (size : ℕ) (bytes : List ℕ) → length bytes ≡ size → parted range size bytes ≡ ranged range bytes
+  parted_is None size bytes is = ap Some (take_all (size - 0) bytes (omega (arith, is)))
+  parted_is (Some range) size bytes is = sym (ap (λ n. parted (Some range) n bytes) is) ∙ parted_by range bytes
+
+  -- the reply by what was read of a list
+  list_by : (head : StoredHead) (range : Option (ℕ × ℕ)) (v : Option (List ℕ)) → ((bytes : List ℕ) → v ≡ Some bytes → length bytes ≡ head.size)
+      → reply_of head (option_map (parted range head.size) v) ≡ body_reply head range v
+  list_by head range None sized = refl
+  list_by head range (Some bytes) sized = ap (λ v. reply_of head (Some v)) (parted_is range head.size bytes (sized bytes refl)) ∙ part (ranged range bytes)
+    where
+      part : (w : Option (List ℕ)) → reply_of head (Some w) ≡ part_reply head w
+      part None = refl
+      part (Some bytes) = refl
+
+  read_list : (range : Option (ℕ × ℕ)) (content : Content) → is_list content ≡ true
+      → reply_of (head_of (object content)) (listed_part looks range (size_of content) (listed_in content)) ≡ get_reply looks range (Some (object content))
+  read_list range (Plain bytes) e = absurd (true≢false (sym e))
+  read_list range (Segments segments) e = list_by (head_of (object (Segments segments))) range (joined (outer_bytes looks) segments) (λ bytes there. joined_length (outer_bytes looks) (outer_sized looks) segments bytes there)
 
 module _ (c n : List ℕ) (account : SwiftAccount) (range : Option (ℕ × ℕ)) where
-  -- the bytes are read a call later, of the same account
-  pub bytes_some : (head : StoredHead) (from end : ℕ) (body : List ℕ) (later : SwiftAccount) → Some head ≡ option_map head_of (find_object account c n) → IsMade account → Some (from, end) ≡ bounds range head.size
-      → later ≡ account → body ≡ part_of from end (find_object later c n) → Bytes head body ≡ (swift_step (GetObject c n range) account).reply
-  bytes_some head from end body later e made asked same read = ap (Bytes head) (read ∙ ap (λ a. part_of from end (find_object a c n)) same) ∙ by (find_object account c n) e (own_found c n account made)
+  -- of an object with bytes of its own
+  pub bytes_some : (head : StoredHead) (from end : ℕ) (body : List ℕ) → Some (from, end) ≡ bounds range head.size → body ≡ part_of from end (find_object account c n)
+      → Some head ≡ option_map head_of (find_object account c n) → head.manifest ≡ false → Bytes head body ≡ (swift_step (GetObject c n range) account).reply
+  bytes_some head from end body asked read e own = ap (Bytes head) read ∙ by (find_object account c n) e
     where
-      by : (v : Option SwiftObject) → Some head ≡ option_map head_of v → ((f : SwiftObject) → v ≡ Some f → is_list f.content ≡ false) → Bytes head (part_of from end v) ≡ get_reply (find_object account) range v
-      by None e plain = absurd (none-some _ (sym e))
-      by (Some f) e plain =
+      by : (v : Option SwiftObject) → Some head ≡ option_map head_of v → Bytes head (part_of from end v) ≡ get_reply (find_object account) range v
+      by None e = absurd (none-some _ (sym e))
+      by (Some f) e =
           let is = same_Some head (head_of f) e in
           ap (λ h. Bytes h (part_of from end (Some f))) is
-          ∙ read_content (find_object account) f.content_type f.meta range f.content from end (plain f refl) (asked ∙ ap (λ h. bounds range h.size) is)
+          ∙ read_content (find_object account) f.content_type f.meta range f.content from end (sym (ap (λ (h : StoredHead). h.manifest) is) ∙ own) (asked ∙ ap (λ h. bounds range h.size) is)
 
-  pub bytes_beyond : (head : StoredHead) → Some head ≡ option_map head_of (find_object account c n) → IsMade account → None ≡ bounds range head.size → Unsatisfiable ≡ (swift_step (GetObject c n range) account).reply
-  bytes_beyond head e made asked = by (find_object account c n) e (own_found c n account made)
+  pub bytes_beyond : (head : StoredHead) → None ≡ bounds range head.size → Some head ≡ option_map head_of (find_object account c n) → head.manifest ≡ false → Unsatisfiable ≡ (swift_step (GetObject c n range) account).reply
+  bytes_beyond head asked e own = by (find_object account c n) e
     where
-      by : (v : Option SwiftObject) → Some head ≡ option_map head_of v → ((f : SwiftObject) → v ≡ Some f → is_list f.content ≡ false) → Unsatisfiable ≡ get_reply (find_object account) range v
-      by None e plain = absurd (none-some _ (sym e))
-      by (Some f) e plain = beyond_content (find_object account) f.content_type f.meta range f.content (plain f refl) (asked ∙ ap (λ h. bounds range h.size) (same_Some head (head_of f) e))
+      by : (v : Option SwiftObject) → Some head ≡ option_map head_of v → Unsatisfiable ≡ get_reply (find_object account) range v
+      by None e = absurd (none-some _ (sym e))
+      by (Some f) e =
+          let is = same_Some head (head_of f) e in
+          beyond_content (find_object account) f.content_type f.meta range f.content (sym (ap (λ (h : StoredHead). h.manifest) is) ∙ own) (asked ∙ ap (λ h. bounds range h.size) is)
 
   pub bytes_none : None ≡ option_map head_of (find_object account c n) → NotFound ≡ (swift_step (GetObject c n range) account).reply
   bytes_none e = by (find_object account c n) e
@@ -234,3 +264,96 @@ module _ (c n : List ℕ) (account : SwiftAccount) (range : Option (ℕ × ℕ))
       by : (v : Option SwiftObject) → None ≡ option_map head_of v → NotFound ≡ get_reply (find_object account) range v
       by None e = refl
       by (Some object) e = absurd (none-some _ e)
+
+  -- of one that lists segments
+  pub list_read : (head : StoredHead) (read : Option (Option (List ℕ))) → read ≡ listed_part (find_object account) range head.size (segments_at (find_object account c n)) → Some head ≡ option_map head_of (find_object account c n) → head.manifest ≡ true
+      → reply_of head read ≡ (swift_step (GetObject c n range) account).reply
+  list_read head read is e lists = ap (reply_of head) is ∙ by (find_object account c n) e
+    where
+      by : (v : Option SwiftObject) → Some head ≡ option_map head_of v → reply_of head (listed_part (find_object account) range head.size (segments_at v)) ≡ get_reply (find_object account) range v
+      by None e = absurd (none-some _ (sym e))
+      by (Some f) e =
+          let is = same_Some head (head_of f) e in
+          ap (λ h. reply_of h (listed_part (find_object account) range h.size (listed_in f.content))) is
+          ∙ read_list (find_object account) f.content_type f.meta range f.content (sym (ap (λ (h : StoredHead). h.manifest) is) ∙ lists)
+
+  pub list_some : (head : StoredHead) (body : List ℕ) → Some (Some body) ≡ listed_part (find_object account) range head.size (segments_at (find_object account c n)) → Some head ≡ option_map head_of (find_object account c n) → head.manifest ≡ true
+      → Bytes head body ≡ (swift_step (GetObject c n range) account).reply
+  list_some head body is e lists = list_read head (Some (Some body)) is e lists
+
+  pub list_beyond : (head : StoredHead) → Some None ≡ listed_part (find_object account) range head.size (segments_at (find_object account c n)) → Some head ≡ option_map head_of (find_object account c n) → head.manifest ≡ true
+      → Unsatisfiable ≡ (swift_step (GetObject c n range) account).reply
+  list_beyond head is e lists = list_read head (Some None) is e lists
+
+  pub list_lost : (head : StoredHead) → None ≡ listed_part (find_object account) range head.size (segments_at (find_object account c n)) → Some head ≡ option_map head_of (find_object account c n) → head.manifest ≡ true
+      → NotFound ≡ (swift_step (GetObject c n range) account).reply
+  list_lost head is e lists = list_read head None is e lists
+
+-- ---- bytes of a list
+
+-- a segment isn't there
+pub lost_part : (look : Look) (range : Option (ℕ × ℕ)) (size : ℕ) (segments : List Segment) → false ≡ list_all (is_outer look) segments → None ≡ option_map (parted range size) (joined (outer_bytes look) segments)
+lost_part look range size segments lost = by (joined (outer_bytes look) segments) (lost ∙ sym (joined_some (outer_bytes look) segments))
+  where
+    by : (v : Option (List ℕ)) → false ≡ is_some v → None ≡ option_map (parted range size) v
+    by None e = refl
+    by (Some bytes) e = absurd (true≢false (sym e))
+
+-- each is
+pub there_part : (look : Look) (range : Option (ℕ × ℕ)) (size : ℕ) (segments : List Segment) (part : Option (List ℕ)) → true ≡ list_all (is_outer look) segments
+    → ((bytes : List ℕ) → joined (outer_bytes look) segments ≡ Some bytes → part ≡ parted range size bytes) → Some part ≡ option_map (parted range size) (joined (outer_bytes look) segments)
+there_part look range size segments part there is = by (joined (outer_bytes look) segments) refl (there ∙ sym (joined_some (outer_bytes look) segments))
+  where
+    by : (v : Option (List ℕ)) → joined (outer_bytes look) segments ≡ v → true ≡ is_some v → Some part ≡ option_map (parted range size) v
+    by None at e = absurd (true≢false e)
+    by (Some bytes) at e = ap Some (is bytes at)
+
+pub part_some : (range : Option (ℕ × ℕ)) (size from end : ℕ) (body bytes : List ℕ) → Some (from, end) ≡ bounds range size → body ≡ window from (end - from) bytes → Some body ≡ parted range size bytes
+part_some range size from end body bytes ends is = ap Some is ∙ ap (option_map (λ (p : ℕ × ℕ). window p.0 (p.1 - p.0) bytes)) ends
+
+pub part_beyond : (range : Option (ℕ × ℕ)) (size : ℕ) (bytes : List ℕ) → None ≡ bounds range size → None ≡ parted range size bytes
+part_beyond range size bytes ends = ap (option_map (λ (p : ℕ × ℕ). window p.0 (p.1 - p.0) bytes)) ends
+
+-- ---- manifests
+
+module _ (c n : List ℕ) (account : SwiftAccount) where
+  pub manifest_some : (segments : List Segment) → Some segments ≡ segments_at (find_object account c n) → Manifest segments ≡ (swift_step (GetManifest c n) account).reply
+  manifest_some segments e = by (find_object account c n) e
+    where
+      by : (v : Option SwiftObject) → Some segments ≡ segments_at v → Manifest segments ≡ manifest_reply v
+      by None e = absurd (none-some _ (sym e))
+      by (Some f) e = ap manifest_by e
+
+  pub manifest_none : None ≡ segments_at (find_object account c n) → NotFound ≡ (swift_step (GetManifest c n) account).reply
+  manifest_none e = by (find_object account c n) e
+    where
+      by : (v : Option SwiftObject) → None ≡ segments_at v → NotFound ≡ manifest_reply v
+      by None e = refl
+      by (Some f) e = ap manifest_by e
+
+-- the joined ETag
+pub list_tag : (segments : List Segment) → joined_etag segments ≡ etag_text (joined_etags segments)
+unfolding etag_text
+list_tag segments = refl
+
+module _ (c n content_type : List ℕ) (meta : List (List ℕ)) (segments : List Segment) (account : SwiftAccount) where
+  -- the container is there
+  pub listed_there : (head : Option (ReadList × Option ℕ)) (reply : SwiftReply) → head ≡ option_map container_head (get account c) → is_some head ≡ true
+      → reply ≡ listed_reply (is_good_list (find_object account) segments) segments → reply ≡ (swift_step (PutManifest c n content_type meta segments) account).reply
+  listed_there head reply e is replies = replies ∙ by (get account c) (sym (is_there c account head e) ∙ is)
+    where
+      of : (b : Bool) (folder : SwiftContainer) → listed_reply b segments ≡ (put_listed b (Some folder) c n (record { content_type = content_type; meta = meta; content = Segments segments }) account).reply
+      of true folder = refl
+      of false folder = refl
+
+      by : (v : Option SwiftContainer) → is_some v ≡ true → listed_reply (is_good_list (find_object account) segments) segments ≡ (put_manifest v c n content_type meta segments account).reply
+      by None e = absurd (true≢false (sym e))
+      by (Some folder) e = of (is_good_list (find_object account) segments) folder
+
+  -- it isn't
+  pub listed_missing : (head : Option (ReadList × Option ℕ)) → head ≡ option_map container_head (get account c) → is_some head ≡ false → NotFound ≡ (swift_step (PutManifest c n content_type meta segments) account).reply
+  listed_missing head e is = by (get account c) (sym (is_there c account head e) ∙ is)
+    where
+      by : (v : Option SwiftContainer) → is_some v ≡ false → NotFound ≡ (put_manifest v c n content_type meta segments account).reply
+      by None e = refl
+      by (Some folder) e = absurd (true≢false e)

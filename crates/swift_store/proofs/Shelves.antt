@@ -1,7 +1,7 @@
 -- What a shelf in memory finds and does, by what stands under a container's name.
 use Rattle.std.specs.Prelude.{◌≡◌, ◌<◌, ◌^◌, IfSome, ℕ, zero, suc, Bool, List, [], ◌∷◌, length, Option, None, Some, is_some, true, false, Result, Ok, Err, OnOk, OnErr}
 use Rattle.std.specs.FinMap.{get, insert, remove, empty, len-entries, len-empty}
-use Rattle.std.proofs.Common.{arith, subst, refl, sym, ap, ◌∙◌, true≢false}
+use Rattle.std.proofs.Common.{subst, refl, sym, ap, ◌∙◌, true≢false}
 use Rattle.gate_base.specs.Maps.{adjust, name_cmp}
 use Rattle.gate_base.proofs.lemmas.Maps.{by_name, get_empty}
 use Rattle.swift_calls.specs.Account.{SwiftAccount, SwiftContainer, SwiftObject, files, files_of, find_object, new_folder, put_file, remove_file, size_of, with_head}
@@ -11,7 +11,7 @@ use Rattle.swift_calls.specs.declared.account.Content.{Content}
 use Rattle.swift_calls.specs.declared.account.ReadList.{ReadList}
 use Rattle.swift_store.specs.Made.{IsMade, IsMadeObject}
 use Rattle.swift_store.specs.Shelf.{container_head, object_page, with_container}
-use Rattle.swift_store.proofs.MadeChanges.{made_head, made_new, made_removed, made_put, made_taken}
+use Rattle.swift_store.proofs.MadeChanges.{made_head, made_new, made_size, made_removed, made_put, made_taken}
 
 -- nothing is found in a container that isn't there
 pub found_nowhere : (c n : List ℕ) (account : SwiftAccount) → None ≡ get account c → None ≡ find_object account c n
@@ -82,7 +82,7 @@ module _ (c : List ℕ) (account : SwiftAccount) (made : IsMade account) where
 
 pub small_object : (n content_type : List ℕ) (meta : List (List ℕ)) (content : Content)
     → IsMadeObject n (record { content_type = content_type; meta = meta; content = content }) → size_of content < 2 ^ 63
-small_object n content_type meta content own = omega (arith, own.within)
+small_object n content_type meta content own = made_size content own.content
 
 -- the same object under the same name
 pub made_as : (n m : List ℕ) (object other : SwiftObject) → IsMadeObject m other → n ≡ m → object ≡ other → IsMadeObject n object

@@ -1,22 +1,26 @@
 -- The account after each call, by what was written.
-use Rattle.std.specs.Prelude.{◌≡◌, ℕ, Bool, true, false, List, Option, None, Some, IfSome, Result, Ok, Err}
+use Rattle.std.specs.Prelude.{◌≡◌, ◌≤◌, ℕ, Bool, true, false, List, [], length, Option, None, Some, IfSome, Result, Ok, Err}
 use Rattle.std.specs.Option.{option_map}
 use Rattle.std.specs.FinMap.{get, remove}
 use Rattle.std.proofs.Common.{subst, refl, sym, ap, ◌∙◌, inl, inr, true≢false}
 use Rattle.std.proofs.lemmas.Option.{none-some, same_Some}
 use Rattle.gate_base.proofs.lemmas.Maps.{by_name, adjust_same}
 use Rattle.swift_calls.specs.Account.{SwiftAccount, SwiftContainer, SwiftObject, find_object, put_file, remove_file, with_head, with_readers}
-use Rattle.swift_calls.specs.Bodies.{etag_text, etag_of}
-use Rattle.swift_calls.specs.Step.{Fit, IsMoment, swift_step, is_bare, head_container, put_container, post_container, delete_container, delete_by, put_object, delete_object}
+use Rattle.swift_calls.specs.Bodies.{Look, etag_text, etag_of, is_list, is_good_list}
+use Rattle.swift_calls.specs.Limits.{most_body}
+use Rattle.swift_calls.specs.declared.account.Content.{Content}
+use Rattle.swift_calls.specs.Step.{Fit, IsMoment, swift_step, is_bare, head_container, put_container, post_container, delete_container, delete_by, put_object, delete_object, put_listed, put_manifest}
 use Rattle.swift_calls.specs.declared.account.ReadList.{ReadList}
-use Rattle.swift_calls.specs.declared.account.Content.TheVariants.{Plain}
-use Rattle.swift_calls.specs.declared.calls.SwiftRequest.TheVariants.{HeadContainer, PostContainer, DeleteContainer, PutObject, DeleteObject}
+use Rattle.swift_calls.specs.declared.account.Content.TheVariants.{Plain, Segments}
+use Rattle.swift_calls.specs.declared.calls.SwiftRequest.TheVariants.{HeadContainer, PostContainer, DeleteContainer, PutObject, PutManifest, DeleteObject}
 use Rattle.swift_calls.specs.declared.calls.SwiftReply.{SwiftReply}
 use Rattle.swift_calls.specs.declared.calls.SwiftReply.TheVariants as replies
-use Rattle.swift_store.specs.Made.{IsMadeObject}
+use Rattle.slo_manifest.specs.declared.Segment.{Segment}
+use Rattle.swift_store.specs.Made.{IsMadeContent, IsMadeList, IsMadeObject, IsSized}
 use Rattle.swift_store.specs.Shelf.{Writes, container_head, with_container}
-use Rattle.swift_store.specs.Serving.{TagsWith, etag_in, is_gone}
+use Rattle.swift_store.specs.Serving.{TagsList, TagsWith, etag_in, is_gone}
 use Rattle.swift_store.specs.declared.faults.StoreFault.{StoreFault}
+use Rattle.swift_store.proofs.Listed.{good_sized}
 use Rattle.swift_store.specs.declared.faults.StoreFault.TheVariants.{Failed, Memory}
 
 -- nothing was written
@@ -119,17 +123,110 @@ tagged body reply etag tags e = by reply tags e
     by (replies.Stored tag) tags e = same_Some etag tag e ∙ tags
     by replies.NotFound tags e = absurd (none-some _ (sym e))
     by replies.NotEmpty tags e = absurd (none-some _ (sym e))
+    by replies.BadManifest tags e = absurd (none-some _ (sym e))
     by replies.Unsatisfiable tags e = absurd (none-some _ (sym e))
     by (replies.Containers names) tags e = absurd (none-some _ (sym e))
     by (replies.Readers readers created) tags e = absurd (none-some _ (sym e))
     by (replies.Names items) tags e = absurd (none-some _ (sym e))
     by (replies.Head head) tags e = absurd (none-some _ (sym e))
     by (replies.Bytes head bytes) tags e = absurd (none-some _ (sym e))
+    by (replies.Manifest list) tags e = absurd (none-some _ (sym e))
+
+abbrev own_text : Content → List ℕ
+own_text (Plain bytes) = bytes
+own_text (Segments segments) = []
+
+abbrev own_list : Content → List Segment
+own_list (Plain bytes) = []
+own_list (Segments segments) = segments
+
+own_made : (body : List ℕ) → length body ≤ most_body → IsMadeContent (Plain body)
+own_made body within = record {
+  own = λ bytes e. subst (λ (l : List ℕ). length l ≤ most_body) (ap own_text e) within;
+  list = λ segments e. absurd (true≢false (sym (ap is_list e)));
+}
+
+list_content : (segments : List Segment) → IsMadeList segments → IsMadeContent (Segments segments)
+list_content segments made = record {
+  own = λ bytes e. absurd (true≢false (ap is_list e));
+  list = λ others e. subst (λ (l : List Segment). IsMadeList l) (ap own_list e) made;
+}
 
 -- an object that a call puts
 pub put_made : (c n content_type : List ℕ) (meta : List (List ℕ)) (body : List ℕ) → Fit (PutObject c n content_type meta body)
     → IsMadeObject n (record { content_type = content_type; meta = meta; content = Plain body })
-put_made c n content_type meta body fit = record { named = fit.1; content_type = fit.2; meta = fit.3; own = refl; within = fit.4 }
+put_made c n content_type meta body fit = record { named = fit.1; content_type = fit.2; meta = fit.3; content = own_made body fit.4 }
+
+-- ---- PUT of segments
+
+module _ (c n content_type : List ℕ) (meta : List (List ℕ)) (segments : List Segment) (account : SwiftAccount) where
+  abbrev list : SwiftObject
+  list = record { content_type = content_type; meta = meta; content = Segments segments }
+
+  pub put_list : (reply : SwiftReply) (etag : List ℕ) → Some etag ≡ etag_in reply → reply ≡ (swift_step (PutManifest c n content_type meta segments) account).reply
+      → put_file c n list account ≡ (swift_step (PutManifest c n content_type meta segments) account).tree
+  put_list reply etag tag e = by (get account c) (tag ∙ ap etag_in e)
+    where
+      good : (b : Bool) (folder : SwiftContainer) → Some etag ≡ etag_in (put_listed b (Some folder) c n list account).reply → put_file c n list account ≡ (put_listed b (Some folder) c n list account).tree
+      good true folder e = refl
+      good false folder e = absurd (none-some _ (sym e))
+
+      by : (v : Option SwiftContainer) → Some etag ≡ etag_in (put_manifest v c n content_type meta segments account).reply → put_file c n list account ≡ (put_manifest v c n content_type meta segments account).tree
+      by None e = absurd (none-some _ (sym e))
+      by (Some folder) e = good (is_good_list (find_object account) segments) folder e
+
+  pub not_put_list : (reply : SwiftReply) → None ≡ etag_in reply → reply ≡ (swift_step (PutManifest c n content_type meta segments) account).reply → account ≡ (swift_step (PutManifest c n content_type meta segments) account).tree
+  not_put_list reply tag e = by (get account c) (tag ∙ ap etag_in e)
+    where
+      good : (b : Bool) (folder : SwiftContainer) → None ≡ etag_in (put_listed b (Some folder) c n list account).reply → account ≡ (put_listed b (Some folder) c n list account).tree
+      good true folder e = absurd (none-some _ e)
+      good false folder e = refl
+
+      by : (v : Option SwiftContainer) → None ≡ etag_in (put_manifest v c n content_type meta segments account).reply → account ≡ (put_manifest v c n content_type meta segments account).tree
+      by None e = refl
+      by (Some folder) e = good (is_good_list (find_object account) segments) folder e
+
+-- the ETag that is answered is that of the segments, and they may be listed
+list_tags : (segments : List Segment) (reply : SwiftReply) (etag : List ℕ) → TagsList segments reply → Some etag ≡ etag_in reply → (etag ≡ etag_of (Segments segments)) × IsSized segments
+list_tags segments reply etag tags e = by reply tags e
+  where
+    by : (reply : SwiftReply) → TagsList segments reply → Some etag ≡ etag_in reply → (etag ≡ etag_of (Segments segments)) × IsSized segments
+    by replies.Made tags e = absurd (none-some _ (sym e))
+    by replies.There tags e = absurd (none-some _ (sym e))
+    by replies.Gone tags e = absurd (none-some _ (sym e))
+    by (replies.Stored tag) tags e = (same_Some etag tag e ∙ tags.0, tags.1)
+    by replies.NotFound tags e = absurd (none-some _ (sym e))
+    by replies.NotEmpty tags e = absurd (none-some _ (sym e))
+    by replies.BadManifest tags e = absurd (none-some _ (sym e))
+    by replies.Unsatisfiable tags e = absurd (none-some _ (sym e))
+    by (replies.Containers names) tags e = absurd (none-some _ (sym e))
+    by (replies.Readers readers created) tags e = absurd (none-some _ (sym e))
+    by (replies.Names items) tags e = absurd (none-some _ (sym e))
+    by (replies.Head head) tags e = absurd (none-some _ (sym e))
+    by (replies.Bytes head bytes) tags e = absurd (none-some _ (sym e))
+    by (replies.Manifest list) tags e = absurd (none-some _ (sym e))
+
+pub list_tagged : (segments : List Segment) (reply : SwiftReply) (etag : List ℕ) → TagsList segments reply → Some etag ≡ etag_in reply → etag ≡ etag_of (Segments segments)
+list_tagged segments reply etag tags e = (list_tags segments reply etag tags e).0
+
+pub list_made : (c n content_type : List ℕ) (meta : List (List ℕ)) (segments : List Segment) (reply : SwiftReply) (etag : List ℕ) → TagsList segments reply → Some etag ≡ etag_in reply → Fit (PutManifest c n content_type meta segments)
+    → IsMadeObject n (record { content_type = content_type; meta = meta; content = Segments segments })
+list_made c n content_type meta segments reply etag tags e fit = record {
+  named = fit.1;
+  content_type = fit.2;
+  meta = fit.3;
+  content = list_content segments (record { sized = (list_tags segments reply etag tags e).1; within = fit.4; places = fit.5 });
+}
+
+-- the same by the step
+pub good_made : (c n content_type : List ℕ) (meta : List (List ℕ)) (segments : List Segment) (look : Look) → is_good_list look segments ≡ true → Fit (PutManifest c n content_type meta segments)
+    → IsMadeObject n (record { content_type = content_type; meta = meta; content = Segments segments })
+good_made c n content_type meta segments look good fit = record {
+  named = fit.1;
+  content_type = fit.2;
+  meta = fit.3;
+  content = list_content segments (record { sized = good_sized look segments good; within = fit.4; places = fit.5 });
+}
 
 -- ---- DELETE of an object
 

@@ -1,5 +1,6 @@
 pub mod Coded
 pub mod Kept
+pub mod Listed
 pub mod Listing
 pub mod Made
 pub mod MadeLaws

@@ -1,18 +1,36 @@
 -- The accounts that calls within their limits make. Source: Object Storage API v1, with the bounds of `Fit`.
-use Rattle.std.specs.Prelude.{◌≡◌, ◌≤◌, ℕ, false, IsTrue, List, Some, IfSome}
+use Rattle.std.specs.Prelude.{◌≡◌, ◌<◌, ◌≤◌, ◌^◌, ℕ, IsTrue, List, length, sum_by, Some, IfSome}
 use Rattle.std.specs.FinMap.{get}
-use Rattle.swift_calls.specs.Account.{SwiftAccount, SwiftContainer, SwiftObject, size_of}
-use Rattle.swift_calls.specs.Bodies.{is_list}
-use Rattle.swift_calls.specs.Limits.{IsObjectName, is_content_type, is_meta, most_body}
-use Rattle.swift_calls.specs.Step.{IsContainerName, IsMoment}
+use Rattle.std.specs.List.{All}
+use Rattle.slo_manifest.specs.declared.Segment.{Segment}
+use Rattle.swift_calls.specs.Account.{SwiftAccount, SwiftContainer, SwiftObject}
+use Rattle.swift_calls.specs.Limits.{IsObjectName, is_content_type, is_meta, most_body, most_segments}
+use Rattle.swift_calls.specs.Step.{IsContainerName, IsMoment, IsSegmentPlace}
+use Rattle.swift_calls.specs.declared.account.Content.{Content}
+use Rattle.swift_calls.specs.declared.account.Content.TheVariants.{Plain, Segments}
 
--- an object that a call puts under a name: it has its own bytes, at most 16 MiB
+-- segments that are listed together: at least one, and of less than 2^63 bytes
+pub record IsSized (segments : List Segment) : Type 0 where
+  pub filled : 0 < length segments
+  pub size : sum_by (λ s. s.size) segments < 2 ^ 63
+
+-- segments that a call lists: such ones, at most 1000, each of them within its limits
+pub record IsMadeList (segments : List Segment) : Type 0 where
+  pub sized : IsSized segments
+  pub within : length segments ≤ most_segments
+  pub places : All IsSegmentPlace segments
+
+-- bytes of its own, at most 16 MiB, or such segments
+pub record IsMadeContent (content : Content) : Type 0 where
+  pub own : (bytes : List ℕ) → content ≡ Plain bytes → length bytes ≤ most_body
+  pub list : (segments : List Segment) → content ≡ Segments segments → IsMadeList segments
+
+-- an object that a call puts under a name
 pub record IsMadeObject (name : List ℕ) (object : SwiftObject) : Type 0 where
   pub named : IsObjectName name
   pub content_type : IsTrue (is_content_type object.content_type)
   pub meta : IsTrue (is_meta object.meta)
-  pub own : is_list object.content ≡ false
-  pub within : size_of object.content ≤ most_body
+  pub content : IsMadeContent object.content
 
 -- a container that calls make under a name, with such objects
 pub record IsMadeContainer (name : List ℕ) (container : SwiftContainer) : Type 0 where

@@ -4,13 +4,13 @@ ghost use Rattle.swift_calls.specs.Step.{Fit, IsContainerName, swift_step};
 ghost use Rattle.swift_calls.specs.declared.calls.SwiftRequest.TheVariants as asked;
 ghost use Rattle.swift_calls.specs.Account.{put_file};
 ghost use Rattle.swift_calls.specs.Bodies.{etag_of};
-ghost use Rattle.swift_calls.specs.declared.account.Content.TheVariants.{Plain};
 ghost use Rattle.swift_store.specs.Made.{IsMadeObject};
 ghost use Rattle.swift_store.specs.Shelf.{ShelfKeeps, ShelfWrites, Writes};
-ghost use Rattle.swift_store.specs.Serving.{TagsBody, TagsWith, etag_in, is_gone};
+ghost use Rattle.swift_store.specs.Serving.{TagsBody, TagsList, TagsWith, etag_in, is_gone};
 
 use crate::{Shelf, StoreFault};
 use gate_base::{Bytes, List};
+use slo_manifest::Segment;
 use swift_calls::{Content, ReadList, Stored, SwiftReply, SwiftRequest};
 
 fn is_gone(reply: &SwiftReply) -> bool
@@ -73,30 +73,67 @@ fn put_object<S: Shelf>(
     ensures effect { IsTrue (S.model shelf.old).observable → reply ≡ (swift_step (asked.PutObject container.now name content_type meta body) (S.model shelf.old).account).reply → Writes (S.model shelf.old).account (swift_step (asked.PutObject container.now name content_type meta body) (S.model shelf.old).account).tree (S.model shelf.new).account result }
 {
     match etag_in(reply) {
-        Some(etag) => put_tagged(shelf, container, name, content_type, meta, body, etag),
+        Some(etag) => put_tagged(
+            shelf,
+            container,
+            name,
+            content_type,
+            meta,
+            Content::Plain(body),
+            etag,
+        ),
         None => Ok(()),
     }
 }
 
-/// Puts an object of these bytes.
+#[tactic(auto, using(crate::proofs::Writing::put_list, crate::proofs::Writing::not_put_list, crate::proofs::Writing::list_tagged, crate::proofs::Writing::list_made))]
+fn put_manifest<S: Shelf>(
+    shelf: &mut S,
+    container: &[u8],
+    name: Bytes,
+    content_type: Bytes,
+    meta: List<Bytes>,
+    segments: List<Segment>,
+    reply: SwiftReply,
+) -> Result<(), StoreFault>
+    requires fit { Fit (asked.PutManifest container.now name content_type meta segments) }
+    requires tags { TagsList segments reply }
+    ensures keeps { ShelfKeeps (S.model shelf.old) result (S.model shelf.new) }
+    ensures effect { IsTrue (S.model shelf.old).observable → reply ≡ (swift_step (asked.PutManifest container.now name content_type meta segments) (S.model shelf.old).account).reply → Writes (S.model shelf.old).account (swift_step (asked.PutManifest container.now name content_type meta segments) (S.model shelf.old).account).tree (S.model shelf.new).account result }
+{
+    match etag_in(reply) {
+        Some(etag) => put_tagged(
+            shelf,
+            container,
+            name,
+            content_type,
+            meta,
+            Content::Segments(segments),
+            etag,
+        ),
+        None => Ok(()),
+    }
+}
+
+/// Puts an object with this body.
 fn put_tagged<S: Shelf>(
     shelf: &mut S,
     container: &[u8],
     name: Bytes,
     content_type: Bytes,
     meta: List<Bytes>,
-    body: Bytes,
+    content: Content,
     etag: Bytes,
 ) -> Result<(), StoreFault>
-    requires etag { etag ≡ etag_of (Plain body) }
-    requires made { IsMadeObject name (record { content_type = content_type; meta = meta; content = Plain body }) }
-    ensures writes { ShelfWrites (put_file container.now name (record { content_type = content_type; meta = meta; content = Plain body })) (S.model shelf.old) result (S.model shelf.new) }
+    requires etag { etag ≡ etag_of content }
+    requires made { IsMadeObject name (record { content_type = content_type; meta = meta; content = content }) }
+    ensures writes { ShelfWrites (put_file container.now name (record { content_type = content_type; meta = meta; content = content })) (S.model shelf.old) result (S.model shelf.new) }
 {
     let object = Stored {
         name,
         content_type,
         meta,
-        content: Content::Plain(body),
+        content,
     };
     shelf.put(container, object, etag)
 }
@@ -117,7 +154,7 @@ fn delete_object<S: Shelf>(
     Ok(())
 }
 
-/// Writes what a call writes. Its body is moved.
+/// Writes what a call writes. Its body, or its segments, are moved.
 pub(crate) fn apply<S: Shelf>(
     shelf: &mut S,
     call: SwiftRequest,
@@ -144,11 +181,55 @@ pub(crate) fn apply<S: Shelf>(
             body,
             reply,
         ),
-        other => apply_small(shelf, &other, &reply),
+        other => apply_list(shelf, other, reply),
     }
 }
 
-/// Writes what any other call writes. A PUT of an object doesn't come here.
+/// Writes what a call other than a PUT of bytes writes. Its segments are moved.
+fn apply_list<S: Shelf>(
+    shelf: &mut S,
+    call: SwiftRequest,
+    reply: SwiftReply,
+) -> Result<(), StoreFault>
+    requires fit { Fit call }
+    requires tags { TagsBody call reply }
+    ensures keeps { ShelfKeeps (S.model shelf.old) result (S.model shelf.new) }
+    ensures effect { IsTrue (S.model shelf.old).observable → reply ≡ (swift_step (call) (S.model shelf.old).account).reply → Writes (S.model shelf.old).account (swift_step (call) (S.model shelf.old).account).tree (S.model shelf.new).account result }
+{
+    match call {
+        SwiftRequest::PutManifest {
+            container,
+            name,
+            content_type,
+            meta,
+            segments,
+        } => put_manifest(
+            shelf,
+            container.as_slice(),
+            name,
+            content_type,
+            meta,
+            segments,
+            reply,
+        ),
+        other => apply_other(shelf, other, &reply),
+    }
+}
+
+/// Writes what any other call writes, and lets go of the call.
+fn apply_other<S: Shelf>(
+    shelf: &mut S,
+    call: SwiftRequest,
+    reply: &SwiftReply,
+) -> Result<(), StoreFault>
+    requires fit { Fit call }
+    ensures keeps { ShelfKeeps (S.model shelf.old) result (S.model shelf.new) }
+    ensures effect { IsTrue (S.model shelf.old).observable → reply.now ≡ (swift_step (call) (S.model shelf.old).account).reply → Writes (S.model shelf.old).account (swift_step (call) (S.model shelf.old).account).tree (S.model shelf.new).account result }
+{
+    apply_small(shelf, &call, reply)
+}
+
+/// The same, of a call that is lent. A PUT of an object doesn't come here, of bytes or of segments.
 #[tactic(auto, using(crate::proofs::Writing::head_leaves))]
 fn apply_small<S: Shelf>(
     shelf: &mut S,
@@ -172,6 +253,7 @@ fn apply_small<S: Shelf>(
             delete_container(shelf, container.as_slice(), reply)
         }
         SwiftRequest::PutObject { .. } => Err(StoreFault::Memory),
+        SwiftRequest::PutManifest { .. } => Err(StoreFault::Memory),
         SwiftRequest::DeleteObject { container, name } => {
             delete_object(shelf, container.as_slice(), name.as_slice(), reply)
         }
@@ -180,5 +262,6 @@ fn apply_small<S: Shelf>(
         SwiftRequest::ListNames { .. } => Ok(()),
         SwiftRequest::HeadObject { .. } => Ok(()),
         SwiftRequest::GetObject { .. } => Ok(()),
+        SwiftRequest::GetManifest { .. } => Ok(()),
     }
 }

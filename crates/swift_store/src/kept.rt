@@ -1,7 +1,7 @@
 //! An object as it is kept in memory.
 ghost use Rattle.std.specs.Prelude.{◌≡◌, ◌<◌, ◌^◌, ◌++◌, IfOk, OnOk, OnErr};
 ghost use Rattle.swift_calls.specs.Account.{size_of};
-ghost use Rattle.swift_calls.specs.Bodies.{etag_of, etag_text, head_of, is_list, item_of, joined_etags};
+ghost use Rattle.swift_calls.specs.Bodies.{etag_of, etag_text, head_of, is_list, item_of, joined_etags, listed_in};
 ghost use Rattle.swift_store.specs.Shelf.{object_of, part, part_of_content};
 
 use gate_base::{Bytes, Copying, List, Memory};
@@ -75,6 +75,16 @@ impl Kept {
             size: self.size,
             content_type: self.content_type.copy()?,
         })
+    }
+
+    /// The segments that the object lists, if it lists any.
+    pub(crate) fn segments(&self) -> Result<Option<List<Segment>>, Memory>
+        ensures { IfOk result (λ segments. segments ≡ listed_in self.now.content) }
+    {
+        match &self.content {
+            Content::Plain(_) => Ok(None),
+            Content::Segments(segments) => Ok(Some(segments.copy()?)),
+        }
     }
 
     /// Appends bytes of the object. Where memory runs out, the text is as before.

@@ -4,10 +4,12 @@
 mod effects;
 mod faults;
 mod folder;
+mod joined;
 mod kept;
 mod laws;
 mod map_shelf;
 mod replies;
+mod segments;
 mod shelf;
 mod shelf_ref;
 mod store;

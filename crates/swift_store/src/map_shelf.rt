@@ -10,6 +10,7 @@ use crate::kept::Kept;
 use crate::{Shelf, StoreFault};
 use gate_base::{Bytes, Copying, List};
 use name_table::Table;
+use slo_manifest::Segment;
 use std::alloc::Global;
 use swift_calls::{NameItem, ReadList, Stored, StoredHead};
 
@@ -107,6 +108,17 @@ impl Shelf for MapShelf {
     fn head(&mut self, container: &[u8], name: &[u8]) -> Result<Option<StoredHead>, StoreFault> {
         match self.object(container, name) {
             Some(object) => Ok(Some(object.head()?)),
+            None => Ok(None),
+        }
+    }
+
+    fn segments(
+        &mut self,
+        container: &[u8],
+        name: &[u8],
+    ) -> Result<Option<List<Segment>>, StoreFault> {
+        match self.object(container, name) {
+            Some(object) => Ok(object.segments()?),
             None => Ok(None),
         }
     }

@@ -1,15 +1,22 @@
 //! The reply to each call, found before anything is written.
-ghost use Rattle.std.specs.Prelude.{◌≡◌, ℕ, List, Option, IfOk};
+ghost use Rattle.std.specs.Prelude.{◌≡◌, ℕ, true, false, List, Option, Some, IfOk};
+ghost use Rattle.std.specs.Option.{option_map};
+ghost use Rattle.swift_calls.specs.Account.{find_object};
+ghost use Rattle.swift_calls.specs.Bodies.{head_of, joined, outer_bytes, is_good_list};
 ghost use Rattle.swift_calls.specs.declared.calls.SwiftRequest.TheVariants as asked;
 ghost use Rattle.swift_store.specs.Shelf.{ShelfReads};
-ghost use Rattle.swift_store.specs.Serving.{IsReply, TagsBody, TagsWith, bounds};
+ghost use Rattle.swift_store.specs.Listed.{segments_at};
+ghost use Rattle.swift_store.specs.Serving.{IsReply, TagsBody, TagsList, TagsWith, bounds, listed_part, listed_reply, parted};
 ghost use Rattle.swift_calls.specs.declared.account.ReadList.{ReadList};
 
+use crate::joined::read_joined;
 use crate::kept::etag_text;
+use crate::segments::{are_outer, is_good_list};
 use crate::{Shelf, StoreFault};
 use gate_base::Bytes;
+use slo_manifest::{Segment, joined_etag};
 use std::alloc::Global;
-use swift_calls::{SwiftReply, SwiftRequest};
+use swift_calls::{StoredHead, SwiftReply, SwiftRequest};
 
 fn list_containers<S: Shelf>(
     shelf: &mut S,
@@ -129,8 +136,8 @@ fn delete_object<S: Shelf>(
     }
 }
 
-/// Only the bytes that are asked for are read.
-#[tactic(auto, using(crate::proofs::Replying::bytes_some, crate::proofs::Replying::bytes_beyond, crate::proofs::Replying::bytes_none))]
+/// Reads an object, of which only the bytes that are asked for are read.
+#[tactic(auto, using(crate::proofs::Replying::bytes_none))]
 fn get_object<S: Shelf>(
     shelf: &mut S,
     alloc: Global,
@@ -141,15 +148,159 @@ fn get_object<S: Shelf>(
     ensures reads { ShelfReads (IsReply (asked.GetObject container.now name.now range)) (S.model shelf.old) result (S.model shelf.new) }
 {
     match shelf.head(container, name)? {
-        Some(head) => match bounds(range, head.size) {
-            Some((from, end)) => {
-                let mut body = Bytes::new(alloc);
-                shelf.read(container, name, from, end, &mut body)?;
-                Ok(SwiftReply::Bytes { head, body })
+        Some(head) => {
+            if head.manifest {
+                get_listed(shelf, alloc, container, name, head, range)
+            } else {
+                get_plain(shelf, alloc, container, name, head, range)
             }
-            None => Ok(SwiftReply::Unsatisfiable),
-        },
+        }
         None => Ok(SwiftReply::NotFound),
+    }
+}
+
+/// Reads an object with bytes of its own, by its head.
+fn get_plain<S: Shelf>(
+    shelf: &mut S,
+    alloc: Global,
+    container: &[u8],
+    name: &[u8],
+    head: StoredHead,
+    range: Option<(u64, u64)>,
+) -> Result<SwiftReply, StoreFault>
+    ensures reads { ShelfReads (λ account reply. Some head ≡ option_map head_of (find_object account container.now name.now) → head.manifest ≡ false → IsReply (asked.GetObject container.now name.now range) account reply) (S.model shelf.old) result (S.model shelf.new) }
+{
+    match bounds(range, head.size) {
+        Some((from, end)) => {
+            let mut body = Bytes::new(alloc);
+            shelf.read(container, name, from, end, &mut body)?;
+            Ok(SwiftReply::Bytes { head, body })
+        }
+        None => Ok(SwiftReply::Unsatisfiable),
+    }
+}
+
+/// Reads an object that lists segments, by its head. That they are there is tested before the range.
+fn get_listed<S: Shelf>(
+    shelf: &mut S,
+    alloc: Global,
+    container: &[u8],
+    name: &[u8],
+    head: StoredHead,
+    range: Option<(u64, u64)>,
+) -> Result<SwiftReply, StoreFault>
+    ensures reads { ShelfReads (λ account reply. Some head ≡ option_map head_of (find_object account container.now name.now) → head.manifest ≡ true → IsReply (asked.GetObject container.now name.now range) account reply) (S.model shelf.old) result (S.model shelf.new) }
+{
+    match list_bytes(shelf, alloc, container, name, head.size, range)? {
+        Some(Some(body)) => Ok(SwiftReply::Bytes { head, body }),
+        Some(None) => Ok(SwiftReply::Unsatisfiable),
+        None => Ok(SwiftReply::NotFound),
+    }
+}
+
+/// The bytes of a range of an object that lists segments of a size together; none where a segment isn't there, and none of
+/// these where the range isn't.
+fn list_bytes<S: Shelf>(
+    shelf: &mut S,
+    alloc: Global,
+    container: &[u8],
+    name: &[u8],
+    size: u64,
+    range: Option<(u64, u64)>,
+) -> Result<Option<Option<Bytes>>, StoreFault>
+    ensures reads { ShelfReads (λ account bytes. bytes ≡ listed_part (find_object account) range size (segments_at (find_object account container.now name.now))) (S.model shelf.old) result (S.model shelf.new) }
+{
+    match shelf.segments(container, name)? {
+        Some(segments) => listed_bytes(shelf, alloc, segments.as_slice(), size, range),
+        None => Ok(None),
+    }
+}
+
+/// The bytes of a range of segments of a size together.
+fn listed_bytes<S: Shelf>(
+    shelf: &mut S,
+    alloc: Global,
+    segments: &[Segment],
+    size: u64,
+    range: Option<(u64, u64)>,
+) -> Result<Option<Option<Bytes>>, StoreFault>
+    ensures reads { ShelfReads (λ account bytes. bytes ≡ option_map (parted range size) (joined (outer_bytes (find_object account)) segments.now)) (S.model shelf.old) result (S.model shelf.new) }
+{
+    if !are_outer(shelf, segments)? {
+        return Ok(None);
+    }
+    let part = part_bytes(shelf, alloc, segments, size, range)?;
+    Ok(Some(part))
+}
+
+/// The bytes of a range of segments that are there.
+fn part_bytes<S: Shelf>(
+    shelf: &mut S,
+    alloc: Global,
+    segments: &[Segment],
+    size: u64,
+    range: Option<(u64, u64)>,
+) -> Result<Option<Bytes>, StoreFault>
+    ensures reads { ShelfReads (λ account part. (bytes : List ℕ) → joined (outer_bytes (find_object account)) segments.now ≡ Some bytes → part ≡ parted range size bytes) (S.model shelf.old) result (S.model shelf.new) }
+{
+    match bounds(range, size) {
+        Some((from, end)) => {
+            let count = end.saturating_sub(from);
+            let body = read_joined(shelf, alloc, segments, from, count)?;
+            Ok(Some(body))
+        }
+        None => Ok(None),
+    }
+}
+
+/// The segments that an object lists.
+#[tactic(auto, using(crate::proofs::Replying::manifest_some, crate::proofs::Replying::manifest_none))]
+fn get_manifest<S: Shelf>(
+    shelf: &mut S,
+    container: &[u8],
+    name: &[u8],
+) -> Result<SwiftReply, StoreFault>
+    ensures reads { ShelfReads (IsReply (asked.GetManifest container.now name.now)) (S.model shelf.old) result (S.model shelf.new) }
+{
+    match shelf.segments(container, name)? {
+        Some(segments) => Ok(SwiftReply::Manifest(segments)),
+        None => Ok(SwiftReply::NotFound),
+    }
+}
+
+/// The container is looked for first, and then each segment.
+#[tactic(auto, using(crate::proofs::Replying::listed_missing))]
+fn put_manifest<S: Shelf>(
+    shelf: &mut S,
+    alloc: Global,
+    container: &[u8],
+    segments: &[Segment],
+) -> Result<SwiftReply, StoreFault>
+    ensures reads { ShelfReads (λ account reply. (name content_type : List ℕ) (meta : List (List ℕ)) → IsReply (asked.PutManifest container.now name content_type meta segments.now) account reply) (S.model shelf.old) result (S.model shelf.new) }
+    ensures tags { IfOk result (TagsList segments.now) }
+{
+    if shelf.container(container)?.is_some() {
+        put_listed(shelf, alloc, segments)
+    } else {
+        Ok(SwiftReply::NotFound)
+    }
+}
+
+/// The reply where the container is there.
+#[tactic(auto, using(crate::proofs::Replying::list_tag))]
+fn put_listed<S: Shelf>(
+    shelf: &mut S,
+    alloc: Global,
+    segments: &[Segment],
+) -> Result<SwiftReply, StoreFault>
+    ensures reads { ShelfReads (λ account reply. reply ≡ listed_reply (is_good_list (find_object account) segments.now) segments.now) (S.model shelf.old) result (S.model shelf.new) }
+    ensures tags { IfOk result (TagsList segments.now) }
+{
+    if is_good_list(shelf, segments)? {
+        let etag = joined_etag(alloc, segments)?;
+        Ok(SwiftReply::Stored { etag })
+    } else {
+        Ok(SwiftReply::BadManifest)
     }
 }
 
@@ -202,6 +353,11 @@ pub(crate) fn reply_to<S: Shelf>(
             body,
             ..
         } => put_object(shelf, alloc, container.as_slice(), body.as_slice()),
+        SwiftRequest::PutManifest {
+            container,
+            segments,
+            ..
+        } => put_manifest(shelf, alloc, container.as_slice(), segments.as_slice()),
         SwiftRequest::HeadObject { container, name } => {
             head_object(shelf, container.as_slice(), name.as_slice())
         }
@@ -210,6 +366,9 @@ pub(crate) fn reply_to<S: Shelf>(
             name,
             range,
         } => get_object(shelf, alloc, container.as_slice(), name.as_slice(), *range),
+        SwiftRequest::GetManifest { container, name } => {
+            get_manifest(shelf, container.as_slice(), name.as_slice())
+        }
         SwiftRequest::DeleteObject { container, name } => {
             delete_object(shelf, container.as_slice(), name.as_slice())
         }

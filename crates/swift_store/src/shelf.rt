@@ -5,6 +5,7 @@ ghost use Rattle.std.specs.FinMap.{get, remove};
 ghost use Rattle.swift_calls.specs.Account.{SwiftAccount, files, find_object, put_file, remove_file};
 ghost use Rattle.swift_calls.specs.Bodies.{etag_of, head_of};
 ghost use Rattle.swift_calls.specs.Step.{IsContainerName, IsMoment, is_bare};
+ghost use Rattle.swift_store.specs.Listed.{segments_at};
 ghost use Rattle.swift_store.specs.Made.{IsMade, IsMadeObject};
 ghost use Rattle.swift_store.specs.Shelf.{
   ShelfModel,
@@ -20,6 +21,7 @@ ghost use Rattle.swift_store.specs.Shelf.{
 
 use crate::StoreFault;
 use gate_base::{Bytes, List};
+use slo_manifest::Segment;
 use swift_calls::{NameItem, ReadList, Stored, StoredHead};
 
 /// What keeps the containers and objects of an account. Where it is observable, it tells the account. Each call answers
@@ -72,6 +74,14 @@ pub trait Shelf {
     /// The head of an object.
     fn head(&mut self, container: &[u8], name: &[u8]) -> Result<Option<StoredHead>, StoreFault>
         ensures reads { ShelfReads (λ account head. head ≡ option_map head_of (find_object account container.now name.now)) (model self.old) result (model self.new) };
+
+    /// The segments that an object lists; none where it has a body of its own or isn't there.
+    fn segments(
+        &mut self,
+        container: &[u8],
+        name: &[u8],
+    ) -> Result<Option<List<Segment>>, StoreFault>
+        ensures reads { ShelfReads (λ account segments. segments ≡ segments_at (find_object account container.now name.now)) (model self.old) result (model self.new) };
 
     /// Appends the bytes of an object from one place to another; none where these are not within its own bytes. After
     /// an Err `out` is as before.

@@ -2,6 +2,7 @@
 
 use crate::{Shelf, StoreFault};
 use gate_base::{Bytes, List};
+use slo_manifest::Segment;
 use swift_calls::{NameItem, ReadList, Stored, StoredHead};
 
 impl<S: Shelf> Shelf for &mut S {
@@ -46,6 +47,14 @@ impl<S: Shelf> Shelf for &mut S {
 
     fn head(&mut self, container: &[u8], name: &[u8]) -> Result<Option<StoredHead>, StoreFault> {
         (**self).head(container, name)
+    }
+
+    fn segments(
+        &mut self,
+        container: &[u8],
+        name: &[u8],
+    ) -> Result<Option<List<Segment>>, StoreFault> {
+        (**self).segments(container, name)
     }
 
     fn read(

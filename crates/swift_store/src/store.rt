@@ -4,8 +4,8 @@ ghost use Rattle.swift_calls.specs.Step.{Fit, swift_step};
 ghost use Rattle.swift_calls.specs.declared.calls.SwiftRequest.{SwiftRequest};
 ghost use Rattle.swift_replies.specs.AnswerText.{answer_text, refusal};
 ghost use Rattle.swift_requests.specs.Place.{IsPlace};
-ghost use Rattle.swift_store.specs.Shelf.{ShelfKeeps, Writes};
-ghost use Rattle.swift_store.specs.Serving.{Answers, Served, TagsBody};
+ghost use Rattle.swift_store.specs.Shelf.{ShelfKeeps, ShelfReads, Writes};
+ghost use Rattle.swift_store.specs.Serving.{Answers, IsReply, Served, TagsBody};
 
 use crate::effects::apply;
 use crate::replies::reply_to;
@@ -55,31 +55,28 @@ fn serve_call<S: Shelf>(
     ensures keeps { ShelfKeeps (S.model shelf.old) result (S.model shelf.new) }
     ensures answers { Answers (S.model shelf.old).observable call (S.model shelf.old).account (S.model shelf.new).account out.old out.new result }
 {
-    let reply = reply_to(alloc, shelf, &call)?;
-    answer_call(alloc, shelf, call, reply, out)
-}
-
-/// Appends the answer of a call whose reply is known, and writes what the call writes. After an Err `out` is as before.
-#[tactic(auto, using(crate::proofs::Writing::unwritten))]
-fn answer_call<S: Shelf>(
-    alloc: Global,
-    shelf: &mut S,
-    call: SwiftRequest,
-    reply: SwiftReply,
-    out: &mut Bytes,
-) -> Result<(), StoreFault>
-    requires fit { Fit call }
-    requires tags { TagsBody call reply }
-    ensures keeps { ShelfKeeps (S.model shelf.old) result (S.model shelf.new) }
-    ensures effect { IsTrue (S.model shelf.old).observable → reply ≡ (swift_step call (S.model shelf.old).account).reply → Writes (S.model shelf.old).account (swift_step call (S.model shelf.old).account).tree (S.model shelf.new).account result }
-    ensures text { IfOk result (λ done. out.new ≡ out.old ++ answer_text call reply) }
-    ensures text_err { OnErr result (out.new ≡ out.old) }
-{
-    let ready = answered(alloc, out, &call, &reply)?;
+    let (reply, ready) = ready_reply(alloc, shelf, &call, out)?;
     apply_ready(shelf, call, reply, ready, out)
 }
 
-/// Writes what a call writes, and then puts the answer that is ready in the place of what was written so far.
+/// The reply to a call, and what is written so far with its answer behind it. Nothing is written to the shelf.
+fn ready_reply<S: Shelf>(
+    alloc: Global,
+    shelf: &mut S,
+    call: &SwiftRequest,
+    before: &Bytes,
+) -> Result<(SwiftReply, Bytes), StoreFault>
+    ensures reads { ShelfReads (λ account found. IsReply call.now account found.0) (S.model shelf.old) result (S.model shelf.new) }
+    ensures tags { IfOk result (λ found. TagsBody call.now found.0) }
+    ensures text { IfOk result (λ found. found.1 ≡ before.now ++ answer_text call.now found.0) }
+{
+    let reply = reply_to(alloc, shelf, call)?;
+    let ready = answered(alloc, before, call, &reply)?;
+    Ok((reply, ready))
+}
+
+/// Writes what a call writes whose reply is known, and then puts the answer that is ready in the place of what was written
+/// so far. After an Err `out` is as before.
 fn apply_ready<S: Shelf>(
     shelf: &mut S,
     call: SwiftRequest,
@@ -89,9 +86,10 @@ fn apply_ready<S: Shelf>(
 ) -> Result<(), StoreFault>
     requires fit { Fit call }
     requires tags { TagsBody call reply }
+    requires ready { ready ≡ out.old ++ answer_text call reply }
     ensures keeps { ShelfKeeps (S.model shelf.old) result (S.model shelf.new) }
     ensures effect { IsTrue (S.model shelf.old).observable → reply ≡ (swift_step call (S.model shelf.old).account).reply → Writes (S.model shelf.old).account (swift_step call (S.model shelf.old).account).tree (S.model shelf.new).account result }
-    ensures text { IfOk result (λ done. out.new ≡ ready) }
+    ensures text { IfOk result (λ done. out.new ≡ out.old ++ answer_text call reply) }
     ensures text_err { OnErr result (out.new ≡ out.old) }
 {
     apply(shelf, call, reply)?;

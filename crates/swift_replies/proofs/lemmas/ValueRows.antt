@@ -15,16 +15,17 @@ use Rattle.httparse.specs.Grammar.{AllPass, is_ows, is_value_byte, is_token_byte
 use Rattle.httparse.proofs.TrimLemmas.{AllPass-reverse}
 use Rattle.http1.specs.Head.{are_headers, is_trimmed_value, starts_visible}
 use Rattle.http_wire.specs.FirstMessage.{is_length}
+use Rattle.slo_manifest.specs.declared.Segment.{Segment}
 use Rattle.swift_calls.specs.declared.calls.SwiftRequest.{SwiftRequest}
-use Rattle.swift_calls.specs.declared.calls.SwiftRequest.TheVariants.{PutObject}
+use Rattle.swift_calls.specs.declared.calls.SwiftRequest.TheVariants.{PutObject, PutManifest}
 use Rattle.swift_calls.specs.declared.calls.SwiftReply.TheVariants.{Stored}
 use Rattle.http_answers.specs.Fields.{number_in, plain_number}
 use Rattle.swift_replies.specs.Fields.{is_tag_byte, is_quoted, tag_in, tag_only}
 use Rattle.http_answers.specs.Framing.{expected}
-use Rattle.swift_replies.specs.Answers.{SpellsAnswer}
+use Rattle.swift_replies.specs.Answers.{SpellsAnswer, asks_head, reply_of}
 use Rattle.swift_replies.specs.AnswerText.{Sent, head_text, is_tag, sent_text, stored_by, stored_sent, text_by, within_limit, length_field, etag_field}
 use Rattle.swift_replies.proofs.lemmas.BareRows.{zero_text}
-use Rattle.swift_replies.proofs.lemmas.ReadBack.{lowered, written_spells}
+use Rattle.swift_replies.proofs.lemmas.ReadBack.{lowered, said_by, written_spells}
 
 -- ---- values without white space
 
@@ -117,12 +118,12 @@ stored_headers etag fine =
 stored_size : (etag : List ℕ) → expected false 201 (map lowered (length_field 0 ∷ etag_field etag ∷ [])) ≡ Some 0
 stored_size etag = ap (λ v. expected false 201 (map lowered ((codes "Content-Length", v) ∷ etag_field etag ∷ []))) zero_text
 
-stored_spells : (container name content_type : List ℕ) (meta : List (List ℕ)) (body etag : List ℕ) → is_tag etag ≡ true
-    → length (head_text (stored_by etag)) ≤ 65536
-    → SpellsAnswer (PutObject container name content_type meta body) (Stored etag) (sent_text (stored_by etag))
-stored_spells container name content_type meta body etag fine short =
-    written_spells (PutObject container name content_type meta body) (Stored etag) (stored_by etag) refl (stored_headers etag fine) short (stored_size etag)
-    (ap (option_map (λ v. Stored v)) (tag_back etag fine))
+-- to a call that isn't sent with HEAD
+stored_spells : (call : SwiftRequest) (etag : List ℕ) → asks_head call ≡ false → reply_of call (said_by (stored_by etag)) ≡ Some (Stored etag)
+    → is_tag etag ≡ true → length (head_text (stored_by etag)) ≤ 65536 → SpellsAnswer call (Stored etag) (sent_text (stored_by etag))
+stored_spells call etag asks gives fine short =
+    written_spells call (Stored etag) (stored_by etag) refl (stored_headers etag fine) short
+    (ap (λ head. expected head 201 (map lowered (length_field 0 ∷ etag_field etag ∷ []))) asks ∙ stored_size etag) gives
 
 -- a reply that has a spelling is written within the limit
 pub limit_of : (s : Sent) (P : List ℕ → Type 0) → is_some (within_limit s) ≡ true → (length (head_text s) ≤ 65536 → P (sent_text s)) → P (text_by (within_limit s))
@@ -132,15 +133,23 @@ limit_of s P some given = by_limit (nat_le (length (head_text s)) 65536) refl so
     by_limit true short some = given (leb-true (length (head_text s)) 65536 short)
     by_limit false long some = absurd (false≢true some)
 
-pub stored_reads_back : (container name content_type : List ℕ) (meta : List (List ℕ)) (body etag : List ℕ) → is_some (stored_sent etag) ≡ true
-    → SpellsAnswer (PutObject container name content_type meta body) (Stored etag) (text_by (stored_sent etag))
-stored_reads_back container name content_type meta body etag some = by_tag (is_tag etag) refl some
+stored_by_call : (call : SwiftRequest) (etag : List ℕ) → asks_head call ≡ false
+    → (is_tag etag ≡ true → reply_of call (said_by (stored_by etag)) ≡ Some (Stored etag)) → is_some (stored_sent etag) ≡ true
+    → SpellsAnswer call (Stored etag) (text_by (stored_sent etag))
+stored_by_call call etag asks gives some = by_tag (is_tag etag) refl some
   where
-    call : SwiftRequest
-    call = PutObject container name content_type meta body
-
     by_tag : (b : Bool) → is_tag etag ≡ b → is_some (if b then within_limit (stored_by etag) else None) ≡ true
         → SpellsAnswer call (Stored etag) (text_by (if b then within_limit (stored_by etag) else None))
     by_tag true fine some =
-        limit_of (stored_by etag) (SpellsAnswer call (Stored etag)) some (stored_spells container name content_type meta body etag fine)
+        limit_of (stored_by etag) (SpellsAnswer call (Stored etag)) some (stored_spells call etag asks (gives fine) fine)
     by_tag false other some = absurd (false≢true some)
+
+pub stored_reads_back : (container name content_type : List ℕ) (meta : List (List ℕ)) (body etag : List ℕ) → is_some (stored_sent etag) ≡ true
+    → SpellsAnswer (PutObject container name content_type meta body) (Stored etag) (text_by (stored_sent etag))
+stored_reads_back container name content_type meta body etag some =
+    stored_by_call (PutObject container name content_type meta body) etag refl (λ fine. ap (option_map (λ v. Stored v)) (tag_back etag fine)) some
+
+pub listed_reads_back : (container name content_type : List ℕ) (meta : List (List ℕ)) (segments : List Segment) (etag : List ℕ) → is_some (stored_sent etag) ≡ true
+    → SpellsAnswer (PutManifest container name content_type meta segments) (Stored etag) (text_by (stored_sent etag))
+listed_reads_back container name content_type meta segments etag some =
+    stored_by_call (PutManifest container name content_type meta segments) etag refl (λ fine. ap (option_map (λ v. Stored v)) (tag_back etag fine)) some

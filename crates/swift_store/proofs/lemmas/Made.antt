@@ -1,10 +1,13 @@
 -- The laws of the accounts that calls make.
-use Rattle.std.specs.Prelude.{ℕ, true, Bool, false, List, Option, None, Some, IfSome}
+use Rattle.std.specs.Prelude.{◌≡◌, ℕ, true, Bool, false, List, Option, None, Some, IfSome}
 use Rattle.std.specs.FinMap.{get}
 use Rattle.swift_calls.specs.Account.{SwiftAccount, SwiftContainer, SwiftObject, find_object}
-use Rattle.swift_calls.specs.Step.{IsContainerName, IsMoment, is_bare, head_container, put_container, post_container, delete_by, delete_container, put_object, delete_object}
+use Rattle.std.proofs.Common.{refl}
+use Rattle.slo_manifest.specs.declared.Segment.{Segment}
+use Rattle.swift_calls.specs.Bodies.{is_good_list}
+use Rattle.swift_calls.specs.Step.{Fit, put_listed, put_manifest, IsContainerName, IsMoment, is_bare, head_container, put_container, post_container, delete_by, delete_container, put_object, delete_object}
 use Rattle.swift_calls.specs.declared.account.ReadList.{ReadList}
-use Rattle.swift_calls.specs.declared.account.Content.TheVariants.{Plain}
+use Rattle.swift_calls.specs.declared.account.Content.TheVariants.{Plain, Segments}
 use Rattle.swift_calls.specs.declared.calls.SwiftRequest.TheVariants.{
   ListContainers,
   HeadContainer,
@@ -13,15 +16,17 @@ use Rattle.swift_calls.specs.declared.calls.SwiftRequest.TheVariants.{
   DeleteContainer,
   ListNames,
   PutObject,
+  PutManifest,
   HeadObject,
   GetObject,
+  GetManifest,
   DeleteObject,
 }
 use Rattle.swift_store.specs.Made.{IsMade, IsMadeObject}
 use Rattle.swift_store.specs.MadeLaws.{HasSpelling, StaysMade}
 use Rattle.swift_store.proofs.MadeChanges.{made_head, made_readers, made_new, made_removed, made_put, made_taken}
-use Rattle.swift_store.proofs.Writing.{put_made}
-use Rattle.swift_store.proofs.MadeReplies.{containers_row, names_row, readers_row, head_row, get_row, put_row, post_row, delete_row, stored_row, remove_row}
+use Rattle.swift_store.proofs.Writing.{good_made, put_made}
+use Rattle.swift_store.proofs.MadeReplies.{containers_row, names_row, readers_row, head_row, get_row, put_row, post_row, delete_row, stored_row, list_row, manifest_row, remove_row}
 
 -- ---- what each call leaves
 
@@ -51,6 +56,15 @@ module _ (account : SwiftAccount) (made : IsMade account) where
   after_stored None c n object own = made
   after_stored (Some folder) c n object own = made_put c n object account made own
 
+  after_listed : (b : Bool) (folder : SwiftContainer) (c n content_type : List ℕ) (meta : List (List ℕ)) (segments : List Segment) → is_good_list (find_object account) segments ≡ b → Fit (PutManifest c n content_type meta segments)
+      → IsMade (put_listed b (Some folder) c n (record { content_type = content_type; meta = meta; content = Segments segments }) account).tree
+  after_listed true folder c n content_type meta segments good fit = made_put c n (record { content_type = content_type; meta = meta; content = Segments segments }) account made (good_made c n content_type meta segments (find_object account) good fit)
+  after_listed false folder c n content_type meta segments good fit = made
+
+  after_manifest : (v : Option SwiftContainer) (c n content_type : List ℕ) (meta : List (List ℕ)) (segments : List Segment) → Fit (PutManifest c n content_type meta segments) → IsMade (put_manifest v c n content_type meta segments account).tree
+  after_manifest None c n content_type meta segments fit = made
+  after_manifest (Some folder) c n content_type meta segments fit = after_listed (is_good_list (find_object account) segments) folder c n content_type meta segments refl fit
+
   after_removed : (v : Option SwiftObject) (c n : List ℕ) → IsMade (delete_object v c n account).tree
   after_removed None c n = made
   after_removed (Some file) c n = made_taken c n account made
@@ -65,8 +79,10 @@ stays_made (ListNames c prefix marker limit) account fit made = made
 stays_made (PutObject c n content_type meta body) account fit made =
     after_stored account made (get account c) c n (record { content_type = content_type; meta = meta; content = Plain body })
     (put_made c n content_type meta body fit)
+stays_made (PutManifest c n content_type meta segments) account fit made = after_manifest account made (get account c) c n content_type meta segments fit
 stays_made (HeadObject c n) account fit made = made
 stays_made (GetObject c n range) account fit made = made
+stays_made (GetManifest c n) account fit made = made
 stays_made (DeleteObject c n) account fit made = after_removed account made (find_object account c n) c n
 
 pub has_spelling : HasSpelling
@@ -77,6 +93,8 @@ has_spelling (PostContainer c readers) account fit made = post_row (get account 
 has_spelling (DeleteContainer c) account fit made = delete_row (get account c) c account
 has_spelling (ListNames c prefix marker limit) account fit made = names_row account made c limit prefix marker
 has_spelling (PutObject c n content_type meta body) account fit made = stored_row (get account c) c n content_type meta body account
+has_spelling (PutManifest c n content_type meta segments) account fit made = list_row (get account c) c n content_type meta segments account
 has_spelling (HeadObject c n) account fit made = head_row account made c n
 has_spelling (GetObject c n range) account fit made = get_row account made c n range fit.2
+has_spelling (GetManifest c n) account fit made = manifest_row account made c n
 has_spelling (DeleteObject c n) account fit made = remove_row (find_object account c n) c n account

@@ -14,6 +14,6 @@ returns c =
     (c.in_ok-append_field.ensures ∙ ap (λ value. c.args.text.now ++ print_header (codes "Host", value)) c.as_slice.ensures)
     (c.in_ok-append_field-2.ensures ∙ ap (λ value. c.append_field.new.text ++ print_header (codes "X-Auth-Token", value)) c.as_slice-2.ensures)
     c.in_ok-append_own.ensures
-    (e ∙ ap (λ body. c.append_own.new.text ++ print_header (codes "Content-Length", decimal (length body))) c.body_of.ensures)
+    (e ∙ ap (λ size. c.append_own.new.text ++ print_header (codes "Content-Length", decimal size)) c.requires)
     (last_header (own_fields c.args.call.now) (codes "Content-Length", decimal (length (body_of c.args.call.now)))))
     c.append_number.ensures

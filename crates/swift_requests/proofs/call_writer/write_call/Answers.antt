@@ -1,16 +1,11 @@
-use Rattle.std.proofs.Common.{◌≡◌, sym, subst}
-use Rattle.swift_requests.specs.Calls.{SpellsRequest}
-use Rattle.swift_requests.specs.CallText.{call_text}
-use Rattle.swift_requests.proofs.SpellLemmas.{written_spells}
-use Rattle.swift_requests.proofs.TextLemmas.{whole_text}
+use Rattle.std.proofs.Common.{ap, subst, ◌∙◌}
+use Rattle.slo_manifest.specs.Segments.{is_manifest}
+use Rattle.swift_calls.specs.Step.{Fit}
+use Rattle.swift_requests.proofs.ManifestLemmas.{manifest_fit}
 use Rattle.swift_requests.proofs.call_writer.write_call.Goals as goal
 
-pub returns : goal.returns
-returns c =
-    let text : c.append-2.new.self ≡ call_text c.args.place.now c.args.call.now =
-    whole_text c.args.place.now c.args.call.now _ _ _ _ _ _ c.in_ok-text.ensures c.in_ok-append_line.ensures c.in_ok-append_fields.ensures
-    c.in_ok-append.ensures.ok c.in_ok-append-2.ensures.ok c.body_of-body.ensures in
-    record {
-      text = text;
-      spells = subst (SpellsRequest c.args.place.now c.args.call.now) (sym text) (written_spells c.args.place.now c.args.call.now c.requires.place c.requires.fit);
-    }
+pub write-requires : goal.write-requires
+write-requires c =
+    ap is_manifest c.as_slice-in-PutManifest.ensures
+    ∙ manifest_fit c.in-PutManifest.container c.in-PutManifest.name c.in-PutManifest.content_type c.in-PutManifest.meta c.in-PutManifest.segments
+    (subst Fit c.in-PutManifest.is c.requires.fit)
