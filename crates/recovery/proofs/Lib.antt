@@ -15,6 +15,10 @@ pub mod Made
 pub mod PurgePage
 pub mod PurgeWalk
 pub mod Put
+pub mod RollCalls
+pub mod SealStands
+pub mod SealedVersions
+pub mod Segments
 pub mod Settling
 pub mod Taken
 pub mod Unchanged

@@ -16,5 +16,6 @@ pub mod Pages
 pub mod Quiet
 pub mod Removal
 pub mod Replies
+pub mod SideNames
 pub mod Sides
 pub mod Walk

@@ -8,5 +8,6 @@ pub mod Lent
 pub mod Listing
 pub mod Plan
 pub mod Purging
+pub mod Rolls
 pub mod Settling
 pub mod Stutters

@@ -2,9 +2,6 @@
 use Rattle.std.specs.Prelude.{◌≡◌, ◌⊎◌, IsTrue, Result, Ok, Err}
 use Rattle.swift_calls.specs.Account.{SwiftAccount}
 use Rattle.swift_calls.specs.History.{History, present}
-use Rattle.swift_calls.specs.declared.calls.SwiftReply.{SwiftReply}
-use Rattle.swift_calls.specs.declared.calls.SwiftReply.TheVariants.{NotFound}
-use Rattle.upload_records.specs.Consistent.{IsThere}
 use Rattle.upload_records.specs.Layout.{gateway_name, sealed_name}
 use Rattle.upload_records.specs.Native.{IsSettled}
 use Rattle.recovery.specs.declared.fault.PlanFault.{PlanFault}
@@ -33,15 +30,6 @@ as_plan (Err fault) = Err (settle_fault fault)
 -- what settling tells: no completion is sealed on the account after it
 abbrev pub SettlesIt : SwiftAccount → SwiftAccount → Unit {0} → Type 0
 SettlesIt old new done = IsSettled new
-
--- the gateway's own container is there
-abbrev pub MakesItsOwn : SwiftAccount → SwiftAccount → Unit {0} → Type 0
-MakesItsOwn old new done = IsThere new gateway_name
-
--- GET of a completion that is sealed, which none may be
-abbrev pub absent_due : SwiftReply → Result (Unit {0}) PlanFault
-absent_due NotFound = Ok tt
-absent_due _ = Err plan.Inconsistent
 
 -- the fault of settling by that of its calls: it names what is sealed; or there was no memory to name it
 abbrev pub IsNamedFault : PlanFault → SettleFault → Type 0

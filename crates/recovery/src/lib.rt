@@ -12,6 +12,8 @@ mod laws;
 mod listing;
 mod object;
 mod plans;
+mod rolling;
+mod sealed;
 mod state;
 
 pub use beside::{make_beside, purge};
@@ -23,4 +25,5 @@ pub use laws::{law_answered_fault_free, law_never_unavailable};
 pub use listing::list_buckets;
 pub use object::{delete_object, get_object, head_object, put_object};
 pub use plans::is_upload;
+pub use rolling::roll_forward;
 pub use state::{Known, SettleFault, Settled, Unsure};

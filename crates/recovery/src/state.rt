@@ -1,21 +1,18 @@
 //! The store as an operation finds it: a completion may be sealed on it, or none is.
-ghost use Rattle.std.specs.Prelude.{◌≡◌, ◌≢◌, map, IfOk, IsTrue, Ok, Err};
+ghost use Rattle.std.specs.Prelude.{◌≡◌, map, IfOk};
 ghost use Rattle.list_pages.specs.Listing.{name_in, page_request, AsksPage, IsPageOf};
-ghost use Rattle.swift_calls.specs.History.{present, Calls};
+ghost use Rattle.swift_calls.specs.History.{Calls};
 ghost use Rattle.swift_calls.specs.Step.{Fit};
-ghost use Rattle.upload_records.specs.Native.{IsSettled};
-ghost use Rattle.recovery.specs.Calls.{always, Any, Asks};
 ghost use Rattle.recovery.specs.Lent.{Stays};
-ghost use Rattle.recovery.specs.Settling.{absent_due, IsNamedFault, MakesItsOwn, Settles, SettlesIt};
-ghost use Rattle.recovery.specs.declared.fault.PlanFault.TheVariants as fault;
+ghost use Rattle.recovery.specs.Settling.{IsNamedFault, Settles};
 
 use crate::PlanFault;
-use crate::beside::placed_in;
+use crate::rolling::settle_store;
 use gate_base::{Bytes, List};
 use list_pages::{PageFault, names};
 use s3_machine::Settings;
 use std::alloc::Global;
-use swift_calls::{NameItem, ReadList, Swift, SwiftFault, SwiftReply, SwiftRequest};
+use swift_calls::{NameItem, Swift, SwiftFault, SwiftReply, SwiftRequest};
 use upload_records::{gateway_container, sealed_name};
 
 /// What is known of a store between two operations.
@@ -69,10 +66,10 @@ impl<'a, W: Swift> Unsure<'a, W> {
         }
     }
 
-    /// Settles the store, so that it can be held as [`Settled`], by two calls: the gateway's own container is made, and what
-    /// is sealed there is looked for. A completion that is found can't be finished by this version: that is Inconsistent, of
-    /// the file that it stands in. The S3 state stays. Failed comes only where the store's count of faults rose; Memory where
-    /// memory ran out; Inconsistent never over an observable consistent account. After a fault a completion may be sealed.
+    /// Settles the store, so that it can be held as [`Settled`]: the gateway's own container is made, what is sealed there is
+    /// looked for, and a completion that is found is finished. That is two calls, or five. The S3 state stays. Failed comes
+    /// only where the store's count of faults rose; Memory where memory ran out; Inconsistent, of the file of what is sealed,
+    /// never over an observable consistent account. After a fault a completion may be sealed.
     pub fn settle(&mut self) -> Result<(), SettleFault>
         ensures same { self.new.store.ghost_name ≡ self.old.store.ghost_name }
         ensures settings { self.new.settings.now ≡ self.old.settings.now }
@@ -164,62 +161,6 @@ impl<'a, W: Swift> Settled<'a, W> {
     {
         let Settled { store, .. } = self;
         store
-    }
-}
-
-/// Makes the gateway's own container, and looks that nothing is sealed there.
-fn settle_store<W: Swift>(alloc: Global, store: &mut W) -> Result<(), PlanFault>
-    ensures asks { Asks (always 5) (W.history store.old) (W.history store.new) Any SettlesIt result }
-    ensures done { IsTrue (W.history store.old).observable → result ≡ Ok tt → IsSettled (present (W.history store.new)) }
-{
-    put_gateway(alloc, store)?;
-    look_sealed(alloc, store)
-}
-
-/// Makes the gateway's own container, which may be there, by PUT of it (Object Storage API v1, "Create container").
-#[tactic(auto, using(crate::proofs::Settling::gateway_is_container))]
-fn put_gateway<W: Swift>(alloc: Global, store: &mut W) -> Result<(), PlanFault>
-    ensures asks { Asks (always 1) (W.history store.old) (W.history store.new) Any MakesItsOwn result }
-{
-    let reply = ask(
-        store,
-        SwiftRequest::PutContainer {
-            container: gateway_container(alloc)?,
-            readers: ReadList::Nobody,
-            created: None,
-        },
-    )?;
-    placed_in(&reply)
-}
-
-/// Looks that nothing is sealed in the gateway's own container, by GET of what would be (Object Storage API v1, "Get object
-/// content and metadata").
-#[tactic(auto, using(crate::proofs::Settling::gateway_is_container, crate::proofs::Settling::sealed_is_object))]
-fn look_sealed<W: Swift>(alloc: Global, store: &mut W) -> Result<(), PlanFault>
-    ensures asks { Asks (always 1) (W.history store.old) (W.history store.new) Any SettlesIt result }
-    ensures done { IsTrue (W.history store.old).observable → result ≡ Ok tt → IsSettled (present (W.history store.new)) }
-{
-    let container = gateway_container(alloc)?;
-    let name = sealed_name(alloc)?;
-    let reply = ask(
-        store,
-        SwiftRequest::GetObject {
-            container,
-            name,
-            range: None,
-        },
-    )?;
-    absent_in(&reply)
-}
-
-/// The answer to GET of what is sealed, which may be there no more.
-fn absent_in(reply: &SwiftReply) -> Result<(), PlanFault>
-    ensures due { result ≡ absent_due reply.now }
-    ensures own { result ≢ Err fault.Failed }
-{
-    match reply {
-        SwiftReply::NotFound => Ok(()),
-        _ => Err(PlanFault::Inconsistent),
     }
 }
 

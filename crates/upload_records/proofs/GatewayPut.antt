@@ -1,28 +1,36 @@
 -- A change of the gateway's own container leaves the buckets; the PUT of the container itself leaves the state, and the PUT of a
 -- sealed completion into it is the step of the service.
-use Rattle.std.specs.Prelude.{◌≡◌, ℕ, Bool, true, false, cond, List, is_some, Option, None, Some}
+use Rattle.std.specs.Prelude.{◌≡◌, ◌&&◌, ℕ, Bool, true, false, cond, bytes_eq, List, is_some, Option, None, Some}
 use Rattle.std.specs.Option.{option_map, option_and_then}
 use Rattle.std.specs.Ordering.{eq_by_cmp}
-use Rattle.std.specs.FinMap.{get}
+use Rattle.std.specs.FinMap.{get, insert}
 use Rattle.std.proofs.Common.{refl, sym, ap, subst, ◌∙◌, inl, inr}
+use Rattle.std.proofs.lemmas.Bool.{and_parts}
 use Rattle.std.proofs.lemmas.Option.{same_Some}
-use Rattle.gate_base.specs.Maps.{name_cmp}
-use Rattle.gate_base.proofs.lemmas.Maps.{by_name, apart_back, same_key, same_names, at_insert, at_adjust}
+use Rattle.gate_base.specs.Maps.{Names, name_cmp}
+use Rattle.gate_base.proofs.lemmas.Maps.{by_name, apart_back, same_key, same_names, at_insert, at_adjust, off_adjust, put_is}
 use Rattle.s3_names.specs.Bucket.{is_bucket}
+use Rattle.s3_names.specs.Key.{is_key}
+use Rattle.s3_machine.specs.Finish.{finished}
 use Rattle.swift_calls.specs.declared.account.ReadList.TheVariants.{Nobody}
-use Rattle.swift_calls.specs.declared.calls.SwiftRequest.TheVariants.{PutContainer}
-use Rattle.swift_calls.specs.Account.{SwiftObject, SwiftContainer, SwiftAccount, files, files_of, find_object, with_head}
+use Rattle.swift_calls.specs.declared.account.Content.TheVariants.{Plain}
+use Rattle.swift_calls.specs.declared.calls.SwiftRequest.TheVariants.{PutContainer, PutObject}
+use Rattle.swift_calls.specs.Account.{SwiftObject, SwiftContainer, SwiftAccount, files, files_of, find_object, on_files, with_head, put_file}
+use Rattle.swift_calls.specs.Bodies.{plain_bytes}
 use Rattle.swift_calls.specs.Step.{put_container}
+use Rattle.upload_texts.specs.Places.{json_or_null}
+use Rattle.upload_texts.specs.Sealed.{is_sealed_place, read_sealed, has_sealed_text, sealed_in as sealed_place, sealed_text}
 use Rattle.upload_texts.specs.declared.sealed.Sealed.{Sealed}
-use Rattle.upload_records.specs.Layout.{uploads_name, segments_name, gateway_name}
-use Rattle.upload_records.specs.Native.{bucket_from, bucket_of, plain, seal_of, sealed_of, finished_from, laid, s3_state}
-use Rattle.upload_records.specs.Consistent.{Head, head_of, heads, IsFolderName, ConsistentContainers, ConsistentBucket, sealed_in, sealed_id, ConsistentSealed, IsStored, IsThere, SealedIn, IsConsistent}
-use Rattle.upload_records.specs.Laws.{MakesGateway}
+use Rattle.upload_records.specs.Layout.{uploads_name, segments_name, gateway_name, sealed_name}
+use Rattle.upload_records.specs.Native.{bucket_from, bucket_of, plain, seal_by, seal_of, sealed_of, finished_from, laid, IsUnsealed, s3_state}
+use Rattle.upload_records.specs.Consistent.{Head, head_of, heads, IsFolderName, ConsistentContainers, ConsistentBucket, sealed_in, sealed_id, ConsistentSealed, IsSealedFile, IsStored, IsThere, SealedIn, IsConsistent}
+use Rattle.upload_records.specs.Laws.{file_put, MakesGateway, SealsCompletion}
 use Rattle.upload_records.proofs.Apart.{gateway_apart}
 use Rattle.upload_records.proofs.Sides.{gateway_uploads, gateway_segments}
-use Rattle.upload_records.proofs.Carried.{bucket_as}
+use Rattle.upload_records.proofs.Carried.{none_found, bucket_as, containers_same, heads_stay, files_after}
 use Rattle.upload_records.proofs.Plain.{get_plain}
-use Rattle.upload_records.proofs.lemmas.Settled.{OffSame, seal_holds}
+use Rattle.upload_records.proofs.lemmas.Settled.{OffSame, seal_holds, seal_none, s3_state_unsealed}
+use Rattle.upload_records.proofs.lemmas.Objects.{put_leaves}
 use Rattle.upload_records.proofs.lemmas.Off.{put_off}
 
 bucket_off : (n : List ℕ) → is_bucket n ≡ true → eq_by_cmp name_cmp n gateway_name ≡ false
@@ -64,7 +72,7 @@ module _ (tree tree' : SwiftAccount) (off : OffSame tree tree' gateway_name) whe
   pub sound_gateway : IsConsistent tree → ConsistentContainers (heads tree')
       → ((n : List ℕ) → ConsistentBucket (segments_name n) (files tree n) (files tree (uploads_name n)) (files tree (segments_name n)) (sealed_id tree n)
       → ConsistentBucket (segments_name n) (files tree n) (files tree (uploads_name n)) (files tree (segments_name n)) (sealed_id tree' n))
-      → ((name : List ℕ) (file : SwiftObject) → find_object tree' gateway_name name ≡ Some file → ⊥)
+      → ((name : List ℕ) (file : SwiftObject) → find_object tree' gateway_name name ≡ Some file → IsSealedFile name file)
       → ((s : Sealed) → seal_of tree' ≡ Some s → SealedIn tree' s)
       → ((name : List ℕ) (file : SwiftObject) → find_object tree' gateway_name name ≡ Some file → IsStored name file)
       → IsConsistent tree'
@@ -157,3 +165,84 @@ module _ (tree : SwiftAccount) (created : Option ℕ) (sound : IsConsistent tree
     same = state_alike tree (put_container (get tree gateway_name) gateway_name Nobody created tree).tree all_files (plain_stays tree (put_container (get tree gateway_name) gateway_name Nobody created tree).tree made_off);
     there = made_there tree created (get tree gateway_name) refl;
   }
+
+-- ---- the PUT of a sealed completion
+
+-- what reads as a sealed completion has a text
+pub sealed_has : (text : List ℕ) (s : Sealed) → read_sealed text ≡ Some s → has_sealed_text s ≡ true
+unfolding read_sealed
+sealed_has text s reads = from_parts (sealed_place (json_or_null text)) _ refl reads
+  where
+    from_parts : (r : Sealed) (t : Bool) → (has_sealed_text r && bytes_eq (sealed_text r) text) ≡ t → cond t (Some r) None ≡ Some s → has_sealed_text s ≡ true
+    from_parts r true both same = ap has_sealed_text (sym (same_Some r s same)) ∙ (and_parts (has_sealed_text r) _ both).0
+    from_parts r false both never = absurd (none_found s never)
+
+-- its bucket has the name of one
+pub sealed_bucket : (text : List ℕ) (s : Sealed) → read_sealed text ≡ Some s → is_bucket s.bucket ≡ true
+unfolding has_sealed_text
+sealed_bucket text s reads = (and_parts (is_bucket s.bucket) (is_key s.key) (and_parts (is_sealed_place s) _ (sealed_has text s reads)).0).0
+
+resealed : (folder : List ℕ) (O R S : Names SwiftObject) (sealed : Option ℕ) → ConsistentBucket folder O R S None → ConsistentBucket folder O R S sealed
+resealed folder O R S sealed old = record {
+  of_objects = old.of_objects;
+  of_segments = old.of_segments;
+  of_records = old.of_records;
+  apart = λ id lists opens. absurd (none_found id (old.apart id lists opens));
+}
+
+module _ (tree : SwiftAccount) (text : List ℕ) (s : Sealed) (file : SwiftObject) (own : file.content ≡ Plain text) (reads : read_sealed text ≡ Some s) (there : IsThere tree gateway_name)
+    (stands : SealedIn tree s) (stored : IsStored sealed_name file) (sound : IsConsistent tree) (unsealed : IsUnsealed tree) where
+  put_off_gateway : OffSame tree (put_file gateway_name sealed_name file tree) gateway_name
+  put_off_gateway = off_adjust by_name gateway_name (on_files (λ fs. insert fs sealed_name file)) tree
+
+  at_gateway : get (put_file gateway_name sealed_name file tree) gateway_name ≡ option_map (on_files (λ fs. insert fs sealed_name file)) (get tree gateway_name)
+  at_gateway = at_adjust by_name gateway_name (on_files (λ fs. insert fs sealed_name file)) tree
+
+  gateway_files : files (put_file gateway_name sealed_name file tree) gateway_name ≡ insert (files tree gateway_name) sealed_name file
+  gateway_files = ap files_of at_gateway ∙ files_after (λ fs. insert fs sealed_name file) (get tree gateway_name) there
+
+  seal_put : seal_of (put_file gateway_name sealed_name file tree) ≡ Some s
+  unfolding seal_of
+  seal_put = ap (λ fs. seal_by (get fs sealed_name)) gateway_files ∙ ap seal_by (at_insert by_name (files tree gateway_name) sealed_name file)
+      ∙ ap (λ c. option_and_then read_sealed (plain_bytes c)) own ∙ reads
+
+  none_sealed : (n : List ℕ) → sealed_id tree n ≡ None
+  none_sealed n = ap (λ x. sealed_in x n) (seal_none tree unsealed)
+
+  sealed_new : SealedIn (put_file gateway_name sealed_name file tree) s
+  sealed_new =
+      let is = sealed_bucket text s reads in
+      let new : SwiftAccount = put_file gateway_name sealed_name file tree in
+      record {
+        there = ap is_some (bucket_stays tree new put_off_gateway s.bucket is) ∙ stands.there;
+        stands = subst (λ r. ConsistentSealed r (files new (segments_name s.bucket)) s) (sym (records_stay tree new put_off_gateway s.bucket is))
+            (subst (λ x. ConsistentSealed (files tree (uploads_name s.bucket)) x s) (sym (segments_stay tree new put_off_gateway s.bucket is)) stands.stands);
+      }
+
+  sealed_sound : IsConsistent (put_file gateway_name sealed_name file tree)
+  sealed_sound = sound_gateway tree (put_file gateway_name sealed_name file tree) put_off_gateway sound
+      (containers_same (heads tree) (heads (put_file gateway_name sealed_name file tree)) (heads_stay tree gateway_name (λ fs. insert fs sealed_name file)) sound.folders)
+      (λ n old. resealed (segments_name n) (files tree n) (files tree (uploads_name n)) (files tree (segments_name n)) (sealed_id (put_file gateway_name sealed_name file tree) n)
+      (bucket_as (segments_name n) refl refl refl (sym (none_sealed n)) old))
+      (λ name f found. put_is IsSealedFile (files tree gateway_name) sealed_name file name f (record { text = text; is = s; named = refl; own = own; reads = reads }) (sound.gateway name f) (ap (λ fs. get fs name) (sym gateway_files) ∙ found))
+      (λ x found. subst (SealedIn (put_file gateway_name sealed_name file tree)) (same_Some s x (sym seal_put ∙ found)) sealed_new)
+      (λ name f found. put_is IsStored (files tree gateway_name) sealed_name file name f stored (sound.stored gateway_name name f) (ap (λ fs. get fs name) (sym gateway_files) ∙ found))
+
+  sealed_state : s3_state (put_file gateway_name sealed_name file tree) ≡ finished (finished_from (files tree (segments_name s.bucket)) s) (s3_state tree)
+  unfolding s3_state sealed_of
+  sealed_state =
+      let new : SwiftAccount = put_file gateway_name sealed_name file tree in
+      ap (λ v. laid (option_map (λ x. finished_from (files new (segments_name x.bucket)) x) v) (plain new)) seal_put
+      ∙ ap (λ fs. finished (finished_from fs s) (plain new)) (segments_stay tree new put_off_gateway s.bucket (sealed_bucket text s reads))
+      ∙ ap (finished (finished_from (files tree (segments_name s.bucket)) s)) (plain_stays tree new put_off_gateway ∙ sym (s3_state_unsealed tree unsealed))
+
+pub completion_sealed : (tree : SwiftAccount) (content_type : List ℕ) (meta : List (List ℕ)) (text : List ℕ) (s : Sealed) → read_sealed text ≡ Some s → IsThere tree gateway_name → SealedIn tree s
+    → IsStored sealed_name (file_put content_type meta text) → IsConsistent tree → IsUnsealed tree → SealsCompletion tree (PutObject gateway_name sealed_name content_type meta text) s
+completion_sealed tree content_type meta text s reads there stands stored sound unsealed =
+    let file : SwiftObject = file_put content_type meta text in
+    let leaves = put_leaves (get tree gateway_name) gateway_name sealed_name file tree refl in
+    record {
+      sound = subst IsConsistent (sym leaves) (sealed_sound tree text s file refl reads there stands stored sound unsealed);
+      state = ap s3_state leaves ∙ sealed_state tree text s file refl reads there stands stored sound unsealed;
+      seals = ap seal_of leaves ∙ seal_put tree text s file refl reads there stands stored sound unsealed;
+    }

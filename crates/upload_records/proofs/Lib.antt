@@ -1,6 +1,7 @@
 pub mod Apart
 pub mod Beside
 pub mod Carried
+pub mod Completed
 pub mod GatewayPut
 pub mod Leaves
 pub mod PartPut
@@ -8,6 +9,7 @@ pub mod Parts
 pub mod Plain
 pub mod RecordGone
 pub mod RecordPut
+pub mod Rolls
 pub mod Segments
 pub mod SideCalls
 pub mod Sides

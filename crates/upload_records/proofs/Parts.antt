@@ -20,7 +20,7 @@ use Rattle.upload_records.specs.Consistent.{IsListedPart, AreParts, of_parts, Is
 
 -- ---- bytes
 
-as_listed : (s : Segment) (file : SwiftObject) (bytes : List ℕ) → file.content ≡ Plain bytes → s.etag ≡ etag_text bytes → s.size ≡ length bytes → is_segment s file ≡ true
+pub as_listed : (s : Segment) (file : SwiftObject) (bytes : List ℕ) → file.content ≡ Plain bytes → s.etag ≡ etag_text bytes → s.size ≡ length bytes → is_segment s file ≡ true
 as_listed s file bytes own etag size =
     (λ i. bytes_eq (etag_of (own i)) (etag i) && nat_eq (size_of (own i)) (size i))
     ∙ and_from _ _ ((bytes_eq-Decides (etag_text bytes) (etag_text bytes)).1 refl) (eq-eqb (length bytes) (length bytes) refl)

@@ -3,5 +3,7 @@ pub mod Listing
 pub mod Objects
 pub mod Off
 pub mod Readers
+pub mod Rolling
 pub mod Settled
 pub mod SideCalls
+pub mod TextLengths

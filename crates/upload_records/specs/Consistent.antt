@@ -22,11 +22,12 @@ use Rattle.swift_calls.specs.declared.account.Content.TheVariants.{Plain, Segmen
 use Rattle.swift_calls.specs.Account.{SwiftObject, SwiftContainer, SwiftAccount, files, find_object, size_of}
 use Rattle.swift_calls.specs.Bodies.{etag_text, is_list}
 use Rattle.upload_texts.specs.Records.{read_record}
+use Rattle.upload_texts.specs.Sealed.{read_sealed}
 use Rattle.upload_texts.specs.declared.record.Record.{Record}
 use Rattle.upload_texts.specs.declared.record.Record.TheVariants.{Open, Done}
 use Rattle.upload_texts.specs.declared.sealed.Sealed.{Sealed}
 use Rattle.upload_texts.specs.declared.sealed.SealedPart.{SealedPart}
-use Rattle.upload_records.specs.Layout.{uploads_name, segments_name, gateway_name, segment_name}
+use Rattle.upload_records.specs.Layout.{uploads_name, segments_name, gateway_name, sealed_name, segment_name}
 use Rattle.upload_records.specs.Native.{record_at, seal_of, listed_of}
 
 -- ---- containers
@@ -219,6 +220,14 @@ pub record ConsistentSealed (records segments : Names SwiftObject) (s : Sealed) 
   pub etag : s.etag ≡ upload_etag (map (λ p. p.etag) s.list)
   pub agrees : Agrees s (record_at records (id_digits s.id))
 
+-- the one file of the gateway's own container: a completion that is sealed. That it lists a part is said by its text
+pub record IsSealedFile (name : List ℕ) (file : SwiftObject) : Type 0 where
+  pub text : List ℕ
+  pub is : Sealed
+  pub named : name ≡ sealed_name
+  pub own : file.content ≡ Plain text
+  pub reads : read_sealed text ≡ Some is
+
 -- ---- the account
 
 abbrev pub bucket_sound : SwiftAccount → List ℕ → Type 0
@@ -256,11 +265,11 @@ pub record SealedIn (tree : SwiftAccount) (s : Sealed) : Type 0 where
   pub there : IsThere tree s.bucket
   pub stands : ConsistentSealed (files tree (uploads_name s.bucket)) (files tree (segments_name s.bucket)) s
 
--- an account that only the gateway writes. Nothing stands in the gateway's own container, since no completion is built that
--- would be sealed there; of what stands beside a missing bucket nothing is asked but a name and a size that a store takes
+-- an account that only the gateway writes. Of what stands beside a missing bucket nothing is asked but a name and a size that a
+-- store takes
 pub record IsConsistent (tree : SwiftAccount) : Type 0 where
   pub folders : ConsistentContainers (heads tree)
   pub buckets : (bucket : List ℕ) → is_bucket bucket ≡ true → IsThere tree bucket → bucket_sound tree bucket
-  pub gateway : (name : List ℕ) (file : SwiftObject) → find_object tree gateway_name name ≡ Some file → ⊥
+  pub gateway : (name : List ℕ) (file : SwiftObject) → find_object tree gateway_name name ≡ Some file → IsSealedFile name file
   pub sealed : (s : Sealed) → seal_of tree ≡ Some s → SealedIn tree s
   pub stored : (folder name : List ℕ) (file : SwiftObject) → find_object tree folder name ≡ Some file → IsStored name file

@@ -1,8 +1,8 @@
 -- What the laws of this crate say.
-use Rattle.std.specs.Prelude.{◌≡◌, ◌<◌, ◌^◌, ℕ, List, true, is_some, Option, None, Some}
+use Rattle.std.specs.Prelude.{◌≡◌, ◌<◌, ◌≤◌, ◌^◌, ℕ, List, [], ◌∷◌, map, length, true, is_some, Option, None, Some}
 use Rattle.std.specs.Option.{option_map}
 use Rattle.std.specs.FinMap.{empty, get, insert, remove}
-use Rattle.gate_base.specs.Maps.{adjust}
+use Rattle.gate_base.specs.Maps.{Names, adjust}
 use Rattle.gate_base.specs.Told.{moment_limit}
 use Rattle.gate_base.specs.declared.page.Pair.{Pair}
 use Rattle.s3_names.specs.declared.acl.Acl.{Acl}
@@ -10,11 +10,17 @@ use Rattle.s3_names.specs.Bucket.{is_bucket}
 use Rattle.s3_names.specs.Id.{id_digits}
 use Rattle.s3_names.specs.Key.{is_key}
 use Rattle.s3_machine.specs.ETag.{body_etag}
+use Rattle.s3_machine.specs.Limits.{is_proper_meta}
+use Rattle.slo_manifest.specs.declared.manifest.TheConstants.{MOST_SEGMENTS}
+use Rattle.swift_marks.specs.Tag.{has_text}
+use Rattle.swift_marks.specs.Pack.{has_pack}
 use Rattle.s3_machine.specs.State.{Object, Part, Upload, State}
 use Rattle.s3_machine.specs.Step.{new_bucket, with_acl, put_object, drop_object}
+use Rattle.s3_machine.specs.Finish.{finished}
 use Rattle.s3_machine.specs.Step as machine
-use Rattle.s3_machine.specs.Uploads.{new_upload, open_upload, drop_upload, on_upload, new_part, with_part}
-use Rattle.swift_calls.specs.Account.{SwiftObject, SwiftAccount, files, find_object}
+use Rattle.s3_machine.specs.Uploads.{new_upload, open_upload, drop_upload, on_upload, new_part, with_part, greatest_part, rises_from}
+use Rattle.swift_calls.specs.Account.{SwiftObject, SwiftAccount, files, find_object, put_file}
+use Rattle.swift_calls.specs.Bodies.{outer_bytes, joined}
 use Rattle.swift_calls.specs.Step.{swift_step, only_reads}
 use Rattle.swift_calls.specs.Step as store
 use Rattle.swift_calls.specs.declared.account.Content.TheVariants.{Plain}
@@ -22,10 +28,13 @@ use Rattle.swift_calls.specs.declared.account.ReadList.TheVariants.{Nobody}
 use Rattle.swift_calls.specs.declared.calls.SwiftRequest.{SwiftRequest}
 use Rattle.swift_calls.specs.declared.calls.SwiftRequest.TheVariants.{PutContainer, PostContainer, DeleteContainer, PutObject, DeleteObject}
 use Rattle.upload_texts.specs.Records.{read_record}
+use Rattle.upload_texts.specs.Sealed.{read_sealed}
+use Rattle.upload_texts.specs.declared.sealed.Sealed.{Sealed}
+use Rattle.upload_texts.specs.declared.sealed.SealedPart.{SealedPart}
 use Rattle.upload_texts.specs.declared.record.Record.TheVariants.{Open}
-use Rattle.upload_records.specs.Layout.{uploads_name, segments_name, gateway_name, segment_name, readers_of}
-use Rattle.upload_records.specs.Native.{object_of, object_at, record_at, SameGateway, IsUnsealed, s3_state}
-use Rattle.upload_records.specs.Consistent.{IsBeside, HasBareSides, IsConsistent, IsPlainObject, IsObject, IsPart, IsOpen, HasList, IsStored, IsThere}
+use Rattle.upload_records.specs.Layout.{uploads_name, segments_name, gateway_name, sealed_name, segment_name, readers_of}
+use Rattle.upload_records.specs.Native.{within, sealed_bytes, listed_of, filled_parts, listing_of, object_of, object_at, record_at, seal_of, sealed_object, sealed_record, sealed_tag, completed_file, finished_from, SameGateway, IsUnsealed, s3_state}
+use Rattle.upload_records.specs.Consistent.{IsBeside, HasBareSides, IsConsistent, IsPlainObject, IsObject, IsPart, IsOpen, IsListOf, HasList, AreParts, IsSegment, AreSealedParts, IsStored, IsThere, SealedIn}
 
 -- a call is quiet on an account: the account after it is consistent, and represents the same state
 pub record DoesStutter (tree : SwiftAccount) (request : SwiftRequest) : Type 0 where
@@ -202,3 +211,86 @@ pub record MakesGateway (tree : SwiftAccount) (request : SwiftRequest) : Type 0 
 -- the PUT of the gateway's own container, which may be there
 abbrev pub GatewayMade : Type 0
 GatewayMade = (tree : SwiftAccount) (created : Option ℕ) → IsConsistent tree → MakesGateway tree (PutContainer gateway_name Nobody created)
+
+-- a call that seals a completion: the account after it is consistent, and in its state the completion is finished
+pub record SealsCompletion (tree : SwiftAccount) (request : SwiftRequest) (s : Sealed) : Type 0 where
+  pub sound : IsConsistent (swift_step request tree).tree
+  pub state : s3_state (swift_step request tree).tree ≡ finished (finished_from (files tree (segments_name s.bucket)) s) (s3_state tree)
+  pub seals : seal_of (swift_step request tree).tree ≡ Some s
+
+-- the PUT of a text that reads as a completion which stands beside its bucket, where none is sealed and the container is there
+abbrev pub CompletionSealed : Type 0
+CompletionSealed = (tree : SwiftAccount) (content_type : List ℕ) (meta : List (List ℕ)) (text : List ℕ) (s : Sealed) → read_sealed text ≡ Some s
+    → IsThere tree gateway_name → SealedIn tree s → IsStored sealed_name (file_put content_type meta text) → IsConsistent tree → IsUnsealed tree
+    → SealsCompletion tree (PutObject gateway_name sealed_name content_type meta text) s
+
+-- ---- rolling a sealed completion forward
+
+-- an account after which nothing has changed of the state, nor of what is sealed
+pub record Rolls (tree new : SwiftAccount) : Type 0 where
+  pub sound : IsConsistent new
+  pub same : s3_state new ≡ s3_state tree
+  pub gateway : SameGateway tree new
+
+-- while a completion is sealed, the PUT of a file under its key that is an object, and lists segments of its id if any
+abbrev pub ObjectRolled : Type 0
+ObjectRolled = (tree : SwiftAccount) (s : Sealed) (file : SwiftObject) → seal_of tree ≡ Some s → IsObject (files tree (segments_name s.bucket)) (segments_name s.bucket) s.key file
+    → ((id : ℕ) → IsListOf file id → id ≡ s.id) → IsStored s.key file → IsConsistent tree → Rolls tree (put_file s.bucket s.key file tree)
+
+-- while a completion is sealed, the PUT of its record
+abbrev pub RecordRolled : Type 0
+RecordRolled = (tree : SwiftAccount) (s : Sealed) (content_type : List ℕ) (meta : List (List ℕ)) (text : List ℕ) → seal_of tree ≡ Some s → read_record text ≡ Some (sealed_record s)
+    → IsStored (id_digits s.id) (file_put content_type meta text) → IsConsistent tree
+    → Rolls tree (swift_step (PutObject (uploads_name s.bucket) (id_digits s.id) content_type meta text) tree).tree
+
+-- the object and the record of a completion are there
+pub record IsRolled (tree : SwiftAccount) (s : Sealed) : Type 0 where
+  pub file : SwiftObject
+  pub there : find_object tree s.bucket s.key ≡ Some file
+  pub stands : object_of (files tree (segments_name s.bucket)) s.key file ≡ Some (sealed_object (files tree (segments_name s.bucket)) s)
+  pub recorded : record_at (files tree (uploads_name s.bucket)) (id_digits s.id) ≡ Some (sealed_record s)
+
+-- a call that leaves the state, and after which no completion is sealed
+pub record Unseals (tree : SwiftAccount) (request : SwiftRequest) : Type 0 where
+  pub sound : IsConsistent (swift_step request tree).tree
+  pub same : s3_state (swift_step request tree).tree ≡ s3_state tree
+  pub none : IsUnsealed (swift_step request tree).tree
+
+-- the DELETE of the file of a sealed completion whose object and record are there
+abbrev pub SealGone : Type 0
+SealGone = (tree : SwiftAccount) (s : Sealed) → seal_of tree ≡ Some s → IsRolled tree s → IsConsistent tree → Unseals tree (DeleteObject gateway_name sealed_name)
+
+-- each part of a list has a number that a part may have
+abbrev pub AreCounted : List SealedPart → Type 0
+AreCounted [] = Unit {0}
+AreCounted (p ∷ list) = (p.number ≤ greatest_part) × AreCounted list
+
+-- the parts that a completion lists, but the empty ones, make a list of segments of its id, whose bytes are those of its object
+abbrev pub ListingStands : Type 0
+ListingStands = (segments : Names SwiftObject) (folder id : List ℕ) (above : ℕ) (list : List SealedPart) → rises_from above (map listed_of list) ≡ true → AreCounted list
+    → ((name : List ℕ) (file : SwiftObject) → get segments name ≡ Some file → IsSegment name file) → AreSealedParts segments id list
+    → AreParts segments folder id above (listing_of folder id (filled_parts list))
+    × (joined (outer_bytes (within segments)) (listing_of folder id (filled_parts list)) ≡ Some (sealed_bytes segments id list))
+
+-- a sealed completion whose object may stand on the store: its tag and its pack have a text, and its parts are there
+pub record MayStand (segments : Names SwiftObject) (s : Sealed) : Type 0 where
+  pub keyed : is_key s.key ≡ true
+  pub tagged : has_text (sealed_tag s) ≡ true
+  pub of_upload : 32 < length s.etag
+  pub packed : has_pack s.meta ≡ true
+  pub described : is_proper_meta s.meta ≡ true
+  pub ascends : rises_from 0 (map listed_of s.list) ≡ true
+  pub counted : AreCounted s.list
+  pub few : length s.list ≤ MOST_SEGMENTS
+  pub filed : (name : List ℕ) (file : SwiftObject) → get segments name ≡ Some file → IsSegment name file
+  pub parts : AreSealedParts segments (id_digits s.id) s.list
+
+-- a file that is the object of a sealed completion
+pub record Stands (segments : Names SwiftObject) (s : Sealed) (file : SwiftObject) : Type 0 where
+  pub is : IsObject segments (segments_name s.bucket) s.key file
+  pub reads : object_of segments s.key file ≡ Some (sealed_object segments s)
+  pub lists : (id : ℕ) → IsListOf file id → id ≡ s.id
+
+-- the file that rolling forward puts is the completion's object
+abbrev pub CompletedStands : Type 0
+CompletedStands = (segments : Names SwiftObject) (s : Sealed) → MayStand segments s → Stands segments s (completed_file s)

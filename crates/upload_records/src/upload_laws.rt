@@ -1,5 +1,5 @@
 //! Laws on the records and the parts of uploads, each the contract of a function that does nothing.
-ghost use Rattle.upload_records.specs.Laws.{GatewayMade, OrphanGone, PartPut, SideFileGone, SideMade, UploadAbandoned, UploadDropped, UploadOpened};
+ghost use Rattle.upload_records.specs.Laws.{CompletedStands, CompletionSealed, GatewayMade, ListingStands, ObjectRolled, OrphanGone, PartPut, RecordRolled, SealGone, SideFileGone, SideMade, UploadAbandoned, UploadDropped, UploadOpened};
 
 /// Where no completion is sealed, the PUT of a part's file under an upload that is open puts the part in place of the one
 /// of its number; it leaves the account consistent, and the gateway's own container as it was.
@@ -44,4 +44,38 @@ pub fn law_orphan_gone()
 /// The PUT of the gateway's own container leaves the state, be the container there or not, and be a completion sealed or not.
 pub fn law_gateway_made()
     ensures { GatewayMade }
+{}
+
+/// Where no completion is sealed, the PUT of one into the gateway's own container finishes it in the state, though its object
+/// isn't put yet; it leaves the account consistent.
+pub fn law_completion_sealed()
+    ensures { CompletionSealed }
+{}
+
+/// While a completion is sealed, the PUT of its object leaves the state and the account consistent, and what is sealed as it was.
+pub fn law_object_rolled()
+    ensures { ObjectRolled }
+{}
+
+/// While a completion is sealed, the PUT of its record leaves the state and the account consistent, and what is sealed as it was.
+pub fn law_record_rolled()
+    ensures { RecordRolled }
+{}
+
+/// The DELETE of the file of a sealed completion, whose object and record are there, leaves the state and the account
+/// consistent; none is sealed after it.
+pub fn law_seal_gone()
+    ensures { SealGone }
+{}
+
+/// The parts that a sealed completion lists, but the empty ones, make a list of segments of its id, whose bytes are those of
+/// its object.
+pub fn law_listing_stands()
+    ensures { ListingStands }
+{}
+
+/// The file that rolling a sealed completion forward puts is the object of the completion, where its tag and its metadata have
+/// a text and its parts are there.
+pub fn law_completed_stands()
+    ensures { CompletedStands }
 {}

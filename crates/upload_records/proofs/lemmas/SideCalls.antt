@@ -147,11 +147,3 @@ no_seal look (Some file) e = no_body look file e
 pub none_sealed : (tree : SwiftAccount) → (swift_step (GetObject gateway_name sealed_name None) tree).reply ≡ NotFound → IsSettled tree
 unfolding seal_of
 none_sealed tree e = record { none = unsealed_by tree (no_seal (find_object tree) (find_object tree gateway_name sealed_name) e) }
-
--- and over a consistent one nothing is found
-pub sealed_not_found : (tree : SwiftAccount) → IsConsistent tree → (swift_step (GetObject gateway_name sealed_name None) tree).reply ≡ NotFound
-sealed_not_found tree sound = by (find_object tree gateway_name sealed_name) refl
-  where
-    by : (o : Option SwiftObject) → find_object tree gateway_name sealed_name ≡ o → get_reply (find_object tree) None o ≡ NotFound
-    by None e = refl
-    by (Some file) e = absurd (sound.gateway sealed_name file e)

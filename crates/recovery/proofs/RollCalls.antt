@@ -1,0 +1,274 @@
+-- The calls that finish a sealed completion: what each does to the account, and what it leaves.
+use Rattle.std.specs.Prelude.{◌≡◌, ◌⊎◌, ◌<◌, ℕ, Bool, true, false, cond, IsTrue, List, [], ◌∷◌, codes, length, Option, None, Some, IfOk, IfSome, Result, Ok, Err}
+use Rattle.std.specs.FinMap.{get, insert}
+use Rattle.std.specs.Ordering.{eq_by_cmp}
+use Rattle.std.proofs.Common.{refl, sym, ap, subst, ◌∙◌, inl, inr, arith}
+use Rattle.gate_base.specs.Maps.{name_cmp}
+use Rattle.gate_base.proofs.lemmas.Maps.{by_name, off_adjust, some_value}
+use Rattle.s3_names.specs.Id.{id_digits}
+use Rattle.s3_machine.specs.ETag.{body_etag}
+use Rattle.slo_manifest.specs.declared.Segment.{Segment}
+use Rattle.swift_calls.specs.Account.{SwiftObject, SwiftContainer, SwiftAccount, files, find_object, on_files, put_file}
+use Rattle.swift_calls.specs.Bodies.{etag_of, is_good_list}
+use Rattle.swift_calls.specs.History.{History, Calls, present}
+use Rattle.swift_calls.specs.Step.{Answer, delete_object, put_listed, put_manifest, put_object, swift_step}
+use Rattle.swift_calls.specs.declared.account.Content.TheVariants.{Segments}
+use Rattle.swift_calls.specs.declared.calls.SwiftReply.{SwiftReply}
+use Rattle.swift_calls.specs.declared.calls.SwiftReply.TheVariants.{Made, There, Gone, Stored, NotFound, NotEmpty, BadManifest, Unsatisfiable, Containers, Readers, Names, Head, Bytes, Manifest}
+use Rattle.swift_calls.specs.declared.calls.SwiftRequest.{SwiftRequest}
+use Rattle.swift_calls.specs.declared.calls.SwiftRequest.TheVariants.{DeleteObject, GetObject}
+use Rattle.swift_marks.specs.Pack.{pack_of}
+use Rattle.swift_marks.specs.Tag.{tag_text}
+use Rattle.upload_texts.specs.Records.{read_record, record_text}
+use Rattle.upload_texts.specs.Sealed.{read_sealed, has_sealed_text}
+use Rattle.upload_texts.specs.declared.sealed.Sealed.{Sealed}
+use Rattle.upload_records.specs.Consistent.{IsBeside, IsConsistent, IsStored, IsThere}
+use Rattle.upload_records.specs.Laws.{IsRolled, Rolls, Stands, file_put}
+use Rattle.upload_records.specs.Layout.{uploads_name, segments_name, gateway_name, sealed_name}
+use Rattle.upload_records.specs.Native.{SameGateway, IsSettled, completed_file, content_by, object_of, record_at, seal_of, sealed_object, sealed_record, sealed_tag, s3_state}
+use Rattle.upload_records.proofs.Beside.{records_there, same_beside}
+use Rattle.upload_records.proofs.lemmas.Rolling as rolls
+use Rattle.upload_records.proofs.lemmas.Rolling.{TellsNone, TellsSeal, sealed_told}
+use Rattle.upload_records.proofs.lemmas.Settled.{OffSame, same_off, seal_same, settled_same, unsealed_by}
+use Rattle.upload_records.proofs.lemmas.SideCalls.{delete_settled, none_sealed}
+use Rattle.recovery.specs.declared.fault.PlanFault.{PlanFault}
+use Rattle.recovery.specs.declared.fault.PlanFault.TheVariants as fault
+use Rattle.recovery.specs.Interpret.{Gives, gone_due, known, stored_due}
+use Rattle.recovery.specs.Rolls.{HasGateway, HasObject, HasRecord, IsClear, IsSealed, Leaves, TellsSealed, kept_due, put_by, put_object_of, put_record_of, sealed_by, sealed_due, sealed_listing}
+use Rattle.recovery.proofs.SealStands.{limits, may_stand, object_stored, record_short, takes_list}
+use Rattle.recovery.proofs.lemmas.Etags.{etag_agrees}
+use Rattle.recovery.proofs.lemmas.Quiet.{IsQuietOf, QuietEffect}
+use Rattle.recovery.proofs.lemmas.SideNames.{file_name, id_fits}
+
+-- ---- the GET of what is sealed
+
+told_of : (tree : SwiftAccount) → TellsNone tree ⊎ ((s : Sealed) × TellsSeal tree s) → IsConsistent tree → QuietEffect tree (GetObject gateway_name sealed_name None) sealed_due TellsSealed
+told_of tree (inl none) sound =
+    record { told = None; says = ap sealed_due none.reply; sound = sound; same = refl; tells = record { same = refl; is = sym none.none } }
+told_of tree (inr (s, seal)) sound =
+    record {
+      told = Some s;
+      says = ap sealed_due seal.reply ∙ ap (λ t. sealed_by t seal.text) seal.own ∙ ap known seal.reads;
+      sound = sound;
+      same = refl;
+      tells = record { same = refl; is = sym seal.seals };
+    }
+
+sealed_got : IsQuietOf HasGateway (GetObject gateway_name sealed_name None) sealed_due TellsSealed
+sealed_got = record { effect = λ tree sound has. told_of tree (sealed_told tree sound) sound; settled = λ tree settled. settled }
+
+pub gets_sealed : {folder name : List ℕ} → folder ≡ gateway_name → name ≡ sealed_name → IsQuietOf HasGateway (GetObject folder name None) sealed_due TellsSealed
+gets_sealed foldered named = subst {A = List ℕ × List ℕ} (λ n. IsQuietOf HasGateway (GetObject n.0 n.1 None) sealed_due TellsSealed) (λ i. (sym foldered i, sym named i)) sealed_got
+
+none_known : (o : Option Sealed) → known o ≡ Ok None → ⊥
+none_known None e = cc
+none_known (Some s) e = cc
+
+none_told : (lists : Bool) (text : List ℕ) → sealed_by lists text ≡ Ok None → ⊥
+none_told true text e = cc
+none_told false text e = none_known (read_sealed text) e
+
+absent : (reply : SwiftReply) → sealed_due reply ≡ Ok None → reply ≡ NotFound
+absent Made e = cc
+absent There e = cc
+absent Gone e = cc
+absent (Stored etag) e = cc
+absent NotFound e = refl
+absent NotEmpty e = cc
+absent BadManifest e = cc
+absent Unsatisfiable e = cc
+absent (Containers names) e = cc
+absent (Readers readers created) e = cc
+absent (Names items) e = cc
+absent (Head head) e = cc
+absent (Bytes head body) e = absurd (none_told head.manifest body e)
+absent (Manifest segments) e = cc
+
+none_given : (reply : SwiftReply) → Gives (Ok None) (sealed_due reply) → reply ≡ NotFound
+none_given reply (inl e) = cc
+none_given reply (inr e) = absent reply (sym e)
+
+settled_by : {a b : History} {reply : SwiftReply} → Calls a b (GetObject gateway_name sealed_name None) (Ok reply) → IsTrue a.observable → reply ≡ NotFound → IsSettled (present b)
+settled_by {a = a} {b = b} calls observable is =
+    let replied = calls.effect observable in
+    subst IsSettled (sym replied.tree) (none_sealed (b.account_at a.called) (sym replied.reply ∙ is))
+
+-- over every account the answer that nothing is there says that none is sealed
+pub got_none : {a b : History} {folder name : List ℕ} {reply : SwiftReply} {result : Result (Option Sealed) PlanFault} → folder ≡ gateway_name → name ≡ sealed_name → Calls a b (GetObject folder name None) (Ok reply)
+    → Gives result (sealed_due reply) → IsTrue a.observable → result ≡ Ok None → IsSettled (present b)
+got_none {a = a} {b = b} {reply = reply} foldered named calls gives observable none =
+    settled_by (subst {A = List ℕ × List ℕ} (λ n. Calls a b (GetObject n.0 n.1 None) (Ok reply)) (λ i. (foldered i, named i)) calls) observable
+    (none_given reply (subst (λ r. Gives r (sealed_due reply)) none gives))
+
+-- what it told
+pub found_sealed : (old new : SwiftAccount) (told : Option Sealed) (s : Sealed) → told ≡ Some s → HasGateway old → TellsSealed old new told → IsSealed s new
+found_sealed old new told s is has tells = record { gateway = subst HasGateway (sym tells.same) has; is = ap seal_of tells.same ∙ sym tells.is ∙ is }
+
+pub found_none : (old new : SwiftAccount) (told : Option Sealed) → told ≡ None → HasGateway old → TellsSealed old new told → IsClear new
+found_none old new told is has tells =
+    record { gateway = subst HasGateway (sym tells.same) has; settled = record { none = unsealed_by new (ap seal_of tells.same ∙ sym tells.is ∙ is) } }
+
+-- ---- the PUT of its object
+
+-- the file of an object that lists these segments
+abbrev file_of : List ℕ → List (List ℕ) → List Segment → SwiftObject
+file_of content_type meta segments = record { content_type = content_type; meta = meta; content = content_by segments }
+
+module _ (tree : SwiftAccount) (bucket key content_type : List ℕ) (meta : List (List ℕ)) where
+  put_step : (segments : List Segment) (folder : SwiftContainer) → get tree bucket ≡ Some folder → (0 < length segments → is_good_list (find_object tree) segments ≡ true)
+      → swift_step (put_by bucket key content_type meta segments) tree ≡ put_object (Some folder) bucket key (file_of content_type meta segments) tree
+  put_step [] folder there good = ap (λ o. put_object o bucket key (file_of content_type meta []) tree) there
+  put_step (x ∷ rest) folder there good =
+      ap (λ o. put_manifest o bucket key content_type meta (x ∷ rest) tree) there
+      ∙ ap (λ t. put_listed t (Some folder) bucket key (file_of content_type meta (x ∷ rest)) tree) (good (omega arith))
+
+  put_stays : (o : Option SwiftContainer) (file : SwiftObject) → OffSame tree (put_object o bucket key file tree).tree bucket
+  put_stays None file = λ n apart. refl
+  put_stays (Some folder) file = off_adjust by_name bucket (on_files (λ fs. insert fs key file)) tree
+
+  listed_stays : (t : Bool) (o : Option SwiftContainer) (file : SwiftObject) → OffSame tree (put_listed t o bucket key file tree).tree bucket
+  listed_stays true o file = put_stays o file
+  listed_stays false o file = λ n apart. refl
+
+  manifest_stays : (o : Option SwiftContainer) (segments : List Segment) → OffSame tree (put_manifest o bucket key content_type meta segments tree).tree bucket
+  manifest_stays None segments = λ n apart. refl
+  manifest_stays (Some folder) segments =
+      listed_stays (is_good_list (find_object tree) segments) (Some folder) (record { content_type = content_type; meta = meta; content = Segments segments })
+
+  -- each other container stays
+  by_stays : (segments : List Segment) → OffSame tree (swift_step (put_by bucket key content_type meta segments) tree).tree bucket
+  by_stays [] = put_stays (get tree bucket) (file_of content_type meta [])
+  by_stays (x ∷ rest) = manifest_stays (get tree bucket) (x ∷ rest)
+
+module _ (tree : SwiftAccount) (s : Sealed) (has : has_sealed_text s ≡ true) (sound : IsConsistent tree) (given : IsSealed s tree) where
+  abbrev after_object : SwiftAccount
+  after_object = put_file s.bucket s.key (completed_file s) tree
+
+  stands : Stands (files tree (segments_name s.bucket)) s (completed_file s)
+  stands = rolls.completed_stands (files tree (segments_name s.bucket)) s (may_stand tree s sound given.is)
+
+  object_rolled : Rolls tree after_object
+  object_rolled = rolls.object_rolls tree s (completed_file s) given.is stands.is stands.lists (object_stored s has) sound
+
+  object_answered : swift_step (put_object_of s) tree ≡ put_object (Some (some_value (get tree s.bucket) (sound.sealed s given.is).there).0) s.bucket s.key (completed_file s) tree
+  object_answered =
+      let there = some_value (get tree s.bucket) (sound.sealed s given.is).there in
+      put_step tree s.bucket s.key (tag_text (sealed_tag s)) (pack_of s.meta) (sealed_listing s) there.0 there.1 (takes_list tree s sound given.is)
+
+  has_object : HasObject s after_object
+  has_object = record {
+    sealed = record { gateway = object_rolled.gateway.there ∙ given.gateway; is = seal_same tree after_object object_rolled.gateway ∙ given.is };
+    file = completed_file s;
+    there = rolls.object_there tree s (completed_file s) given.is stands.is stands.lists (object_stored s has) sound;
+    stands = subst (λ fs. object_of fs s.key (completed_file s) ≡ Some (sealed_object fs s))
+        (sym (rolls.object_segments tree s (completed_file s) given.is stands.is stands.lists (object_stored s has) sound)) stands.reads;
+  }
+
+  object_effect : QuietEffect tree (put_object_of s) kept_due (Leaves (HasObject s))
+  object_effect = record {
+    told = tt;
+    says = ap (λ (a : Answer). kept_due a.reply) object_answered;
+    sound = subst IsConsistent (sym (ap (λ (a : Answer). a.tree) object_answered)) object_rolled.sound;
+    same = ap (λ (a : Answer). s3_state a.tree) object_answered ∙ object_rolled.same;
+    tells = subst (HasObject s) (sym (ap (λ (a : Answer). a.tree) object_answered)) has_object;
+  }
+
+object_put : (s : Sealed) → has_sealed_text s ≡ true → IsQuietOf (IsSealed s) (put_object_of s) kept_due (Leaves (HasObject s))
+object_put s has = record {
+  effect = λ tree sound given. object_effect tree s has sound given;
+  settled = λ tree. settled_same (same_off tree (swift_step (put_object_of s) tree).tree s.bucket (limits s has).bucket (by_stays tree s.bucket s.key (tag_text (sealed_tag s)) (pack_of s.meta) (sealed_listing s)));
+}
+
+pub puts_object : {request : SwiftRequest} {s : Sealed} → request ≡ put_object_of s → has_sealed_text s ≡ true → IsQuietOf (IsSealed s) request kept_due (Leaves (HasObject s))
+puts_object {s = s} same has = subst (λ r. IsQuietOf (IsSealed s) r kept_due (Leaves (HasObject s))) (sym same) (object_put s has)
+
+-- ---- the PUT of its record
+
+-- the text of the record is read as it
+abbrev pub Written : Sealed → Type 0
+Written s = read_record (record_text (sealed_record s)) ≡ Some (sealed_record s)
+
+module _ (tree : SwiftAccount) (s : Sealed) (has : has_sealed_text s ≡ true) (written : Written s) (sound : IsConsistent tree) (given : HasObject s tree) where
+  abbrev kept_file : SwiftObject
+  kept_file = file_put (codes "application/json") [] (record_text (sealed_record s))
+
+  abbrev after_record : SwiftAccount
+  after_record = (swift_step (put_record_of s) tree).tree
+
+  stored : IsStored (id_digits s.id) kept_file
+  stored = let short = record_short s has in record { named = file_name (id_digits s.id) (id_fits s.id); sized = omega (arith, short) }
+
+  record_rolled : Rolls tree after_record
+  record_rolled = rolls.record_rolls tree s (codes "application/json") [] (record_text (sealed_record s)) given.sealed.is written stored sound
+
+  has_record : HasRecord s after_record
+  has_record = record {
+    object = record {
+      sealed = record { gateway = record_rolled.gateway.there ∙ given.sealed.gateway; is = seal_same tree after_record record_rolled.gateway ∙ given.sealed.is };
+      file = given.file;
+      there = rolls.record_object tree s (codes "application/json") [] (record_text (sealed_record s)) given.sealed.is written stored sound ∙ given.there;
+      stands = subst (λ fs. object_of fs s.key given.file ≡ Some (sealed_object fs s))
+          (sym (rolls.record_segments tree s (codes "application/json") [] (record_text (sealed_record s)) given.sealed.is written stored sound)) given.stands;
+    };
+    kept = rolls.record_there tree s (codes "application/json") [] (record_text (sealed_record s)) given.sealed.is written stored sound;
+  }
+
+  record_effect : QuietEffect tree (put_record_of s) (stored_due (body_etag (record_text (sealed_record s)))) (Leaves (HasRecord s))
+  record_effect =
+      let there = some_value (get tree (uploads_name s.bucket)) (records_there tree s.bucket sound (limits s has).bucket (sound.sealed s given.sealed.is).there) in
+      record {
+        told = tt;
+        says = ap (λ o. stored_due (body_etag (record_text (sealed_record s))) (put_object o (uploads_name s.bucket) (id_digits s.id) kept_file tree).reply) there.1
+            ∙ ap (λ t. cond t (Ok tt) (Err fault.Inconsistent)) (etag_agrees (record_text (sealed_record s)));
+        sound = record_rolled.sound;
+        same = record_rolled.same;
+        tells = has_record;
+      }
+
+record_put : (s : Sealed) → has_sealed_text s ≡ true → Written s → IsQuietOf (HasObject s) (put_record_of s) (stored_due (body_etag (record_text (sealed_record s)))) (Leaves (HasRecord s))
+record_put s has written = record {
+  effect = λ tree sound given. record_effect tree s has written sound given;
+  settled = λ tree. settled_same (same_beside tree (swift_step (put_record_of s) tree).tree s.bucket (uploads_name s.bucket) (record { of_bucket = (limits s has).bucket; is = inl refl })
+      (put_stays tree (uploads_name s.bucket) (id_digits s.id) (codes "application/json") [] (get tree (uploads_name s.bucket)) (file_put (codes "application/json") [] (record_text (sealed_record s)))));
+}
+
+pub puts_record : {request : SwiftRequest} {s : Sealed} → request ≡ put_record_of s → has_sealed_text s ≡ true → Written s
+    → IsQuietOf (HasObject s) request (stored_due (body_etag (record_text (sealed_record s)))) (Leaves (HasRecord s))
+puts_record {s = s} same has written =
+    subst (λ r. IsQuietOf (HasObject s) r (stored_due (body_etag (record_text (sealed_record s)))) (Leaves (HasRecord s))) (sym same) (record_put s has written)
+
+-- the text that was written is the record's
+pub written_by : (s : Sealed) (text : List ℕ) → text ≡ record_text (sealed_record s) → read_record text ≡ Some (sealed_record s) → read_record (record_text (sealed_record s)) ≡ Some (sealed_record s)
+written_by s text is reads = subst (λ t. read_record t ≡ Some (sealed_record s)) is reads
+
+-- ---- the DELETE of what is sealed
+
+gone_says : (o : Option SwiftObject) (tree : SwiftAccount) → gone_due (delete_object o gateway_name sealed_name tree).reply ≡ Ok tt
+gone_says None tree = refl
+gone_says (Some file) tree = refl
+
+sealed_gone : (s : Sealed) → IsQuietOf (HasRecord s) (DeleteObject gateway_name sealed_name) gone_due (Leaves IsClear)
+sealed_gone s = record {
+  effect = λ tree sound given.
+      let rolled : IsRolled tree s = record { file = given.object.file; there = given.object.there; stands = given.object.stands; recorded = given.kept } in
+      let done = rolls.seal_rolls tree s given.object.sealed.is rolled sound in
+      record {
+        told = tt;
+        says = gone_says (find_object tree gateway_name sealed_name) tree;
+        sound = done.sound;
+        same = done.same;
+        tells = record { gateway = rolls.delete_there tree given.object.sealed.gateway; settled = record { none = done.none } };
+      };
+  settled = λ tree settled. delete_settled tree gateway_name sealed_name settled;
+}
+
+pub deletes_sealed : {folder name : List ℕ} (s : Sealed) → folder ≡ gateway_name → name ≡ sealed_name → IsQuietOf (HasRecord s) (DeleteObject folder name) gone_due (Leaves IsClear)
+deletes_sealed s foldered named = subst {A = List ℕ × List ℕ} (λ n. IsQuietOf (HasRecord s) (DeleteObject n.0 n.1) gone_due (Leaves IsClear)) (λ i. (sym foldered i, sym named i)) (sealed_gone s)
+
+gone_by : {a b : History} {reply : SwiftReply} → Calls a b (DeleteObject gateway_name sealed_name) (Ok reply) → IsTrue a.observable → IsSettled (present b)
+gone_by {a = a} {b = b} calls observable = subst IsSettled (sym (calls.effect observable).tree) (rolls.delete_unseals (b.account_at a.called))
+
+-- over every account none is sealed after an answer
+pub deleted : {a b : History} {folder name : List ℕ} {reply : SwiftReply} → folder ≡ gateway_name → name ≡ sealed_name → Calls a b (DeleteObject folder name) (Ok reply) → IsTrue a.observable → IsSettled (present b)
+deleted {a = a} {b = b} {reply = reply} foldered named calls observable =
+    gone_by (subst {A = List ℕ × List ℕ} (λ n. Calls a b (DeleteObject n.0 n.1) (Ok reply)) (λ i. (foldered i, named i)) calls) observable

@@ -1,0 +1,42 @@
+-- The segments of a completed object, part by part.
+use Rattle.std.specs.Prelude.{◌≡◌, ◌<◌, ◌+◌, ℕ, zero, suc, Bool, true, nat_lt, List, [], ◌∷◌, ◌++◌, get_or, length, map, take}
+use Rattle.std.specs.List.{filter, list_all}
+use Rattle.std.proofs.Common.{refl, sym, ap, ◌∙◌, arith}
+use Rattle.std.proofs.lemmas.Bool.{and_parts}
+use Rattle.std.proofs.lemmas.List.{map-append, take_all, take_more}
+use Rattle.std.proofs.lemmas.List.Elements.{filter-append}
+use Rattle.slo_manifest.specs.declared.Segment.{Segment}
+use Rattle.s3_machine.specs.declared.operation.Listed.{Listed}
+use Rattle.upload_texts.specs.Sealed.{is_sealed_part}
+use Rattle.upload_texts.specs.declared.sealed.SealedPart.{SealedPart}
+use Rattle.upload_records.specs.Native.{filled_parts, listed_of, listing_of, part_segment}
+
+passes_at : (parts : List SealedPart) (i : ℕ) (d : SealedPart) → list_all is_sealed_part parts ≡ true → i < length parts → is_sealed_part (get_or parts i d) ≡ true
+passes_at [] i d h below = absurd (omega arith)
+passes_at (p ∷ parts) zero d h below = (and_parts (is_sealed_part p) (list_all is_sealed_part parts) h).0
+passes_at (p ∷ parts) (suc i) d h below = passes_at parts i d (and_parts (is_sealed_part p) (list_all is_sealed_part parts) h).1 (omega arith)
+
+pub part_there : (parts : List SealedPart) (i : ℕ) (p : SealedPart) → list_all is_sealed_part parts ≡ true → i < length parts → p ≡ get_or parts i p → is_sealed_part p ≡ true
+part_there parts i p h below same = ap is_sealed_part same ∙ passes_at parts i p h below
+
+-- one part more
+more : (parts : List SealedPart) (i : ℕ) (p : SealedPart) → i < length parts → p ≡ get_or parts i p → take (i + 1) parts ≡ take i parts ++ p ∷ []
+more parts i p below same = take_more parts i p below ∙ ap (λ t. take i parts ++ t ∷ []) (sym same)
+
+pub segments_more : (folder id : List ℕ) (parts : List SealedPart) (i : ℕ) (p : SealedPart) (old new : List Segment) → old ≡ map (part_segment folder id) (filled_parts (take i parts))
+    → new ≡ old ++ map (part_segment folder id) (filled_parts (p ∷ [])) → i < length parts → p ≡ get_or parts i p → new ≡ map (part_segment folder id) (filled_parts (take (i + 1) parts))
+segments_more folder id parts i p old new so grown below same =
+    grown ∙ ap (λ list. list ++ map (part_segment folder id) (filled_parts (p ∷ []))) so
+    ∙ sym (map-append (part_segment folder id) (filled_parts (take i parts)) (filled_parts (p ∷ [])))
+    ∙ ap (map (part_segment folder id)) (sym (ap filled_parts (more parts i p below same) ∙ filter-append (λ x. nat_lt 0 x.size) (take i parts) (p ∷ [])))
+
+pub listed_more : (parts : List SealedPart) (i : ℕ) (p : SealedPart) (old new : List Listed) → old ≡ map listed_of (take i parts) → new ≡ old ++ listed_of p ∷ [] → i < length parts → p ≡ get_or parts i p
+    → new ≡ map listed_of (take (i + 1) parts)
+listed_more parts i p old new so grown below same =
+    grown ∙ ap (λ list. list ++ listed_of p ∷ []) so ∙ sym (ap (map listed_of) (more parts i p below same) ∙ map-append listed_of (take i parts) (p ∷ []))
+
+-- and all of them
+pub segments_all : (folder id : List ℕ) (parts : List SealedPart) (i : ℕ) (list : List Segment) → list ≡ map (part_segment folder id) (filled_parts (take i parts)) → (i < length parts → ⊥)
+    → list ≡ listing_of folder id (filled_parts parts)
+unfolding listing_of
+segments_all folder id parts i list so end = so ∙ ap (λ ps. map (part_segment folder id) (filled_parts ps)) (take_all i parts (omega (arith, end)))

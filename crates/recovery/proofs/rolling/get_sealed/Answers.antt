@@ -1,0 +1,19 @@
+use Rattle.recovery.proofs.RollCalls.{gets_sealed, got_none}
+use Rattle.recovery.proofs.lemmas.One.{not_asked}
+use Rattle.recovery.proofs.lemmas.Quiet.{quiet_in_vain, quieted}
+use Rattle.recovery.proofs.rolling.get_sealed.Goals as goal
+
+pub returns-in_err-container-clause-asks : goal.returns-in_err-container-clause-asks
+returns-in_err-container-clause-asks g c = not_asked _ _ _ c.from_residual.ensures.1
+
+pub returns-in_err-name-clause-asks : goal.returns-in_err-name-clause-asks
+returns-in_err-name-clause-asks g c = not_asked _ _ _ c.from_residual-in_err-name.ensures.1
+
+pub returns-in_err-reply-clause-asks : goal.returns-in_err-reply-clause-asks
+returns-in_err-reply-clause-asks g c = quiet_in_vain (gets_sealed c.in_ok-container.ensures c.in_ok-name.ensures) c.in_err-reply.ensures _ c.from_residual-in_err-reply.ensures.1
+
+pub returns-clause-asks : goal.returns-clause-asks
+returns-clause-asks g c = quieted (gets_sealed c.in_ok-container.ensures c.in_ok-name.ensures) c.in_ok-reply.ensures _ c.sealed_in.ensures.due c.sealed_in.ensures.own
+
+pub returns-clause-none : goal.returns-clause-none
+returns-clause-none g c = got_none c.in_ok-container.ensures c.in_ok-name.ensures c.in_ok-reply.ensures c.sealed_in.ensures.due

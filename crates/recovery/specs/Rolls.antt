@@ -1,0 +1,94 @@
+-- A completion that is sealed, and the calls that finish it: how far it is, and what each call leaves. Source: Object Storage API
+-- v1, "Static large objects", and this profile.
+use Rattle.std.specs.Prelude.{◌≡◌, ℕ, Bool, true, false, List, [], ◌∷◌, codes, Option, None, Some, Result, Ok, Err}
+use Rattle.s3_names.specs.Id.{id_digits}
+use Rattle.slo_manifest.specs.declared.Segment.{Segment}
+use Rattle.swift_calls.specs.Account.{SwiftObject, SwiftAccount, files, find_object}
+use Rattle.swift_calls.specs.declared.calls.SwiftReply.{SwiftReply}
+use Rattle.swift_calls.specs.declared.calls.SwiftReply.TheVariants.{NotFound, Bytes, Stored}
+use Rattle.swift_calls.specs.declared.calls.SwiftRequest.{SwiftRequest}
+use Rattle.swift_calls.specs.declared.calls.SwiftRequest.TheVariants.{PutManifest, PutObject}
+use Rattle.swift_marks.specs.Pack.{pack_of}
+use Rattle.swift_marks.specs.Tag.{tag_text}
+use Rattle.upload_texts.specs.Records.{record_text}
+use Rattle.upload_texts.specs.Sealed.{read_sealed}
+use Rattle.upload_texts.specs.declared.sealed.Sealed.{Sealed}
+use Rattle.upload_records.specs.Consistent.{IsThere}
+use Rattle.upload_records.specs.Layout.{uploads_name, segments_name, gateway_name}
+use Rattle.upload_records.specs.Native.{object_of, record_at, seal_of, sealed_object, sealed_record, sealed_tag, filled_parts, listing_of, IsSettled}
+use Rattle.recovery.specs.declared.fault.PlanFault.{PlanFault}
+use Rattle.recovery.specs.declared.fault.PlanFault.TheVariants.{Inconsistent}
+use Rattle.recovery.specs.Interpret.{known}
+
+-- ---- how far a sealed completion is
+
+-- the gateway's own container is there
+abbrev pub HasGateway : SwiftAccount → Type 0
+HasGateway tree = IsThere tree gateway_name
+
+-- this completion is sealed
+pub record IsSealed (s : Sealed) (tree : SwiftAccount) : Type 0 where
+  pub gateway : HasGateway tree
+  pub is : seal_of tree ≡ Some s
+
+-- and its object is there
+pub record HasObject (s : Sealed) (tree : SwiftAccount) : Type 0 where
+  pub sealed : IsSealed s tree
+  pub file : SwiftObject
+  pub there : find_object tree s.bucket s.key ≡ Some file
+  pub stands : object_of (files tree (segments_name s.bucket)) s.key file ≡ Some (sealed_object (files tree (segments_name s.bucket)) s)
+
+-- and its record
+pub record HasRecord (s : Sealed) (tree : SwiftAccount) : Type 0 where
+  pub object : HasObject s tree
+  pub kept : record_at (files tree (uploads_name s.bucket)) (id_digits s.id) ≡ Some (sealed_record s)
+
+-- none is sealed any more
+pub record IsClear (tree : SwiftAccount) : Type 0 where
+  pub gateway : HasGateway tree
+  pub settled : IsSettled tree
+
+-- what calls leave, whatever they found
+abbrev pub Leaves : (SwiftAccount → Type 0) → SwiftAccount → SwiftAccount → Unit {0} → Type 0
+Leaves P old new done = P new
+
+-- what is sealed is told, and the account is left as it is
+pub record TellsSealed (old new : SwiftAccount) (told : Option Sealed) : Type 0 where
+  pub same : new ≡ old
+  pub is : told ≡ seal_of old
+
+-- ---- what an answer comes to
+
+abbrev pub sealed_by : Bool → List ℕ → Result (Option Sealed) PlanFault
+sealed_by true text = Err Inconsistent
+sealed_by false text = known (read_sealed text)
+
+-- GET of the file of what is sealed: what its own bytes read as; one that lists segments is none
+abbrev pub sealed_due : SwiftReply → Result (Option Sealed) PlanFault
+sealed_due (Bytes head body) = sealed_by head.manifest body
+sealed_due NotFound = Ok None
+sealed_due _ = Err Inconsistent
+
+-- PUT of a file, whatever ETag the store has of it
+abbrev pub kept_due : SwiftReply → Result (Unit {0}) PlanFault
+kept_due (Stored etag) = Ok tt
+kept_due _ = Err Inconsistent
+
+-- ---- what is put
+
+-- the PUT of an object that lists these segments, or has no byte where there are none
+abbrev pub put_by : List ℕ → List ℕ → List ℕ → List (List ℕ) → List Segment → SwiftRequest
+put_by bucket key content_type meta [] = PutObject bucket key content_type meta []
+put_by bucket key content_type meta (first ∷ rest) = PutManifest bucket key content_type meta (first ∷ rest)
+
+-- the segments of the object of a sealed completion
+abbrev pub sealed_listing : Sealed → List Segment
+sealed_listing s = listing_of (segments_name s.bucket) (id_digits s.id) (filled_parts s.list)
+
+-- the PUT of its object
+abbrev pub put_object_of : Sealed → SwiftRequest
+put_object_of s = put_by s.bucket s.key (tag_text (sealed_tag s)) (pack_of s.meta) (sealed_listing s)
+
+-- the PUT of its record
+abbrev pub put_record_of : Sealed → SwiftRequest
+put_record_of s = PutObject (uploads_name s.bucket) (id_digits s.id) (codes "application/json") [] (record_text (sealed_record s))

@@ -1,0 +1,144 @@
+//! The calls that settle a store, one function a call: what is sealed is got, and rolled forward.
+ghost use Rattle.std.specs.Prelude.{◌≡◌, true, IfOk, IfSome, IsTrue, None, Ok};
+ghost use Rattle.swift_calls.specs.History.{present};
+ghost use Rattle.upload_texts.specs.Sealed.{has_sealed_text};
+ghost use Rattle.upload_records.specs.Native.{IsSettled};
+ghost use Rattle.recovery.specs.Calls.{always, Any, Asks};
+ghost use Rattle.recovery.specs.Rolls.{HasGateway, HasObject, HasRecord, IsClear, IsSealed, Leaves, TellsSealed};
+
+use crate::PlanFault;
+use crate::beside::placed_in;
+use crate::interpret::{gone_in, stored_in};
+use crate::sealed::{done_text, kept_in, object_request, record_request, sealed_in};
+use crate::state::ask;
+use s3_machine::body_etag;
+use std::alloc::Global;
+use swift_calls::{ReadList, Swift, SwiftRequest};
+use upload_records::{gateway_container, sealed_name};
+use upload_texts::Sealed;
+
+/// Settles a store: makes the gateway's own container, and finishes the completion that is sealed there, if one is.
+pub(crate) fn settle_store<W: Swift>(alloc: Global, store: &mut W) -> Result<(), PlanFault>
+    ensures asks { Asks (always 5) (W.history store.old) (W.history store.new) Any (Leaves IsClear) result }
+    ensures done { IsTrue (W.history store.old).observable → result ≡ Ok tt → IsSettled (present (W.history store.new)) }
+{
+    put_gateway(alloc, store)?;
+    settle_made(alloc, store)
+}
+
+/// Makes the gateway's own container, which may be there, by PUT of it (Object Storage API v1, "Create container").
+#[tactic(auto, using(crate::proofs::Settling::gateway_is_container))]
+fn put_gateway<W: Swift>(alloc: Global, store: &mut W) -> Result<(), PlanFault>
+    ensures asks { Asks (always 1) (W.history store.old) (W.history store.new) Any (Leaves HasGateway) result }
+{
+    let reply = ask(
+        store,
+        SwiftRequest::PutContainer {
+            container: gateway_container(alloc)?,
+            readers: ReadList::Nobody,
+            created: None,
+        },
+    )?;
+    placed_in(&reply)
+}
+
+/// Finishes the completion that is sealed, if one is.
+fn settle_made<W: Swift>(alloc: Global, store: &mut W) -> Result<(), PlanFault>
+    ensures asks { Asks (always 4) (W.history store.old) (W.history store.new) HasGateway (Leaves IsClear) result }
+    ensures done { IsTrue (W.history store.old).observable → result ≡ Ok tt → IsSettled (present (W.history store.new)) }
+{
+    match get_sealed(alloc, store)? {
+        Some(sealed) => roll_forward(alloc, store, &sealed),
+        None => Ok(()),
+    }
+}
+
+/// The completion that is sealed, and `None` where none is, by GET of its file (Object Storage API v1, "Get object content and
+/// metadata").
+#[tactic(auto, using(crate::proofs::Settling::gateway_is_container, crate::proofs::Settling::sealed_is_object))]
+fn get_sealed<W: Swift>(alloc: Global, store: &mut W) -> Result<Option<Sealed>, PlanFault>
+    ensures asks { Asks (always 1) (W.history store.old) (W.history store.new) HasGateway TellsSealed result }
+    ensures has { IfOk result (λ found. IfSome found (λ s. has_sealed_text s ≡ true)) }
+    ensures none { IsTrue (W.history store.old).observable → result ≡ Ok None → IsSettled (present (W.history store.new)) }
+{
+    let container = gateway_container(alloc)?;
+    let name = sealed_name(alloc)?;
+    let reply = ask(
+        store,
+        SwiftRequest::GetObject {
+            container,
+            name,
+            range: None,
+        },
+    )?;
+    sealed_in(alloc, &reply)
+}
+
+/// Finishes a sealed completion by three calls: PUT of its object, PUT of its record, and DELETE of what is sealed. The S3 state
+/// stays, in which the completion is finished since it was sealed. Failed comes only where the store's count of faults rose;
+/// Memory where memory ran out; Inconsistent never over an observable consistent account on which this completion is sealed.
+/// After a fault it may be sealed still.
+pub fn roll_forward<W: Swift>(
+    alloc: Global,
+    store: &mut W,
+    sealed: &Sealed,
+) -> Result<(), PlanFault>
+    requires { has_sealed_text sealed.now ≡ true }
+    ensures asks { Asks (always 3) (W.history store.old) (W.history store.new) (IsSealed sealed.now) (Leaves IsClear) result }
+    ensures done { IsTrue (W.history store.old).observable → result ≡ Ok tt → IsSettled (present (W.history store.new)) }
+{
+    put_sealed_object(alloc, store, sealed)?;
+    keep(alloc, store, sealed)
+}
+
+/// Puts the object of a sealed completion (Object Storage API v1, "Static large objects" and "Create or replace object").
+fn put_sealed_object<W: Swift>(
+    alloc: Global,
+    store: &mut W,
+    sealed: &Sealed,
+) -> Result<(), PlanFault>
+    requires { has_sealed_text sealed.now ≡ true }
+    ensures asks { Asks (always 1) (W.history store.old) (W.history store.new) (IsSealed sealed.now) (Leaves (HasObject sealed.now)) result }
+{
+    let request = object_request(alloc, sealed)?;
+    let reply = ask(store, request)?;
+    kept_in(&reply)
+}
+
+/// Puts the record of a sealed completion whose object is there, and deletes what is sealed.
+fn keep<W: Swift>(alloc: Global, store: &mut W, sealed: &Sealed) -> Result<(), PlanFault>
+    requires { has_sealed_text sealed.now ≡ true }
+    ensures asks { Asks (always 2) (W.history store.old) (W.history store.new) (HasObject sealed.now) (Leaves IsClear) result }
+    ensures done { IsTrue (W.history store.old).observable → result ≡ Ok tt → IsSettled (present (W.history store.new)) }
+{
+    put_sealed_record(alloc, store, sealed)?;
+    delete_sealed(alloc, store, sealed)
+}
+
+/// Puts the record of a sealed completion, with its moment (Object Storage API v1, "Create or replace object").
+fn put_sealed_record<W: Swift>(
+    alloc: Global,
+    store: &mut W,
+    sealed: &Sealed,
+) -> Result<(), PlanFault>
+    requires { has_sealed_text sealed.now ≡ true }
+    ensures asks { Asks (always 1) (W.history store.old) (W.history store.new) (HasObject sealed.now) (Leaves (HasRecord sealed.now)) result }
+{
+    let text = done_text(alloc, sealed)?;
+    let etag = body_etag(text.as_slice());
+    let request = record_request(alloc, sealed, text)?;
+    let reply = ask(store, request)?;
+    stored_in(&reply, &etag)
+}
+
+/// Deletes what is sealed, whose object and record are there (Object Storage API v1, "Delete object").
+#[tactic(auto, using(crate::proofs::Settling::gateway_is_container, crate::proofs::Settling::sealed_is_object))]
+fn delete_sealed<W: Swift>(alloc: Global, store: &mut W, sealed: &Sealed) -> Result<(), PlanFault>
+    ensures asks { Asks (always 1) (W.history store.old) (W.history store.new) (HasRecord sealed.now) (Leaves IsClear) result }
+    ensures done { IsTrue (W.history store.old).observable → result ≡ Ok tt → IsSettled (present (W.history store.new)) }
+{
+    let container = gateway_container(alloc)?;
+    let name = sealed_name(alloc)?;
+    let reply = ask(store, SwiftRequest::DeleteObject { container, name })?;
+    gone_in(&reply)
+}
