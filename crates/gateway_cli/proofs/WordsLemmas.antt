@@ -1,5 +1,5 @@
 -- How the steps of reading the words follow one another.
-use Rattle.std.proofs.Common.{◌≡◌, ◌≢◌, ◌∙◌, refl, sym, ap, subst, inl, inr, arith, ℕ, Bool, true, false, if◌then◌else◌, List, [], ◌∷◌, Option, Result, Err, codes, bytes_eq}
+use Rattle.std.proofs.Common.{◌≡◌, ◌≢◌, ◌∙◌, refl, sym, ap, subst, inl, inr, arith, ℕ, Bool, true, false, if◌then◌else◌, List, [], ◌∷◌, Option, None, Some, option_and_then, Result, Err}
 use Rattle.clap.specs.Matches.{first_value}
 use Rattle.clap.specs.Walk.{Text, first_of, is_empty, rows_of}
 use Rattle.clap.specs.Simple.{App, HasMatchesOf, is_simple, subcommand_of, subcommand_rows_of}
@@ -13,8 +13,9 @@ use Rattle.clap.specs.declared.parser.matches.Found.{Found}
 use Rattle.clap.proofs.OnLiterals.{clap_on_literals}
 use Rattle.clap.proofs.WalkLemmas.{first_value-rows}
 use Rattle.gateway_cli.specs.Description.{gate_app}
-use Rattle.gateway_cli.specs.Words.{FaultOf, Parses, ReadsWords, command_in, met_in, presign_with, serve_with, session_with, sign_with}
+use Rattle.gateway_cli.specs.Words.{FaultOf, Parses, ReadsWords, command_in, command_with, met_in, name_of}
 use Rattle.gateway_cli.specs.declared.command.Command.{Command}
+use Rattle.gateway_cli.specs.declared.read.CommandName.{CommandName}
 use Rattle.gateway_cli.specs.declared.command.WordsFault.{WordsFault}
 use Rattle.gateway_cli.specs.declared.command.WordsFault.TheVariants.{Refused, Memory}
 
@@ -31,46 +32,16 @@ choice_unless test this that fails = ap (λ t. if t then this else that) fails
 
 -- ---- a command by its name
 
-pub named_session : (name : Text) (found : Found) (region : Option (List ℕ)) → bytes_eq name (codes "session") ≡ true
-    → region ≡ first_value found (codes "region")
-    → command_in name (rows_of found) ≡ session_with region
-named_session name found region named region_is =
-    choice_where (bytes_eq name (codes "session")) _ _ named
-    ∙ ap session_with (sym (region_is ∙ first_value-rows found (codes "region")))
+pub named : (name : Text) (found : Found) (result : Result Command WordsFault) {which : CommandName} → Some which ≡ name_of name
+    → ReadsWords (command_with (rows_of found) which) result → ReadsWords (command_in name (rows_of found)) result
+named name found result is reads = reads_where _ _ result (ap (option_and_then (command_with (rows_of found))) (sym is)) reads
 
-pub named_serve : (name : Text) (found : Found) (region connections : Option (List ℕ)) → bytes_eq name (codes "session") ≡ false
-    → bytes_eq name (codes "serve") ≡ true
-    → region ≡ first_value found (codes "region") → connections ≡ first_value found (codes "connections")
-    → command_in name (rows_of found) ≡ serve_with region connections
-named_serve name found region connections other named region_is connections_is =
-    choice_unless (bytes_eq name (codes "session")) _ _ other
-    ∙ (choice_where (bytes_eq name (codes "serve")) _ _ named
-    ∙ (ap (λ r. serve_with r (first_of (codes "connections") (rows_of found))) (sym (region_is ∙ first_value-rows found (codes "region")))
-    ∙ ap (serve_with region) (sym (connections_is ∙ first_value-rows found (codes "connections")))))
+pub unnamed : (name : Text) (found : Found) → None ≡ name_of name → command_in name (rows_of found) ≡ None
+unnamed name found is = ap (option_and_then (command_with (rows_of found))) (sym is)
 
-pub named_sign : (name : Text) (found : Found) (key region : Option (List ℕ)) → bytes_eq name (codes "session") ≡ false → bytes_eq name (codes "serve") ≡ false
-    → bytes_eq name (codes "sign") ≡ true
-    → key ≡ first_value found (codes "key") → region ≡ first_value found (codes "region")
-    → command_in name (rows_of found) ≡ sign_with key region
-named_sign name found key region other unserved named key_is region_is =
-    choice_unless (bytes_eq name (codes "session")) _ _ other
-    ∙ (choice_unless (bytes_eq name (codes "serve")) _ _ unserved
-    ∙ (choice_where (bytes_eq name (codes "sign")) _ _ named
-    ∙ (ap (λ k. sign_with k (first_of (codes "region") (rows_of found))) (sym (key_is ∙ first_value-rows found (codes "key")))
-    ∙ ap (sign_with key) (sym (region_is ∙ first_value-rows found (codes "region"))))))
-
-pub named_presign : (name : Text) (found : Found) (key region expires : Option (List ℕ)) → bytes_eq name (codes "session") ≡ false → bytes_eq name (codes "serve") ≡ false
-    → bytes_eq name (codes "sign") ≡ false → bytes_eq name (codes "presign") ≡ true
-    → key ≡ first_value found (codes "key") → region ≡ first_value found (codes "region") → expires ≡ first_value found (codes "expires")
-    → command_in name (rows_of found) ≡ presign_with key region expires
-named_presign name found key region expires other unserved unsigned named key_is region_is expires_is =
-    choice_unless (bytes_eq name (codes "session")) _ _ other
-    ∙ (choice_unless (bytes_eq name (codes "serve")) _ _ unserved
-    ∙ (choice_unless (bytes_eq name (codes "sign")) _ _ unsigned
-    ∙ (choice_where (bytes_eq name (codes "presign")) _ _ named
-    ∙ (ap (λ k. presign_with k (first_of (codes "region") (rows_of found)) (first_of (codes "expires") (rows_of found))) (sym (key_is ∙ first_value-rows found (codes "key")))
-    ∙ (ap (λ r. presign_with key r (first_of (codes "expires") (rows_of found))) (sym (region_is ∙ first_value-rows found (codes "region")))
-    ∙ ap (presign_with key region) (sym (expires_is ∙ first_value-rows found (codes "expires"))))))))
+-- the value that is had of an option is the one that was found for it
+pub given : (found : Found) (option : Text) {value : Option (List ℕ)} → value ≡ first_value found option → first_of option (rows_of found) ≡ value
+given found option is = sym (is ∙ first_value-rows found option)
 
 -- ---- what `clap` answers
 

@@ -39,10 +39,15 @@ signer_app = with_rule (with_rule (new_app (codes "presign")) key_rule) region_r
 abbrev pub presign_app : App
 presign_app = with_rule signer_app expires_rule
 
+-- `recover`, without an option
+abbrev pub recover_app : App
+recover_app = new_app (codes "recover")
+
 -- the words begin behind the program's name, and one of the commands must be named
 abbrev pub with_settings : Shape → Shape
 with_settings s = record s { no_binary_name = true; subcommand_required = true }
 
 unfoldable pub gate_app : App
 gate_app =
-    with_subcommand (with_subcommand (with_subcommand (with_subcommand (on_top with_settings (new_app (codes "s3gate"))) session_app.top) serve_app.top) sign_app.top) presign_app.top
+    with_subcommand (with_subcommand (with_subcommand (with_subcommand (with_subcommand (on_top with_settings (new_app (codes "s3gate")))
+    session_app.top) serve_app.top) sign_app.top) presign_app.top) recover_app.top

@@ -13,7 +13,9 @@ use Rattle.clap.specs.declared.parser.matches.ArgMatches.{ArgMatches}
 use Rattle.gate_base.specs.Ascii.{is_digit, is_letter_or_digit}
 use Rattle.gateway_cli.specs.Description.{gate_app}
 use Rattle.gateway_cli.specs.declared.command.Command.{Command}
-use Rattle.gateway_cli.specs.declared.command.Command.TheVariants.{Session, Serve, Sign, Presign}
+use Rattle.gateway_cli.specs.declared.command.Command.TheVariants.{Session, Serve, Sign, Presign, Recover}
+use Rattle.gateway_cli.specs.declared.read.CommandName.{CommandName}
+use Rattle.gateway_cli.specs.declared.read.CommandName.TheVariants as name
 use Rattle.gateway_cli.specs.declared.command.WordsFault.{WordsFault}
 use Rattle.gateway_cli.specs.declared.command.WordsFault.TheVariants.{Refused, Memory}
 
@@ -73,13 +75,26 @@ abbrev pub presign_with : Option (List ℕ) → Option (List ℕ) → Option (Li
 presign_with None given expires = None
 presign_with (Some key) given expires = if is_key_id key && is_region (region_of given) then option_map (Presign key (region_of given)) (span_of expires) else None
 
+-- the command that has a name
+abbrev pub name_of : Text → Option CommandName
+name_of text = if bytes_eq text (codes "session") then Some name.Session
+    else (if bytes_eq text (codes "serve") then Some name.Serve
+    else (if bytes_eq text (codes "sign") then Some name.Sign
+    else (if bytes_eq text (codes "presign") then Some name.Presign
+    else (if bytes_eq text (codes "recover") then Some name.Recover
+    else None))))
+
+-- a command, with what `clap` found for it
+abbrev pub command_with : List Row → CommandName → Option Command
+command_with rows name.Session = session_with (first_of (codes "region") rows)
+command_with rows name.Serve = serve_with (first_of (codes "region") rows) (first_of (codes "connections") rows)
+command_with rows name.Sign = sign_with (first_of (codes "key") rows) (first_of (codes "region") rows)
+command_with rows name.Presign = presign_with (first_of (codes "key") rows) (first_of (codes "region") rows) (first_of (codes "expires") rows)
+command_with rows name.Recover = Some Recover
+
 -- the command of a name, with what `clap` found for it
 abbrev pub command_in : Text → List Row → Option Command
-command_in name rows = if bytes_eq name (codes "session") then session_with (first_of (codes "region") rows)
-    else (if bytes_eq name (codes "serve") then serve_with (first_of (codes "region") rows) (first_of (codes "connections") rows)
-    else (if bytes_eq name (codes "sign") then sign_with (first_of (codes "key") rows) (first_of (codes "region") rows)
-    else (if bytes_eq name (codes "presign") then presign_with (first_of (codes "key") rows) (first_of (codes "region") rows) (first_of (codes "expires") rows)
-    else None)))
+command_in text rows = option_and_then (command_with rows) (name_of text)
 
 -- what `clap` finds in the words, where it takes them: the name of the command and what was found for it
 unfoldable pub met_in : List Text → Option (Text × List Row)
@@ -101,6 +116,7 @@ IsProper (Session region) = Unit {0}
 IsProper (Serve region connections) = Unit {0}
 IsProper (Sign key region) = Unit {0}
 IsProper (Presign key region expires) = (is_region region ≡ true) × (1 ≤ expires) × (expires ≤ 604800)
+IsProper Recover = Unit {0}
 
 -- what `clap` makes of the words
 abbrev pub Parses : List Text → Result ArgMatches WordsFault → Type 0

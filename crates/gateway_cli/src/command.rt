@@ -5,7 +5,7 @@ use std::alloc::AllocError;
 
 /// What the words ask for. `Session`: to serve the connections of the line as this region. `Serve`: the same, but at
 /// most so many connections. `Sign`: to sign a request with the key of this id, for this region. `Presign`:
-/// to make a URL of it that holds for so many seconds.
+/// to make a URL of it that holds for so many seconds. `Recover`: to settle the store.
 #[derive(Debug, Drop)]
 pub enum Command {
     Session {
@@ -24,6 +24,7 @@ pub enum Command {
         region: Bytes,
         expires: u64,
     },
+    Recover,
 }
 
 impl Copying for Command {
@@ -52,6 +53,7 @@ impl Copying for Command {
                 region: region.copy()?,
                 expires: *expires,
             }),
+            Command::Recover => Ok(Command::Recover),
         }
     }
 }

@@ -1,7 +1,7 @@
 ghost use Rattle.std.specs.Prelude.{◌≡◌, false, IfOk};
 ghost use Rattle.clap.specs.Words.{app_of, with_subcommand};
 ghost use Rattle.clap.specs.declared.builder.command.Command.TheViews.{out-Command as fields_of};
-ghost use Rattle.gateway_cli.specs.Description.{gate_app, presign_app, serve_app, session_app, sign_app, signer_app};
+ghost use Rattle.gateway_cli.specs.Description.{gate_app, presign_app, recover_app, serve_app, session_app, sign_app, signer_app};
 
 use clap::{Arg, ArgAction, Command};
 use std::alloc::{AllocError, Global};
@@ -16,7 +16,8 @@ pub(crate) fn gate<'a>(alloc: Global) -> Result<Command<'a>, AllocError>
     let one = with_session(alloc, bare)?;
     let two = with_serve(alloc, one)?;
     let three = with_sign(alloc, two)?;
-    with_presign(alloc, three)
+    let four = with_presign(alloc, three)?;
+    with_recover(alloc, four)
 }
 
 fn with_session<'a>(alloc: Global, gate: Command<'a>) -> Result<Command<'a>, AllocError>
@@ -45,6 +46,12 @@ fn with_presign<'a>(alloc: Global, gate: Command<'a>) -> Result<Command<'a>, All
 {
     let presign = presign(alloc)?;
     gate.subcommand(presign)
+}
+
+fn with_recover<'a>(alloc: Global, gate: Command<'a>) -> Result<Command<'a>, AllocError>
+    ensures { IfOk result (λ command. app_of command ≡ with_subcommand (app_of gate.entry) recover_app.top) }
+{
+    gate.subcommand(Command::new(alloc, "recover"))
 }
 
 fn session<'a>(alloc: Global) -> Result<Command<'a>, AllocError>

@@ -1,6 +1,6 @@
 ghost use Rattle.std.specs.Prelude.{◌≡◌, IfOk, map, option_and_then, option_map, string_bytes};
 ghost use Rattle.clap.specs.Words.{found_of, kind_of, rows_of, subcommand_rows_of};
-ghost use Rattle.gateway_cli.specs.Words.{FaultOf, IsProper, Parses, ReadsWords, command_in, command_of, count_of, presign_with, region_of, serve_with, session_with, sign_with, span_of};
+ghost use Rattle.gateway_cli.specs.Words.{FaultOf, IsProper, Parses, ReadsWords, command_in, command_of, command_with, count_of, name_of, presign_with, region_of, serve_with, session_with, sign_with, span_of};
 
 use crate::description::gate;
 use crate::text::{count_in, is_key_id, is_region, span_in};
@@ -15,6 +15,16 @@ const USUAL_REGION: &str = "us-east-1";
 
 /// How many connections are served where the words don't say.
 const USUAL_CONNECTIONS: u64 = 1000;
+
+/// The commands, by name alone.
+#[derive(Clone, Copy, Debug, PartialEq, Eq)]
+enum CommandName {
+    Session,
+    Serve,
+    Sign,
+    Presign,
+    Recover,
+}
 
 /// The command that the words name. The words are those behind the program's name. They are refused where `clap`
 /// refuses them or answers with a help text, where a region isn't 1 to 32 bytes of `a-z 0-9 -`, where a number of
@@ -61,21 +71,47 @@ fn command_named(alloc: Global, name: &str, found: &ArgMatches) -> Result<Comman
     ensures reads { ReadsWords (command_in name.now (rows_of (found_of found.now))) result }
     ensures proper { IfOk result IsProper }
 {
-    if name == "session" {
-        session_with(alloc, found.get_str("region"))
-    } else if name == "serve" {
-        serve_with(alloc, found.get_str("region"), found.get_str("connections"))
-    } else if name == "sign" {
-        sign_with(alloc, found.get_str("key"), found.get_str("region"))
-    } else if name == "presign" {
-        presign_with(
+    match name_of(name) {
+        Some(name) => command_with(alloc, name, found),
+        None => Err(WordsFault::Refused),
+    }
+}
+
+fn name_of(text: &str) -> Option<CommandName>
+    ensures { result ≡ name_of text.now }
+{
+    if text == "session" {
+        Some(CommandName::Session)
+    } else if text == "serve" {
+        Some(CommandName::Serve)
+    } else if text == "sign" {
+        Some(CommandName::Sign)
+    } else if text == "presign" {
+        Some(CommandName::Presign)
+    } else if text == "recover" {
+        Some(CommandName::Recover)
+    } else {
+        None
+    }
+}
+
+fn command_with(alloc: Global, name: CommandName, found: &ArgMatches) -> Result<Command, WordsFault>
+    ensures reads { ReadsWords (command_with (rows_of (found_of found.now)) name) result }
+    ensures proper { IfOk result IsProper }
+{
+    match name {
+        CommandName::Session => session_with(alloc, found.get_str("region")),
+        CommandName::Serve => {
+            serve_with(alloc, found.get_str("region"), found.get_str("connections"))
+        }
+        CommandName::Sign => sign_with(alloc, found.get_str("key"), found.get_str("region")),
+        CommandName::Presign => presign_with(
             alloc,
             found.get_str("key"),
             found.get_str("region"),
             found.get_str("expires"),
-        )
-    } else {
-        Err(WordsFault::Refused)
+        ),
+        CommandName::Recover => Ok(Command::Recover),
     }
 }
 

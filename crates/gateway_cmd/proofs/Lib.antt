@@ -1,6 +1,7 @@
 pub mod Counting
 pub mod Exits
 pub mod Faulty
+pub mod Recoveries
 pub mod Refusing
 pub mod Reporting
 pub mod RunTraces

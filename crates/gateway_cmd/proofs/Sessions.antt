@@ -25,11 +25,11 @@ use Rattle.gateway.proofs.lemmas.Worlds.{serves_none}
 use Rattle.gateway_cmd.specs.declared.status.RunOutcome.{RunOutcome}
 use Rattle.gateway_cmd.specs.declared.status.RunOutcome.TheVariants.{Plain}
 use Rattle.gateway_cmd.specs.declared.status.Status.{Status}
-use Rattle.gateway_cmd.specs.declared.status.Status.TheVariants.{Done, Usage, Line, Request, Memory}
+use Rattle.gateway_cmd.specs.declared.status.Status.TheVariants.{Done, Usage, Line, Store, Request, Memory}
 use Rattle.gateway_cmd.specs.Report.{is_failed_run, is_done, Fits}
-use Rattle.gateway_cmd.specs.Tasks.{settings_of, Serving, service_of, Task, nothing, to_serve, to_sign, to_presign}
+use Rattle.gateway_cmd.specs.Tasks.{settings_of, Serving, service_of, Task, nothing, to_serve, to_sign, to_presign, to_recover}
 use Rattle.gateway_cmd.specs.Run.{run_cursor_of, RunTrace, none, more, RunTraces, RunTraced, RunStands, RunRefines}
-use Rattle.gateway_cmd.specs.Session.{is_end, NextCursor, LineServed, LineServesAll, RunServes, RunSigns, RunPresigns, Does}
+use Rattle.gateway_cmd.specs.Session.{is_end, NextCursor, LineServed, LineServesAll, RunServes, RunSigns, RunPresigns, IsIdle, out_of_memory, keys_refused, nothing_done, Does}
 use Rattle.gateway_cmd.proofs.Faulty.{none_faulty_of_none}
 use Rattle.gateway_cmd.proofs.RunTraces.{run_trace_agree, run_trace_follow, run_trace_pass, run_trace_stands}
 
@@ -124,13 +124,27 @@ run_presigns_none id region expires keys at ended line clock fails never = recor
   effect = λ secret good has observable memory. absurd (never good memory);
 }
 
--- a run that did nothing: it ran out of memory, or the keys are refused
-pub does_none : (task : Task) (keys : List ℕ) (ended : RunOutcome) (line : LineModel) (store : History) (clock draws : SourceModel) → is_failed_run ended ≡ false → is_done ended ≡ false → (are_keys (keys_of keys) ≡ true → ended ≢ Plain Memory → ⊥)
+-- a run that did nothing: the line didn't fail, not all was done, and where the keys are taken memory ran out
+idle_fails : {keys : List ℕ} {ended : RunOutcome} → IsIdle keys ended → is_failed_run ended ≡ false
+idle_fails (out_of_memory memory) = ap is_failed_run memory
+idle_fails (keys_refused usage bad) = ap is_failed_run usage
+
+idle_ends : {keys : List ℕ} {ended : RunOutcome} → IsIdle keys ended → is_done ended ≡ false
+idle_ends (out_of_memory memory) = ap is_done memory
+idle_ends (keys_refused usage bad) = ap is_done usage
+
+idle_never : {keys : List ℕ} {ended : RunOutcome} → IsIdle keys ended → are_keys (keys_of keys) ≡ true → ended ≢ Plain Memory → ⊥
+idle_never (out_of_memory memory) good other = other memory
+idle_never (keys_refused usage bad) good other = absurd (let no : true ≡ false = sym good ∙ bad in cc)
+
+pub does_none : (task : Task) (keys : List ℕ) (ended : RunOutcome) (line : LineModel) (store : History) (clock draws : SourceModel) → IsIdle keys ended
     → Does task keys ended (world line store Unsure clock draws) (λ known. world line store known clock draws)
-does_none nothing keys ended line store clock draws fails ends never = tt
-does_none (to_serve serving) keys ended line store clock draws fails ends never = run_serves_none serving keys ended line store clock draws fails ends
-does_none (to_sign id region) keys ended line store clock draws fails ends never = run_signs_none id region keys store.called ended line fails never
-does_none (to_presign id region expires) keys ended line store clock draws fails ends never = run_presigns_none id region expires keys store.called ended line clock fails never
+does_none nothing keys ended line store clock draws idle = tt
+does_none (to_serve serving) keys ended line store clock draws idle = run_serves_none serving keys ended line store clock draws (idle_fails idle) (idle_ends idle)
+does_none (to_sign id region) keys ended line store clock draws idle = run_signs_none id region keys store.called ended line (idle_fails idle) (idle_never idle)
+does_none (to_presign id region expires) keys ended line store clock draws idle =
+    run_presigns_none id region expires keys store.called ended line clock (idle_fails idle) (idle_never idle)
+does_none to_recover keys ended line store clock draws idle = nothing_done refl idle
 
 -- what connections are served by as a region, at most so many
 abbrev pub as_region : List ℕ → Option ℕ → Serving
@@ -141,6 +155,7 @@ done_is : (status : Status) → is_done (Plain status) ≡ true → status ≡ D
 done_is Done is = refl
 done_is Usage is = absurd (let clash : false ≡ true = is in cc)
 done_is Line is = absurd (let clash : false ≡ true = is in cc)
+done_is Store is = absurd (let clash : false ≡ true = is in cc)
 done_is Request is = absurd (let clash : false ≡ true = is in cc)
 done_is Memory is = absurd (let clash : false ≡ true = is in cc)
 
@@ -172,6 +187,7 @@ pub session_fits : (serving : Serving) (status : Status) → is_end status ≡ t
 session_fits serving Done is = refl
 session_fits serving Usage is = tt
 session_fits serving Line is = refl
+session_fits serving Store is = absurd (let no : false ≡ true = is in cc)
 session_fits serving Memory is = tt
 session_fits serving Request is = absurd (let no : false ≡ true = is in cc)
 

@@ -11,7 +11,8 @@ use Rattle.gateway.specs.Life.{upkeep, answering, Promises, answers_all, keeps_s
 use Rattle.gateway.specs.World.{World}
 use Rattle.gateway_cmd.specs.declared.status.RunOutcome.{RunOutcome}
 use Rattle.gateway_cmd.specs.Session.{Does, HasWorked}
-use Rattle.gateway_cmd.specs.Tasks.{Task, nothing, to_serve, to_sign, to_presign, Apart}
+use Rattle.gateway_cmd.specs.Tasks.{Task, nothing, to_serve, to_sign, to_presign, to_recover, Apart}
+use Rattle.gateway_cmd.proofs.Recoveries.{recovers_quietly}
 use Rattle.gateway_cmd.proofs.Sessions.{unsure_met}
 
 -- the store was left alone
@@ -30,3 +31,4 @@ works L S C D (to_serve serving) keys ended old new does apart same own met unsu
     }
 works L S C D (to_sign id region) keys ended old new does apart same own met unsure = record { work = upkeep; is = refl; promises = still (same apart.0) met }
 works L S C D (to_presign id region expires) keys ended old new does apart same own met unsure = record { work = upkeep; is = refl; promises = still (same apart.0) met }
+works L S C D to_recover keys ended old new does apart same own met unsure = record { work = upkeep; is = refl; promises = keeps_state (recovers_quietly does met) }

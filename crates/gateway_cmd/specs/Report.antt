@@ -1,26 +1,30 @@
 -- The statuses of the program `s3gate` and the lines that it reports. Source: this profile.
-use Rattle.std.specs.Prelude.{◌≡◌, ◌≢◌, ◌⊎◌, ℕ, Bool, true, false, List, [], ◌∷◌, ◌++◌, codes, IsTrue, Some}
+use Rattle.std.specs.Prelude.{◌≡◌, ◌≢◌, ◌⊎◌, ℕ, Bool, true, false, List, [], ◌∷◌, ◌++◌, codes, IsTrue, Some, Result, Ok, Err}
 use Rattle.gate_base.specs.Causes.{Rose}
 use Rattle.gate_base.specs.Told.{SinkModel, PutsPrefix}
 use Rattle.hex.specs.Hex.{encode_lower}
+use Rattle.s3_names.specs.Escapes.{escaped_all}
+use Rattle.recovery.specs.declared.state.SettleFault.{SettleFault}
+use Rattle.recovery.specs.declared.state.SettleFault.TheVariants as settling
 use Rattle.sigv4.specs.declared.signature.Signed.{Signed}
 use Rattle.sign_cmd.specs.declared.first.Signing.{Signing}
 use Rattle.sign_cmd.specs.declared.first.Signing.TheVariants as signing
 use Rattle.presign_cmd.specs.declared.first.Presigning.{Presigning}
 use Rattle.presign_cmd.specs.declared.first.Presigning.TheVariants as presigning
 use Rattle.gateway_cmd.specs.declared.status.Status.{Status}
-use Rattle.gateway_cmd.specs.declared.status.Status.TheVariants.{Done, Usage, Line, Request, Memory}
+use Rattle.gateway_cmd.specs.declared.status.Status.TheVariants.{Done, Usage, Line, Store, Request, Memory}
 use Rattle.gateway_cmd.specs.declared.status.RunOutcome.{RunOutcome}
-use Rattle.gateway_cmd.specs.declared.status.RunOutcome.TheVariants.{Told, Plain}
+use Rattle.gateway_cmd.specs.declared.status.RunOutcome.TheVariants.{Told, Inconsistent, Plain}
 use Rattle.gateway_cmd.specs.declared.status.Told.{Told as Reported}
-use Rattle.gateway_cmd.specs.declared.status.Told.TheVariants.{Signature, Url}
-use Rattle.gateway_cmd.specs.Tasks.{Task, Kind, a_signature, a_url, tells, is_serving, is_signing, uses_line}
+use Rattle.gateway_cmd.specs.declared.status.Told.TheVariants.{Signature, Url, Settled}
+use Rattle.gateway_cmd.specs.Tasks.{Task, Kind, a_signature, a_url, a_recovery, tells, is_serving, is_signing, is_upkeep, uses_line}
 
 -- the exit status
 abbrev pub code_of : Status → ℕ
 code_of Done = 0
 code_of Usage = 2
 code_of Line = 3
+code_of Store = 4
 code_of Memory = 5
 code_of Request = 8
 
@@ -32,6 +36,7 @@ unfoldable pub line_of : Status → List ℕ
 line_of Done = []
 line_of Usage = codes "usage: s3gate session|serve|recover|sweep|check|sign|trial|presign" ++ line_feed
 line_of Line = codes "s3gate: line" ++ line_feed
+line_of Store = codes "s3gate: store" ++ line_feed
 line_of Memory = codes "s3gate: memory" ++ line_feed
 line_of Request = codes "s3gate: request" ++ line_feed
 
@@ -44,9 +49,14 @@ signed_lines signed =
 abbrev pub url_line : List ℕ → List ℕ
 url_line url = codes "url " ++ (url ++ line_feed)
 
+-- the line that names an object of which the store answered what it doesn't over a consistent account
+abbrev pub inconsistent_line : List ℕ → List ℕ → List ℕ
+inconsistent_line container name = codes "s3gate: inconsistent " ++ (escaped_all container ++ (codes " " ++ (escaped_all name ++ line_feed)))
+
 -- the statuses that there are
 abbrev pub IsStatus : ℕ → Type 0
-IsStatus status = (status ≡ 0) ⊎ ((status ≡ 2) ⊎ ((status ≡ 3) ⊎ ((status ≡ 5) ⊎ ((status ≡ 6) ⊎ (status ≡ 8)))))
+IsStatus status =
+    (status ≡ 0) ⊎ ((status ≡ 2) ⊎ ((status ≡ 3) ⊎ ((status ≡ 5) ⊎ ((status ≡ 6) ⊎ ((status ≡ 8) ⊎ ((status ≡ 4) ⊎ (status ≡ 7)))))))
 
 -- how a run ended that signed, or couldn't
 abbrev pub end_of : Signing → RunOutcome
@@ -62,35 +72,49 @@ end_of_url presigning.NoRequest = Plain Request
 end_of_url presigning.LineFailed = Plain Line
 end_of_url presigning.Memory = Plain Memory
 
+-- how a run ended that settled the store, or couldn't
+abbrev pub recovered : Result (Unit {0}) SettleFault → RunOutcome
+recovered (Ok done) = Told Settled
+recovered (Err settling.Failed) = Plain Store
+recovered (Err settling.Memory) = Plain Memory
+recovered (Err (settling.Inconsistent container name)) = Inconsistent container name
+
 -- the lines that are reported of what a run has to tell
 abbrev pub lines_of : Reported → List ℕ
 lines_of (Signature signed) = signed_lines signed
 lines_of (Url url) = url_line url
+lines_of Settled = codes "settled" ++ line_feed
 
--- the run ended with nothing to tell
+-- the run ended with nothing to tell of what it did
 abbrev pub is_plain : RunOutcome → Bool
 is_plain (Told told) = false
+is_plain (Inconsistent container name) = true
 is_plain (Plain status) = true
 
 abbrev pub kind_of : Reported → Kind
 kind_of (Signature signed) = a_signature
 kind_of (Url url) = a_url
+kind_of Settled = a_recovery
 
 -- how a run may end, by what is asked for: with what is to be told; done with nothing to tell, where connections are served; for
--- the line where it is used; without a request where one is to be signed; and, whatever is asked for, with words or keys that are
--- refused (`Admits` says when), or because memory ran out
+-- the line where it is used; for the store, or what it answered of an object, where the account is kept up; without a request
+-- where one is to be signed; and, whatever is asked for, with words or keys that are refused (`Admits` says when), or because
+-- memory ran out
 abbrev pub Fits : Task → RunOutcome → Type 0
 Fits task (Told told) = tells task ≡ Some (kind_of told)
+Fits task (Inconsistent container name) = is_upkeep task ≡ true
 Fits task (Plain Done) = is_serving task ≡ true
 Fits task (Plain Usage) = Unit {0}
 Fits task (Plain Line) = uses_line task ≡ true
+Fits task (Plain Store) = is_upkeep task ≡ true
 Fits task (Plain Memory) = Unit {0}
 Fits task (Plain Request) = is_signing task ≡ true
 
 -- the exit status of a run that ended so, and what it reports: 6 where the report of what it has to tell failed; its lines may
--- find no memory
+-- find no memory, and neither may the names of an object
 abbrev pub Says : RunOutcome → ℕ → List ℕ → Type 0
 Says (Told told) status text = (((status ≡ 0) ⊎ (status ≡ 6)) × (text ≡ lines_of told)) ⊎ ((status ≡ 5) × (text ≡ line_of Memory))
+Says (Inconsistent container name) status text = ((status ≡ 7) × (text ≡ inconsistent_line container name)) ⊎ ((status ≡ 5) × (text ≡ line_of Memory))
 Says (Plain ended) status text = (status ≡ code_of ended) × (text ≡ line_of ended)
 
 -- the text was put, or the sink's count of faults rose, and the first bytes of the text were put and nothing else
@@ -103,22 +127,26 @@ abbrev pub is_failed_status : Status → Bool
 is_failed_status Done = false
 is_failed_status Usage = false
 is_failed_status Line = true
+is_failed_status Store = false
 is_failed_status Request = false
 is_failed_status Memory = false
 
 abbrev pub is_failed_run : RunOutcome → Bool
 is_failed_run (Told told) = false
+is_failed_run (Inconsistent container name) = false
 is_failed_run (Plain status) = is_failed_status status
 
 abbrev pub is_done_status : Status → Bool
 is_done_status Done = true
 is_done_status Usage = false
 is_done_status Line = false
+is_done_status Store = false
 is_done_status Request = false
 is_done_status Memory = false
 
 abbrev pub is_done : RunOutcome → Bool
 is_done (Told told) = false
+is_done (Inconsistent container name) = false
 is_done (Plain status) = is_done_status status
 
 -- how a run ended, by whether what is asked for can be done: just where it can't it is refused, unless memory ran out

@@ -1,13 +1,19 @@
 -- One step of a session: a connection that was served, or its end. Source: this profile.
-use Rattle.std.specs.Prelude.{◌≡◌, ◌≢◌, ◌<◌, ◌≤◌, ◌⊎◌, ℕ, ◌+◌, ◌-◌, ◌^◌, Bool, true, false, IsTrue, List, [], ◌++◌, replicate, Option, None, Some}
+use Rattle.std.specs.Prelude.{◌≡◌, ◌≢◌, ◌<◌, ◌≤◌, ◌⊎◌, ℕ, ◌+◌, ◌-◌, ◌^◌, ◌==◌, Bool, true, false, IsTrue, List, [], ◌++◌, replicate, Option, None, Some}
 use Rattle.std.specs.Prelude.{Result, Ok, Err}
 use Rattle.gate_base.specs.Causes.{Rose, RisesIf}
 use Rattle.gate_base.specs.Line.{LineModel}
 use Rattle.gate_base.specs.Told.{SourceModel, ClockNow}
 use Rattle.gate_base.specs.Transcript.{Transcript}
-use Rattle.swift_calls.specs.History.{History}
+use Rattle.swift_calls.specs.History.{History, present}
+use Rattle.upload_records.specs.Native.{IsSettled}
+use Rattle.recovery.specs.Answers.{most_settling}
+use Rattle.recovery.specs.Calls.{Any, Grows, Met}
 use Rattle.recovery.specs.declared.state.Known.{Known}
 use Rattle.recovery.specs.declared.state.Known.TheVariants.{Unsure}
+use Rattle.recovery.specs.declared.state.SettleFault.{SettleFault}
+use Rattle.recovery.specs.Settling.{Settles}
+use Rattle.recovery.specs.Stutters.{Stutters}
 use Rattle.sigv4.specs.Keys.{keys_of, are_keys, secret_of}
 use Rattle.sigv4.specs.declared.keys.AccessKey.{AccessKey}
 use Rattle.sigv4.specs.declared.keys.KeysFault.{KeysFault}
@@ -21,11 +27,11 @@ use Rattle.gateway.specs.Exchange.{ReplyRelation, Span}
 use Rattle.gateway.specs.Life.{Work, upkeep, answering, Promises}
 use Rattle.gateway.specs.World.{World, ServesOver}
 use Rattle.gateway_cmd.specs.declared.status.Status.{Status}
-use Rattle.gateway_cmd.specs.declared.status.Status.TheVariants.{Done, Usage, Line, Request as NoRequest, Memory}
+use Rattle.gateway_cmd.specs.declared.status.Status.TheVariants.{Done, Usage, Line, Store, Request as NoRequest, Memory}
 use Rattle.gateway_cmd.specs.declared.status.RunOutcome.{RunOutcome}
 use Rattle.gateway_cmd.specs.declared.status.RunOutcome.TheVariants.{Plain}
-use Rattle.gateway_cmd.specs.Report.{end_of, end_of_url, is_failed_run, is_done}
-use Rattle.gateway_cmd.specs.Tasks.{Task, nothing, to_serve, to_sign, to_presign, Serving, service_of}
+use Rattle.gateway_cmd.specs.Report.{end_of, end_of_url, recovered, is_failed_run, is_done}
+use Rattle.gateway_cmd.specs.Tasks.{Task, nothing, to_serve, to_sign, to_presign, to_recover, Serving, service_of}
 use Rattle.gateway_cmd.specs.Run.{run_cursor_of, ServesNext, RunTraces}
 
 -- no connection is left, or as many as were asked for began
@@ -60,6 +66,7 @@ abbrev pub is_end : Status → Bool
 is_end Done = true
 is_end Usage = false
 is_end Line = true
+is_end Store = false
 is_end NoRequest = false
 is_end Memory = false
 
@@ -124,6 +131,26 @@ pub record RunPresigns (id region : List ℕ) (expires : ℕ) (keys : List ℕ) 
       × (presigning : Presigning) × UrlFirst (Presigns secret id region moment expires) old.transcript.waiting presigning
       × UrlSends at old.transcript presigning new.transcript × (ended ≡ end_of_url presigning)
 
+-- nothing was done: memory ran out before, or the keys are refused
+pub data IsIdle (keys : List ℕ) (ended : RunOutcome) : Type 0 where
+  out_of_memory : ended ≡ Plain Memory → IsIdle keys ended
+  keys_refused : ended ≡ Plain Usage → are_keys (keys_of keys) ≡ false → IsIdle keys ended
+
+-- the store was settled, or could not be; or nothing was done
+pub data RunRecovers (keys : List ℕ) (ended : RunOutcome) (old new : History) : Type 0 where
+  nothing_done : new ≡ old → IsIdle keys ended → RunRecovers keys ended old new
+  was_settled : (result : Result (Unit {0}) SettleFault) → Settles old new result → ended ≡ recovered result → RunRecovers keys ended old new
+
+-- what a run that settles does to the store, by its exit status: 4 comes where the store's count of faults rose, and only there; 7
+-- never over a consistent account; by 0 and 6 no completion is sealed any more. Whatever the status, the state stays at each
+-- number of calls
+pub record StoreRecovered (status : ℕ) (old new : History) : Type 0 where
+  pub grows : Grows (most_settling (present old)) Any old new
+  pub faults : RisesIf (status == 4) old.faults new.faults
+  pub consistent : Met Any old → status ≡ 7 → ⊥
+  pub same : Met Any old → Stutters new old.called new.called
+  pub settled : IsTrue old.observable → (status ≡ 0) ⊎ (status ≡ 6) → IsSettled (present new)
+
 -- what a run does by its task, whose words are taken; `new` is the world at its end, by what is known of the store then
 abbrev pub Does : Task → List ℕ → RunOutcome → World → (Known → World) → Type 0
 Does nothing keys ended old new = Unit {0}
@@ -131,6 +158,7 @@ Does (to_serve serving) keys ended old new = RunServes serving keys ended old ne
 Does (to_sign id region) keys ended old new = RunSigns id region keys old.store.called ended old.line (new Unsure).line
 Does (to_presign id region expires) keys ended old new =
     RunPresigns id region expires keys old.store.called ended old.line (new Unsure).line old.clock (new Unsure).clock
+Does to_recover keys ended old new = RunRecovers keys ended old.store (new Unsure).store
 
 -- ---- what a run is among others, one after another
 
@@ -140,6 +168,7 @@ IsWorkOf nothing work = work ≡ upkeep
 IsWorkOf (to_serve serving) work = (spans : List Span) × (work ≡ answering serving.settings spans)
 IsWorkOf (to_sign id region) work = work ≡ upkeep
 IsWorkOf (to_presign id region expires) work = work ≡ upkeep
+IsWorkOf to_recover work = work ≡ upkeep
 
 -- the work of a task was done between two numbers of calls, where the account was consistent at the first
 pub record HasWorked (task : Task) (old new : History) : Type 0 where

@@ -6,7 +6,7 @@ use Rattle.sigv4.specs.Keys.{keys_of, are_keys, secret_of}
 use Rattle.gateway.specs.declared.service.Service.{Service}
 use Rattle.gateway_cli.specs.Words.{command_of}
 use Rattle.gateway_cli.specs.declared.command.Command.{Command}
-use Rattle.gateway_cli.specs.declared.command.Command.TheVariants.{Session, Serve, Sign, Presign}
+use Rattle.gateway_cli.specs.declared.command.Command.TheVariants.{Session, Serve, Sign, Presign, Recover}
 use Rattle.gateway_cmd.specs.declared.service.TheConstants.{LEAST_PART}
 
 -- the settings of a service of that region
@@ -23,12 +23,13 @@ abbrev pub service_of : Serving → List ℕ → Service
 service_of serving keys = record { settings = serving.settings; keys = keys_of keys }
 
 -- what is asked for: nothing where the words are refused; to serve the connections of the line; or to sign its first request, by
--- the key of an id for a region; or to make a URL of it, which holds for so many seconds
+-- the key of an id for a region; or to make a URL of it, which holds for so many seconds; or to settle the store
 pub data Task : Type 0 where
   nothing : Task
   to_serve : Serving → Task
   to_sign : List ℕ → List ℕ → Task
   to_presign : List ℕ → List ℕ → ℕ → Task
+  to_recover : Task
 
 abbrev pub task_of : Option Command → Task
 task_of None = nothing
@@ -36,6 +37,7 @@ task_of (Some (Session region)) = to_serve (record { settings = settings_of regi
 task_of (Some (Serve region connections)) = to_serve (record { settings = settings_of region; most = Some connections })
 task_of (Some (Sign id region)) = to_sign id region
 task_of (Some (Presign id region expires)) = to_presign id region expires
+task_of (Some Recover) = to_recover
 
 abbrev pub asked_for : List (String Global) → Task
 asked_for words = task_of (command_of words)
@@ -46,6 +48,7 @@ is_possible nothing keys = false
 is_possible (to_serve serving) keys = are_keys (keys_of keys)
 is_possible (to_sign id region) keys = are_keys (keys_of keys) && is_some (secret_of id (keys_of keys))
 is_possible (to_presign id region expires) keys = are_keys (keys_of keys) && is_some (secret_of id (keys_of keys))
+is_possible to_recover keys = are_keys (keys_of keys)
 
 -- ---- what a task is of
 
@@ -55,6 +58,7 @@ is_serving nothing = false
 is_serving (to_serve serving) = true
 is_serving (to_sign id region) = false
 is_serving (to_presign id region expires) = false
+is_serving to_recover = false
 
 -- the first request of the line is signed, in a header or in a URL
 abbrev pub is_signing : Task → Bool
@@ -62,6 +66,15 @@ is_signing nothing = false
 is_signing (to_serve serving) = false
 is_signing (to_sign id region) = true
 is_signing (to_presign id region expires) = true
+is_signing to_recover = false
+
+-- the account is kept up, and its state is left as it is
+abbrev pub is_upkeep : Task → Bool
+is_upkeep nothing = false
+is_upkeep (to_serve serving) = false
+is_upkeep (to_sign id region) = false
+is_upkeep (to_presign id region expires) = false
+is_upkeep to_recover = true
 
 -- the line is used
 abbrev pub uses_line : Task → Bool
@@ -69,11 +82,13 @@ uses_line nothing = false
 uses_line (to_serve serving) = true
 uses_line (to_sign id region) = true
 uses_line (to_presign id region expires) = true
+uses_line to_recover = false
 
 -- what a run may have to tell
 pub data Kind : Type 0 where
   a_signature : Kind
   a_url : Kind
+  a_recovery : Kind
 
 -- what is told where the task is done: nothing, where connections are served
 abbrev pub tells : Task → Option Kind
@@ -81,6 +96,7 @@ tells nothing = None
 tells (to_serve serving) = None
 tells (to_sign id region) = Some a_signature
 tells (to_presign id region expires) = Some a_url
+tells to_recover = Some a_recovery
 
 -- of these four facts, that line, store, clock and draws are left alone, those that hold by the task
 abbrev pub Apart : Task → Type 0 → Type 0 → Type 0 → Type 0 → Type 0
@@ -88,3 +104,4 @@ Apart nothing line store clock draws = line × store × clock × draws
 Apart (to_serve serving) line store clock draws = Unit {0}
 Apart (to_sign id region) line store clock draws = store × clock × draws
 Apart (to_presign id region expires) line store clock draws = store × draws
+Apart to_recover line store clock draws = line × clock × draws

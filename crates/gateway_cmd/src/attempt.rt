@@ -17,6 +17,7 @@ ghost use Rattle.gateway_cmd.specs.declared.status.Status.TheVariants as status;
 ghost use Rattle.gateway_cmd.specs.Run.{RunTraces};
 ghost use Rattle.gateway_cmd.specs.Session.{Does, LineServesAll};
 
+use crate::recover::recover;
 use crate::service::{read_keys, service};
 use crate::session::session;
 use crate::status::{RunOutcome, Status, Told};
@@ -97,6 +98,7 @@ fn perform<N: Line<W>, W: Swift, C: Clock, D: Draws>(
                 clock,
                 draws,
             )),
+            Command::Recover => recover(alloc, store),
             Command::Sign { key, region } => sign(alloc, &keys, &key, &region, line, store),
             Command::Presign {
                 key,

@@ -1,36 +1,40 @@
-ghost use Rattle.std.specs.Prelude.{◌≡◌, ◌==◌, ◌<◌, ℕ, true, false, IsTrue, List, is_some};
+ghost use Rattle.std.specs.Prelude.{◌≡◌, ◌⊎◌, ◌==◌, ◌<◌, ℕ, true, false, IsTrue, List, is_some, Result as result_of};
 ghost use Rattle.gate_base.specs.Causes.{Rose};
 ghost use Rattle.gate_base.specs.Told.{ClockNow};
 ghost use Rattle.swift_calls.specs.History.{budget, FaultFree};
 ghost use Rattle.recovery.specs.declared.state.Known.TheVariants.{Unsure};
+ghost use Rattle.recovery.specs.declared.state.SettleFault.{SettleFault as unsettled};
 ghost use Rattle.recovery.specs.Calls.{Any, Met};
+ghost use Rattle.recovery.specs.Settling.{Settles};
 ghost use Rattle.sigv4.specs.Keys.{keys_of, are_keys, secret_of};
 ghost use Rattle.sign_cmd.specs.Signing.{AnswersFirst, SendsFirst, SignsOn};
 ghost use Rattle.sign_cmd.specs.declared.first.Signing.{Signing};
 ghost use Rattle.presign_cmd.specs.Presigning.{Presigns, AnswersFirst as UrlFirst, SendsFirst as UrlSends};
 ghost use Rattle.presign_cmd.specs.declared.first.Presigning.{Presigning};
 ghost use Rattle.gateway.specs.World.{world, IsObservable, Continues};
-ghost use Rattle.gateway_cmd.specs.Report.{is_plain, IsStatus, Fits, Says, Reports, end_of, end_of_url, code_of, line_of};
-ghost use Rattle.gateway_cmd.specs.Tasks.{Apart, asked_for, is_possible, is_serving, is_signing, tells, to_serve, to_sign, to_presign, Serving, service_of};
+ghost use Rattle.gateway_cmd.specs.Report.{is_plain, IsStatus, Fits, Says, Reports, end_of, end_of_url, recovered, code_of, line_of};
+ghost use Rattle.gateway_cmd.specs.Tasks.{Apart, asked_for, is_possible, is_serving, is_signing, is_upkeep, uses_line, tells, to_serve, to_sign, to_presign, to_recover, Serving, service_of};
 ghost use Rattle.gateway_cmd.specs.declared.status.RunOutcome.{RunOutcome as how};
 ghost use Rattle.gateway_cmd.specs.declared.status.RunOutcome.TheVariants as ends;
 ghost use Rattle.gateway_cmd.specs.declared.status.Status.TheVariants.{Done};
 ghost use Rattle.gateway_cmd.specs.Run.{RunTraced, RunStands, RunRefines};
-ghost use Rattle.gateway_cmd.specs.Session.{Does, HasWorked, LineServed};
+ghost use Rattle.gateway_cmd.specs.Session.{Does, HasWorked, LineServed, StoreRecovered};
 
 use crate::attempt::attempt;
-use crate::status::{RunOutcome, Status, Told, told_lines};
-use gate_base::{Clock, Draws, Line, Sink};
+use crate::status::{RunOutcome, Status, Told, inconsistent_line, told_lines};
+use gate_base::{Bytes, Clock, Draws, Line, Sink};
 use std::alloc::Global;
 use swift_calls::Swift;
 
 /// A whole run of `s3gate` with these words, which follow the program's name, by the keys of a key text (see
 /// [`sigv4::Keys::read`]). `session` serves the connections of the line, `serve` no more of them than the words say,
-/// `sign` signs its first request, and `presign` makes a URL of it for the moment that the clock gives. The answer is the exit
-/// status: 0 where no connection is left to serve, or the signature or the URL was reported; 2 where the words are refused (see
-/// [`gateway_cli::read_words`]), or the key text, or it hasn't the key that is to sign; 3 where the line failed to give
-/// another connection, or at all while a request was to be signed; 5 where memory ran out; 6 where the report of a
-/// signature or a URL failed; 8 where no request stood first on the line, or one that can't be signed, or have a URL.
+/// `sign` signs its first request, and `presign` makes a URL of it for the moment that the clock gives. `recover` settles the
+/// store. The answer is the exit status: 0 where no connection is left to serve, or the signature, the URL or that the store is
+/// settled was reported; 2 where the words are refused (see [`gateway_cli::read_words`]), or the key text, or it hasn't the key
+/// that is to sign; 3 where the line failed to give another connection, or at all while a request was to be signed; 4 where the
+/// store failed while it was to be settled; 5 where memory ran out; 6 where the report of what was done failed; 7 where the store,
+/// while it was to be settled, answered what it doesn't over a consistent account; 8 where no request stood first on the line, or
+/// one that can't be signed, or have a URL.
 ///
 /// Of a run that serves, three clauses say what became of its requests, each with its span: the numbers of calls before
 /// it, as its operation began, at its commit point, and after it. `traced` is over every store, `account` over every line,
@@ -50,6 +54,8 @@ pub fn run<N: Line<W>, R: Sink, W: Swift, C: Clock, D: Draws>(
     ensures status { IsStatus result }
     ensures usage { result ≡ 2 → is_possible (asked_for words.now) keys.now ≡ false }
     ensures refused { is_possible (asked_for words.now) keys.now ≡ false → (result ≡ 5 → ⊥) → result ≡ 2 }
+    ensures line { result ≡ 3 → uses_line (asked_for words.now) ≡ true }
+    ensures upkeep { (result ≡ 4) ⊎ (result ≡ 7) → (is_possible (asked_for words.now) keys.now ≡ true) × (is_upkeep (asked_for words.now) ≡ true) }
     ensures request { result ≡ 8 → (is_possible (asked_for words.now) keys.now ≡ true) × (is_signing (asked_for words.now) ≡ true) }
 
     // Words and keys that are refused touch nothing but the report; and each task leaves alone what it has no use for.
@@ -67,6 +73,10 @@ pub fn run<N: Line<W>, R: Sink, W: Swift, C: Clock, D: Draws>(
 
     ensures presigning { (id region : List ℕ) (expires : ℕ) → asked_for words.now ≡ to_presign id region expires
         → SignsOn (result == 3) (W.history store.old).called (N.model line.old) (N.model line.new) }
+
+    // A run that settles: 4 comes only where the store's count of faults rose, and 7 never over a consistent account. The state of the
+    // account stays at each number of calls, whatever the status; by 0 and 6 no completion is sealed on it any more.
+    ensures recovering { asked_for words.now ≡ to_recover → StoreRecovered result (W.history store.old) (W.history store.new) }
 
     // The task was done as its end says, over line, store, clock and draws. The report has the lines of that end, and nothing else;
     // where its count of faults rose, the first bytes of them. It is left alone where all connections were served.
@@ -129,6 +139,11 @@ pub fn run<N: Line<W>, R: Sink, W: Swift, C: Clock, D: Draws>(
         × (presigning : Presigning) × UrlFirst (Presigns secret id region moment expires) (N.model line.old).transcript.waiting presigning
         × UrlSends (W.history store.old).called (N.model line.old).transcript presigning (N.model line.new).transcript
         × (text : List ℕ) × Says (end_of_url presigning) result text × Reports text (R.model report.old) (R.model report.new) }
+
+    // The store was settled, and how that ended is what is reported.
+    ensures effect_recovered { asked_for words.now ≡ to_recover → are_keys (keys_of keys.now) ≡ true → (result ≡ 5 → ⊥)
+        → (settled : result_of (Unit {0}) unsettled) × Settles (W.history store.old) (W.history store.new) settled
+        × (text : List ℕ) × Says (recovered settled) result text × Reports text (R.model report.old) (R.model report.new) }
 {
     let ended = attempt(alloc, words, keys, line, store, clock, draws);
     tell(alloc, ended, report)
@@ -143,11 +158,14 @@ fn tell<R: Sink>(alloc: Global, ended: RunOutcome, report: &mut R) -> u8
 {
     match ended {
         RunOutcome::Told(told) => tell_told(alloc, &told, report),
+        RunOutcome::Inconsistent { container, name } => {
+            tell_inconsistent(alloc, &container, &name, report)
+        }
         RunOutcome::Plain(status) => tell_plain(status, report),
     }
 }
 
-/// Reports how a run ended that has no signature: nothing where all was done.
+/// Reports how a run ended that has nothing to tell: nothing where all was done.
 fn tell_plain<R: Sink>(status: Status, report: &mut R) -> u8
     ensures code { result ≡ code_of status }
     ensures reports { Reports (line_of status) (R.model report.old) (R.model report.new) }
@@ -171,6 +189,20 @@ fn tell_told<R: Sink>(alloc: Global, told: &Told, report: &mut R) -> u8
             Ok(()) => 0,
             Err(_) => 6,
         },
+        Err(_) => tell_plain(Status::Memory, report),
+    }
+}
+
+/// Reports of which object the store answered what it doesn't over a consistent account.
+fn tell_inconsistent<R: Sink>(alloc: Global, container: &Bytes, name: &Bytes, report: &mut R) -> u8
+    ensures says { (text : List ℕ) × Says (ends.Inconsistent container.now name.now) result text × Reports text (R.model report.old) (R.model report.new) }
+    ensures code { (result ≡ 7) ⊎ (result ≡ 5) }
+{
+    match inconsistent_line(alloc, container.as_slice(), name.as_slice()) {
+        Ok(line) => {
+            let _ = report.put(line.as_slice());
+            7
+        }
         Err(_) => tell_plain(Status::Memory, report),
     }
 }

@@ -4,6 +4,7 @@
 mod attempt;
 mod command;
 mod laws;
+mod recover;
 mod service;
 mod session;
 mod status;

@@ -24,10 +24,17 @@ pub fn service(region: Bytes, keys: Keys) -> Service
     ensures { result ≡ record { settings = settings_of region; keys = keys } }
 {
     Service {
-        settings: Settings {
-            region,
-            least_part: LEAST_PART,
-        },
+        settings: settings(region),
         keys,
+    }
+}
+
+/// The settings of a service of that region.
+pub fn settings(region: Bytes) -> Settings
+    ensures { result ≡ settings_of region }
+{
+    Settings {
+        region,
+        least_part: LEAST_PART,
     }
 }

@@ -1,7 +1,9 @@
 ghost use Rattle.std.specs.Prelude.{◌≡◌, IfOk};
-ghost use Rattle.gateway_cmd.specs.Report.{code_of, line_of, lines_of, signed_lines, url_line};
+ghost use Rattle.gateway_cmd.specs.Report.{code_of, inconsistent_line, line_of, lines_of, signed_lines, url_line};
+ghost use Rattle.gateway_cmd.specs.declared.status.Told.TheVariants.{Settled};
 
 use gate_base::{Bytes, Memory};
+use s3_names::encode_all;
 use sigv4::Signed;
 use std::alloc::Global;
 
@@ -14,6 +16,8 @@ pub enum Status {
     Usage,
     /// The line failed to give another connection, or, where a request was to be signed, at any call.
     Line,
+    /// The store failed, where it was to be settled.
+    Store,
     /// No request stood first on the line, or one that can't be signed.
     Request,
     /// Memory ran out.
@@ -29,6 +33,7 @@ impl Status {
             Status::Done => 0,
             Status::Usage => 2,
             Status::Line => 3,
+            Status::Store => 4,
             Status::Memory => 5,
             Status::Request => 8,
         }
@@ -44,6 +49,7 @@ impl Status {
             Status::Usage =>
                 b"usage: s3gate session|serve|recover|sweep|check|sign|trial|presign\n",
             Status::Line => b"s3gate: line\n",
+            Status::Store => b"s3gate: store\n",
             Status::Memory => b"s3gate: memory\n",
             Status::Request => b"s3gate: request\n",
         }
@@ -57,12 +63,16 @@ pub enum Told {
     Signature(Signed),
     /// It has this URL, from its path on.
     Url(Bytes),
+    /// The store is settled.
+    Settled,
 }
 
 /// How a run ended.
 #[derive(Debug, Drop)]
 pub enum RunOutcome {
     Told(Told),
+    /// The store answered what it doesn't answer over a consistent account, of this container and the object of this name in it.
+    Inconsistent { container: Bytes, name: Bytes },
     Plain(Status),
 }
 
@@ -73,6 +83,7 @@ pub fn told_lines(alloc: Global, told: &Told) -> Result<Bytes, Memory>
     match told {
         Told::Signature(signed) => signed_lines(alloc, signed),
         Told::Url(url) => url_line(alloc, url.as_slice()),
+        Told::Settled => settled_line(alloc),
     }
 }
 
@@ -95,6 +106,27 @@ fn url_line(alloc: Global, url: &[u8]) -> Result<Bytes, Memory>
 {
     let mut line = Bytes::from_slice(alloc, b"url ")?;
     line.append(url)?;
+    line.append(b"\n")?;
+    Ok(line)
+}
+
+/// The line that reports that the store is settled.
+fn settled_line(alloc: Global) -> Result<Bytes, Memory>
+    ensures { IfOk result (λ line. line ≡ lines_of Settled) }
+{
+    Bytes::from_slice(alloc, b"settled\n")
+}
+
+/// The line that names an object of which the store answered what it doesn't over a consistent account.
+pub fn inconsistent_line(alloc: Global, container: &[u8], name: &[u8]) -> Result<Bytes, Memory>
+    ensures { IfOk result (λ line. line ≡ inconsistent_line container.now name.now) }
+{
+    let container = encode_all(alloc, container)?;
+    let name = encode_all(alloc, name)?;
+    let mut line = Bytes::from_slice(alloc, b"s3gate: inconsistent ")?;
+    line.append(container.as_slice())?;
+    line.append(b" ")?;
+    line.append(name.as_slice())?;
     line.append(b"\n")?;
     Ok(line)
 }

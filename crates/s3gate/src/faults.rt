@@ -29,7 +29,7 @@ pub fn explain_refusal(rt: &HostRuntime, words: &[String], keys: &str) {
         Ok(_) => explain_keys(rt, keys),
         Err(WordsFault::Refused) => say(
             rt,
-            b"s3gate: built are session, serve, sign and presign\n",
+            b"s3gate: built are session, serve, recover, sign and presign\n",
         ),
         Err(WordsFault::Memory) => {}
     }

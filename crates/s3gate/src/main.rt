@@ -3,8 +3,8 @@
 //!
 //! `session` serves one connection on standard input and output, over a fresh store in memory. `serve` serves the clients
 //! that come to the place which `S3GATE_LISTEN` names, over the Swift store at `S3GATE_STORE`, in its account
-//! `S3GATE_ACCOUNT`, with the token `S3GATE_TOKEN`. `sign` signs the first request of standard input, and
-//! `presign` makes a URL of it; nothing is written back.
+//! `S3GATE_ACCOUNT`, with the token `S3GATE_TOKEN`. `recover` settles that store. `sign` signs the first request of standard
+//! input, and `presign` makes a URL of it; nothing is written back.
 #![tactic(auto)]
 
 mod faults;
@@ -85,10 +85,12 @@ fn start_by(rt: &HostRuntime, keys: &str) -> Result<u8, SetupFault> {
     Ok(status)
 }
 
-/// A run over the line that the first word asks for.
+/// A run over the line and the store that the first word asks for.
 fn start_with(rt: &HostRuntime, words: &[String], keys: &str) -> Result<u8, SetupFault> {
     if begins_with(words, b"serve") {
         serve(rt, words, keys)
+    } else if begins_with(words, b"recover") {
+        recover(rt, words, keys)
     } else {
         stay(rt, words, keys)
     }
@@ -111,6 +113,13 @@ fn serve_on(
 ) -> Result<u8, SetupFault> {
     let mut store = swift_store(rt)?;
     run_over(rt, words, keys, line, &mut store)
+}
+
+/// A run over the Swift store alone: it has a line, and reads nothing of it.
+fn recover(rt: &HostRuntime, words: &[String], keys: &str) -> Result<u8, SetupFault> {
+    let mut store = swift_store(rt)?;
+    let mut line = InputLine::new(own(rt)?);
+    run_over(rt, words, keys, &mut line, &mut store)
 }
 
 /// A run over the standard streams, and a store in memory.

@@ -1,7 +1,7 @@
 use Rattle.std.proofs.Common.{◌≡◌, ◌∙◌, ap, true, codes}
 use Rattle.std.proofs.lemmas.Result.{IfOk-weaker}
 use Rattle.clap.specs.Simple.{App, app_of, app_of_fields, new_app, on_top, with_subcommand}
-use Rattle.gateway_cli.specs.Description.{gate_app, presign_app, serve_app, session_app, sign_app, with_settings}
+use Rattle.gateway_cli.specs.Description.{gate_app, presign_app, recover_app, serve_app, session_app, sign_app, with_settings}
 use Rattle.gateway_cli.proofs.description.gate.Goals as goal
 
 abbrev settings : App
@@ -20,6 +20,8 @@ returns c =
     c.in_ok-two.ensures ∙ ap (λ (app : App). with_subcommand app serve_app.top) one in
     let three : app_of c.in_ok-three.three ≡ with_subcommand (with_subcommand (with_subcommand settings session_app.top) serve_app.top) sign_app.top =
     c.in_ok-three.ensures ∙ ap (λ (app : App). with_subcommand app sign_app.top) two in
-    IfOk-weaker c.with_presign.result _ _
-    (λ command adds. adds ∙ ap (λ (app : App). with_subcommand app presign_app.top) three)
-    c.with_presign.ensures
+    let four : app_of c.in_ok-four.four ≡ with_subcommand (with_subcommand (with_subcommand (with_subcommand settings session_app.top) serve_app.top) sign_app.top) presign_app.top =
+    c.in_ok-four.ensures ∙ ap (λ (app : App). with_subcommand app presign_app.top) three in
+    IfOk-weaker c.with_recover.result _ _
+    (λ command adds. adds ∙ ap (λ (app : App). with_subcommand app recover_app.top) four)
+    c.with_recover.ensures

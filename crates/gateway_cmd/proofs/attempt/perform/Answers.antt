@@ -1,18 +1,19 @@
-use Rattle.std.proofs.Common.{◌≡◌, true, false, None, Some, refl, sym, subst, ◌∙◌}
+use Rattle.std.proofs.Common.{None, Some, refl, sym, subst}
 use Rattle.gateway_cmd.specs.declared.status.RunOutcome.TheVariants.{Plain}
 use Rattle.gateway_cmd.specs.Report.{Fits}
+use Rattle.gateway_cmd.specs.Session.{out_of_memory, keys_refused, was_settled}
 use Rattle.gateway_cmd.specs.Tasks.{task_of}
 use Rattle.gateway_cmd.proofs.Sessions.{does_none, as_region, run_session, session_fits}
 use Rattle.gateway_cmd.proofs.attempt.perform.Goals as goal
 
 pub returns-in-Err-BadLine-clause-does : goal.returns-in-Err-BadLine-clause-does
-returns-in-Err-BadLine-clause-does g c = does_none _ c.args.keys.now _ _ _ _ _ refl refl (λ good other. (let clash : true ≡ false = sym good ∙ (rw c.in-Err-BadLine.field-0-is at c.in-Err-BadLine.ensures) in cc))
+returns-in-Err-BadLine-clause-does g c = does_none _ c.args.keys.now _ _ _ _ _ (keys_refused refl (rw c.in-Err-BadLine.field-0-is at c.in-Err-BadLine.ensures))
 
 pub returns-in-Err-Twice-clause-does : goal.returns-in-Err-Twice-clause-does
-returns-in-Err-Twice-clause-does g c = does_none _ c.args.keys.now _ _ _ _ _ refl refl (λ good other. (let clash : true ≡ false = sym good ∙ (rw c.in-Err-Twice.field-0-is at c.in-Err-Twice.ensures) in cc))
+returns-in-Err-Twice-clause-does g c = does_none _ c.args.keys.now _ _ _ _ _ (keys_refused refl (rw c.in-Err-Twice.field-0-is at c.in-Err-Twice.ensures))
 
 pub returns-clause-does : goal.returns-clause-does
-returns-clause-does g c = does_none _ c.args.keys.now _ _ _ _ _ refl refl (λ good other. other refl)
+returns-clause-does g c = does_none _ c.args.keys.now _ _ _ _ _ (out_of_memory refl)
 
 pub returns-in-Session-clause-does : goal.returns-in-Session-clause-does
 returns-in-Session-clause-does g c = rw c.in-Session.is
@@ -33,3 +34,9 @@ returns-in-Sign-clause-fits g c = subst (λ command. Fits (task_of (Some command
 
 pub returns-in-Ok-clause-fits : goal.returns-in-Ok-clause-fits
 returns-in-Ok-clause-fits g c = subst (λ command. Fits (task_of (Some command)) c.presign.result) (sym c.in-Presign.is) (c.presign.ensures.fits c.in-Presign.key c.in-Presign.region c.in-Presign.expires)
+
+pub returns-in-Recover-clause-fits : goal.returns-in-Recover-clause-fits
+returns-in-Recover-clause-fits g c = subst (λ command. Fits (task_of (Some command)) c.recover.result) (sym c.in-Recover.is) c.recover.ensures.fits
+
+pub returns-in-Recover-clause-does : goal.returns-in-Recover-clause-does
+returns-in-Recover-clause-does g c = rw c.in-Recover.is (was_settled c.recover.ensures.settles.0 c.recover.ensures.settles.1 c.recover.ensures.settles.2)

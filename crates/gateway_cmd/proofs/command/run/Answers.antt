@@ -1,14 +1,15 @@
-use Rattle.std.proofs.Common.{◌∙◌, refl, ap, subst, arith}
+use Rattle.std.proofs.Common.{◌∙◌, refl, sym, ap, subst, inl, inr, arith}
 use Rattle.gate_base.specs.Causes.{Rose}
 use Rattle.swift_calls.proofs.lemmas.Histories.{is_fault_free}
 use Rattle.recovery.specs.declared.state.Known.TheVariants.{Unsure}
 use Rattle.sign_cmd.specs.Signing.{SignsOn}
 use Rattle.gateway.specs.World.{world}
 use Rattle.gateway_cmd.specs.declared.status.Status.TheVariants.{Memory}
-use Rattle.gateway_cmd.specs.Report.{Says, Fits}
+use Rattle.gateway_cmd.specs.Report.{Says}
 use Rattle.gateway_cmd.specs.Tasks.{asked_for, is_serving}
-use Rattle.gateway_cmd.proofs.Exits.{Exits, says_exits, exits_status, exits_usage, exits_request, exits_done, exits_other, exits_told_of, told_of, request_admitted, serving_plain, exits_failed_run, serving_line}
+use Rattle.gateway_cmd.proofs.Exits.{Exits, says_exits, exits_status, exits_usage, asked_by, exits_asked, exits_done, exits_other, exits_told_of, told_of, admitted, serving_plain, exits_failed_run, serving_line}
 use Rattle.gateway_cmd.proofs.Sessions.{run_traced, run_stands, run_refines, unsure_met}
+use Rattle.gateway_cmd.proofs.Recoveries.{store_recovered, was_tried}
 use Rattle.gateway_cmd.proofs.Works.{works}
 use Rattle.gateway_cmd.proofs.command.run.Goals as goal
 
@@ -25,9 +26,25 @@ returns-clause-refused g c = λ not other.
 
 pub returns-clause-request : goal.returns-clause-request
 returns-clause-request g c = λ e.
-    let is = exits_request _ _ (says_exits _ _ _ c.tell.ensures.says.1) e in
+    let task = asked_for c.args.words.now in
+    let exits = says_exits _ _ _ c.tell.ensures.says.1 in
     let a = c.attempt-ended.ensures in
-    (request_admitted _ _ is a.admits, subst (Fits (asked_for c.args.words.now)) is a.fits)
+    (admitted _ _ c.tell.result exits (λ five. omega arith) (λ two. omega arith) a.admits, sym (ap (asked_by task) e) ∙ exits_asked task _ _ exits a.fits)
+
+pub returns-clause-line : goal.returns-clause-line
+returns-clause-line g c = λ e.
+    let task = asked_for c.args.words.now in
+    sym (ap (asked_by task) e) ∙ exits_asked task _ _ (says_exits _ _ _ c.tell.ensures.says.1) c.attempt-ended.ensures.fits
+
+pub returns-clause-upkeep : goal.returns-clause-upkeep
+returns-clause-upkeep g c = λ either.
+    let task = asked_for c.args.words.now in
+    let exits = says_exits _ _ _ c.tell.ensures.says.1 in
+    let a = c.attempt-ended.ensures in
+    elim either [
+      | inl four ↦ (admitted _ _ c.tell.result exits (λ five. omega arith) (λ two. omega arith) a.admits, sym (ap (asked_by task) four) ∙ exits_asked task _ _ exits a.fits)
+      | inr seven ↦ (admitted _ _ c.tell.result exits (λ five. omega arith) (λ two. omega arith) a.admits, sym (ap (asked_by task) seven) ∙ exits_asked task _ _ exits a.fits)
+    ]
 
 pub returns-clause-serving : goal.returns-clause-serving
 returns-clause-serving g c = λ serving is.
@@ -47,6 +64,11 @@ returns-clause-presigning g c = λ id region expires is.
     let run = rw is at c.attempt-ended.ensures.does in
     let exits = says_exits _ _ _ c.tell.ensures.says.1 in
     subst (λ failed. SignsOn failed (g.W.Swift.history c.args.store.now).called (g.N.Line.model c.args.line.now) (g.N.Line.model c.attempt-ended.new.line)) (exits_failed_run _ _ exits) run.line
+
+pub returns-clause-recovering : goal.returns-clause-recovering
+returns-clause-recovering g c = λ is.
+    let run = rw is at c.attempt-ended.ensures.does in
+    store_recovered {old = g.W.Swift.history c.args.store.now} {new = g.W.Swift.history c.attempt-ended.new.store} c.tell.result (says_exits _ _ _ c.tell.ensures.says.1) run
 
 pub returns-clause-report : goal.returns-clause-report
 returns-clause-report g c =
@@ -105,6 +127,13 @@ returns-clause-effect_presigned g c = λ id region secret expires asked good kno
     let run = rw asked at c.attempt-ended.ensures.does in
     let made = run.effect secret good known observable (exits_other _ Memory _ (says_exits _ _ _ says.1) other) in
     (made.0, made.1, made.2, made.3, made.4, says.0, subst (λ how. Says how c.tell.result says.0) made.5 says.1, says.2)
+
+pub returns-clause-effect_recovered : goal.returns-clause-effect_recovered
+returns-clause-effect_recovered g c = λ asked good other.
+    let says = c.tell.ensures.says in
+    let run = rw asked at c.attempt-ended.ensures.does in
+    let tried = was_tried run good (exits_other _ Memory _ (says_exits _ _ _ says.1) other) in
+    (tried.0, tried.1, says.0, subst (λ how. Says how c.tell.result says.0) tried.2 says.1, says.2)
 
 pub returns-clause-works : goal.returns-clause-works
 returns-clause-works g c = λ met.

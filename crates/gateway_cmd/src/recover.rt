@@ -1,0 +1,38 @@
+//! The command `recover`: a completion that is sealed on the store is taken to its end.
+ghost use Rattle.std.specs.Prelude.{◌≡◌, Result as result_of};
+ghost use Rattle.recovery.specs.declared.state.SettleFault.{SettleFault as why};
+ghost use Rattle.recovery.specs.Calls.{GoesOn};
+ghost use Rattle.recovery.specs.Settling.{Settles};
+ghost use Rattle.gateway_cmd.specs.Report.{Fits, recovered};
+ghost use Rattle.gateway_cmd.specs.Tasks.{to_recover};
+
+use crate::service::settings;
+use crate::status::{RunOutcome, Status, Told};
+use gate_base::Bytes;
+use recovery::{SettleFault, Unsure};
+use std::alloc::Global;
+use swift_calls::Swift;
+
+/// Settles the store.
+pub fn recover<W: Swift>(alloc: Global, store: &mut W) -> RunOutcome
+    ensures fits { Fits to_recover result }
+    ensures on { GoesOn (W.history store.old) (W.history store.new) }
+    ensures settles { (settled : result_of (Unit {0}) why) × Settles (W.history store.old) (W.history store.new) settled × (result ≡ recovered settled) }
+{
+    match settle(alloc, store) {
+        Ok(()) => RunOutcome::Told(Told::Settled),
+        Err(SettleFault::Failed) => RunOutcome::Plain(Status::Store),
+        Err(SettleFault::Memory) => RunOutcome::Plain(Status::Memory),
+        Err(SettleFault::Inconsistent { container, name }) => {
+            RunOutcome::Inconsistent { container, name }
+        }
+    }
+}
+
+/// Settles the store, by settings of no region: settling uses none.
+fn settle<W: Swift>(alloc: Global, store: &mut W) -> Result<(), SettleFault>
+    ensures { Settles (W.history store.old) (W.history store.new) result }
+{
+    let settings = settings(Bytes::new(alloc));
+    Unsure::open(alloc, store, &settings).settle()
+}
