@@ -55,7 +55,7 @@ ROOT = os.path.dirname(os.path.dirname(os.path.abspath(__file__)))
 KEYS = os.path.join(ROOT, "examples/keys.txt")
 USAGE = b"usage: s3gate session|serve|recover|sweep|check|sign|trial|presign\n"
 SETUP = b"s3gate: setup\n"
-BUILT = b"s3gate: built are session, serve, sign and presign\n"
+BUILT = b"s3gate: built are session, serve, recover, sign and presign\n"
 
 # The calls that the first operation of a run makes before its own, by which the store is found to be settled.
 SETTLING = 2
@@ -374,14 +374,18 @@ def words_and_environment_of_s3gate(check):
         check(f"the words {' '.join(words)!r}", (2, output, report), ran(S3GATE, words, **usual))
     check("no words", (2, USAGE, BUILT), ran(S3GATE, []))
     check("another word for a session", (2, b"", USAGE + BUILT), ran(S3GATE, ["session", "photos"]))
-    for words in (["--help"], ["-h"], ["--version"], ["help"], ["recover"]):
+    for words in (["--help"], ["-h"], ["--version"], ["help"], ["sweep"]):
         check(f"the word {words[0]!r}", (2, USAGE, BUILT), ran(S3GATE, words))
+    for words in (["recover", "photos"], ["recover", "--region", "us-east-1"], ["recover", "--help"]):
+        check(f"the words {' '.join(words)!r}", (2, USAGE, BUILT), ran(S3GATE, words, **usual))
     check("--help of a session", (2, b"", USAGE + BUILT), ran(S3GATE, ["session", "--help"]))
     check("a session of nothing, with no environment", (0, b"", b""), ran(S3GATE, ["session"]))
     for name in usual:
         given = {it: text for it, text in usual.items() if it != name}
         check(f"no {name}", (9, b"", SETUP + f"{name}: missing\n".encode()), ran(S3GATE, ["serve"], **given))
         check(f"an empty {name}", (9, b"", SETUP + f"{name}: empty\n".encode()), ran(S3GATE, ["serve"], **{**usual, name: ""}))
+        if name != "S3GATE_LISTEN":
+            check(f"recover without {name}", (9, b"", SETUP + f"{name}: missing\n".encode()), ran(S3GATE, ["recover"], **given))
     for name in ("S3GATE_STORE", "S3GATE_ACCOUNT", "S3GATE_TOKEN"):
         for title, text in (("with a space", "a b"), ("of 1025 bytes", "a" * 1025), ("with a letter past ASCII", "ä"), ("with DEL", "a\x7f")):
             check(f"{name} {title}", (9, b"", SETUP + f"{name}: not 1 to 1024 bytes of visible ASCII\n".encode()), ran(S3GATE, ["serve"], **{**usual, name: text}))
@@ -1294,6 +1298,40 @@ def the_store_is_settled_first(check):
         del store.account["+gateway"][1][b"sealed"]
         check("and without it the store is settled", (FOUND, SETTLING + 3), ask())
         check("which the next connection knows", (FOUND, 3), ask())
+
+
+@group()
+def recover_settles_a_store(check):
+    def recover(store, before="", **variables):
+        usual = {"S3GATE_STORE": store, "S3GATE_ACCOUNT": ACCOUNT, "S3GATE_TOKEN": TOKEN}
+        return ran(S3GATE, ["recover"], b"", before, **{**usual, "S3GATE_LOG": "off", **variables})
+
+    done, failed, odd = (0, b"settled\n", b""), (4, b"s3gate: store\n", b""), (7, b"s3gate: inconsistent %2Bgateway sealed\n", b"")
+    with Store(account={}) as store:
+        check("recover on an empty account", done, recover(store.text))
+        check("its calls", (SETTLING, ["+gateway"]), (len(store.calls), sorted(store.account)))
+        check("recover once more, with a key file", done, recover(store.text, S3GATE_KEYS=KEYS))
+        with tempfile.NamedTemporaryFile() as file:
+            file.write(b"no-key\n")
+            file.flush()
+            check("recover by a key text that is refused", (2, USAGE, b"S3GATE_KEYS: line 1 is no key\n"), recover(store.text, S3GATE_KEYS=file.name))
+    with Store(account=account()) as store:
+        for number in range(1, SETTLING + 1):
+            for title, act in (("its request", lose_request), ("its answer", lose_answer), ("all by 500", answer(500))):
+                store.begin({number: act})
+                check(f"recover where call {number} loses {title}", (failed, number), (recover(store.text), len(store.calls)))
+        store.begin({})
+        check("recover whose report can't be written", 6, recover(store.text, ">/dev/full")[0])
+        check("recover where standard input is closed", done, recover(store.text, "<&-"))
+        before = store.account["photos"]
+        for title, text in (("nothing", b""), ("no text", b"\xff"), ("{}", b"{}")):
+            store.account["+gateway"][1][b"sealed"] = stored(text, "application/json", tagged=False)
+            check(f"recover over a file that is sealed, and has {title}", odd, recover(store.text))
+        check("recover over it, and a report that can't be written", 7, recover(store.text, ">/dev/full")[0])
+        check("and the bucket stays", before, store.account["photos"])
+    check("recover without a store, and its log", (4, b"s3gate: store\n", ["refused"]), (lambda it: (it[0], it[1], of_store(it[2], NOWHERE)))(recover(NOWHERE, S3GATE_LOG="on")))
+    with Swiftd() as store:
+        check("recover over swiftd", done, recover(store.text))
 
 
 # Answers that no consistent account gives. Each list answers the calls of the request in turn; all of them are taken.

@@ -23,7 +23,9 @@ GIVEN = {
     "tell": r"calls|left|objects|bodies",
 }
 # Those that may stand more than once in a case, and those below which lines `>` stand.
-OFTEN = {"key", "connection", "tell"}
+OFTEN = {"key", "connection", "tell", "file", "manifest"}
+# The form of a line of a setup that puts a file on its account: container, name and bytes; or container, name, type and segments.
+FILE = re.compile(r"file \S+ \S+ .*|manifest \S+ \S+ \S+ .*")
 TAKES_BYTES = {"setup", "connection", "probe"}
 BYTES = re.compile(r">|>[.n]? .+|>\* \d+ .+|>x ([0-9a-fA-F]{2})+|>~ \d{8}T\d{6}Z \S+ [0-9a-f]{64}")
 VERB = re.compile(r"[a-z][a-z0-9-]*( .+)?")
@@ -52,6 +54,9 @@ class Case:
                 return "no line of bytes"
             return "a line of bytes below no line that takes it" if self.is_run() and self.words[-1] not in TAKES_BYTES else None
         word, _, text = line.partition(" ")
+        if self.first == "setup" and FILE.fullmatch(line):
+            self.words.append(word)
+            return None
         if self.first == "setup" or word not in GIVEN or not re.fullmatch(GIVEN[word], text):
             return "no line that a run is given"
         if word in self.words and word not in OFTEN:

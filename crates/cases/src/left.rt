@@ -9,7 +9,7 @@ use swift_calls::{Swift, SwiftFault, SwiftReply, SwiftRequest, is_fit};
 /// The most names that a call lists. No case leaves more containers, or more objects in one.
 const MOST_NAMES: u32 = 1000;
 
-const OTHER: Fault = Fault::Unread("a store that answers something else");
+pub(crate) const OTHER: Fault = Fault::Unread("a store that answers something else");
 
 /// Tells the containers of a store whose calls don't fail, each with its readers, and how many objects it has; and the objects, and
 /// the bytes of each.
@@ -119,7 +119,12 @@ fn tell_object(name: &Bytes, answer: &Result<SwiftReply, SwiftFault>, told: &mut
     told.say(" ");
     told.show(&head.content_type);
     told.say(" ");
-    tell(&head.meta, told);
+    told.show(&head.meta);
+    if head.manifest {
+        told.say(" segments ");
+        told.show(&head.etag);
+    }
+    told.say("\n");
 }
 
 fn ask_body<W: Swift>(
@@ -149,7 +154,10 @@ fn tell_body(answer: &Result<SwiftReply, SwiftFault>, told: &mut Told) {
     }
 }
 
-fn ask<W: Swift>(store: &mut W, request: SwiftRequest) -> Result<SwiftReply, SwiftFault> {
+pub(crate) fn ask<W: Swift>(
+    store: &mut W,
+    request: SwiftRequest,
+) -> Result<SwiftReply, SwiftFault> {
     ask_by(store, &request)
 }
 

@@ -8,6 +8,7 @@
 
 mod cases;
 mod ended;
+mod files;
 mod given;
 mod http_verbs;
 mod left;

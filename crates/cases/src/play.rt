@@ -1,5 +1,6 @@
 //! A case is run by each of its sizes, and once over the wire. What came is told once, and what is otherwise in another run
 //! beside it.
+use crate::files::put_files;
 use crate::given::{Given, behind, check_lines, number_of, numbers, says};
 use crate::left::tell_left;
 use crate::machine::follow_case;
@@ -31,7 +32,7 @@ pub(crate) fn play_setup(alloc: Global, setup: Given<'_>, told: &mut Told) {
     }
 }
 
-/// Runs the requests of a setup over a store. Where each is served, that is said; else what came is told.
+/// Runs the requests of a setup over a store, and puts its files. Where each is served, that is said; else what came is told.
 pub(crate) fn serve_on<W: Swift>(
     alloc: Global,
     setup: Given<'_>,
@@ -54,6 +55,7 @@ fn serve<W: Swift>(
 ) {
     let mut came = Told::new(alloc);
     let is_run = run_on(alloc, setup, store, line, &mut came);
+    put_files(alloc, setup, store, &mut came);
     tell_pieces(alloc, setup, line.pieces(), &mut came);
     let is_answered = line.pieces().is_empty() != setup.lines.contains('>');
     if is_run && is_answered && are_done(line.pieces()) {

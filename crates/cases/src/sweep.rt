@@ -1,6 +1,6 @@
 //! Any call may fail, and the client still sees one service: the one request of a case is made anew with each loss of each
 //! of its calls, and a new run, the probe, looks at the account after each number of calls.
-use crate::given::Given;
+use crate::given::{Given, says};
 use crate::machine::machine_after;
 use crate::pieces::{are_unavailable, tell_answers, tell_statuses};
 use crate::play::First;
@@ -104,7 +104,7 @@ fn sweep_from(
 }
 
 /// What the probe sees on the account of a store, behind a request that was answered by these pieces. It is what the machine
-/// answers.
+/// answers, where that is asked.
 fn see(
     alloc: Global,
     setting: &Setting,
@@ -141,6 +141,9 @@ fn follow_probe(
     seen: &[Piece],
     told: &mut Told,
 ) {
+    if says(setting.given, "nomodel") {
+        return;
+    }
     if let Some(mut machine) = machine_after(alloc, setting.first, told) {
         machine.follow(setting.given, pieces, told);
         machine.follow(setting.probe, seen, told);

@@ -1,0 +1,525 @@
+#!/usr/bin/env python3
+"""Writes cases of completions that are sealed, each with what settling leaves and what is answered over it.
+
+    bench/settle-cases.py > crates/cases/data/settling.txt
+
+The texts, the accounts after each call and the replies come from the small model below, which knows only what this profile says
+of settling and of the files that are kept (docs/PROFILE.md); the MD5s are those of Python's hashlib. Nothing is taken from the
+program. The requests are signed as bench/sign-cases.py signs them.
+"""
+import hashlib
+import importlib.util
+import json
+import os
+
+ID = f"{10:032x}"
+OTHER = "0123456789abcdef0123456789abcdef"
+STARTED = 1369353600
+SEALED = 1369353607
+CLOCK = "clock 1369353700"
+DATE = "Fri, 24 May 2013 00:01:40 GMT"
+PUT_AT = "Fri, 24 May 2013 00:00:07 GMT"
+OBJECT = "/photos/v.bin"
+UPLOAD = f"{OBJECT}?uploadId={ID}"
+PLAIN = "binary/octet-stream"
+NAMESPACE = "http://s3.amazonaws.com/doc/2006-03-01/"
+
+
+def load_signing():
+    path = os.path.join(os.path.dirname(os.path.abspath(__file__)), "sign-cases.py")
+    spec = importlib.util.spec_from_file_location("sign_cases", path)
+    module = importlib.util.module_from_spec(spec)
+    spec.loader.exec_module(module)
+    return module
+
+
+# ---- texts
+
+
+def md5(data):
+    return hashlib.md5(data).hexdigest()
+
+
+def compact(value):
+    return json.dumps(value, separators=(",", ":"), ensure_ascii=False)
+
+
+def shown(text):
+    """Bytes as the program prints them."""
+    return '"' + "".join(chr(b) if 32 <= b < 127 and b not in b'"\\' else f"\\{b:02x}" for b in text.encode()) + '"'
+
+
+def tag(kind, etag, moment, number):
+    return f"{kind};s3={etag}.{moment}.{number}"
+
+
+def pack(meta):
+    """The pieces of some short metadata."""
+    text = "".join(f"{len(name)}.{len(value)}.{name}{value}" for name, value in meta)
+    return [f"[{text}]"] if text else []
+
+
+class Completion:
+    """A completion of an upload whose parts these are, by number."""
+
+    def __init__(self, parts, kind=PLAIN, meta=()):
+        self.parts, self.kind, self.meta = parts, kind, [list(pair) for pair in meta]
+        digests = b"".join(hashlib.md5(body.encode()).digest() for _, body in parts)
+        self.etag = f"{md5(digests)}-{len(parts)}"
+        self.body = "".join(body for _, body in parts)
+
+    def sealed(self, **other):
+        """The text of what is sealed; with other values of some fields."""
+        list_ = [[number, md5(body.encode()), len(body)] for number, body in self.parts]
+        fields = {"at": SEALED, "bucket": "photos", "etag": self.etag, "id": ID, "key": "v.bin", "list": list_, "meta": self.meta}
+        return compact({**fields, "started": STARTED, "type": self.kind, "v": 1, **other})
+
+    def open(self):
+        return compact({"at": STARTED, "key": "v.bin", "meta": self.meta, "state": "open", "type": self.kind, "v": 1})
+
+    def done(self):
+        list_ = [[number, md5(body.encode())] for number, body in self.parts]
+        fields = {"at": STARTED, "done": SEALED, "etag": self.etag, "key": "v.bin", "list": list_}
+        return compact({**fields, "state": "done", "v": 2})
+
+    def tag(self):
+        return tag(self.kind, self.etag, SEALED, ID)
+
+    def filled(self):
+        return [(number, body) for number, body in self.parts if body]
+
+    def segments(self):
+        """The segments of the object, as a PUT of it lists them."""
+        entry = lambda number, body: {"etag": md5(body.encode()), "path": f"/photos+segments/{ID}/{number:05}", "size_bytes": len(body)}
+        return compact([entry(number, body) for number, body in self.filled()])
+
+    def store_etag(self):
+        """The store's own ETag of the object that lists the segments: of their ETags in a row."""
+        return md5("".join(md5(body.encode()) for _, body in self.filled()).encode())
+
+
+# ---- accounts
+
+
+class Account:
+    """What stands on the store behind a setup: of each container the files, each its type, its metadata, the ETag of its segments
+    where it lists any, and its bytes."""
+
+    def __init__(self, completion, sealed, parts=None):
+        self.completion = completion
+        uploaded = {f"{ID}/{number:05}": segment(body) for number, body in (completion.parts if parts is None else parts)}
+        self.containers = {
+            "+gateway": {"sealed": ("application/json", [], None, sealed)},
+            "photos": {},
+            "photos+segments": uploaded,
+            "photos+uploads": {ID: ("application/json", [], None, completion.open())},
+        }
+
+    def after(self, calls):
+        """The account after so many calls that settle it: the container, what is sealed, the object, the record, the deletion."""
+        other = Account(self.completion, "")
+        other.containers = {name: dict(files) for name, files in self.containers.items()}
+        done = self.completion
+        if calls >= 3:
+            lists = done.store_etag() if done.filled() else None
+            other.containers["photos"]["v.bin"] = (done.tag(), pack(done.meta), lists, done.body)
+        if calls >= 4:
+            other.containers["photos+uploads"][ID] = ("application/json", [], None, done.done())
+        if calls >= 5:
+            del other.containers["+gateway"]["sealed"]
+        return other
+
+    def without(self, container, name):
+        other = self.after(0)
+        del other.containers[container][name]
+        return other
+
+    def having(self, container, name, file):
+        other = self.after(0)
+        other.containers[container][name] = file
+        return other
+
+    def left(self):
+        lines = ["left [" + ", ".join(shown(name) for name in sorted(self.containers)) + "]"]
+        for container, files in sorted(self.containers.items()):
+            created = f"Some({STARTED})" if "+" not in container else "None"
+            lines += [f"Readers {{ readers: Nobody, created: {created} }}", f"objects {len(files)}"]
+            for name, (kind, meta, lists, body) in sorted(files.items()):
+                pieces = ", ".join(shown(piece) for piece in meta)
+                segments = f" segments {shown(lists)}" if lists else ""
+                lines += [f"object {shown(name)} {shown(kind)} [{pieces}]{segments}", f"body {shown(body)}"]
+        return lines
+
+
+def segment(body):
+    return (tag("application/octet-stream", md5(body.encode()), STARTED, ID), [], None, body)
+
+
+# ---- requests and replies
+
+
+def request(method, target, *headers, body=None):
+    lines = [f"> {method} {target} HTTP/1.1", ">~", *(f"> {header}" for header in headers)]
+    if body is not None:
+        lines.append(f"> Content-Length: {len(body)}")
+    return lines + [">"] + ([f">. {body}"] if body else [])
+
+
+def reply(place, turn, status, *headers, body=None, size=None):
+    """A piece as it is written, for the request of that number from 0 on. A body of XML begins with its declaration."""
+    lines = [f"piece {place}", f"< HTTP/1.1 {status}", f"< Date: {DATE}", f"< x-amz-request-id: {2 * turn + 1:032x}"]
+    lines += [f"< {header}" for header in headers]
+    is_xml = body is not None and body.startswith("<")
+    if is_xml:
+        lines.append("< Content-Type: application/xml")
+    if size is None and body is not None:
+        size = len(body.encode()) + (39 if is_xml else 0)
+    if size is not None:
+        lines.append(f"< Content-Length: {size}")
+    lines += ["<"] + (['<n <?xml version="1.0" encoding="UTF-8"?>'] if is_xml else [])
+    return lines + ([f"<. {body}"] if body else [])
+
+
+def head_of(done):
+    return [
+        f"Last-Modified: {PUT_AT}", f'ETag: "{done.etag}"', "Accept-Ranges: bytes", f"Content-Type: {done.kind}",
+        *(f"x-amz-meta-{name[1:]}: {value}" for name, value in done.meta),
+    ]
+
+
+def refusal(code, message, path, turn):
+    return f"<Error><Code>{code}</Code><Message>{message}</Message><Resource>{path}</Resource><RequestId>{2 * turn + 1:032x}</RequestId></Error>"
+
+
+def listing(done, size, version):
+    owner = "<Owner><ID>s3gate</ID><DisplayName>s3gate</DisplayName></Owner>" if version == 1 else ""
+    item = (
+        f"<Contents><Key>v.bin</Key><LastModified>2013-05-24T00:00:07.000Z</LastModified><ETag>&quot;{done.etag}&quot;</ETag>"
+        f"<Size>{size}</Size>{owner}<StorageClass>STANDARD</StorageClass></Contents>"
+    )
+    count = "<Marker></Marker>" if version == 1 else "<KeyCount>1</KeyCount>"
+    return (
+        f'<ListBucketResult xmlns="{NAMESPACE}"><Name>photos</Name><Prefix></Prefix>{count}<MaxKeys>1000</MaxKeys>'
+        f"<IsTruncated>false</IsTruncated>{item}</ListBucketResult>"
+    )
+
+
+NO_UPLOADS = (
+    f'<ListMultipartUploadsResult xmlns="{NAMESPACE}"><Bucket>photos</Bucket><Prefix></Prefix><KeyMarker></KeyMarker>'
+    "<UploadIdMarker></UploadIdMarker><MaxUploads>1000</MaxUploads><IsTruncated>false</IsTruncated></ListMultipartUploadsResult>"
+)
+
+TELL = ["tell calls", "tell left", "tell objects", "tell bodies"]
+
+
+class Writer:
+    """The lines of the file."""
+
+    def __init__(self):
+        self.lines = []
+
+    def note(self, *lines):
+        self.lines += [f"# {line}" for line in lines]
+
+    def end(self, expected):
+        self.lines += [f"= {line}".rstrip() for line in expected] + [""]
+
+    def setup(self, done, *files, second=None):
+        """The bucket, an upload that the fifth request begins, its parts, and files. The second request may be another one."""
+        headers = [f"Content-Type: {done.kind}"] if done.kind != PLAIN else []
+        headers += [f"x-amz-meta-{name[1:]}: {value}" for name, value in done.meta]
+        self.lines += ["setup", *request("PUT", "/photos", body="")]
+        self.lines += (second or request("HEAD", "/photos")) + request("HEAD", "/photos") * 2
+        self.lines += request("POST", f"{OBJECT}?uploads", *headers)
+        for number, body in done.parts:
+            self.lines += request("PUT", f"{OBJECT}?partNumber={number}&uploadId={ID}", body=body)
+        self.lines += files
+        self.end(["served"])
+
+    def case(self, name, given, requests, expected):
+        self.lines += [f"case {name}", CLOCK, *given] + (["connection"] if requests else []) + requests
+        self.end(expected)
+
+    def recover(self, name, account, calls, status=0, report="settled", given=()):
+        given = ["words recover", "pieces 1024", *given, *TELL]
+        self.case(name, given, [], [f"status {status}", "report", f"<n {report}", f"calls {calls}", *account.left()])
+
+
+STORE = "s3gate: store"
+BAD = "s3gate: inconsistent %2Bgateway sealed"
+
+
+def put_file(done):
+    return f"manifest photos v.bin {done.tag()} {done.segments()}"
+
+
+def keep_file(done):
+    return f"file photos+uploads {ID} {done.done()}"
+
+
+def seal_file(text):
+    return f"file +gateway sealed {text}"
+
+
+def read_whole(calls, turn, done):
+    return reply(f"1 {calls}", turn, "200 OK", *head_of(done), body=done.body)
+
+
+def each_beginning(to, done, sealed):
+    """What the first operation finds: the record open, the object there, object and record there."""
+    beginnings = [
+        ("a completion is sealed", []),
+        ("its object is there", [put_file(done)]),
+        ("its object and its record are there", [put_file(done), keep_file(done)]),
+    ]
+    account = Account(done, sealed)
+    for name, files in reversed(beginnings):
+        to.setup(done, *files, seal_file(sealed))
+        given = [*TELL, "nomodel"]
+        requests = request("GET", OBJECT) + request("GET", OBJECT)
+        expected = ["status 0", "calls 11", *read_whole(8, 0, done), *read_whole(11, 1, done), *account.after(5).left()]
+        to.case(f"{name}, and is read", given, requests, expected)
+        to.recover(f"{name}, and recovered", account.after(5), 5)
+
+
+def each_operation(to, done, account):
+    """Requests over the object that settling puts."""
+    length = len(done.body)
+    at, turn, requests, expected = [5], [0], [], []
+
+    def ask(calls, asked, status, *headers, **rest):
+        at[0] += calls
+        requests.extend(asked)
+        expected.extend(reply(f"1 {at[0]}", turn[0], status, *headers, **rest))
+        turn[0] += 1
+
+    def refuse(calls, asked, status, code, message, path=OBJECT):
+        ask(calls, asked, status, body=refusal(code, message, path, turn[0]))
+
+    def part(given, first, last):
+        headers = [*head_of(done), f"Content-Range: bytes {first}-{last}/{length}"]
+        ask(3, request("GET", OBJECT, f"Range: bytes={given}"), "206 Partial Content", *headers, body=done.body[first : last + 1])
+
+    missing = ("404 Not Found", "NoSuchUpload", "The upload does not exist.")
+    ask(2, request("HEAD", OBJECT), "200 OK", *head_of(done), size=length)
+    part("0-9", 0, 9)
+    part("3-6", 3, 6)
+    part("-3", 7, 9)
+    part("5-", 5, 9)
+    refuse(2, request("GET", OBJECT, "Range: bytes=10-"), "416 Range Not Satisfiable", "InvalidRange", "The range is not satisfiable.")
+    ask(3, request("GET", OBJECT, "Range: bytes=0-1,3-4"), "200 OK", *head_of(done), body=done.body)
+    ask(2, request("GET", "/photos?list-type=2"), "200 OK", body=listing(done, length, 2))
+    ask(2, request("GET", "/photos"), "200 OK", body=listing(done, length, 1))
+    ask(3, request("GET", "/photos?uploads"), "200 OK", body=NO_UPLOADS)
+    refuse(2, request("GET", UPLOAD), *missing)
+    refuse(2, request("PUT", f"{OBJECT}?partNumber=1&uploadId={ID}", body="again"), *missing)
+    refuse(2, request("DELETE", UPLOAD), *missing)
+    ask(2, request("GET", OBJECT, f'If-None-Match: "{done.etag}"'), "304 Not Modified", f'ETag: "{done.etag}"', f"Last-Modified: {PUT_AT}")
+    expected[:0] = ["status 0", f"calls {at[0]}"]
+    to.case("the object of a sealed completion", [*TELL, "nomodel"], requests, [*expected, *account.after(5).left()])
+
+
+def other_firsts(to, done, account):
+    """Other first operations."""
+    final = account.after(5)
+    given = ["brief", *TELL, "nomodel"]
+    requests = request("DELETE", OBJECT) + request("GET", OBJECT) + request("DELETE", "/photos")
+    expected = ["status 0", "calls 10", "piece 1 7 204", "piece 1 9 404 NoSuchKey", "piece 1 10 204"]
+    gone = final.without("photos", "v.bin")
+    del gone.containers["photos"]
+    to.case("the object is deleted, and its bucket", given, requests, expected + gone.left())
+
+    plain = (tag(PLAIN, md5(b"other"), 1369353700, "-"), [], None, "other")
+    requests = request("PUT", OBJECT, body="other") + request("GET", OBJECT) + request("GET", UPLOAD)
+    expected = ["status 0", "calls 12", f'piece 1 7 200 "{md5(b"other")}"', f'piece 1 10 200 "{md5(b"other")}"', "piece 1 12 404 NoSuchUpload"]
+    put = final.having("photos", "v.bin", plain)
+    to.case("the object is put anew", ["etags 1 2", *given], requests, expected + put.left())
+
+    requests = request("HEAD", "/music") + request("GET", "/")
+    to.case("an operation on no bucket, and on all", given, requests, ["status 0", "calls 8", "piece 1 6 404", "piece 1 8 200"] + final.left())
+
+    to.note("A run settles once: the next connection finds the store as the one before left it.")
+    requests = request("GET", OBJECT) + ["connection"] + request("GET", OBJECT)
+    to.case("two connections", given, requests, ["status 0", "calls 11", "piece 1 8 200", "piece 2 11 200"] + final.left())
+    expected = ["status 0", "calls 12", "piece 1 4 503 ServiceUnavailable", "piece 2 12 200"]
+    to.case("two connections, after 4", ["after 4", *given], requests, expected + final.left())
+
+    to.note("What is refused before it is an operation settles nothing: no call is made.")
+    requests = request("GET", "/photos?versions") + ["> GET /photos/v.bin?acl HTTP/1.1", "> Host: localhost", ">"]
+    to.case(
+        "no operation", given, requests,
+        ["status 0", "calls 0", "piece 1 0 501 NotImplemented", "piece 1 0 403 AccessDenied"] + account.left(),
+    )
+
+
+def each_loss(to, done, account):
+    """Each call of settling is lost."""
+    to.note(
+        "Each of the five calls is lost, its request, its answer, or the store from it on. What is left then is an account from which",
+        "a new run begins above, or the settled one.",
+    )
+    for call in range(1, 6):
+        for word, effect in [("before", call - 1), ("after", call), ("stop", call - 1)]:
+            to.recover(f"recover, {word} {call}", account.after(effect), call, 4, STORE, [f"{word} {call}"])
+    to.note(
+        "The first reply is ServiceUnavailable, and the next operation of the run settles the store: by five calls as long as the",
+        "completion is sealed, else by two.",
+    )
+    for call in range(1, 6):
+        for word, again in [("before", 5), ("after", 5 if call < 5 else 2)]:
+            requests = request("GET", OBJECT) * 2 + request("GET", "/photos?uploads")
+            ends = call + again + 3
+            expected = ["status 0", f"calls {ends + 3}", f"piece 1 {call} 503 ServiceUnavailable", f'piece 1 {ends} 200 "{done.etag}"']
+            expected += [f"piece 1 {ends + 3} 200"] + account.after(5).left()
+            to.case(f"a request, {word} {call}", [f"{word} {call}", "brief", "etags 2", *TELL, "nomodel"], requests, expected)
+    to.note("Two calls are lost, one in each operation.")
+    requests = request("GET", OBJECT) * 3
+    expected = ["status 0", "calls 16", "piece 1 3 503 ServiceUnavailable", "piece 1 8 503 ServiceUnavailable", f'piece 1 16 200 "{done.etag}"']
+    given = ["after 3", "before 8", "brief", "etags 3", *TELL, "nomodel"]
+    to.case("a request, after 3, and the next, before 8", given, requests, expected + account.after(5).left())
+    requests = request("GET", OBJECT) * 2
+    for call, left in [(3, 2), (5, 4)]:
+        expected = ["status 0", f"calls {call + 1}", f"piece 1 {call} 503 ServiceUnavailable", f"piece 1 {call + 1} 503 ServiceUnavailable"]
+        to.case(f"requests, stop {call}", [f"stop {call}", "brief", *TELL, "nomodel"], requests, expected + account.after(left).left())
+
+
+def sweeps(to, done):
+    """Requests with each loss of each call."""
+    to.note(
+        "Each loss of each call of a request that settles, and a new run over the account after each number of calls: it reads the",
+        "object, asks for its head, lists objects and uploads, asks for the parts, aborts, deletes, and reads again.",
+    )
+    probe = [
+        *request("GET", OBJECT), *request("HEAD", OBJECT), *request("GET", "/photos?list-type=2"), *request("GET", "/photos?uploads"),
+        *request("GET", UPLOAD), *request("DELETE", UPLOAD), *request("DELETE", OBJECT), *request("GET", OBJECT),
+    ]
+    seen = "200 200 200 200 404 404 204 404"
+    gone = "404 404 200 200 404 404 204 404"
+    for name, asked, answer, after in [
+        ("HEAD", request("HEAD", OBJECT), "piece 1 7 200", seen),
+        ("an abort", request("DELETE", UPLOAD), "piece 1 7 404 NoSuchUpload", seen),
+        ("PUT", request("PUT", OBJECT, body="other"), "piece 1 7 200", seen),
+        ("DELETE", request("DELETE", OBJECT), "piece 1 7 204", gone),
+    ]:
+        given = ["brief", "nomodel", "sweep", "probe", *probe]
+        to.case(f"{name} over what is sealed", given, [], [])
+        del to.lines[-1]
+        at = to.lines.index("sweep", len(to.lines) - len(probe) - 2)
+        to.lines[at:at] = ["connection", *asked]
+        to.end(["status 0", answer, f"before {seen}", f"after {after}"])
+
+
+def empty_parts(to):
+    """Parts without a byte."""
+    done = Completion([(1, "hello"), (2, "")])
+    assert done.store_etag() == "69a329523ce1ec88bf63061863d9cb14"
+    account = Account(done, done.sealed())
+    to.note("An empty part is no segment of the object, and counts in its ETag.")
+    to.setup(done, seal_file(done.sealed()))
+    to.case(
+        "a part that is filled and an empty one", [*TELL, "nomodel"], request("GET", OBJECT),
+        ["status 0", "calls 8", *read_whole(8, 0, done), *account.after(5).left()],
+    )
+    to.recover("a part that is filled and an empty one, recovered", account.after(5), 5)
+
+    done = Completion([(7, "")], "text/plain", [("-a", "b"), ("-colour", "red")])
+    assert done.etag == "59adb24ef3cdbe0297f05b395827453f-1"
+    account = Account(done, done.sealed())
+    to.note("Where all parts are empty the object is a plain one without a byte. The upload's type and metadata are the object's.")
+    to.setup(done, seal_file(done.sealed()))
+    requests = request("GET", OBJECT) + request("HEAD", OBJECT) + request("GET", OBJECT, "Range: bytes=0-9") + request("GET", "/photos")
+    expected = ["status 0", "calls 14", *reply("1 8", 0, "200 OK", *head_of(done), body="")]
+    expected += reply("1 10", 1, "200 OK", *head_of(done), size=0)
+    expected += reply("1 12", 2, "416 Range Not Satisfiable", body=refusal("InvalidRange", "The range is not satisfiable.", OBJECT, 2))
+    expected += reply("1 14", 3, "200 OK", body=listing(done, 0, 1))
+    to.case("an empty part alone", [*TELL, "nomodel"], requests, expected + account.after(5).left())
+    to.recover("an empty part alone, recovered", account.after(5), 5)
+    for call in (3, 4, 5):
+        for word, effect in [("before", call - 1), ("after", call)]:
+            to.recover(f"an empty part alone, recover, {word} {call}", account.after(effect), call, 4, STORE, [f"{word} {call}"])
+    sweeps(to, done)
+
+    done = Completion([(1, ""), (2, "hello"), (3, ""), (1000, "world")], "text/plain", [("-a", "b")])
+    account = Account(done, done.sealed())
+    to.note("Empty parts before and between others, metadata beside segments, and the greatest number of a part.")
+    to.setup(done, seal_file(done.sealed()))
+    to.case(
+        "empty parts between others", [*TELL, "nomodel"], request("GET", OBJECT),
+        ["status 0", "calls 8", *read_whole(8, 0, done), *account.after(5).left()],
+    )
+
+
+def overwritten(to):
+    """The key has an object already."""
+    done = Completion([(1, "hello")])
+    to.note("The object takes the place of one that is there; parts that the completion doesn't list stay beside it.")
+    extra = Completion([(1, "hello"), (2, "unlisted")])
+    account = Account(done, done.sealed(), extra.parts)
+    to.setup(extra, seal_file(done.sealed()), second=request("PUT", OBJECT, "x-amz-meta-old: 1", body="old"))
+    to.case(
+        "an object is there", [*TELL, "nomodel"], request("GET", OBJECT),
+        ["status 0", "calls 8", *read_whole(8, 0, done), *account.after(5).left()],
+    )
+
+
+def what_is_none(to, done):
+    """What is sealed can't be finished."""
+    good = json.loads(done.sealed())
+    other_etag = [[1, OTHER, 5], good["list"][1]]
+    other_size = [[1, good["list"][0][1], 6], good["list"][1]]
+    no_part = [good["list"][0], [2, good["list"][1][1], 5]]
+    spaced = json.dumps(good)
+    for name, calls, sealed in [
+        ("of another version", 2, done.sealed(v=2)),
+        ("with a version that is a text", 2, done.sealed(v="1")),
+        ("in another spelling", 2, spaced),
+        ("cut short", 2, done.sealed()[:-1]),
+        ("without a part", 2, done.sealed(list=[])),
+        ("with a part that isn't there", 3, done.sealed(list=no_part)),
+        ("with another ETag of a part", 3, done.sealed(list=other_etag)),
+        ("with another size of a part", 3, done.sealed(list=other_size)),
+        ("of another upload", 3, done.sealed(id=OTHER)),
+        ("of a bucket that isn't there", 3, done.sealed(bucket="music")),
+    ]:
+        account = Account(done, sealed)
+        to.setup(done, seal_file(sealed))
+        to.recover(f"what is sealed {name}", account, calls, 7, BAD)
+        requests = request("GET", OBJECT) + request("GET", "/")
+        to.case(
+            f"requests over what is sealed {name}", ["brief", *TELL, "nomodel"], requests,
+            ["status 0", f"calls {2 * calls}", f"piece 1 {calls} 500 InconsistentStore", f"piece 1 {2 * calls} 500 InconsistentStore"]
+            + account.left(),
+        )
+
+
+def main():
+    to = Writer()
+    to.note(
+        "Completions that are sealed, by bench/settle-cases.py: a small model of its own, from what this profile says of settling, of",
+        "the calls that it makes and of the files that are kept (docs/PROFILE.md). The calls are PUT of the gateway's container, GET of",
+        "what is sealed, PUT of the object, PUT of the record with its moment, and DELETE of what is sealed. The machine isn't asked",
+        "where a file stands that no request made.",
+    )
+    to.lines.append("")
+    done = Completion([(1, "hello"), (3, "world")])
+    sealed = done.sealed()
+    account = Account(done, sealed)
+    each_beginning(to, done, sealed)
+    each_operation(to, done, account)
+    other_firsts(to, done, account)
+    each_loss(to, done, account)
+    sweeps(to, done)
+    empty_parts(to)
+    overwritten(to)
+    to.note(
+        "What is sealed is no completion, or one that can't be finished: accounts that no run of the gateway leaves. Nothing is",
+        "written, and each operation finds it again: settling ends at the answer that no consistent account gives, to GET of what is",
+        "sealed or to PUT of the object, whose segments have to be there as they are listed (Object Storage API v1, \"Static large",
+        "objects\").",
+    )
+    what_is_none(to, done)
+    print("\n".join(load_signing().signed(to.lines)).rstrip("\n"))
+
+
+if __name__ == "__main__":
+    main()
