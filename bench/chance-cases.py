@@ -9,22 +9,14 @@ taken from the program. The requests are signed as bench/sign-cases.py signs the
 those that read, which nobody signs.
 """
 import hashlib
-import importlib.util
-import os
 import random
+
+from case_signing import load_signing
 
 MOMENT = 1369353600
 KEYS = [("k", "k"), ("a b/ü%", "a%20b/%C3%BC%25"), ("k/", "k/")]
 CASES = 4
 REQUESTS = 100
-
-
-def load_signing():
-    path = os.path.join(os.path.dirname(os.path.abspath(__file__)), "sign-cases.py")
-    spec = importlib.util.spec_from_file_location("sign_cases", path)
-    module = importlib.util.module_from_spec(spec)
-    spec.loader.exec_module(module)
-    return module
 
 
 # What is asked of a bucket, and of an object: method, and what stands behind the place.

@@ -8,24 +8,16 @@ which knows only what this profile says of listings (docs/PROFILE.md): keys roll
 the greatest number. Nothing is taken from the program. The requests are signed as bench/sign-cases.py signs them.
 """
 import hashlib
-import importlib.util
-import os
 import random
 from urllib.parse import quote
+
+from case_signing import load_signing
 
 BUCKETS = 5
 WALKS = 20
 OWNER = "<Owner><ID>s3gate</ID><DisplayName>s3gate</DisplayName></Owner>"
 # Pieces of keys: delimiters, texts that begin with each other, UTF-8 of one to four bytes, and what XML and URLs escape.
 PIECES = ["a", "b", "ab", "/", "/", "//", "ü", "€", "𝄞", "\uffff", " ", "+", "&", "<", '"', "-", "~", "\n"]
-
-
-def load_signing():
-    path = os.path.join(os.path.dirname(os.path.abspath(__file__)), "sign-cases.py")
-    spec = importlib.util.spec_from_file_location("sign_cases", path)
-    module = importlib.util.module_from_spec(spec)
-    spec.loader.exec_module(module)
-    return module
 
 
 def escaped(text):

@@ -8,9 +8,9 @@ of settling and of the files that are kept (docs/PROFILE.md); the MD5s are those
 program. The requests are signed as bench/sign-cases.py signs them.
 """
 import hashlib
-import importlib.util
 import json
-import os
+
+from case_signing import load_signing
 
 ID = f"{10:032x}"
 OTHER = "0123456789abcdef0123456789abcdef"
@@ -23,14 +23,6 @@ OBJECT = "/photos/v.bin"
 UPLOAD = f"{OBJECT}?uploadId={ID}"
 PLAIN = "binary/octet-stream"
 NAMESPACE = "http://s3.amazonaws.com/doc/2006-03-01/"
-
-
-def load_signing():
-    path = os.path.join(os.path.dirname(os.path.abspath(__file__)), "sign-cases.py")
-    spec = importlib.util.spec_from_file_location("sign_cases", path)
-    module = importlib.util.module_from_spec(spec)
-    spec.loader.exec_module(module)
-    return module
 
 
 # ---- texts

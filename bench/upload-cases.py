@@ -9,9 +9,9 @@ how many calls of the store each makes. Nothing is taken from the program. The r
 them, each for its own second.
 """
 import hashlib
-import importlib.util
-import os
 import random
+
+from case_signing import load_signing
 
 MOMENT = 1369353600
 KEYS = [("k", "k"), ("k/1", "k/1"), ("a b/ü%", "a%20b/%C3%BC%25"), ("x&y", "x%26y")]
@@ -22,14 +22,6 @@ REQUESTS = 100
 PERSON = "<ID>s3gate</ID><DisplayName>s3gate</DisplayName>"
 PEOPLE = f"<Initiator>{PERSON}</Initiator><Owner>{PERSON}</Owner><StorageClass>STANDARD</StorageClass>"
 ACTS = ["BUCKET"] * 6 + ["BEGIN"] * 16 + ["PART"] * 30 + ["PARTS"] * 18 + ["UPLOADS"] * 20 + ["ABORT"] * 6 + ["DROP"]
-
-
-def load_signing():
-    path = os.path.join(os.path.dirname(os.path.abspath(__file__)), "sign-cases.py")
-    spec = importlib.util.spec_from_file_location("sign_cases", path)
-    module = importlib.util.module_from_spec(spec)
-    spec.loader.exec_module(module)
-    return module
 
 
 def escaped(text):
