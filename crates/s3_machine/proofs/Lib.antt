@@ -1,3 +1,4 @@
 pub mod Budget
+pub mod Digests
 pub mod Rereads
 pub mod lemmas

@@ -7,7 +7,7 @@ use Rattle.gate_base.specs.Fields.{is_field, is_printable}
 use Rattle.gate_base.specs.declared.page.Pair.{Pair}
 use Rattle.s3_names.specs.Bucket.{is_lower_or_digit}
 use Rattle.s3_names.specs.Key.{is_key}
-use Rattle.s3_machine.specs.declared.limits.TheConstants.{MOST_BODY_BYTES, MOST_CONTENT_TYPE_BYTES, MOST_ENTRIES, MOST_ITEMS, MOST_META_BYTES, RANGE_LIMIT}
+use Rattle.s3_machine.specs.declared.limits.TheConstants.{MOST_BODY_BYTES, MOST_CONTENT_TYPE_BYTES, MOST_ENTRIES, MOST_ITEMS, MOST_KEYS, MOST_META_BYTES, RANGE_LIMIT}
 
 -- the most bytes of the body of a request
 abbrev pub most_body_bytes : ℕ
@@ -56,6 +56,10 @@ is_proper_meta meta = nat_le (length meta) MOST_ENTRIES && list_all is_proper_pa
 -- the most items of a listing
 abbrev pub most_items : ℕ
 most_items = MOST_ITEMS
+
+-- the most keys of one deletion of many keys
+abbrev pub most_keys : ℕ
+most_keys = MOST_KEYS
 
 -- the least number of more than 18 digits
 abbrev pub range_limit : ℕ

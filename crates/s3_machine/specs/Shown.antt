@@ -26,6 +26,7 @@ use Rattle.s3_machine.specs.declared.operation.Reply.TheVariants.{
   Started,
   Parts,
   Completed,
+  Deleted,
 }
 
 -- a moment that has a date
@@ -71,3 +72,4 @@ IsShowable (Object head from length partial body) = IsShown head from length par
 IsShowable (Started bucket key id) = Unit {0}
 IsShowable (Parts bucket key id marker max items truncated) = All IsShownPart items
 IsShowable (Completed bucket key etag) = Unit {0}
+IsShowable (Deleted keys quiet) = Unit {0}

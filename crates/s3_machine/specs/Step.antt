@@ -1,6 +1,7 @@
 -- One step of the S3 service: what an operation is answered, and the state after it. The refusals are tried in
 -- the order given, and a refused step leaves the state. Source: Amazon S3 API Reference and this profile.
-use Rattle.std.specs.Prelude.{◌≡◌, ◌<◌, ◌≤◌, ◌^◌, ◌==◌, ℕ, nat_eq, bytes_eq, Bool, true, false, not, if◌then◌else◌, List, [], map, length, Option, Some, None, IfSome}
+use Rattle.std.specs.Prelude.{◌≡◌, ◌<◌, ◌≤◌, ◌^◌, ◌==◌, ℕ, nat_eq, bytes_eq, Bool, true, false, not, if◌then◌else◌, List, [], ◌∷◌, map, length, Option, Some, None, IfSome}
+use Rattle.std.specs.List.{list_all}
 use Rattle.std.specs.Option.{unwrap_or}
 use Rattle.std.specs.FinMap.{entries, get, insert, remove, empty, len}
 use Rattle.gate_base.specs.declared.caller.Caller.{Caller}
@@ -61,6 +62,7 @@ use Rattle.s3_machine.specs.declared.operation.Op.TheVariants.{
   ListParts,
   CompleteUpload,
   AbortUpload,
+  DeleteObjects,
 }
 use Rattle.s3_machine.specs.declared.operation.Listed.{Listed}
 use Rattle.s3_machine.specs.declared.operation.ObjectHead.{ObjectHead}
@@ -68,7 +70,7 @@ use Rattle.s3_machine.specs.declared.operation.Reply.{Reply}
 use Rattle.s3_machine.specs.declared.operation.Reply.TheVariants as reply
 use Rattle.s3_machine.specs.ETag.{body_etag}
 use Rattle.s3_machine.specs.Items.{items}
-use Rattle.s3_machine.specs.Limits.{is_content_type, is_listing_text, is_proper_meta, most_body_bytes, most_items, range_limit}
+use Rattle.s3_machine.specs.Limits.{is_content_type, is_listing_text, is_proper_meta, most_body_bytes, most_items, most_keys, range_limit}
 use Rattle.s3_machine.specs.Reading.{judged, taken}
 use Rattle.s3_machine.specs.State.{Object, Part, Upload, Bucket, State}
 use Rattle.s3_machine.specs.Finish.{finished}
@@ -237,6 +239,15 @@ reads old answer o = gives (answer o) old
 abbrev pub deletes : State → List ℕ → List ℕ → Bucket → Outcome
 deletes old bucket key b = gives reply.Gone (adjust bucket (drop_object key) old)
 
+-- a bucket without the objects of these keys
+abbrev pub drop_objects : List (List ℕ) → Bucket → Bucket
+drop_objects [] b = b
+drop_objects (key ∷ keys) b = drop_objects keys (drop_object key b)
+
+-- DeleteObjects in a bucket: none of the keys is left, also of those under which nothing stands
+abbrev pub deletes_all : State → List ℕ → List (List ℕ) → Bool → Bucket → Outcome
+deletes_all old bucket keys quiet b = gives (reply.Deleted keys quiet) (adjust bucket (drop_objects keys) old)
+
 -- ---- listings
 
 -- an object as a listing tells of it
@@ -352,6 +363,7 @@ step settings old (UploadPart bucket key upload number body) label id =
 step settings old (ListParts bucket key upload marker max) label id = in_bucket old bucket (in_upload old key upload (lists_parts old bucket key upload marker max))
 step settings old (CompleteUpload bucket key upload list) label id = in_bucket old bucket (completes settings old bucket key upload list label.moment)
 step settings old (AbortUpload bucket key upload) label id = in_bucket old bucket (in_upload old key upload (aborts old bucket upload))
+step settings old (DeleteObjects bucket keys quiet) label id = in_bucket old bucket (deletes_all old bucket keys quiet)
 
 -- an id of 128 bits that is neither open nor kept in the bucket
 pub record IsNewId (b : Bucket) (id : ℕ) : Type 0 where
@@ -380,6 +392,7 @@ IsFree old (UploadPart bucket key upload number body) id = Unit {0}
 IsFree old (ListParts bucket key upload marker max) id = Unit {0}
 IsFree old (CompleteUpload bucket key upload list) id = Unit {0}
 IsFree old (AbortUpload bucket key upload) id = Unit {0}
+IsFree old (DeleteObjects bucket keys quiet) id = Unit {0}
 
 -- the service goes by this operation from the old state to the new one, and answers this
 pub record S3Step (settings : Settings) (old : State) (op : Op) (label : Label) (reply : Reply) (new : State) : Type 0 where
@@ -428,6 +441,12 @@ pub record IsProperList (list : List Listed) : Type 0 where
   pub filled : 1 ≤ length list
   pub few : length list ≤ most_parts
 
+-- what a deletion of many keys lists: at least one key, and at most as many as may be
+pub record IsProperKeys (keys : List (List ℕ)) : Type 0 where
+  pub filled : 1 ≤ length keys
+  pub few : length keys ≤ most_keys
+  pub keyed : list_all is_key keys ≡ true
+
 -- an operation that keeps the limits of this profile, at a moment that a clock can give
 abbrev pub IsProperOp : Op → Type 0
 IsProperOp ListBuckets = Unit {0}
@@ -449,6 +468,7 @@ IsProperOp (UploadPart bucket key upload number body) = IsPlace bucket key × Is
 IsProperOp (ListParts bucket key upload marker max) = IsPlace bucket key × (max ≤ most_items)
 IsProperOp (CompleteUpload bucket key upload list) = IsPlace bucket key × IsProperList list
 IsProperOp (AbortUpload bucket key upload) = IsPlace bucket key
+IsProperOp (DeleteObjects bucket keys quiet) = (is_bucket bucket ≡ true) × IsProperKeys keys
 
 abbrev pub IsProper : Op → Label → Type 0
 IsProper op label = IsProperOp op × (label.moment < moment_limit)

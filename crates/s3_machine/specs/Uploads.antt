@@ -137,6 +137,13 @@ digest_in etag = digest_from (decode_sized etag 16)
 unfoldable pub upload_etag : List (List ℕ) → List ℕ
 upload_etag etags = encode_lower (md5 (flat_map digest_in etags)) ++ codes "-" ++ decimal (length etags)
 
+abbrev pub etag_listed : Listed → List ℕ
+etag_listed l = l.etag
+
+-- the digests that the ETags of a list write, in a row
+abbrev pub digests_of : List Listed → List ℕ
+digests_of list = flat_map digest_in (map etag_listed list)
+
 abbrev pub same_listed : Listed → Listed → Bool
 same_listed l m = nat_eq l.number m.number && bytes_eq l.etag m.etag
 

@@ -5,6 +5,7 @@
 mod access;
 mod body;
 mod code;
+mod completion;
 mod etag;
 mod items;
 mod laws;
@@ -15,12 +16,13 @@ mod reading;
 pub use access::{is_other_acl, may_read};
 pub use body::Body;
 pub use code::Code;
+pub use completion::{rises, same_list, upload_etag};
 pub use etag::body_etag;
 pub use items::{Asked, BucketItem, Item, ItemHead, PartItem, UploadItem, copy_option};
 pub use laws::{law_get_after_delete, law_get_after_put};
 pub use limits::{
-    GREATEST_PART_NUMBER, MOST_BODY_BYTES, MOST_ITEMS, MOST_PARTS, RANGE_LIMIT, is_content_type,
-    is_listing_text, is_meta_name, is_meta_value, is_proper_meta,
+    GREATEST_PART_NUMBER, MOST_BODY_BYTES, MOST_ITEMS, MOST_KEYS, MOST_PARTS, RANGE_LIMIT,
+    is_content_type, is_listing_text, is_meta_name, is_meta_value, is_proper_meta,
 };
 pub use operation::{Label, Listed, ObjectHead, Op, Reply, Settings};
 pub use reading::{Conditions, ETags, Judged, Range, Span, judge};

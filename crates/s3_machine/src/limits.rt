@@ -28,6 +28,9 @@ pub const MOST_PARTS: usize = 1000;
 /// The greatest number of a part; the least is 1 (this profile; S3 has more).
 pub const GREATEST_PART_NUMBER: u32 = 1000;
 
+/// The most keys of one deletion of many keys.
+pub const MOST_KEYS: usize = 1000;
+
 /// The least number of more than 18 digits, which no range has.
 pub const RANGE_LIMIT: u64 = 1_000_000_000_000_000_000;
 

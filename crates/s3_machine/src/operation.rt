@@ -150,6 +150,11 @@ pub enum Op {
         key: Bytes,
         id: Bytes,
     },
+    DeleteObjects {
+        bucket: Bytes,
+        keys: List<Bytes>,
+        quiet: bool,
+    },
 }
 
 impl Copying for Op {
@@ -234,6 +239,11 @@ impl Copying for Op {
                 list,
             } => copy_complete_upload(bucket, key, id, list),
             Op::AbortUpload { bucket, key, id } => copy_abort_upload(bucket, key, id),
+            Op::DeleteObjects {
+                bucket,
+                keys,
+                quiet,
+            } => copy_delete_objects(bucket, keys, *quiet),
         }
     }
 }
@@ -415,6 +425,16 @@ fn copy_abort_upload(bucket: &Bytes, key: &Bytes, id: &Bytes) -> Result<Op, Memo
     })
 }
 
+fn copy_delete_objects(bucket: &Bytes, keys: &List<Bytes>, quiet: bool) -> Result<Op, Memory>
+    ensures { IfOk result (λ op. op ≡ Op.DeleteObjects bucket.now keys.now quiet) }
+{
+    Ok(Op::DeleteObjects {
+        bucket: bucket.copy()?,
+        keys: keys.copy()?,
+        quiet,
+    })
+}
+
 /// An object but for its bytes: its ETag without quotes, the moment of its last change in seconds since the
 /// beginning of 1970, its size in bytes, its content type and its user metadata.
 #[derive(Debug, Drop)]
@@ -440,7 +460,8 @@ impl Copying for ObjectHead {
 
 /// What an operation is answered. `Memory` says that memory ran out; the machine itself never gives it. An
 /// `Object` has `length` bytes from the byte `from` on, all of them in `body` or, in the reply to a HEAD, none; it is
-/// `partial` where a range was asked for. A listing is `truncated` where items are left over. ETags stand without quotes.
+/// `partial` where a range was asked for. A listing is `truncated` where items are left over. ETags stand without quotes. A
+/// `quiet` deletion of many keys shows none of them.
 #[derive(Debug, Drop)]
 pub enum Reply {
     Refused(Code),
@@ -500,6 +521,10 @@ pub enum Reply {
         key: Bytes,
         etag: Bytes,
     },
+    Deleted {
+        keys: List<Bytes>,
+        quiet: bool,
+    },
 }
 
 impl Copying for Reply {
@@ -554,6 +579,10 @@ impl Copying for Reply {
                 truncated,
             } => copy_parts(bucket, key, *id, *marker, *max, items, *truncated),
             Reply::Completed { bucket, key, etag } => copy_completed(bucket, key, etag),
+            Reply::Deleted { keys, quiet } => Ok(Reply::Deleted {
+                keys: keys.copy()?,
+                quiet: *quiet,
+            }),
         }
     }
 }

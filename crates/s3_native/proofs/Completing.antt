@@ -20,9 +20,9 @@ use Rattle.s3_machine.specs.Finish.{finished}
 use Rattle.s3_machine.specs.State.{Bucket, State, Upload}
 use Rattle.s3_machine.specs.Step.{IsNewId, S3Step, is_other_acl, completes, completes_by, completes_chosen, completes_open, gives, unless}
 use Rattle.s3_machine.specs.Step.{refuses as step_refuses}
-use Rattle.s3_machine.specs.Uploads.{chosen, completed, etag_in, kept_as, new_upload, open_upload, rises, upload_etag}
+use Rattle.s3_machine.specs.Uploads.{etag_listed, chosen, completed, etag_in, kept_as, new_upload, open_upload, rises, upload_etag}
 use Rattle.s3_machine.proofs.lemmas.StepLemmas.{HasUpload, in_found, step_completed, step_started, steps, upload_there}
-use Rattle.s3_native.specs.Native.{closed, etag_listed, has_all, is_small_list, joined_by, kept_by, refuses}
+use Rattle.s3_native.specs.Native.{closed, has_all, is_small_list, joined_by, kept_by, refuses}
 use Rattle.s3_native.proofs.Parts.{Tested, accepts, chooses, chosen_is, none_chosen, sizes_are}
 
 module _ (settings : Settings) (old : State) (bucket id : List ℕ) (list : List Listed) (moment : ℕ) (u : Upload) where

@@ -1,5 +1,4 @@
 pub mod Completing
-pub mod Digests
 pub mod Listings
 pub mod Numbers
 pub mod Parts

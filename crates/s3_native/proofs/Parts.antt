@@ -13,8 +13,8 @@ use Rattle.s3_machine.specs.declared.code.Code.{Code}
 use Rattle.s3_machine.specs.declared.code.Code.TheVariants.{EntityTooSmall, InvalidPart, InvalidPartOrder}
 use Rattle.s3_machine.specs.declared.operation.Listed.{Listed}
 use Rattle.s3_machine.specs.State.{Part, Upload}
-use Rattle.s3_machine.specs.Uploads.{bytes_in, chosen, chosen_two, etag_in, is_too_small, rises, upload_etag, joined_object, kept_of}
-use Rattle.s3_native.specs.Native.{etag_listed, has_all, has_part, is_small_at, is_small_list, listed_bytes, joined_by, kept_by, refuses}
+use Rattle.s3_machine.specs.Uploads.{etag_listed, bytes_in, chosen, chosen_two, etag_in, is_too_small, rises, upload_etag, joined_object, kept_of}
+use Rattle.s3_native.specs.Native.{has_all, has_part, is_small_at, is_small_list, listed_bytes, joined_by, kept_by, refuses}
 
 module _ (parts : Numbers Part) where
   -- the parts of a list, each there with its ETag

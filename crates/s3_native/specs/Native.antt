@@ -18,7 +18,7 @@ use Rattle.s3_native.specs.declared.upload.NativeUpload.TheInside as upload
 use Rattle.s3_native.specs.declared.kept.NativeKept.TheInside as kept
 use Rattle.s3_machine.specs.State.{Object, Part, Upload, Completion, Bucket, Machine}
 use Rattle.s3_machine.specs.Step.{item_of}
-use Rattle.s3_machine.specs.Uploads.{bytes_in, digest_in, id_value, rises, upload_etag}
+use Rattle.s3_machine.specs.Uploads.{bytes_in, etag_listed, id_value, rises, upload_etag}
 
 abbrev pub object_of : object.Inside → Object
 object_of o = record { bytes = o.bytes; etag = o.etag; content_type = o.content_type; meta = o.meta; modified = o.modified }
@@ -46,13 +46,6 @@ has_part parts l = option_map_or (λ p. bytes_eq p.etag l.etag) (get parts l.num
 
 abbrev pub has_all : Numbers Part → List Listed → Bool
 has_all parts list = list_all (has_part parts) list
-
-abbrev pub etag_listed : Listed → List ℕ
-etag_listed l = l.etag
-
--- the digests that the ETags of a list write, in a row
-abbrev pub digests_of : List Listed → List ℕ
-digests_of list = flat_map digest_in (map etag_listed list)
 
 -- its bytes, or none
 abbrev pub bytes_at : Numbers Part → Listed → List ℕ

@@ -15,9 +15,10 @@ ghost use Rattle.s3_machine.specs.declared.operation.Op.TheVariants.{
   GetObject,
   HeadObject,
   DeleteObject,
+  DeleteObjects,
   GetObjectAcl,
 };
-ghost use Rattle.s3_machine.specs.Step.{IsProper, S3Step, bucket_items, drop_object, is_other_acl, may_read, put_object, with_acl};
+ghost use Rattle.s3_machine.specs.Step.{IsProper, S3Step, bucket_items, drop_object, drop_objects, is_other_acl, may_read, put_object, with_acl};
 
 use crate::kept::NativeKept;
 use crate::listing::listed;
@@ -185,7 +186,7 @@ impl NativeBucket {
     ghost use Rattle.std.specs.Prelude.{OnOk, option_copied};
     ghost use Rattle.std.specs.FinMap.{get};
     ghost use Rattle.s3_native.specs.Native.{shown};
-    ghost use Rattle.s3_machine.specs.Step.{drop_object, is_bare, listing, new_bucket, put_object, with_acl};
+    ghost use Rattle.s3_machine.specs.Step.{drop_object, drop_objects, is_bare, listing, new_bucket, put_object, with_acl};
 
     fn new(alloc: Global, moment: u64, acl: Acl) -> NativeBucket
         ensures { result ≡ new_bucket moment acl }
@@ -259,6 +260,14 @@ impl NativeBucket {
     {
         self.objects.drop_at(key);
     }
+
+    fn drop_all(&mut self, keys: &[Bytes])
+        ensures { self.new ≡ drop_objects keys.now self.old }
+    {
+        for key in keys {
+            self.drop_at(key.as_slice());
+        }
+    }
 }
 
 /// Each bucket with the moment at which it was made, in the order of the names.
@@ -309,6 +318,16 @@ fn drop_object(buckets: &mut Table<NativeBucket>, bucket: &[u8], key: &[u8])
 {
     if let Some(found) = buckets.get_mut(bucket) {
         found.drop_at(key);
+    }
+}
+
+/// Takes away the objects of these keys in a bucket, as far as there are any.
+#[tactic(auto, using(name_table::proofs::lemmas::Tables::nothing_there))]
+fn drop_objects(buckets: &mut Table<NativeBucket>, bucket: &[u8], keys: &[Bytes])
+    ensures { buckets.new ≡ adjust bucket.now (drop_objects keys.now) buckets.old }
+{
+    if let Some(found) = buckets.get_mut(bucket) {
+        found.drop_all(keys);
     }
 }
 
@@ -383,6 +402,11 @@ impl Native {
                 conditions,
             } => self.head_object(bucket, key, *range, conditions, label),
             Op::DeleteObject { bucket, key } => self.delete_object(bucket, key, label),
+            Op::DeleteObjects {
+                bucket,
+                keys,
+                quiet,
+            } => self.delete_objects(bucket, keys, *quiet, label),
             Op::GetObjectAcl { bucket, key } => Ok(self.get_object_acl(bucket, key, label)),
             _ => self.step_upload(op, label),
         }
@@ -580,5 +604,30 @@ impl Native {
         }
         drop_object(&mut self.buckets, bucket.as_slice(), key.as_slice());
         Ok(Reply::Gone)
+    }
+
+    /// Where memory runs out, the state is as before.
+    fn delete_objects(
+        &mut self,
+        bucket: &Bytes,
+        keys: &List<Bytes>,
+        quiet: bool,
+        label: &Label,
+    ) -> Result<Reply, Memory>
+        ensures settings { self.new.settings ≡ self.old.settings }
+        ensures ok { IfOk result (λ reply.
+            S3Step self.old.settings self.old.state (DeleteObjects bucket.now keys.now quiet) label.now reply self.new.state) }
+        ensures err { OnErr result (self.new.state ≡ self.old.state) }
+    {
+        if self.buckets.get(bucket.as_slice()).is_none() {
+            return Ok(Reply::Refused(Code::NoSuchBucket));
+        }
+        // What may fail comes before the first key is dropped.
+        let deleted = keys.copy()?;
+        drop_objects(&mut self.buckets, bucket.as_slice(), keys.as_slice());
+        Ok(Reply::Deleted {
+            keys: deleted,
+            quiet,
+        })
     }
 }

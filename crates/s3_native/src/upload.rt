@@ -2,15 +2,15 @@
 ghost use Rattle.std.specs.Prelude.{◌≡◌, ◌&&◌, bytes_eq, length, map, nat_lt, option_copied, IfOk, OnOk, OnErr};
 ghost use Rattle.std.specs.FinMap.{entries, get};
 ghost use Rattle.std.specs.List.{filter, list_any};
-ghost use Rattle.s3_machine.specs.Uploads.{cut, new_part, new_upload, part_item, parts_above, rises, rises_from, upload_etag, with_part};
-ghost use Rattle.s3_native.specs.Native.{etag_listed, has_all, has_part, is_small_at, is_small_list, joined_by, kept_by, listed_bytes, refuses};
+ghost use Rattle.s3_machine.specs.Uploads.{cut, etag_listed, new_part, new_upload, part_item, parts_above, upload_etag, with_part};
+ghost use Rattle.s3_native.specs.Native.{has_all, has_part, is_small_at, is_small_list, joined_by, kept_by, listed_bytes, refuses};
 
-use crate::kept::{NativeKept, upload_etag};
+use crate::kept::NativeKept;
 use crate::listing::{first, is_cut};
 use crate::native::NativeObject;
 use crate::numbered::Numbered;
 use gate_base::{Bytes, Copying, List, Memory};
-use s3_machine::{Body, Code, Listed, PartItem};
+use s3_machine::{Body, Code, Listed, PartItem, rises, upload_etag};
 use s3_names::Meta;
 use std::alloc::Global;
 use std::marker::Model;
@@ -282,27 +282,4 @@ impl NativeUpload {
         let object = self.joined(alloc, list.as_slice(), &etag, moment)?;
         Ok((etag, object, kept))
     }
-}
-
-/// Whether the numbers of a list ascend strictly.
-pub(crate) fn rises(list: &[Listed]) -> bool
-    ensures { result ≡ rises list.now }
-{
-    match list {
-        [first, rest @ ..] => rises_from(first.number, rest),
-        [] => true,
-    }
-}
-
-fn rises_from(above: u32, list: &[Listed]) -> bool
-    ensures { result ≡ rises_from above list.now }
-{
-    let mut last = above;
-    for listed in list {
-        if listed.number <= last {
-            return false;
-        }
-        last = listed.number;
-    }
-    true
 }

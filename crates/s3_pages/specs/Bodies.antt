@@ -334,3 +334,17 @@ completed_body bucket key etag =
     ++ element (codes "Key") key
     ++ etag_element etag
     ++ end_of (codes "CompleteMultipartUploadResult")
+
+-- ---- many keys
+
+-- a key that was deleted
+unfoldable pub deleted_element : List ℕ → List ℕ
+deleted_element key = codes "<Deleted>" ++ element (codes "Key") key ++ codes "</Deleted>"
+
+-- the keys of a deletion in their order; a quiet one shows none
+unfoldable pub deleted_body : List (List ℕ) → Bool → List ℕ
+deleted_body keys quiet =
+    declaration
+    ++ root (codes "DeleteResult")
+    ++ where_true (not quiet) (flat_map deleted_element keys)
+    ++ end_of (codes "DeleteResult")

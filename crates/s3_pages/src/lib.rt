@@ -3,6 +3,7 @@
 
 mod buckets;
 mod codes;
+mod deleted;
 mod listing;
 mod object;
 mod pages;

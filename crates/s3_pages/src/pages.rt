@@ -5,6 +5,7 @@ ghost use Rattle.s3_pages.specs.Pages.{page_of, common_headers, done_page, gone_
 ghost use Rattle.s3_pages.specs.Xml.{error_body};
 
 use crate::buckets::{acl, buckets, location};
+use crate::deleted::deleted;
 use crate::listing::objects;
 use crate::object::object;
 use crate::uploads::{completed, parts, started, uploads};
@@ -119,6 +120,7 @@ fn other_page(alloc: Global, reply: &Reply, label: &Label, resource: &[u8]) -> R
             etag.as_slice(),
             label,
         ),
+        Reply::Deleted { keys, quiet } => deleted(alloc, keys.as_slice(), *quiet, label),
     }
 }
 

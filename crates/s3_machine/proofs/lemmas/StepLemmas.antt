@@ -48,11 +48,12 @@ use Rattle.s3_machine.specs.declared.operation.Op.TheVariants.{
   ListParts,
   CompleteUpload,
   AbortUpload,
+  DeleteObjects,
 }
 use Rattle.s3_machine.specs.declared.operation.Listed.{Listed}
 use Rattle.s3_machine.specs.declared.operation.ObjectHead.{ObjectHead}
 use Rattle.s3_machine.specs.declared.operation.Reply.{Reply}
-use Rattle.s3_machine.specs.declared.operation.Reply.TheVariants.{Refused, Done, Made, Memory, Stored, Gone, Buckets, Location, AclOf, Started, Completed}
+use Rattle.s3_machine.specs.declared.operation.Reply.TheVariants.{Refused, Done, Made, Memory, Stored, Gone, Buckets, Location, AclOf, Started, Completed, Deleted}
 use Rattle.s3_machine.specs.declared.reading.Conditions.{Conditions}
 use Rattle.s3_machine.specs.declared.reading.Judged.{Judged}
 use Rattle.s3_machine.specs.declared.reading.Judged.TheVariants.{PreconditionFailed, NotModified, InvalidRange, Bytes}
@@ -93,6 +94,7 @@ use Rattle.s3_machine.specs.Step.{
   is_other_acl,
   puts,
   deletes,
+  deletes_all,
   reads,
   head_of,
   read_by,
@@ -105,6 +107,7 @@ use Rattle.s3_machine.specs.Step.{
   new_object,
   put_object,
   drop_object,
+  drop_objects,
   bucket_items,
   is_bare,
   with_acl,
@@ -315,6 +318,15 @@ module _ (settings : Settings) (old : State) (bucket key : List ℕ) (label : La
     pub step_gone : S3Step settings old (DeleteObject bucket key) label Gone (adjust bucket (drop_object key) old)
     step_gone = steps _ _ 0 tt (there (deletes old bucket key))
 
+-- many keys are deleted at once
+pub delete_all_without_bucket : (settings : Settings) (old : State) (bucket : List ℕ) (keys : List (List ℕ)) (quiet : Bool) (label : Label) → get old bucket ≡ None
+    → S3Step settings old (DeleteObjects bucket keys quiet) label (Refused NoSuchBucket) old
+delete_all_without_bucket settings old bucket keys quiet label none = steps _ _ 0 tt (in_missing old bucket none (deletes_all old bucket keys quiet))
+
+pub step_deleted : (settings : Settings) (old : State) (bucket : List ℕ) (keys : List (List ℕ)) (quiet : Bool) (label : Label) (b : Bucket) → get old bucket ≡ Some b
+    → S3Step settings old (DeleteObjects bucket keys quiet) label (Deleted keys quiet) (adjust bucket (drop_objects keys) old)
+step_deleted settings old bucket keys quiet label b found = steps _ _ 0 tt (in_found old bucket b found (deletes_all old bucket keys quiet))
+
 -- ---- the operations on uploads
 
 -- an upload that is open in a bucket, of this key
@@ -517,6 +529,11 @@ module _ (old : State) (reply : Reply) where
   delete_reply None bucket key e = ((λ f. cc), (λ f. cc), (λ f. cc))
   delete_reply (Some b) bucket key e = ((λ f. cc), (λ f. cc), (λ f. cc))
 
+-- that of the deletion of many keys
+delete_all_reply : (old : State) (v : Option Bucket) (bucket : List ℕ) (keys : List (List ℕ)) (quiet : Bool) → IsMachineReply (in_bucket_by v old (deletes_all old bucket keys quiet)).reply
+delete_all_reply old v bucket keys quiet =
+    in_bucket_has IsMachineReply v old (deletes_all old bucket keys quiet) ((λ f. cc), (λ f. cc), (λ f. cc)) (λ b e. ((λ f. cc), (λ f. cc), (λ f. cc)))
+
 -- the replies of the operations on uploads
 module _ (old : State) where
   lists_uploads_reply : (v : Option Bucket) (bucket prefix key_marker id_marker : List ℕ) (max : ℕ) → IsMachineReply (in_bucket_by v old (lists_uploads old bucket prefix key_marker id_marker max)).reply
@@ -566,3 +583,4 @@ machine_reply settings old (UploadPart bucket key id number body) label reply ne
 machine_reply settings old (ListParts bucket key id marker max) label reply new s = subst IsMachineReply (sym s.replies) (upload_reply old (get old bucket) key id (lists_parts old bucket key id marker max) (λ u. ((λ f. cc), (λ f. cc), (λ f. cc))))
 machine_reply settings old (CompleteUpload bucket key id list) label reply new s = subst IsMachineReply (sym s.replies) (completes_reply old (get old bucket) settings bucket key id list label.moment)
 machine_reply settings old (AbortUpload bucket key id) label reply new s = subst IsMachineReply (sym s.replies) (upload_reply old (get old bucket) key id (aborts old bucket id) (λ u. ((λ f. cc), (λ f. cc), (λ f. cc))))
+machine_reply settings old (DeleteObjects bucket keys quiet) label reply new s = subst IsMachineReply (sym s.replies) (delete_all_reply old (get old bucket) bucket keys quiet)

@@ -1,7 +1,7 @@
 use Rattle.std.proofs.Common.{take}
 use Rattle.md5.specs.Md5.{Holds}
-use Rattle.s3_native.specs.Native.{digests_of}
-use Rattle.s3_native.proofs.kept.digest_of.Given as goal
+use Rattle.s3_machine.specs.Uploads.{digests_of}
+use Rattle.s3_machine.proofs.completion.digest_of.Given as goal
 
 -- the hasher holds the digests so far
 abbrev pub invariant-loop-listed : goal.invariant-loop-listed

@@ -1,9 +1,8 @@
--- What a completion lists: the digests of its ETags, and its parts one by one.
+-- The digests that the ETags of a completion write, one by one.
 use Rattle.std.proofs.Common.{◌≡◌, ℕ, ◌+◌, ◌<◌, List, [], ◌∷◌, ◌++◌, flat_map, take, length, get_or, refl, sym, ap, ◌∙◌, append_assoc}
 use Rattle.std.proofs.lemmas.List.{append-nil, take_more}
 use Rattle.s3_machine.specs.declared.operation.Listed.{Listed}
-use Rattle.s3_machine.specs.Uploads.{digest_in}
-use Rattle.s3_native.specs.Native.{digests_of}
+use Rattle.s3_machine.specs.Uploads.{digest_in, digests_of}
 
 -- one more text behind those of a list
 flat_more : {X : Type 0} (f : X → List ℕ) (xs : List X) (x : X) → flat_map f (xs ++ x ∷ []) ≡ flat_map f xs ++ f x
