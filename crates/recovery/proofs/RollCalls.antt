@@ -1,18 +1,17 @@
 -- The calls that finish a sealed completion: what each does to the account, and what it leaves.
-use Rattle.std.specs.Prelude.{◌≡◌, ◌⊎◌, ◌<◌, ℕ, Bool, true, false, cond, IsTrue, List, [], ◌∷◌, codes, length, Option, None, Some, IfOk, IfSome, Result, Ok, Err}
+use Rattle.std.specs.Prelude.{◌≡◌, ◌⊎◌, ◌<◌, ℕ, Bool, true, false, cond, IsTrue, List, [], ◌∷◌, codes, length, Option, None, Some, Result, Ok, Err}
 use Rattle.std.specs.FinMap.{get, insert}
-use Rattle.std.specs.Ordering.{eq_by_cmp}
 use Rattle.std.proofs.Common.{refl, sym, ap, subst, ◌∙◌, inl, inr, arith}
-use Rattle.gate_base.specs.Maps.{name_cmp}
 use Rattle.gate_base.proofs.lemmas.Maps.{by_name, off_adjust, some_value}
 use Rattle.s3_names.specs.Id.{id_digits}
 use Rattle.s3_machine.specs.ETag.{body_etag}
 use Rattle.slo_manifest.specs.declared.Segment.{Segment}
 use Rattle.swift_calls.specs.Account.{SwiftObject, SwiftContainer, SwiftAccount, files, find_object, on_files, put_file}
-use Rattle.swift_calls.specs.Bodies.{etag_of, is_good_list}
+use Rattle.swift_calls.specs.Bodies.{is_good_list}
 use Rattle.swift_calls.specs.History.{History, Calls, present}
 use Rattle.swift_calls.specs.Step.{Answer, delete_object, put_listed, put_manifest, put_object, swift_step}
 use Rattle.swift_calls.specs.declared.account.Content.TheVariants.{Segments}
+use Rattle.swift_calls.specs.declared.calls.SwiftFault.{SwiftFault}
 use Rattle.swift_calls.specs.declared.calls.SwiftReply.{SwiftReply}
 use Rattle.swift_calls.specs.declared.calls.SwiftReply.TheVariants.{Made, There, Gone, Stored, NotFound, NotEmpty, BadManifest, Unsatisfiable, Containers, Readers, Names, Head, Bytes, Manifest}
 use Rattle.swift_calls.specs.declared.calls.SwiftRequest.{SwiftRequest}
@@ -22,10 +21,10 @@ use Rattle.swift_marks.specs.Tag.{tag_text}
 use Rattle.upload_texts.specs.Records.{read_record, record_text}
 use Rattle.upload_texts.specs.Sealed.{read_sealed, has_sealed_text}
 use Rattle.upload_texts.specs.declared.sealed.Sealed.{Sealed}
-use Rattle.upload_records.specs.Consistent.{IsBeside, IsConsistent, IsStored, IsThere}
+use Rattle.upload_records.specs.Consistent.{IsConsistent, IsStored}
 use Rattle.upload_records.specs.Laws.{IsRolled, Rolls, Stands, file_put}
 use Rattle.upload_records.specs.Layout.{uploads_name, segments_name, gateway_name, sealed_name}
-use Rattle.upload_records.specs.Native.{SameGateway, IsSettled, completed_file, content_by, object_of, record_at, seal_of, sealed_object, sealed_record, sealed_tag, s3_state}
+use Rattle.upload_records.specs.Native.{SameGateway, IsSettled, IsUnsealed, completed_file, content_by, object_of, seal_of, sealed_object, sealed_record, sealed_tag, s3_state}
 use Rattle.upload_records.proofs.Beside.{records_there, same_beside}
 use Rattle.upload_records.proofs.lemmas.Rolling as rolls
 use Rattle.upload_records.proofs.lemmas.Rolling.{TellsNone, TellsSeal, sealed_told}
@@ -34,9 +33,10 @@ use Rattle.upload_records.proofs.lemmas.SideCalls.{delete_settled, none_sealed}
 use Rattle.recovery.specs.declared.fault.PlanFault.{PlanFault}
 use Rattle.recovery.specs.declared.fault.PlanFault.TheVariants as fault
 use Rattle.recovery.specs.Interpret.{Gives, gone_due, known, stored_due}
-use Rattle.recovery.specs.Rolls.{HasGateway, HasObject, HasRecord, IsClear, IsSealed, Leaves, TellsSealed, kept_due, put_by, put_object_of, put_record_of, sealed_by, sealed_due, sealed_listing}
+use Rattle.recovery.specs.Rolls.{HasGateway, HasObject, HasRecord, IsSealed, KeepsGateway, Leaves, LeavesClear, TellsSealed, kept_due, put_by, put_object_of, put_record_of, sealed_by, sealed_due, sealed_listing}
 use Rattle.recovery.proofs.SealStands.{limits, may_stand, object_stored, record_short, takes_list}
 use Rattle.recovery.proofs.lemmas.Etags.{etag_agrees}
+use Rattle.recovery.proofs.lemmas.One.{found, stays_so}
 use Rattle.recovery.proofs.lemmas.Quiet.{IsQuietOf, QuietEffect}
 use Rattle.recovery.proofs.lemmas.SideNames.{file_name, id_fits}
 
@@ -88,25 +88,30 @@ none_given : (reply : SwiftReply) → Gives (Ok None) (sealed_due reply) → rep
 none_given reply (inl e) = cc
 none_given reply (inr e) = absent reply (sym e)
 
-settled_by : {a b : History} {reply : SwiftReply} → Calls a b (GetObject gateway_name sealed_name None) (Ok reply) → IsTrue a.observable → reply ≡ NotFound → IsSettled (present b)
-settled_by {a = a} {b = b} calls observable is =
+unsealed_as : {a b : History} {reply : SwiftReply} → Calls a b (GetObject gateway_name sealed_name None) (Ok reply) → IsTrue a.observable → reply ≡ NotFound → IsUnsealed (present b)
+unsealed_as {a = a} {b = b} calls observable is =
     let replied = calls.effect observable in
-    subst IsSettled (sym replied.tree) (none_sealed (b.account_at a.called) (sym replied.reply ∙ is))
+    subst IsUnsealed (sym replied.tree) (none_sealed (b.account_at a.called) (sym replied.reply ∙ is))
+
+-- it leaves the account
+pub get_keeps : {a b : History} {folder name : List ℕ} {range : Option (ℕ × ℕ)} {result : Result SwiftReply SwiftFault} → Calls a b (GetObject folder name range) result → KeepsGateway a b
+get_keeps calls = stays_so {P = HasGateway} (λ tree has. has) calls
 
 -- over every account the answer that nothing is there says that none is sealed
 pub got_none : {a b : History} {folder name : List ℕ} {reply : SwiftReply} {result : Result (Option Sealed) PlanFault} → folder ≡ gateway_name → name ≡ sealed_name → Calls a b (GetObject folder name None) (Ok reply)
-    → Gives result (sealed_due reply) → IsTrue a.observable → result ≡ Ok None → IsSettled (present b)
-got_none {a = a} {b = b} {reply = reply} foldered named calls gives observable none =
-    settled_by (subst {A = List ℕ × List ℕ} (λ n. Calls a b (GetObject n.0 n.1 None) (Ok reply)) (λ i. (foldered i, named i)) calls) observable
-    (none_given reply (subst (λ r. Gives r (sealed_due reply)) none gives))
+    → Gives result (sealed_due reply) → LeavesClear None a b result
+got_none {a = a} {b = b} {reply = reply} foldered named calls gives observable has none = record {
+  none = unsealed_as (subst {A = List ℕ × List ℕ} (λ n. Calls a b (GetObject n.0 n.1 None) (Ok reply)) (λ i. (foldered i, named i)) calls) observable
+      (none_given reply (subst (λ r. Gives r (sealed_due reply)) none gives));
+  gateway = get_keeps calls observable has;
+}
 
 -- what it told
 pub found_sealed : (old new : SwiftAccount) (told : Option Sealed) (s : Sealed) → told ≡ Some s → HasGateway old → TellsSealed old new told → IsSealed s new
 found_sealed old new told s is has tells = record { gateway = subst HasGateway (sym tells.same) has; is = ap seal_of tells.same ∙ sym tells.is ∙ is }
 
-pub found_none : (old new : SwiftAccount) (told : Option Sealed) → told ≡ None → HasGateway old → TellsSealed old new told → IsClear new
-found_none old new told is has tells =
-    record { gateway = subst HasGateway (sym tells.same) has; settled = record { none = unsealed_by new (ap seal_of tells.same ∙ sym tells.is ∙ is) } }
+pub found_none : (old new : SwiftAccount) (told : Option Sealed) → told ≡ None → HasGateway old → TellsSealed old new told → IsSettled new
+found_none old new told is has tells = record { none = unsealed_by new (ap seal_of tells.same ∙ sym tells.is ∙ is); gateway = subst HasGateway (sym tells.same) has }
 
 -- ---- the PUT of its object
 
@@ -173,14 +178,21 @@ module _ (tree : SwiftAccount) (s : Sealed) (has : has_sealed_text s ≡ true) (
     tells = subst (HasObject s) (sym (ap (λ (a : Answer). a.tree) object_answered)) has_object;
   }
 
+object_same : (tree : SwiftAccount) (s : Sealed) → has_sealed_text s ≡ true → SameGateway tree (swift_step (put_object_of s) tree).tree
+object_same tree s has = same_off tree (swift_step (put_object_of s) tree).tree s.bucket (limits s has).bucket (by_stays tree s.bucket s.key (tag_text (sealed_tag s)) (pack_of s.meta) (sealed_listing s))
+
 object_put : (s : Sealed) → has_sealed_text s ≡ true → IsQuietOf (IsSealed s) (put_object_of s) kept_due (Leaves (HasObject s))
 object_put s has = record {
   effect = λ tree sound given. object_effect tree s has sound given;
-  settled = λ tree. settled_same (same_off tree (swift_step (put_object_of s) tree).tree s.bucket (limits s has).bucket (by_stays tree s.bucket s.key (tag_text (sealed_tag s)) (pack_of s.meta) (sealed_listing s)));
+  settled = λ tree. settled_same (object_same tree s has);
 }
 
 pub puts_object : {request : SwiftRequest} {s : Sealed} → request ≡ put_object_of s → has_sealed_text s ≡ true → IsQuietOf (IsSealed s) request kept_due (Leaves (HasObject s))
 puts_object {s = s} same has = subst (λ r. IsQuietOf (IsSealed s) r kept_due (Leaves (HasObject s))) (sym same) (object_put s has)
+
+pub object_keeps : {a b : History} {request : SwiftRequest} (s : Sealed) {result : Result SwiftReply SwiftFault} → request ≡ put_object_of s → has_sealed_text s ≡ true → Calls a b request result → KeepsGateway a b
+object_keeps {a = a} {b = b} s {result = result} same has calls =
+    stays_so {P = HasGateway} (λ tree there. (object_same tree s has).there ∙ there) (subst (λ r. Calls a b r result) same calls)
 
 -- ---- the PUT of its record
 
@@ -225,17 +237,24 @@ module _ (tree : SwiftAccount) (s : Sealed) (has : has_sealed_text s ≡ true) (
         tells = has_record;
       }
 
+record_same : (tree : SwiftAccount) (s : Sealed) → has_sealed_text s ≡ true → SameGateway tree (swift_step (put_record_of s) tree).tree
+record_same tree s has = same_beside tree (swift_step (put_record_of s) tree).tree s.bucket (uploads_name s.bucket) (record { of_bucket = (limits s has).bucket; is = inl refl })
+    (put_stays tree (uploads_name s.bucket) (id_digits s.id) (codes "application/json") [] (get tree (uploads_name s.bucket)) (file_put (codes "application/json") [] (record_text (sealed_record s))))
+
 record_put : (s : Sealed) → has_sealed_text s ≡ true → Written s → IsQuietOf (HasObject s) (put_record_of s) (stored_due (body_etag (record_text (sealed_record s)))) (Leaves (HasRecord s))
 record_put s has written = record {
   effect = λ tree sound given. record_effect tree s has written sound given;
-  settled = λ tree. settled_same (same_beside tree (swift_step (put_record_of s) tree).tree s.bucket (uploads_name s.bucket) (record { of_bucket = (limits s has).bucket; is = inl refl })
-      (put_stays tree (uploads_name s.bucket) (id_digits s.id) (codes "application/json") [] (get tree (uploads_name s.bucket)) (file_put (codes "application/json") [] (record_text (sealed_record s)))));
+  settled = λ tree. settled_same (record_same tree s has);
 }
 
 pub puts_record : {request : SwiftRequest} {s : Sealed} → request ≡ put_record_of s → has_sealed_text s ≡ true → Written s
     → IsQuietOf (HasObject s) request (stored_due (body_etag (record_text (sealed_record s)))) (Leaves (HasRecord s))
 puts_record {s = s} same has written =
     subst (λ r. IsQuietOf (HasObject s) r (stored_due (body_etag (record_text (sealed_record s)))) (Leaves (HasRecord s))) (sym same) (record_put s has written)
+
+pub record_keeps : {a b : History} {request : SwiftRequest} (s : Sealed) {result : Result SwiftReply SwiftFault} → request ≡ put_record_of s → has_sealed_text s ≡ true → Calls a b request result → KeepsGateway a b
+record_keeps {a = a} {b = b} s {result = result} same has calls =
+    stays_so {P = HasGateway} (λ tree there. (record_same tree s has).there ∙ there) (subst (λ r. Calls a b r result) same calls)
 
 -- the text that was written is the record's
 pub written_by : (s : Sealed) (text : List ℕ) → text ≡ record_text (sealed_record s) → read_record text ≡ Some (sealed_record s) → read_record (record_text (sealed_record s)) ≡ Some (sealed_record s)
@@ -247,7 +266,7 @@ gone_says : (o : Option SwiftObject) (tree : SwiftAccount) → gone_due (delete_
 gone_says None tree = refl
 gone_says (Some file) tree = refl
 
-sealed_gone : (s : Sealed) → IsQuietOf (HasRecord s) (DeleteObject gateway_name sealed_name) gone_due (Leaves IsClear)
+sealed_gone : (s : Sealed) → IsQuietOf (HasRecord s) (DeleteObject gateway_name sealed_name) gone_due (Leaves IsSettled)
 sealed_gone s = record {
   effect = λ tree sound given.
       let rolled : IsRolled tree s = record { file = given.object.file; there = given.object.there; stands = given.object.stands; recorded = given.kept } in
@@ -257,18 +276,30 @@ sealed_gone s = record {
         says = gone_says (find_object tree gateway_name sealed_name) tree;
         sound = done.sound;
         same = done.same;
-        tells = record { gateway = rolls.delete_there tree given.object.sealed.gateway; settled = record { none = done.none } };
+        tells = record { none = done.none; gateway = rolls.delete_there tree given.object.sealed.gateway };
       };
   settled = λ tree settled. delete_settled tree gateway_name sealed_name settled;
 }
 
-pub deletes_sealed : {folder name : List ℕ} (s : Sealed) → folder ≡ gateway_name → name ≡ sealed_name → IsQuietOf (HasRecord s) (DeleteObject folder name) gone_due (Leaves IsClear)
-deletes_sealed s foldered named = subst {A = List ℕ × List ℕ} (λ n. IsQuietOf (HasRecord s) (DeleteObject n.0 n.1) gone_due (Leaves IsClear)) (λ i. (sym foldered i, sym named i)) (sealed_gone s)
+pub deletes_sealed : {folder name : List ℕ} (s : Sealed) → folder ≡ gateway_name → name ≡ sealed_name → IsQuietOf (HasRecord s) (DeleteObject folder name) gone_due (Leaves IsSettled)
+deletes_sealed s foldered named = subst {A = List ℕ × List ℕ} (λ n. IsQuietOf (HasRecord s) (DeleteObject n.0 n.1) gone_due (Leaves IsSettled)) (λ i. (sym foldered i, sym named i)) (sealed_gone s)
 
-gone_by : {a b : History} {reply : SwiftReply} → Calls a b (DeleteObject gateway_name sealed_name) (Ok reply) → IsTrue a.observable → IsSettled (present b)
-gone_by {a = a} {b = b} calls observable = subst IsSettled (sym (calls.effect observable).tree) (rolls.delete_unseals (b.account_at a.called))
+-- both names are those of what is sealed
+abbrev called_so : List ℕ → List ℕ → History → History → Result SwiftReply SwiftFault → Type 0
+called_so folder name a b result = Calls a b (DeleteObject folder name) result
 
--- over every account none is sealed after an answer
-pub deleted : {a b : History} {folder name : List ℕ} {reply : SwiftReply} → folder ≡ gateway_name → name ≡ sealed_name → Calls a b (DeleteObject folder name) (Ok reply) → IsTrue a.observable → IsSettled (present b)
-deleted {a = a} {b = b} {reply = reply} foldered named calls observable =
-    gone_by (subst {A = List ℕ × List ℕ} (λ n. Calls a b (DeleteObject n.0 n.1) (Ok reply)) (λ i. (foldered i, named i)) calls) observable
+so_called : {a b : History} {folder name : List ℕ} {result : Result SwiftReply SwiftFault} → folder ≡ gateway_name → name ≡ sealed_name → called_so folder name a b result → called_so gateway_name sealed_name a b result
+so_called {a = a} {b = b} {result = result} foldered named calls = subst {A = List ℕ × List ℕ} (λ n. called_so n.0 n.1 a b result) (λ i. (foldered i, named i)) calls
+
+-- it leaves the container
+pub delete_keeps : {a b : History} {folder name : List ℕ} {result : Result SwiftReply SwiftFault} → folder ≡ gateway_name → name ≡ sealed_name → Calls a b (DeleteObject folder name) result → KeepsGateway a b
+delete_keeps foldered named calls = stays_so {P = HasGateway} rolls.delete_there (so_called foldered named calls)
+
+gone_by : {a b : History} {reply : SwiftReply} → called_so gateway_name sealed_name a b (Ok reply) → IsTrue a.observable → HasGateway (present a) → IsSettled (present b)
+gone_by {a = a} {b = b} calls observable has =
+    subst IsSettled (sym (calls.effect observable).tree) (rolls.delete_unseals (b.account_at a.called) (subst HasGateway (sym (found calls observable)) has))
+
+-- over every account that has it none is sealed after an answer
+pub deleted : {a b : History} {folder name : List ℕ} {reply : SwiftReply} → folder ≡ gateway_name → name ≡ sealed_name → Calls a b (DeleteObject folder name) (Ok reply)
+    → IsTrue a.observable → HasGateway (present a) → IsSettled (present b)
+deleted foldered named calls = gone_by (so_called foldered named calls)

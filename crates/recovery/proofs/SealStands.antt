@@ -1,18 +1,15 @@
 -- What holds of a completion that is sealed: its object may stand on the store, which takes its list; and it has a tag, a pack and
 -- a record.
-use Rattle.std.specs.Prelude.{◌≡◌, ◌<◌, ◌≤◌, ◌+◌, ◌*◌, ◌^◌, ◌==◌, ◌&&◌, ◌||◌, ℕ, Bool, true, false, not, cond, nat_le, nat_lt, List, [], ◌∷◌, ◌++◌, codes, decimal, flat_map, length, map, sum_by, take, Option, None, Some, IsTrue}
-use Rattle.std.specs.List.{filter, list_all, list_any, All}
-use Rattle.std.specs.FinMap.{get}
+use Rattle.std.specs.Prelude.{◌≡◌, ◌<◌, ◌≤◌, ◌+◌, ◌*◌, ◌^◌, ◌&&◌, ◌||◌, ℕ, Bool, true, false, not, cond, nat_le, nat_lt, List, [], ◌∷◌, ◌++◌, codes, decimal, flat_map, length, map, sum_by, take, None, Some, IsTrue}
+use Rattle.std.specs.List.{list_all, list_any, All}
 use Rattle.std.proofs.Common.{refl, sym, ap, subst, ◌∙◌, arith}
 use Rattle.std.proofs.lemmas.Bool.{and_from, and_parts, leb-true, le-leb, lt-ltb, ltb-true}
-use Rattle.std.proofs.lemmas.Bool.Decides.{nat_tests}
 use Rattle.std.proofs.lemmas.List.{length-append, length-map}
 use Rattle.std.proofs.lemmas.List.Elements.{All-cons, All-nil}
 use Rattle.std.proofs.lemmas.List.Folds.{list_any-append}
 use Rattle.std.proofs.lemmas.List.Sums.{sum_by-cons}
 use Rattle.std.proofs.lemmas.Str.{is_utf8-from_IsUtf8}
 use Rattle.gate_base.specs.Ascii.{is_slash}
-use Rattle.gate_base.specs.Maps.{Names}
 use Rattle.gate_base.specs.Told.{moment_limit}
 use Rattle.gate_base.specs.declared.page.Pair.{Pair}
 use Rattle.hex.specs.Hex.{encode_lower}
@@ -25,15 +22,14 @@ use Rattle.s3_names.proofs.lemmas.BucketLemmas.{bucket_has_no_slash}
 use Rattle.s3_machine.specs.ETag.{body_etag}
 use Rattle.s3_machine.specs.Limits.{is_content_type, is_proper_meta, most_body_bytes}
 use Rattle.s3_machine.specs.Uploads.{digest_in, greatest_part, most_parts, rises, rises_from, upload_etag, IsPartNumber}
-use Rattle.s3_machine.specs.declared.operation.Listed.{Listed}
 use Rattle.slo_manifest.specs.Segments.{is_etag, is_filled, is_listable, is_proper, is_segment}
 use Rattle.slo_manifest.specs.declared.Segment.{Segment}
-use Rattle.swift_calls.specs.Account.{SwiftObject, SwiftAccount, files, find_object, size_of}
+use Rattle.swift_calls.specs.Account.{SwiftAccount, files, find_object}
 use Rattle.swift_calls.specs.Bodies.{as_segment, is_good_list, is_shallow, is_shallow_there, may_be_listed}
 use Rattle.swift_calls.specs.Limits as store
 use Rattle.swift_calls.specs.Limits.{most_segments}
-use Rattle.swift_calls.specs.Step.{Fit, IsContainerName, IsSegmentPlace}
-use Rattle.swift_marks.specs.Pack.{has_pack, pack_of}
+use Rattle.swift_calls.specs.Step.{Fit, IsSegmentPlace}
+use Rattle.swift_marks.specs.Pack.{pack_of}
 use Rattle.swift_marks.specs.Tag as mark
 use Rattle.swift_marks.specs.Tag.{has_text, tag_text}
 use Rattle.swift_marks.proofs.lemmas.FieldLaws.{pack_is_small, tag_is_field}
@@ -44,7 +40,7 @@ use Rattle.upload_texts.specs.declared.sealed.Sealed.{Sealed}
 use Rattle.upload_texts.specs.declared.sealed.SealedPart.{SealedPart}
 use Rattle.upload_records.specs.Consistent.{AreParts, IsConsistent, IsListedPart, IsStored}
 use Rattle.upload_records.specs.Laws.{AreCounted, MayStand}
-use Rattle.upload_records.specs.Layout.{segment_name, segments_name, uploads_name}
+use Rattle.upload_records.specs.Layout.{segment_name, segments_name}
 use Rattle.upload_records.specs.Native.{completed_file, content_by, filled_parts, listed_of, listing_of, part_segment, seal_of, sealed_record, sealed_tag}
 use Rattle.upload_records.proofs.lemmas.Rolling.{as_listed, listing_stands, seal_has_text}
 use Rattle.upload_records.proofs.lemmas.TextLengths.{done_short}

@@ -1,21 +1,22 @@
 -- How a store is settled: the names of what is sealed, the PUT of the gateway's own container, and the whole.
-use Rattle.std.specs.Prelude.{◌≡◌, ℕ, IsTrue, codes, List, None, Result, Ok, Err}
+use Rattle.std.specs.Prelude.{◌≡◌, ℕ, IsTrue, codes, List, None, Ok, Err}
 use Rattle.std.specs.FinMap.{get}
-use Rattle.std.proofs.Common.{refl, sym, ap, subst, ◌∙◌, inl, inr, lit≤, arith}
-use Rattle.swift_calls.specs.History.{History, present}
+use Rattle.std.proofs.Common.{refl, sym, subst, inl, inr, lit≤, arith}
+use Rattle.swift_calls.specs.History.{History, Calls, present}
 use Rattle.swift_calls.specs.Limits.{IsObjectName}
 use Rattle.swift_calls.specs.Step.{IsContainerName}
 use Rattle.swift_calls.specs.declared.account.ReadList.TheVariants.{Nobody}
+use Rattle.swift_calls.specs.declared.calls.SwiftReply.{SwiftReply}
 use Rattle.swift_calls.specs.declared.calls.SwiftRequest.TheVariants.{PutContainer}
 use Rattle.upload_records.specs.Layout.{gateway_name, sealed_name}
 use Rattle.upload_records.specs.Native.{IsSettled}
-use Rattle.upload_records.proofs.lemmas.SideCalls.{gateway_made, gateway_settled}
+use Rattle.upload_records.proofs.lemmas.SideCalls.{gateway_made, gateway_settled, gateway_there}
 use Rattle.recovery.specs.declared.fault.PlanFault.{PlanFault}
 use Rattle.recovery.specs.declared.fault.PlanFault.TheVariants as plan
 use Rattle.recovery.specs.declared.state.SettleFault.{SettleFault}
 use Rattle.recovery.specs.Calls.{always, Any, Asks}
 use Rattle.recovery.specs.Purging.{placed_due}
-use Rattle.recovery.specs.Rolls.{HasGateway, IsClear, Leaves}
+use Rattle.recovery.specs.Rolls.{HasGateway, Leaves}
 use Rattle.recovery.specs.Settling.{settle_fault, IsNamedFault, Settles, SettlesIt}
 use Rattle.recovery.proofs.lemmas.Markers.{folder_is_marker, text_is_marker}
 use Rattle.recovery.proofs.lemmas.Quiet.{IsQuietOf, asks_left, asks_untold}
@@ -54,11 +55,18 @@ gateway_put = record {
 pub puts_gateway : {name : List ℕ} → name ≡ gateway_name → IsQuietOf Any (PutContainer name Nobody None) placed_due (Leaves HasGateway)
 puts_gateway named = subst (λ n. IsQuietOf Any (PutContainer n Nobody None) placed_due (Leaves HasGateway)) (sym named) gateway_put
 
+there_by : {a b : History} {reply : SwiftReply} → Calls a b (PutContainer gateway_name Nobody None) (Ok reply) → IsTrue a.observable → HasGateway (present b)
+there_by {a = a} {b = b} calls observable = subst HasGateway (sym (calls.effect observable).tree) (gateway_there (b.account_at a.called) None)
+
+-- over every account it is there after an answer
+pub gateway_put_there : {a b : History} {name : List ℕ} {reply : SwiftReply} → name ≡ gateway_name → Calls a b (PutContainer name Nobody None) (Ok reply) → IsTrue a.observable → HasGateway (present b)
+gateway_put_there {a = a} {b = b} {reply = reply} named calls = there_by (subst (λ n. Calls a b (PutContainer n Nobody None) (Ok reply)) named calls)
+
 -- ---- the whole
 
 module _ {a b : History} where
-  pub settles_done : Asks (always 5) a b Any (Leaves IsClear) (Ok tt) → (IsTrue a.observable → IsSettled (present b)) → Settles a b (Ok tt)
-  settles_done asks settled = record { asks = asks_left tt (lit≤ tt) asks (λ old new sound same given clear. clear.settled); done = λ observable e. settled observable }
+  pub settles_done : Asks (always 5) a b Any (Leaves IsSettled) (Ok tt) → (IsTrue a.observable → IsSettled (present b)) → Settles a b (Ok tt)
+  settles_done asks settled = record { asks = asks_left tt (lit≤ tt) asks (λ old new sound same given clear. clear); done = λ observable e. settled observable }
 
   fault_same : (f : PlanFault) (e : SettleFault) → IsNamedFault f e → Asks (always 5) a b Any SettlesIt (Err f) → Asks (always 5) a b Any SettlesIt (Err (settle_fault e))
   fault_same plan.Failed e is asks = subst (λ e. Asks (always 5) a b Any SettlesIt (Err (settle_fault e))) (sym is) asks
@@ -67,5 +75,5 @@ module _ {a b : History} where
       subst (λ e. Asks (always 5) a b Any SettlesIt (Err (settle_fault e))) (sym is) (record { grows = asks.grows; cause = asks.cause; effect = λ met. absurd (asks.effect met); settled = asks.settled })
   fault_same plan.Inconsistent e (inr is) asks = subst (λ e. Asks (always 5) a b Any SettlesIt (Err (settle_fault e))) (sym is) asks
 
-  pub settles_fault : {f : PlanFault} {e : SettleFault} → IsNamedFault f e → Asks (always 5) a b Any (Leaves IsClear) (Err f) → Settles a b (Err e)
+  pub settles_fault : {f : PlanFault} {e : SettleFault} → IsNamedFault f e → Asks (always 5) a b Any (Leaves IsSettled) (Err f) → Settles a b (Err e)
   settles_fault {f = f} {e = e} is asks = record { asks = fault_same f e is (asks_untold f asks); done = λ observable no. cc }

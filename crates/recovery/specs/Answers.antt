@@ -1,6 +1,6 @@
 -- What the calls of one operation may amount to. It stands between two numbers of calls, over an account that is
 -- consistent at the first. Source: this profile.
-use Rattle.std.specs.Prelude.{◌≡◌, ◌<◌, ◌≤◌, ◌⊎◌, ℕ, suc, ◌+◌, ◌*◌, ◌/◌, ◌%◌, ◌^◌, Bool, true, false, List, [], ◌∷◌, ◌++◌, length, take, is_some, Option, None, Some}
+use Rattle.std.specs.Prelude.{◌≡◌, ◌<◌, ◌≤◌, ◌⊎◌, ℕ, suc, ◌+◌, ◌*◌, ◌/◌, ◌%◌, ◌^◌, Bool, true, false, List, [], ◌∷◌, ◌++◌, length, map, take, is_some, Option, None, Some}
 use Rattle.std.specs.FinMap.{entries, get, len}
 use Rattle.std.specs.List.{filter}
 use Rattle.s3_machine.specs.declared.code.Code.{Code}
@@ -28,6 +28,7 @@ use Rattle.s3_machine.specs.declared.operation.Op.TheVariants.{
   ListParts,
   CompleteUpload,
   AbortUpload,
+  DeleteObjects,
 }
 use Rattle.s3_machine.specs.declared.operation.Reply.{Reply}
 use Rattle.s3_machine.specs.declared.operation.Reply.TheVariants.{Refused, Memory, Gone, Completed}
@@ -66,6 +67,12 @@ is_upload (UploadPart bucket key id number body) = true
 is_upload (ListParts bucket key id marker max) = true
 is_upload (CompleteUpload bucket key id list) = true
 is_upload (AbortUpload bucket key id) = true
+is_upload (DeleteObjects bucket keys quiet) = false
+
+-- whether the operation is one on many keys at once
+abbrev pub is_many : Op → Bool
+is_many (DeleteObjects bucket keys quiet) = true
+is_many op = false
 
 -- ---- the steps of an operation
 
@@ -90,6 +97,7 @@ parts_of (UploadPart bucket key id number body) = []
 parts_of (ListParts bucket key id marker max) = []
 parts_of (CompleteUpload bucket key id list) = []
 parts_of (AbortUpload bucket key id) = []
+parts_of (DeleteObjects bucket keys quiet) = map (DeleteObject bucket) keys
 
 -- how many steps the account takes for an operation: one for each of its parts, and one for the whole
 abbrev pub steps_of : Op → ℕ
@@ -144,6 +152,7 @@ is_old_if_failed (UploadPart bucket key id number body) = true
 is_old_if_failed (ListParts bucket key id marker max) = true
 is_old_if_failed (CompleteUpload bucket key id list) = true
 is_old_if_failed (AbortUpload bucket key id) = true
+is_old_if_failed (DeleteObjects bucket keys quiet) = false
 
 -- whether it is the old one there, where memory ran out: of all but AbortUpload, which deletes the parts once the upload is gone
 abbrev pub is_old_if_out_of_memory : Op → Bool
@@ -166,6 +175,7 @@ is_old_if_out_of_memory (UploadPart bucket key id number body) = true
 is_old_if_out_of_memory (ListParts bucket key id marker max) = true
 is_old_if_out_of_memory (CompleteUpload bucket key id list) = true
 is_old_if_out_of_memory (AbortUpload bucket key id) = false
+is_old_if_out_of_memory (DeleteObjects bucket keys quiet) = false
 
 -- the state is the old one at each number before q, if that is asked for
 abbrev pub OldIf : Bool → History → ℕ → ℕ → Type 0
@@ -244,6 +254,7 @@ beside_of (UploadPart bucket key id number body) = nothing_beside
 beside_of (ListParts bucket key id marker max) = nothing_beside
 beside_of (CompleteUpload bucket key id list) = nothing_beside
 beside_of (AbortUpload bucket key id) = clears bucket id
+beside_of (DeleteObjects bucket keys quiet) = nothing_beside
 
 -- the calls from p to q, by which an operation was answered, leave the account so
 abbrev pub SaysBeside : Beside → Label → History → ℕ → ℕ → Reply → Type 0
@@ -304,6 +315,7 @@ most_calls (UploadPart bucket key id number body) tree = always 3
 most_calls (ListParts bucket key id marker max) tree = by_account (2 + pages (named_by tree bucket id))
 most_calls (CompleteUpload bucket key id list) tree = by_account (6 + pages (named_by tree bucket id))
 most_calls (AbortUpload bucket key id) tree = by_account (3 + pages (named_by tree bucket id) + named_by tree bucket id)
+most_calls (DeleteObjects bucket keys quiet) tree = always (1 + length keys)
 
 -- whether no call failed under a reply of the service: of all but a completion and an abort that are done, whose commit other calls
 -- follow
@@ -329,6 +341,7 @@ ends_by_commit (CompleteUpload bucket key id list) (Completed in_bucket under et
 ends_by_commit (CompleteUpload bucket key id list) reply = true
 ends_by_commit (AbortUpload bucket key id) Gone = false
 ends_by_commit (AbortUpload bucket key id) reply = true
+ends_by_commit (DeleteObjects bucket keys quiet) reply = true
 
 -- a code that speaks of the store below
 abbrev pub is_of_store : Code → Bool
@@ -364,6 +377,7 @@ may_leave_unsure (UploadPart bucket key id number body) reply = false
 may_leave_unsure (ListParts bucket key id marker max) reply = false
 may_leave_unsure (CompleteUpload bucket key id list) reply = may_be_sealed reply
 may_leave_unsure (AbortUpload bucket key id) reply = false
+may_leave_unsure (DeleteObjects bucket keys quiet) reply = false
 
 -- the greatest number of calls by which a store is settled, by the account as it began
 abbrev pub most_settling : SwiftAccount → Bound

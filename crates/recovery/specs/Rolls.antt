@@ -1,9 +1,10 @@
 -- A completion that is sealed, and the calls that finish it: how far it is, and what each call leaves. Source: Object Storage API
 -- v1, "Static large objects", and this profile.
-use Rattle.std.specs.Prelude.{◌≡◌, ℕ, Bool, true, false, List, [], ◌∷◌, codes, Option, None, Some, Result, Ok, Err}
+use Rattle.std.specs.Prelude.{◌≡◌, ℕ, Bool, true, false, IsTrue, List, [], ◌∷◌, codes, Option, None, Some, Result, Ok, Err}
 use Rattle.s3_names.specs.Id.{id_digits}
 use Rattle.slo_manifest.specs.declared.Segment.{Segment}
 use Rattle.swift_calls.specs.Account.{SwiftObject, SwiftAccount, files, find_object}
+use Rattle.swift_calls.specs.History.{History, present}
 use Rattle.swift_calls.specs.declared.calls.SwiftReply.{SwiftReply}
 use Rattle.swift_calls.specs.declared.calls.SwiftReply.TheVariants.{NotFound, Bytes, Stored}
 use Rattle.swift_calls.specs.declared.calls.SwiftRequest.{SwiftRequest}
@@ -43,14 +44,17 @@ pub record HasRecord (s : Sealed) (tree : SwiftAccount) : Type 0 where
   pub object : HasObject s tree
   pub kept : record_at (files tree (uploads_name s.bucket)) (id_digits s.id) ≡ Some (sealed_record s)
 
--- none is sealed any more
-pub record IsClear (tree : SwiftAccount) : Type 0 where
-  pub gateway : HasGateway tree
-  pub settled : IsSettled tree
-
 -- what calls leave, whatever they found
 abbrev pub Leaves : (SwiftAccount → Type 0) → SwiftAccount → SwiftAccount → Unit {0} → Type 0
 Leaves P old new done = P new
+
+-- over every observable store, whether its account is consistent or not, calls leave the gateway's own container where it is
+abbrev pub KeepsGateway : History → History → Type 0
+KeepsGateway old new = IsTrue old.observable → HasGateway (present old) → HasGateway (present new)
+
+-- and where they told this over a store that has it, no completion is sealed after them
+abbrev pub LeavesClear : {T : Type 0} → T → History → History → Result T PlanFault → Type 0
+LeavesClear told old new result = IsTrue old.observable → HasGateway (present old) → result ≡ Ok told → IsSettled (present new)
 
 -- what is sealed is told, and the account is left as it is
 pub record TellsSealed (old new : SwiftAccount) (told : Option Sealed) : Type 0 where

@@ -27,7 +27,7 @@ abbrev pub as_plan : Result (Unit {0}) SettleFault → Result (Unit {0}) PlanFau
 as_plan (Ok done) = Ok done
 as_plan (Err fault) = Err (settle_fault fault)
 
--- what settling tells: no completion is sealed on the account after it
+-- what settling tells: the account after it is settled
 abbrev pub SettlesIt : SwiftAccount → SwiftAccount → Unit {0} → Type 0
 SettlesIt old new done = IsSettled new
 
@@ -37,7 +37,8 @@ IsNamedFault plan.Failed fault = fault ≡ Failed
 IsNamedFault plan.Memory fault = fault ≡ Memory
 IsNamedFault plan.Inconsistent fault = (fault ≡ Memory) ⊎ (fault ≡ Inconsistent gateway_name sealed_name)
 
--- a store was settled: the state stays, and after Ok no completion is sealed, also where the account is not consistent
+-- a store was settled: the state stays, and after Ok no completion is sealed and the gateway's own container is there, also where
+-- the account is not consistent
 pub record Settles (old new : History) (result : Result (Unit {0}) SettleFault) : Type 0 where
   pub asks : Asks (most_settling (present old)) old new Any SettlesIt (as_plan result)
   pub done : IsTrue old.observable → result ≡ Ok tt → IsSettled (present new)

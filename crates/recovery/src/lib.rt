@@ -24,6 +24,6 @@ pub use keys::list_objects;
 pub use laws::{law_answered_fault_free, law_never_unavailable};
 pub use listing::list_buckets;
 pub use object::{delete_object, get_object, head_object, put_object};
-pub use plans::is_upload;
+pub use plans::{is_many, is_upload};
 pub use rolling::roll_forward;
 pub use state::{Known, SettleFault, Settled, Unsure};

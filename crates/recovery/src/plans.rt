@@ -1,5 +1,5 @@
 ghost use Rattle.std.specs.Prelude.{◌≡◌};
-ghost use Rattle.recovery.specs.Answers.{is_upload};
+ghost use Rattle.recovery.specs.Answers.{is_many, is_upload};
 
 use s3_machine::Op;
 
@@ -20,7 +20,8 @@ pub fn is_upload(op: &Op) -> bool
         | Op::GetObject { .. }
         | Op::HeadObject { .. }
         | Op::DeleteObject { .. }
-        | Op::GetObjectAcl { .. } => false,
+        | Op::GetObjectAcl { .. }
+        | Op::DeleteObjects { .. } => false,
         Op::ListUploads { .. }
         | Op::CreateUpload { .. }
         | Op::UploadPart { .. }
@@ -28,4 +29,11 @@ pub fn is_upload(op: &Op) -> bool
         | Op::CompleteUpload { .. }
         | Op::AbortUpload { .. } => true,
     }
+}
+
+/// The operation is one on many keys at once, which has a plan of its own.
+pub fn is_many(op: &Op) -> bool
+    ensures { result ≡ is_many op.now }
+{
+    matches!(op, Op::DeleteObjects { .. })
 }

@@ -4,7 +4,7 @@ ghost use Rattle.swift_calls.specs.History.{present};
 ghost use Rattle.upload_texts.specs.Sealed.{has_sealed_text};
 ghost use Rattle.upload_records.specs.Native.{IsSettled};
 ghost use Rattle.recovery.specs.Calls.{always, Any, Asks};
-ghost use Rattle.recovery.specs.Rolls.{HasGateway, HasObject, HasRecord, IsClear, IsSealed, Leaves, TellsSealed};
+ghost use Rattle.recovery.specs.Rolls.{HasGateway, HasObject, HasRecord, IsSealed, KeepsGateway, Leaves, LeavesClear, TellsSealed};
 
 use crate::PlanFault;
 use crate::beside::placed_in;
@@ -19,7 +19,7 @@ use upload_texts::Sealed;
 
 /// Settles a store: makes the gateway's own container, and finishes the completion that is sealed there, if one is.
 pub(crate) fn settle_store<W: Swift>(alloc: Global, store: &mut W) -> Result<(), PlanFault>
-    ensures asks { Asks (always 5) (W.history store.old) (W.history store.new) Any (Leaves IsClear) result }
+    ensures asks { Asks (always 5) (W.history store.old) (W.history store.new) Any (Leaves IsSettled) result }
     ensures done { IsTrue (W.history store.old).observable → result ≡ Ok tt → IsSettled (present (W.history store.new)) }
 {
     put_gateway(alloc, store)?;
@@ -30,6 +30,7 @@ pub(crate) fn settle_store<W: Swift>(alloc: Global, store: &mut W) -> Result<(),
 #[tactic(auto, using(crate::proofs::Settling::gateway_is_container))]
 fn put_gateway<W: Swift>(alloc: Global, store: &mut W) -> Result<(), PlanFault>
     ensures asks { Asks (always 1) (W.history store.old) (W.history store.new) Any (Leaves HasGateway) result }
+    ensures there { IsTrue (W.history store.old).observable → result ≡ Ok tt → HasGateway (present (W.history store.new)) }
 {
     let reply = ask(
         store,
@@ -44,8 +45,8 @@ fn put_gateway<W: Swift>(alloc: Global, store: &mut W) -> Result<(), PlanFault>
 
 /// Finishes the completion that is sealed, if one is.
 fn settle_made<W: Swift>(alloc: Global, store: &mut W) -> Result<(), PlanFault>
-    ensures asks { Asks (always 4) (W.history store.old) (W.history store.new) HasGateway (Leaves IsClear) result }
-    ensures done { IsTrue (W.history store.old).observable → result ≡ Ok tt → IsSettled (present (W.history store.new)) }
+    ensures asks { Asks (always 4) (W.history store.old) (W.history store.new) HasGateway (Leaves IsSettled) result }
+    ensures done { LeavesClear tt (W.history store.old) (W.history store.new) result }
 {
     match get_sealed(alloc, store)? {
         Some(sealed) => roll_forward(alloc, store, &sealed),
@@ -59,7 +60,8 @@ fn settle_made<W: Swift>(alloc: Global, store: &mut W) -> Result<(), PlanFault>
 fn get_sealed<W: Swift>(alloc: Global, store: &mut W) -> Result<Option<Sealed>, PlanFault>
     ensures asks { Asks (always 1) (W.history store.old) (W.history store.new) HasGateway TellsSealed result }
     ensures has { IfOk result (λ found. IfSome found (λ s. has_sealed_text s ≡ true)) }
-    ensures none { IsTrue (W.history store.old).observable → result ≡ Ok None → IsSettled (present (W.history store.new)) }
+    ensures keeps { KeepsGateway (W.history store.old) (W.history store.new) }
+    ensures none { LeavesClear None (W.history store.old) (W.history store.new) result }
 {
     let container = gateway_container(alloc)?;
     let name = sealed_name(alloc)?;
@@ -77,15 +79,17 @@ fn get_sealed<W: Swift>(alloc: Global, store: &mut W) -> Result<Option<Sealed>, 
 /// Finishes a sealed completion by three calls: PUT of its object, PUT of its record, and DELETE of what is sealed. The S3 state
 /// stays, in which the completion is finished since it was sealed. Failed comes only where the store's count of faults rose;
 /// Memory where memory ran out; Inconsistent never over an observable consistent account on which this completion is sealed.
-/// After a fault it may be sealed still.
+/// After Ok over an observable store that has the gateway's own container none is sealed, also where the account isn't
+/// consistent; after a fault it may be sealed still. The container stays.
 pub fn roll_forward<W: Swift>(
     alloc: Global,
     store: &mut W,
     sealed: &Sealed,
 ) -> Result<(), PlanFault>
     requires { has_sealed_text sealed.now ≡ true }
-    ensures asks { Asks (always 3) (W.history store.old) (W.history store.new) (IsSealed sealed.now) (Leaves IsClear) result }
-    ensures done { IsTrue (W.history store.old).observable → result ≡ Ok tt → IsSettled (present (W.history store.new)) }
+    ensures asks { Asks (always 3) (W.history store.old) (W.history store.new) (IsSealed sealed.now) (Leaves IsSettled) result }
+    ensures keeps { KeepsGateway (W.history store.old) (W.history store.new) }
+    ensures done { LeavesClear tt (W.history store.old) (W.history store.new) result }
 {
     put_sealed_object(alloc, store, sealed)?;
     keep(alloc, store, sealed)
@@ -99,6 +103,7 @@ fn put_sealed_object<W: Swift>(
 ) -> Result<(), PlanFault>
     requires { has_sealed_text sealed.now ≡ true }
     ensures asks { Asks (always 1) (W.history store.old) (W.history store.new) (IsSealed sealed.now) (Leaves (HasObject sealed.now)) result }
+    ensures keeps { KeepsGateway (W.history store.old) (W.history store.new) }
 {
     let request = object_request(alloc, sealed)?;
     let reply = ask(store, request)?;
@@ -108,8 +113,9 @@ fn put_sealed_object<W: Swift>(
 /// Puts the record of a sealed completion whose object is there, and deletes what is sealed.
 fn keep<W: Swift>(alloc: Global, store: &mut W, sealed: &Sealed) -> Result<(), PlanFault>
     requires { has_sealed_text sealed.now ≡ true }
-    ensures asks { Asks (always 2) (W.history store.old) (W.history store.new) (HasObject sealed.now) (Leaves IsClear) result }
-    ensures done { IsTrue (W.history store.old).observable → result ≡ Ok tt → IsSettled (present (W.history store.new)) }
+    ensures asks { Asks (always 2) (W.history store.old) (W.history store.new) (HasObject sealed.now) (Leaves IsSettled) result }
+    ensures keeps { KeepsGateway (W.history store.old) (W.history store.new) }
+    ensures done { LeavesClear tt (W.history store.old) (W.history store.new) result }
 {
     put_sealed_record(alloc, store, sealed)?;
     delete_sealed(alloc, store, sealed)
@@ -123,6 +129,7 @@ fn put_sealed_record<W: Swift>(
 ) -> Result<(), PlanFault>
     requires { has_sealed_text sealed.now ≡ true }
     ensures asks { Asks (always 1) (W.history store.old) (W.history store.new) (HasObject sealed.now) (Leaves (HasRecord sealed.now)) result }
+    ensures keeps { KeepsGateway (W.history store.old) (W.history store.new) }
 {
     let text = done_text(alloc, sealed)?;
     let etag = body_etag(text.as_slice());
@@ -134,8 +141,9 @@ fn put_sealed_record<W: Swift>(
 /// Deletes what is sealed, whose object and record are there (Object Storage API v1, "Delete object").
 #[tactic(auto, using(crate::proofs::Settling::gateway_is_container, crate::proofs::Settling::sealed_is_object))]
 fn delete_sealed<W: Swift>(alloc: Global, store: &mut W, sealed: &Sealed) -> Result<(), PlanFault>
-    ensures asks { Asks (always 1) (W.history store.old) (W.history store.new) (HasRecord sealed.now) (Leaves IsClear) result }
-    ensures done { IsTrue (W.history store.old).observable → result ≡ Ok tt → IsSettled (present (W.history store.new)) }
+    ensures asks { Asks (always 1) (W.history store.old) (W.history store.new) (HasRecord sealed.now) (Leaves IsSettled) result }
+    ensures keeps { KeepsGateway (W.history store.old) (W.history store.new) }
+    ensures done { LeavesClear tt (W.history store.old) (W.history store.new) result }
 {
     let container = gateway_container(alloc)?;
     let name = sealed_name(alloc)?;

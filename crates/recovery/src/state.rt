@@ -1,26 +1,31 @@
 //! The store as an operation finds it: a completion may be sealed on it, or none is.
-ghost use Rattle.std.specs.Prelude.{◌≡◌, map, IfOk};
+ghost use Rattle.std.specs.Prelude.{◌≡◌, map, true, IfOk};
 ghost use Rattle.list_pages.specs.Listing.{name_in, page_request, AsksPage, IsPageOf};
 ghost use Rattle.swift_calls.specs.History.{Calls};
 ghost use Rattle.swift_calls.specs.Step.{Fit};
+ghost use Rattle.upload_texts.specs.Sealed.{has_sealed_text};
+ghost use Rattle.upload_records.specs.Native.{IsSettled};
+ghost use Rattle.recovery.specs.Calls.{always, Asks};
 ghost use Rattle.recovery.specs.Lent.{Stays};
+ghost use Rattle.recovery.specs.Rolls.{IsSealed, KeepsGateway, Leaves, LeavesClear};
 ghost use Rattle.recovery.specs.Settling.{IsNamedFault, Settles};
 
 use crate::PlanFault;
-use crate::rolling::settle_store;
+use crate::rolling::{roll_forward, settle_store};
 use gate_base::{Bytes, List};
 use list_pages::{PageFault, names};
 use s3_machine::Settings;
 use std::alloc::Global;
 use swift_calls::{NameItem, Swift, SwiftFault, SwiftReply, SwiftRequest};
 use upload_records::{gateway_container, sealed_name};
+use upload_texts::Sealed;
 
 /// What is known of a store between two operations.
 #[derive(Clone, Copy, Debug, PartialEq, Eq)]
 pub enum Known {
-    /// No completion is sealed on its account.
+    /// No completion is sealed on its account, which has the gateway's own container.
     Settled,
-    /// One may be.
+    /// One may be, or the container may be missing.
     Unsure,
 }
 
@@ -32,8 +37,8 @@ pub struct Unsure<'a, W: Swift> {
     settings: &'a Settings,
 }
 
-/// A store as an operation is answered over it. That no completion is sealed on its account is what the clauses of its calls
-/// ask for; the type keeps nothing of it.
+/// A store as an operation is answered over it: one that was settled when it was held ([`Settled::hold`]). The calls for plans
+/// that make their own may seal a completion on it, so the type keeps nothing of that; the clauses of the other calls ask for it.
 #[derive(Drop)]
 pub struct Settled<'a, W: Swift> {
     pub(crate) store: &'a mut W,
@@ -69,7 +74,8 @@ impl<'a, W: Swift> Unsure<'a, W> {
     /// Settles the store, so that it can be held as [`Settled`]: the gateway's own container is made, what is sealed there is
     /// looked for, and a completion that is found is finished. That is two calls, or five. The S3 state stays. Failed comes
     /// only where the store's count of faults rose; Memory where memory ran out; Inconsistent, of the file of what is sealed,
-    /// never over an observable consistent account. After a fault a completion may be sealed.
+    /// never over an observable consistent account. After Ok no completion is sealed and the container is there, over every
+    /// observable store; after a fault a completion may be sealed.
     pub fn settle(&mut self) -> Result<(), SettleFault>
         ensures same { self.new.store.ghost_name ≡ self.old.store.ghost_name }
         ensures settings { self.new.settings.now ≡ self.old.settings.now }
@@ -136,6 +142,18 @@ impl<'a, W: Swift> Settled<'a, W> {
         ensures calls { Calls (W.history self.old.store.now) (W.history self.new.store.now) request result }
     {
         ask(self.store, request)
+    }
+
+    /// Finishes a sealed completion ([`roll_forward`]), for a plan that sealed it. After a fault it may be sealed still, so that the
+    /// store isn't known to be settled.
+    pub fn finish(&mut self, alloc: Global, sealed: &Sealed) -> Result<(), PlanFault>
+        requires { has_sealed_text sealed.now ≡ true }
+        ensures stays { Stays self.old self.new }
+        ensures asks { Asks (always 3) (W.history self.old.store.now) (W.history self.new.store.now) (IsSealed sealed.now) (Leaves IsSettled) result }
+        ensures keeps { KeepsGateway (W.history self.old.store.now) (W.history self.new.store.now) }
+        ensures done { LeavesClear tt (W.history self.old.store.now) (W.history self.new.store.now) result }
+    {
+        roll_forward(alloc, self.store, sealed)
     }
 
     /// One page of the names of a container, for a plan that makes its own calls ([`list_pages::names`]).

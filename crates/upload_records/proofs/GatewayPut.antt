@@ -113,7 +113,7 @@ made_head : (tree : SwiftAccount) (created : Option ℕ) (o : Option SwiftContai
 made_head tree created None e = ap (option_map head_of) (at_insert by_name tree gateway_name _)
 made_head tree created (Some folder) e = ap (option_map head_of) (at_adjust by_name gateway_name (with_head Nobody created) tree ∙ ap (option_map (with_head Nobody created)) e)
 
-made_there : (tree : SwiftAccount) (created : Option ℕ) (o : Option SwiftContainer) → get tree gateway_name ≡ o → is_some (get (put_container o gateway_name Nobody created tree).tree gateway_name) ≡ true
+pub made_there : (tree : SwiftAccount) (created : Option ℕ) (o : Option SwiftContainer) → get tree gateway_name ≡ o → is_some (get (put_container o gateway_name Nobody created tree).tree gateway_name) ≡ true
 made_there tree created None e = ap is_some (at_insert by_name tree gateway_name _)
 made_there tree created (Some folder) e = ap is_some (at_adjust by_name gateway_name (with_head Nobody created) tree ∙ ap (option_map (with_head Nobody created)) e)
 

@@ -89,7 +89,7 @@ some_still g None e = e
 some_still g (Some folder) e = refl
 
 -- a change of the files of a container leaves each where it is
-containers_stay : (tree : SwiftAccount) (c : List ℕ) (g : Names SwiftObject → Names SwiftObject) → StaysThere tree (adjust c (on_files g) tree)
+pub containers_stay : (tree : SwiftAccount) (c : List ℕ) (g : Names SwiftObject → Names SwiftObject) → StaysThere tree (adjust c (on_files g) tree)
 containers_stay tree c g n there = elim (same_key by_name n c) [
   | inl e ↦ subst (IsThere (adjust c (on_files g) tree)) (sym e) (ap is_some (at_adjust by_name c (on_files g) tree) ∙ some_still g (get tree c) (ap (λ m. is_some (get tree m)) (sym e) ∙ there))
   | inr a ↦ ap is_some (off_adjust by_name c (on_files g) tree n a) ∙ there

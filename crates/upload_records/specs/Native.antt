@@ -1,6 +1,6 @@
 -- The S3 state that an account represents: what its containers hold, and over it the completion that is sealed. It is a
 -- total function: what doesn't read as a bucket, an object, an upload or a completion isn't there. Source: this profile.
-use Rattle.std.specs.Prelude.{◌≡◌, ℕ, nat_lt, List, [], ◌∷◌, map, flat_map, cond, is_some, Option, None, Some}
+use Rattle.std.specs.Prelude.{◌≡◌, true, ℕ, nat_lt, List, [], ◌∷◌, map, flat_map, cond, is_some, Option, None, Some}
 use Rattle.std.specs.Option.{unwrap_or, option_map, option_and_then}
 use Rattle.std.specs.List.{filter}
 use Rattle.std.specs.FinMap.{get}
@@ -176,9 +176,10 @@ pub record SameGateway (tree new : SwiftAccount) : Type 0 where
 abbrev pub IsUnsealed : SwiftAccount → Type 0
 IsUnsealed tree = sealed_of tree ≡ None
 
--- a store on whose account no completion is sealed, so that operations may be answered
+-- a store on whose account no completion is sealed, and which has the gateway's own container, so that operations may be answered
 pub record IsSettled (tree : SwiftAccount) : Type 0 where
   pub none : IsUnsealed tree
+  pub gateway : is_some (get tree gateway_name) ≡ true
 
 -- the state that an account represents: its buckets, and over them the completion that is sealed
 unfoldable pub s3_state : SwiftAccount → State

@@ -380,3 +380,4 @@ none_beside (op.UploadPart bucket key id number body) other = cc
 none_beside (op.ListParts bucket key id marker max) other = cc
 none_beside (op.CompleteUpload bucket key id list) other = cc
 none_beside (op.AbortUpload bucket key id) other = cc
+none_beside (op.DeleteObjects bucket keys quiet) other = refl

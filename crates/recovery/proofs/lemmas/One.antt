@@ -85,34 +85,42 @@ pub fault_cause : (T : Type 0) (before now : ℕ) (fault : SwiftFault) → Count
 fault_cause T before now Failed counts = counts
 fault_cause T before now Memory counts = counts
 
--- ---- a call leaves the account settled
+-- ---- what a call leaves of the account
+
+-- the request leaves it so on each account
+abbrev pub LeavesSo : (SwiftAccount → Type 0) → SwiftRequest → Type 0
+LeavesSo P request = (tree : SwiftAccount) → P tree → P (swift_step request tree).tree
 
 -- the request leaves each settled account settled
 abbrev pub LeavesSettled : SwiftRequest → Type 0
-LeavesSettled request = (tree : SwiftAccount) → IsSettled tree → IsSettled (swift_step request tree).tree
+LeavesSettled request = LeavesSo IsSettled request
 
-module _ (h : History) (p q : ℕ) (request : SwiftRequest) (leaves : LeavesSettled request) (settled : IsSettled (h.account_at p)) where
-  settled_done : h.account_at q ≡ (swift_step request (h.account_at p)).tree → IsSettled (h.account_at q)
-  settled_done done = subst IsSettled (sym done) (leaves (h.account_at p) settled)
+module _ (P : SwiftAccount → Type 0) (h : History) (p q : ℕ) (request : SwiftRequest) (leaves : LeavesSo P request) (was : P (h.account_at p)) where
+  so_done : h.account_at q ≡ (swift_step request (h.account_at p)).tree → P (h.account_at q)
+  so_done done = subst P (sym done) (leaves (h.account_at p) was)
 
-  settled_same : h.account_at q ≡ h.account_at p → IsSettled (h.account_at q)
-  settled_same same = subst IsSettled (sym same) settled
+  so_same : h.account_at q ≡ h.account_at p → P (h.account_at q)
+  so_same same = subst P (sym same) was
 
-  settled_either : Either h p q request → IsSettled (h.account_at q)
-  settled_either (inl same) = settled_same same
-  settled_either (inr done) = settled_done done
+  so_either : Either h p q request → P (h.account_at q)
+  so_either (inl same) = so_same same
+  so_either (inr done) = so_done done
 
-  settled_after : (result : Result SwiftReply SwiftFault) → Called h p q request result → IsSettled (h.account_at q)
-  settled_after (Ok reply) c = settled_done c.tree
-  settled_after (Err Failed) (inl c) = settled_either c.either
-  settled_after (Err Failed) (inr (spent, same)) = settled_same (ap h.account_at same)
-  settled_after (Err Memory) (inl c) = settled_either c.either
-  settled_after (Err Memory) (inr same) = settled_same (ap h.account_at same)
+  so_after : (result : Result SwiftReply SwiftFault) → Called h p q request result → P (h.account_at q)
+  so_after (Ok reply) c = so_done c.tree
+  so_after (Err Failed) (inl c) = so_either c.either
+  so_after (Err Failed) (inr (spent, same)) = so_same (ap h.account_at same)
+  so_after (Err Memory) (inl c) = so_either c.either
+  so_after (Err Memory) (inr same) = so_same (ap h.account_at same)
+
+pub stays_so : {P : SwiftAccount → Type 0} {old new : History} {request : SwiftRequest} {result : Result SwiftReply SwiftFault} → LeavesSo P request → Calls old new request result
+    → IsTrue old.observable → P (present old) → P (present new)
+stays_so {P = P} {old = old} {new = new} {request = request} {result = result} leaves calls observable was =
+    so_after P new old.called new.called request leaves (subst P (sym (found calls observable)) was) result (calls.effect observable)
 
 pub stays_settled : {old new : History} {request : SwiftRequest} {result : Result SwiftReply SwiftFault} → LeavesSettled request → Calls old new request result
     → IsTrue old.observable → IsSettled (present old) → IsSettled (present new)
-stays_settled {old = old} {new = new} {request = request} {result = result} leaves calls observable settled =
-    settled_after new old.called new.called request leaves (subst IsSettled (sym (found calls observable)) settled) result (calls.effect observable)
+stays_settled leaves calls observable settled = stays_so {P = IsSettled} leaves calls observable settled
 
 -- ---- a call that failed
 

@@ -1,5 +1,5 @@
 -- The containers beside a bucket, the record of an upload and its segments have names that a store takes.
-use Rattle.std.specs.Prelude.{◌≡◌, ◌==◌, ◌<◌, ◌≤◌, ◌&&◌, ℕ, Bool, nat_lt, List, [], ◌∷◌, ◌++◌, length, codes, true, false, not, Contains, IsUtf8}
+use Rattle.std.specs.Prelude.{◌≡◌, ◌==◌, ◌<◌, ◌≤◌, ◌&&◌, ℕ, Bool, nat_lt, List, ◌∷◌, ◌++◌, length, codes, true, false, not, Contains, IsUtf8}
 use Rattle.std.specs.List.{list_all}
 use Rattle.std.proofs.Common.{refl, ◌∙◌, arith}
 use Rattle.std.proofs.lemmas.Bool.{and_from}

@@ -135,6 +135,9 @@ delete_same tree = delete_leaves (find_object tree gateway_name sealed_name) gat
 pub delete_there : (tree : SwiftAccount) → IsThere tree gateway_name → IsThere (swift_step (DeleteObject gateway_name sealed_name) tree).tree gateway_name
 delete_there tree there = subst (λ t. IsThere t gateway_name) (sym (delete_same tree)) (rolls.gateway_still tree there)
 
--- over every account none is sealed after it
-pub delete_unseals : (tree : SwiftAccount) → IsSettled (swift_step (DeleteObject gateway_name sealed_name) tree).tree
-delete_unseals tree = record { none = unsealed_by (swift_step (DeleteObject gateway_name sealed_name) tree).tree (ap seal_of (delete_same tree) ∙ rolls.seal_gone tree) }
+-- over every account that has it none is sealed after it
+pub delete_unseals : (tree : SwiftAccount) → IsThere tree gateway_name → IsSettled (swift_step (DeleteObject gateway_name sealed_name) tree).tree
+delete_unseals tree there = record {
+  none = unsealed_by (swift_step (DeleteObject gateway_name sealed_name) tree).tree (ap seal_of (delete_same tree) ∙ rolls.seal_gone tree);
+  gateway = delete_there tree there;
+}

@@ -69,7 +69,7 @@ pub unsealed_of : {tree : SwiftAccount} → IsSettled tree → IsUnsealed tree
 unsealed_of settled = settled.none
 
 pub settled_same : {tree tree' : SwiftAccount} → SameGateway tree tree' → IsSettled tree → IsSettled tree'
-settled_same {tree = tree} {tree' = tree'} same settled = record { none = unsealed_same tree tree' same settled.none }
+settled_same {tree = tree} {tree' = tree'} same settled = record { none = unsealed_same tree tree' same settled.none; gateway = same.there ∙ settled.gateway }
 
 -- ---- the state, where nothing is sealed
 

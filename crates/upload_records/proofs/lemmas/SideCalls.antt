@@ -25,7 +25,7 @@ use Rattle.upload_texts.specs.Sealed.{read_sealed}
 use Rattle.upload_records.specs.Layout.{uploads_name, segments_name, gateway_name, sealed_name, segment_name, segments_prefix, five_digits}
 use Rattle.upload_records.specs.Native.{seal_by, seal_of, SameGateway, IsUnsealed, IsSettled, s3_state}
 use Rattle.upload_records.specs.Consistent.{IsBeside, IsSegment, is_part, IsThere, IsConsistent}
-use Rattle.upload_records.specs.Laws.{IsQuiet, MakesSide, LeavesContainers, IsAbandoned, MakesGateway}
+use Rattle.upload_records.specs.Laws.{IsQuiet, MakesSide, LeavesContainers, IsAbandoned, MakesGateway, StaysThere}
 use Rattle.upload_records.proofs.lemmas.Settled.{same_apart, same_none, seal_holds, seal_none, settled_same, unsealed_by}
 use Rattle.upload_records.proofs.lemmas.Objects.{delete_leaves}
 use Rattle.upload_records.proofs.lemmas.Off.{put_off}
@@ -67,10 +67,15 @@ removed_seals tree c name none = by (find_object (remove_file c name tree) gatew
     by None e = refl
     by (Some file) e = ap seal_by (sym (found_before tree c name file e)) ∙ none
 
+-- each container stays where it is
+delete_stays : (tree : SwiftAccount) (c name : List ℕ) → StaysThere tree (swift_step (DeleteObject c name) tree).tree
+delete_stays tree c name = subst (StaysThere tree) (sym (delete_leaves (find_object tree c name) c name tree refl)) (side.containers_stay tree c (λ fs. remove fs name))
+
 -- over every account, whatever container it stands in
 pub delete_settled : (tree : SwiftAccount) (c name : List ℕ) → IsSettled tree → IsSettled (swift_step (DeleteObject c name) tree).tree
 delete_settled tree c name settled = record {
   none = subst IsUnsealed (sym (delete_leaves (find_object tree c name) c name tree refl)) (unsealed_by (remove_file c name tree) (removed_seals tree c name (seal_none tree settled.none)));
+  gateway = delete_stays tree c name gateway_name settled.gateway;
 }
 
 -- beside a bucket that is missing
@@ -126,10 +131,15 @@ module _ (tree : SwiftAccount) (b : List ℕ) (id : ℕ) (name : List ℕ) (is :
 pub gateway_made : (tree : SwiftAccount) (created : Option ℕ) → IsConsistent tree → MakesGateway tree (PutContainer gateway_name Nobody created)
 gateway_made tree created sound = gateway.gateway_made tree created sound
 
--- over every account
+-- over every account it is there after its PUT
+pub gateway_there : (tree : SwiftAccount) (created : Option ℕ) → IsThere (swift_step (PutContainer gateway_name Nobody created) tree).tree gateway_name
+gateway_there tree created = gateway.made_there tree created (get tree gateway_name) refl
+
 pub gateway_settled : (tree : SwiftAccount) (created : Option ℕ) → IsSettled tree → IsSettled (swift_step (PutContainer gateway_name Nobody created) tree).tree
-gateway_settled tree created settled =
-    record { none = unsealed_by _ (seal_holds tree (swift_step (PutContainer gateway_name Nobody created) tree).tree (gateway.made_files tree created (get tree gateway_name) refl) ∙ seal_none tree settled.none) }
+gateway_settled tree created settled = record {
+  none = unsealed_by _ (seal_holds tree (swift_step (PutContainer gateway_name Nobody created) tree).tree (gateway.made_files tree created (get tree gateway_name) refl) ∙ seal_none tree settled.none);
+  gateway = gateway_there tree created;
+}
 
 -- a GET of what is sealed that finds nothing
 no_body : (look : Look) (file : SwiftObject) → body_reply (head_of file) None (bytes_of look file.content) ≡ NotFound → seal_by (Some file) ≡ None
@@ -144,6 +154,6 @@ no_seal look None e = refl
 no_seal look (Some file) e = no_body look file e
 
 -- tells that nothing is, over every account
-pub none_sealed : (tree : SwiftAccount) → (swift_step (GetObject gateway_name sealed_name None) tree).reply ≡ NotFound → IsSettled tree
+pub none_sealed : (tree : SwiftAccount) → (swift_step (GetObject gateway_name sealed_name None) tree).reply ≡ NotFound → IsUnsealed tree
 unfolding seal_of
-none_sealed tree e = record { none = unsealed_by tree (no_seal (find_object tree) (find_object tree gateway_name sealed_name) e) }
+none_sealed tree e = unsealed_by tree (no_seal (find_object tree) (find_object tree gateway_name sealed_name) e)

@@ -1,5 +1,5 @@
 use Rattle.std.proofs.Common.{inr}
-use Rattle.recovery.proofs.RollCalls.{deleted, deletes_sealed}
+use Rattle.recovery.proofs.RollCalls.{delete_keeps, deleted, deletes_sealed}
 use Rattle.recovery.proofs.lemmas.One.{not_asked}
 use Rattle.recovery.proofs.lemmas.Quiet.{quiet_in_vain, quieted}
 use Rattle.recovery.proofs.rolling.delete_sealed.Goals as goal
@@ -17,5 +17,11 @@ returns-in_err-reply-clause-asks g c =
 pub returns-clause-asks : goal.returns-clause-asks
 returns-clause-asks g c = quieted (deletes_sealed c.args.sealed.now c.in_ok-container.ensures c.in_ok-name.ensures) c.in_ok-reply.ensures _ (inr c.gone_in.ensures.due) c.gone_in.ensures.own
 
+pub returns-in_err-reply-clause-keeps : goal.returns-in_err-reply-clause-keeps
+returns-in_err-reply-clause-keeps g c = delete_keeps c.in_ok-container.ensures c.in_ok-name.ensures c.in_err-reply.ensures
+
+pub returns-clause-keeps : goal.returns-clause-keeps
+returns-clause-keeps g c = delete_keeps c.in_ok-container.ensures c.in_ok-name.ensures c.in_ok-reply.ensures
+
 pub returns-clause-done : goal.returns-clause-done
-returns-clause-done g c = λ observable is. deleted c.in_ok-container.ensures c.in_ok-name.ensures c.in_ok-reply.ensures observable
+returns-clause-done g c = λ observable has is. deleted c.in_ok-container.ensures c.in_ok-name.ensures c.in_ok-reply.ensures observable has
