@@ -75,7 +75,7 @@ under_named tree bucket id = refl
 
 -- ---- a commit in a later history
 
-commits_agree : {old new : History} {p q : ℕ} (S : State → State → Type 0) → Extends q old new → Commits old p q S → Commits new p q S
+pub commits_agree : {old new : History} {p q : ℕ} (S : State → State → Type 0) → Extends q old new → Commits old p q S → Commits new p q S
 commits_agree {old = old} {new = new} {p = p} {q = q} S kept commits =
     let next = commits.next in
     let order = commits.quiet.ordered in

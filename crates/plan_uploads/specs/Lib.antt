@@ -1,3 +1,4 @@
+pub mod Completing
 pub mod Interpret
 pub mod Listing
 pub mod Plans

@@ -2,6 +2,9 @@
 #![tactic(auto)]
 
 mod abort;
+mod chosen;
+mod complete;
+mod completed;
 mod create;
 mod found;
 mod ids;
@@ -12,6 +15,7 @@ mod pages;
 mod part;
 mod parts;
 mod records;
+mod seal;
 mod uploads;
 
-pub use operation::answer;
+pub use operation::{Replied, answer};

@@ -7,34 +7,107 @@ ghost use Rattle.recovery.specs.declared.state.Known.TheVariants as known;
 ghost use Rattle.recovery.specs.Calls.{Any, Given};
 ghost use Rattle.recovery.specs.Lent.{Stays};
 ghost use Rattle.recovery.specs.Plan.{reply_of, Plans, Answered};
+ghost use Rattle.plan_uploads.specs.Completing.{end_in, known_in};
 ghost use Rattle.plan_uploads.specs.Plans.{LeavesBeside};
 
 use crate::abort::abort_upload;
+use crate::complete::{Completing, complete_upload};
 use crate::create::create_upload;
 use crate::part::upload_part;
 use crate::uploads::{show_parts, show_uploads};
-use recovery::{PlanFault, Settled};
+use recovery::{Known, PlanFault, Settled};
 use s3_machine::{Code, Label, Op, Reply};
 use std::alloc::Global;
 use swift_calls::Swift;
+
+/// What an operation is answered, and whether a completion may be sealed then.
+#[derive(Debug, Drop)]
+pub struct Replied {
+    pub reply: Reply,
+    pub known: Known,
+}
 
 /// Answers one operation of Amazon S3 on uploads in parts. The reply is the service's own, and then the state is as its step
 /// leaves it. Or it is ServiceUnavailable, only where the store's count of faults rose in this call: the last call failed, no
 /// earlier one did, and the state is the old one or the step's. Or it is `Memory`, where memory ran out, with the same two
 /// states. Or it is InconsistentStore, never over an observable consistent account. How many calls there are is bounded by the
 /// operation, also where the reply is a refusal. An upload that is created has the first id that is free from the label's word
-/// of chance on; where one was aborted and no call failed, none of its segments is left. CompleteUpload isn't built: it ends as
-/// where memory ran out, without a call.
-pub fn answer<W: Swift>(alloc: Global, state: &mut Settled<'_, W>, op: Op, label: &Label) -> Reply
+/// of chance on; where one was aborted and no call failed, none of its segments is left. A completion is done once it is sealed:
+/// where a later call fails, the reply is the service's own, and it is then unsure whether the completion is sealed still.
+pub fn answer<W: Swift>(alloc: Global, state: &mut Settled<'_, W>, op: Op, label: &Label) -> Replied
     requires proper { IsProper op label.now }
     requires own { is_upload op ≡ true }
     ensures stays { Stays state.old state.new }
 
     // The calls amount to the operation, with at most one commit.
     ensures answered { Answered (most_calls op (present (W.history state.old.store.now))) (W.history state.old.store.now) (W.history state.new.store.now)
-        state.old.settings.now op label.now known.Settled result }
+        state.old.settings.now op label.now result.known result.reply }
 {
-    reply_to(plan(alloc, state, op, label))
+    if is_completion(&op) {
+        complete(alloc, state, &op, label)
+    } else {
+        answer_settled(alloc, state, op, label)
+    }
+}
+
+/// Answers an operation after which nothing is sealed: any but a completion.
+fn answer_settled<W: Swift>(
+    alloc: Global,
+    state: &mut Settled<'_, W>,
+    op: Op,
+    label: &Label,
+) -> Replied
+    requires proper { IsProper op label.now }
+    ensures stays { Stays state.old state.new }
+    ensures answered { Answered (most_calls op (present (W.history state.old.store.now))) (W.history state.old.store.now) (W.history state.new.store.now)
+        state.old.settings.now op label.now result.known result.reply }
+{
+    Replied {
+        reply: reply_to(plan(alloc, state, op, label)),
+        known: Known::Settled,
+    }
+}
+
+/// Answers a completion; any other operation ends as where memory ran out, without a call.
+fn complete<W: Swift>(alloc: Global, state: &mut Settled<'_, W>, op: &Op, label: &Label) -> Replied
+    requires proper { IsProper op.now label.now }
+    ensures stays { Stays state.old state.new }
+    ensures answered { Answered (most_calls op.now (present (W.history state.old.store.now))) (W.history state.old.store.now) (W.history state.new.store.now)
+        state.old.settings.now op.now label.now result.known result.reply }
+{
+    match op {
+        Op::CompleteUpload {
+            bucket,
+            key,
+            id,
+            list,
+        } => completed(complete_upload(alloc, state, bucket, key, id, list, label)),
+        _ => Replied {
+            reply: Reply::Memory,
+            known: Known::Settled,
+        },
+    }
+}
+
+/// What a completion is answered, by how it ended.
+fn completed(end: Result<Completing, PlanFault>) -> Replied
+    ensures reply { result.reply ≡ reply_of (end_in end) }
+    ensures known { result.known ≡ known_in end }
+{
+    match end {
+        Ok(completing) => Replied {
+            reply: reply_to(completing.end),
+            known: completing.known,
+        },
+        Err(fault) => Replied {
+            reply: reply_to(Err(fault)),
+            known: Known::Settled,
+        },
+    }
+}
+
+fn is_completion(op: &Op) -> bool {
+    matches!(op, Op::CompleteUpload { .. })
 }
 
 /// Makes the calls of an operation's plan. Which function has the plan is asked first, so that each owns few kinds of

@@ -15,6 +15,9 @@ use Rattle.plan_uploads.proofs.Taking.{as_page, not_added, tells_next}
 use Rattle.plan_uploads.proofs.Turned.{next_may_be}
 use Rattle.plan_uploads.proofs.listed_parts.next_parts.Goals as goal
 
+pub returns-in_err-folder-clause-asks : goal.returns-in_err-folder-clause-asks
+returns-in_err-folder-clause-asks g c = not_asked _ _ _ c.from_residual.ensures.1
+
 pub returns-in_err-prefix-clause-asks : goal.returns-in_err-prefix-clause-asks
 returns-in_err-prefix-clause-asks g c = not_asked _ _ _ c.from_residual-in_err-prefix.ensures.1
 

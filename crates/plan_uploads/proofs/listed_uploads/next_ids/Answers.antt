@@ -4,6 +4,7 @@ use Rattle.swift_calls.specs.Step.{IsContainerName}
 use Rattle.list_pages.specs.Listing.{name_in}
 use Rattle.upload_records.specs.Layout.{uploads_name}
 use Rattle.recovery.proofs.lemmas.Ask.{asks_told}
+use Rattle.recovery.proofs.lemmas.One.{not_asked}
 use Rattle.plan_uploads.specs.Listing.{next_after, id_due}
 use Rattle.plan_uploads.specs.Records.{InBucket}
 use Rattle.plan_uploads.proofs.RecordIds.{all_ids}
@@ -11,6 +12,9 @@ use Rattle.plan_uploads.proofs.SideNames.{no_marker, uploads_fits}
 use Rattle.plan_uploads.proofs.Taking.{as_page, not_added, tells_next}
 use Rattle.plan_uploads.proofs.Turned.{next_may_be}
 use Rattle.plan_uploads.proofs.listed_uploads.next_ids.Goals as goal
+
+pub returns-in_err-folder-clause-asks : goal.returns-in_err-folder-clause-asks
+returns-in_err-folder-clause-asks g c = not_asked _ _ _ c.from_residual.ensures.1
 
 pub page-requires-clause-folder : goal.page-requires-clause-folder
 page-requires-clause-folder g c =

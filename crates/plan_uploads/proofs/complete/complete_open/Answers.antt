@@ -1,0 +1,31 @@
+use Rattle.std.proofs.Common.{◌≡◌, sym, ap, ◌∙◌, false, arith, rules}
+use Rattle.s3_names.specs.Id.{id_digits}
+use Rattle.s3_machine.specs.declared.code.Code.TheVariants.{InvalidPartOrder}
+use Rattle.s3_machine.specs.Uploads.{rises}
+use Rattle.swift_calls.specs.History.{present}
+use Rattle.recovery.specs.Answers.{named_by, pages}
+use Rattle.recovery.specs.Calls.{by_account}
+use Rattle.recovery.proofs.lemmas.Ends.{goes_on_from, met_within}
+use Rattle.plan_uploads.proofs.CompletionCalls.{asked_nothing, refused_at_once}
+use Rattle.plan_uploads.proofs.CompletionSteps.{order_refused}
+use Rattle.plan_uploads.proofs.Completions.{has_parts}
+use Rattle.plan_uploads.proofs.complete.complete_open.Goals as goal
+
+pub returns-then-not-rises-clause-plans : goal.returns-then-not-rises-clause-plans
+returns-then-not-rises-clause-plans g c = λ text.
+    let falls : c.rises.result ≡ false = search rules in
+    refused_at_once (omega arith) _ InvalidPartOrder (search rules)
+    (λ tree sound has. order_refused tree c.args.bucket.now c.args.key.now text c.args.opened c.requires.place.named has c.args.state.now.settings.now c.args.list.now c.args.label.now
+    (ap rises (sym c.as_slice.ensures) ∙ sym c.rises.ensures ∙ falls))
+    c.refused.result c.refused.ensures
+
+pub returns-in_err-parts-clause-plans : goal.returns-in_err-parts-clause-plans
+returns-in_err-parts-clause-plans g c = λ text.
+    asked_nothing (by_account (pages (named_by (present (g.W.Swift.history c.args.state.now.store.now)) c.args.bucket.now (id_digits c.args.opened.id)))) (omega arith)
+    (met_within (λ tree opens. opens.there)) c.in_err-parts.ensures.asks c.from_residual.result c.from_residual.ensures.1
+
+pub returns-clause-plans : goal.returns-clause-plans
+returns-clause-plans g c = λ text.
+    goes_on_from (met_within (λ tree opens. opens.there)) c.list_parts.ensures.stays.settings c.in_ok-parts.ensures.asks (c.complete_by.ensures.plans text)
+    (λ opens tells. has_parts c.as_slice-2.ensures opens tells)
+    (λ x. omega arith)

@@ -1,0 +1,10 @@
+use Rattle.std.proofs.Common.{arith}
+use Rattle.plan_uploads.proofs.CompletionCalls.{goes_on_sound, lacks_memory}
+use Rattle.plan_uploads.proofs.complete.complete_sealed.Goals as goal
+
+pub returns-in_err-reply-clause-plans : goal.returns-in_err-reply-clause-plans
+returns-in_err-reply-clause-plans g c = λ text list label. lacks_memory _ _ c.from_residual.ensures.1
+
+pub returns-clause-plans : goal.returns-clause-plans
+returns-clause-plans g c = λ text list label.
+    goes_on_sound {n = 4} (omega arith) (λ tree sound has. has.completes) (c.seal_and_finish.ensures.plans text list label)

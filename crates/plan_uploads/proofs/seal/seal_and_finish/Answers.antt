@@ -1,0 +1,10 @@
+use Rattle.plan_uploads.proofs.Finishing.{finished_then, seal_fails}
+use Rattle.plan_uploads.proofs.seal.seal_and_finish.Goals as goal
+
+pub returns-in-Ok-clause-plans : goal.returns-in-Ok-clause-plans
+returns-in-Ok-clause-plans g c = λ text list label.
+    finished_then c.args.state.now.settings.now c.args.sealed.now text list label c.in-Ok.ensures.seals c.finish.ensures.asks c.finish.ensures.done c.completing_by.result c.args.reply c.completing_by.ensures
+    c.requires.reply
+
+pub returns-in-Err-clause-plans : goal.returns-in-Err-clause-plans
+returns-in-Err-clause-plans g c = λ text list label. seal_fails c.args.state.now.settings.now c.args.sealed.now text list label c.in-Err.fault c.in-Err.ensures.seals

@@ -1,0 +1,205 @@
+-- The completion of an upload: what is found of the upload, which of its parts are listed, the completion that is sealed, and how
+-- its calls end. Source: Amazon S3 API Reference, "CompleteMultipartUpload", and this profile.
+use Rattle.std.specs.Prelude.{◌≡◌, ℕ, Bool, true, false, T, ◌&&◌, ◌||◌, cond, bytes_eq, nat_lt, List, [], ◌∷◌, map, codes, Option, None, Some, Result, Ok, Err, IfOk}
+use Rattle.std.specs.Cmp.Lexicographic.{pointwise}
+use Rattle.std.specs.FinMap.{from_entries, get, is_sorted}
+use Rattle.std.specs.Ordering.{nat_cmp}
+use Rattle.gate_base.specs.Maps.{Numbers}
+use Rattle.gate_base.specs.declared.page.Pair.{Pair}
+use Rattle.s3_names.specs.Id.{id_digits}
+use Rattle.s3_machine.specs.Finish.{finished}
+use Rattle.s3_machine.specs.State.{State}
+use Rattle.s3_machine.specs.Uploads.{etag_listed, kept_as, same_listed, upload_etag}
+use Rattle.s3_machine.specs.declared.items.PartItem.{PartItem}
+use Rattle.s3_machine.specs.declared.operation.Listed.{Listed}
+use Rattle.s3_machine.specs.Step.{S3Step}
+use Rattle.s3_machine.specs.declared.operation.Label.{Label}
+use Rattle.s3_machine.specs.declared.operation.Op.TheVariants.{CompleteUpload}
+use Rattle.s3_machine.specs.declared.operation.Reply.{Reply}
+use Rattle.s3_machine.specs.declared.operation.Reply.TheVariants.{Completed}
+use Rattle.s3_machine.specs.declared.operation.Settings.{Settings}
+use Rattle.swift_calls.specs.Account.{SwiftAccount, files}
+use Rattle.swift_calls.specs.History.{History, present}
+use Rattle.swift_calls.specs.declared.calls.SwiftRequest.{SwiftRequest}
+use Rattle.swift_calls.specs.declared.calls.SwiftRequest.TheVariants.{PutObject}
+use Rattle.upload_texts.specs.Sealed.{has_sealed_text}
+use Rattle.upload_texts.specs.declared.record.Record.{Record}
+use Rattle.upload_texts.specs.declared.record.Record.TheVariants.{Open, Done}
+use Rattle.upload_texts.specs.declared.sealed.Sealed.{Sealed}
+use Rattle.upload_texts.specs.declared.sealed.SealedPart.{SealedPart}
+use Rattle.upload_records.specs.Layout.{gateway_name, sealed_name, segments_name, uploads_name}
+use Rattle.upload_records.specs.Native.{IsSettled, finished_from, kept_by, parts_of, record_at, s3_state}
+use Rattle.upload_records.specs.Consistent.{IsThere, SealedIn}
+use Rattle.recovery.specs.Answers.{may_be_sealed}
+use Rattle.recovery.specs.Calls.{always, Becomes, GivenOf, Grows, LacksBucket, Met, Writes}
+use Rattle.recovery.specs.Fault.{CausesFault}
+use Rattle.recovery.specs.Plan.{reply_of}
+use Rattle.recovery.specs.Rolls.{IsSealed, KeepsGateway}
+use Rattle.recovery.specs.declared.fault.PlanFault.{PlanFault}
+use Rattle.recovery.specs.declared.fault.PlanFault.TheVariants.{Failed, Memory, Inconsistent}
+use Rattle.recovery.specs.declared.state.Known.{Known}
+use Rattle.recovery.specs.declared.state.Known.TheVariants as known
+use Rattle.plan_uploads.specs.Records.{items_above}
+use Rattle.plan_uploads.specs.declared.completed.Opened.{Opened}
+use Rattle.plan_uploads.specs.declared.completed.ToComplete.{ToComplete}
+use Rattle.plan_uploads.specs.declared.completed.ToComplete.TheVariants as found
+use Rattle.plan_uploads.specs.declared.complete.Completing.{Completing}
+
+-- ---- the upload that a completion is of
+
+-- it is open in the bucket, under the key and under the id that a text writes, and is as it was created
+pub record IsOpenAs (bucket key text : List ℕ) (opened : Opened) (tree : SwiftAccount) : Type 0 where
+  pub settled : IsSettled tree
+  pub there : IsThere tree bucket
+  pub is : text ≡ id_digits opened.id
+  pub reads : record_at (files tree (uploads_name bucket)) text ≡ Some (Open key opened.content_type opened.meta opened.started)
+
+-- the same completion of it is kept, with this ETag
+pub record IsCompleted (bucket key text : List ℕ) (list : List Listed) (etag : List ℕ) (tree : SwiftAccount) : Type 0 where
+  pub settled : IsSettled tree
+  pub there : IsThere tree bucket
+  pub kept : kept_as key list (kept_by (record_at (files tree (uploads_name bucket)) text)) ≡ Some etag
+
+-- the bucket is there, and neither is so
+pub record LacksCompletion (bucket key text : List ℕ) (list : List Listed) (tree : SwiftAccount) : Type 0 where
+  pub settled : IsSettled tree
+  pub there : IsThere tree bucket
+  pub unkept : kept_as key list (kept_by (record_at (files tree (uploads_name bucket)) text)) ≡ None
+  pub closed : (content_type : List ℕ) (meta : List Pair) (started : ℕ)
+      → record_at (files tree (uploads_name bucket)) text ≡ Some (Open key content_type meta started) → ⊥
+
+abbrev pub TellsToComplete : List ℕ → List ℕ → List ℕ → List Listed → SwiftAccount → ToComplete → Type 0
+TellsToComplete bucket key text list tree found.NoBucket = LacksBucket bucket (s3_state tree)
+TellsToComplete bucket key text list tree found.NoUpload = LacksCompletion bucket key text list tree
+TellsToComplete bucket key text list tree (found.Again etag) = IsCompleted bucket key text list etag tree
+TellsToComplete bucket key text list tree (found.Open opened) = IsOpenAs bucket key text opened tree
+
+-- what a record says of it
+abbrev pub opened_by : List ℕ → List ℕ → ℕ → List ℕ → List Pair → ℕ → ToComplete
+opened_by under key id content_type meta started =
+    cond (bytes_eq under key) (found.Open (record { id = id; content_type = content_type; meta = meta; started = started })) found.NoUpload
+
+abbrev pub done_by : List ℕ → List ℕ → List Listed → List Listed → List ℕ → ToComplete
+done_by under key kept list etag = cond (bytes_eq under key && pointwise same_listed kept list) (found.Again etag) found.NoUpload
+
+abbrev pub to_complete_by : Option Record → List ℕ → ℕ → List Listed → ToComplete
+to_complete_by None key id list = found.NoUpload
+to_complete_by (Some (Open under content_type meta started)) key id list = opened_by under key id content_type meta started
+to_complete_by (Some (Done under kept etag started moment)) key id list = done_by under key kept list etag
+
+-- ---- the parts that a completion lists
+
+-- the parts of an upload by their numbers
+abbrev pub row_of_part : PartItem → ℕ × PartItem
+row_of_part item = (item.number, item)
+
+abbrev pub by_number : List PartItem → Numbers PartItem
+by_number items = from_entries {R = nat_cmp} (map row_of_part items)
+
+-- their numbers ascend
+unfoldable pub Ascend : List PartItem → Type 0
+Ascend items = T (is_sorted nat_cmp (map row_of_part items))
+
+-- the size of a part of the list, where it is there with its ETag
+abbrev pub size_listed : Option PartItem → List ℕ → Option ℕ
+size_listed None etag = None
+size_listed (Some item) etag = cond (bytes_eq item.etag etag) (Some item.size) None
+
+-- it, and then the rest of them
+abbrev pub listed_part : Option ℕ → Listed → Option (List SealedPart) → Option (List SealedPart)
+listed_part None l rest = None
+listed_part (Some size) l None = None
+listed_part (Some size) l (Some rest) = Some (record { number = l.number; etag = l.etag; size = size } ∷ rest)
+
+-- the parts that are listed, where each is there with its ETag
+unfoldable pub listed_parts : Numbers PartItem → List Listed → Option (List SealedPart)
+listed_parts parts [] = Some []
+listed_parts parts (l ∷ list) = listed_part (size_listed (get parts l.number) l.etag) l (listed_parts parts list)
+
+-- a part other than the last has fewer bytes than the least that it may have
+abbrev pub has_small : ℕ → List SealedPart → Bool
+has_small least [] = false
+has_small least (p ∷ []) = false
+has_small least (p ∷ (q ∷ rest)) = nat_lt p.size least || has_small least (q ∷ rest)
+
+-- ---- the call that seals a completion
+
+-- the completion stands beside its bucket
+abbrev pub MaySeal : Sealed → SwiftAccount → Type 0
+MaySeal s tree = SealedIn tree s
+
+-- the PUT of its text, which has no more bytes
+abbrev pub most_sealed_text : ℕ
+most_sealed_text = 240000
+
+abbrev pub put_sealed_text : List ℕ → SwiftRequest
+put_sealed_text text = PutObject gateway_name sealed_name (codes "application/json") [] text
+
+-- the state once it is finished, by the segments beside its bucket
+abbrev pub finishes : Sealed → SwiftAccount → State → State
+finishes s tree state = finished (finished_from (files tree (segments_name s.bucket)) s) state
+
+-- one call, which finishes the completion in the state. Answered, it is sealed. Over every observable store it leaves the gateway's
+-- own container where it is
+pub record Seals (old new : History) (s : Sealed) (result : Result (Unit {0}) PlanFault) : Type 0 where
+  pub grows : Grows (always 1) (GivenOf (MaySeal s)) old new
+  pub cause : CausesFault old.faults new.faults result
+  pub effect : Met (GivenOf (MaySeal s)) old → Writes new old.called new.called (Becomes (finishes s (present old))) result
+  pub leaves : Met (GivenOf (MaySeal s)) old → IfOk result (λ done. IsSealed s (present new))
+  pub gateway : KeepsGateway old new
+
+-- ---- how the calls of a completion end
+
+-- the upload is open, and its parts are these
+pub record HasParts (bucket key text : List ℕ) (opened : Opened) (parts : List PartItem) (tree : SwiftAccount) : Type 0 where
+  pub opens : IsOpenAs bucket key text opened tree
+  pub are : parts ≡ items_above 0 (parts_of (files tree (segments_name bucket)) text)
+
+-- the completion may be sealed, and by what it finishes the operation is answered
+pub record CompletesBy (settings : Settings) (text : List ℕ) (list : List Listed) (label : Label) (s : Sealed) (tree : SwiftAccount) : Type 0 where
+  pub stands : SealedIn tree s
+  pub step : S3Step settings (s3_state tree) (CompleteUpload s.bucket s.key text list) label (Completed s.bucket s.key s.etag) (finishes s tree (s3_state tree))
+
+-- and it has a text
+pub record MayComplete (settings : Settings) (text : List ℕ) (list : List Listed) (label : Label) (s : Sealed) (tree : SwiftAccount) : Type 0 where
+  pub has : has_sealed_text s ≡ true
+  pub completes : CompletesBy settings text list label s tree
+
+-- the completion by these parts, with the ETag of the list
+abbrev pub completion_of : List ℕ → List ℕ → Opened → List SealedPart → List Listed → ℕ → Sealed
+completion_of bucket key opened chosen list moment = record {
+  bucket = bucket;
+  key = key;
+  id = opened.id;
+  content_type = opened.content_type;
+  meta = opened.meta;
+  list = chosen;
+  etag = upload_etag (map etag_listed list);
+  started = opened.started;
+  moment = moment;
+}
+
+-- a completion that is refused, or was done before
+abbrev pub answered_by : Reply → Completing
+answered_by reply = record { end = Ok reply; known = known.Settled }
+
+abbrev pub end_in : Result Completing PlanFault → Result Reply PlanFault
+end_in (Ok completing) = completing.end
+end_in (Err fault) = Err fault
+
+-- what is known of the store then: before the call that seals nothing is sealed
+abbrev pub known_in : Result Completing PlanFault → Known
+known_in (Ok completing) = completing.known
+known_in (Err fault) = known.Settled
+
+-- one may be sealed still only where it was done, or where it broke off
+abbrev pub LeavesUnsureOnly : Result Completing PlanFault → Type 0
+LeavesUnsureOnly result = known_in result ≡ known.Unsure → may_be_sealed (reply_of (end_in result)) ≡ true
+
+-- the end behind the call that seals. That the store failed there, or that memory ran out, is no failure of the operation, and a
+-- completion may be sealed still
+abbrev pub completing_by : Result (Unit {0}) PlanFault → Reply → Completing
+completing_by (Ok done) reply = record { end = Ok reply; known = known.Settled }
+completing_by (Err Failed) reply = record { end = Ok reply; known = known.Unsure }
+completing_by (Err Memory) reply = record { end = Ok reply; known = known.Unsure }
+completing_by (Err Inconsistent) reply = record { end = Err Inconsistent; known = known.Unsure }

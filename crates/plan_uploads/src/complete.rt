@@ -1,0 +1,209 @@
+//! The plan of CompleteUpload.
+ghost use Rattle.std.specs.Prelude.{◌≡◌, ◌<◌, ◌+◌, ◌^◌, ℕ, true, List, IfOk};
+ghost use Rattle.gate_base.specs.Told.{moment_limit};
+ghost use Rattle.s3_names.specs.Id.{id_digits};
+ghost use Rattle.s3_machine.specs.Step.{IsPlace, IsProperList};
+ghost use Rattle.s3_machine.specs.Uploads.{rises};
+ghost use Rattle.s3_machine.specs.declared.operation.Label.{Label};
+ghost use Rattle.s3_machine.specs.declared.operation.Listed.{Listed};
+ghost use Rattle.s3_machine.specs.declared.operation.Op.TheVariants.{CompleteUpload};
+ghost use Rattle.swift_calls.specs.History.{present};
+ghost use Rattle.recovery.specs.Answers.{named_by, pages};
+ghost use Rattle.recovery.specs.Calls.{always, by_account, Any, Given, GivenOf};
+ghost use Rattle.recovery.specs.Lent.{Stays};
+ghost use Rattle.recovery.specs.Plan.{Plans};
+ghost use Rattle.plan_uploads.specs.Completing.{HasParts, IsOpenAs, LeavesUnsureOnly, MayComplete, answered_by, completion_of, end_in, known_in};
+
+use crate::chosen::{chosen_parts, has_small};
+use crate::completed::{Opened, ToComplete, find_completion};
+use crate::listed_parts::list_parts;
+use crate::seal::seal_and_finish;
+use gate_base::{Bytes, Copying, List, Memory};
+use recovery::{Known, PlanFault, Settled};
+use s3_machine::{Code, Label, Listed, MOST_ITEMS, PartItem, Reply, rises, upload_etag};
+use std::alloc::Global;
+use swift_calls::Swift;
+use upload_texts::{Sealed, SealedPart};
+
+/// How a completion ended: what it is answered, and whether one may be sealed then.
+#[derive(Debug, Drop)]
+pub(crate) struct Completing {
+    pub(crate) end: Result<Reply, PlanFault>,
+    pub(crate) known: Known,
+}
+
+/// CompleteUpload: HEAD of the bucket's container, GET of the upload's record, the names of its segments page by page, then PUT
+/// of the completion into the gateway's own container, which commits, and three calls behind it, which put the object and the
+/// record and delete what was sealed. Over an observable consistent account at most six calls more than there are pages of the
+/// upload's segments. A completion that is kept is answered again after the first two. The faults are those of the calls up to
+/// the one that commits; that the store failed behind it is no failure of the operation.
+pub(crate) fn complete_upload<W: Swift>(
+    alloc: Global,
+    state: &mut Settled<'_, W>,
+    bucket: &Bytes,
+    key: &Bytes,
+    text: &Bytes,
+    list: &List<Listed>,
+    label: &Label,
+) -> Result<Completing, PlanFault>
+    requires place { IsPlace bucket.now key.now }
+    requires list { IsProperList list.now }
+    requires moment { label.now.moment < moment_limit }
+    ensures stays { Stays state.old state.new }
+    ensures plans { Plans (by_account (6 + pages (named_by (present (W.history state.old.store.now)) bucket.now text.now)))
+        (W.history state.old.store.now) (W.history state.new.store.now) state.old.settings.now
+        (Given Any) (CompleteUpload bucket.now key.now text.now list.now) label.now (known_in result) (end_in result) }
+    ensures unsure { LeavesUnsureOnly result }
+{
+    match find_completion(alloc, state, bucket, key, text, list.as_slice())? {
+        ToComplete::NoBucket => Ok(refused(Code::NoSuchBucket)),
+        ToComplete::NoUpload => Ok(refused(Code::NoSuchUpload)),
+        ToComplete::Again(etag) => Ok(again(bucket, key, etag)?),
+        ToComplete::Open(opened) => complete_open(alloc, state, bucket, key, opened, list, label),
+    }
+}
+
+/// A completion that is refused, or was done before: nothing is sealed.
+fn answered(reply: Reply) -> Completing
+    ensures { result ≡ answered_by reply }
+{
+    Completing {
+        end: Ok(reply),
+        known: Known::Settled,
+    }
+}
+
+fn refused(code: Code) -> Completing
+    ensures { result ≡ answered_by (Reply.Refused code) }
+{
+    answered(Reply::Refused(code))
+}
+
+fn again(bucket: &Bytes, key: &Bytes, etag: Bytes) -> Result<Completing, Memory>
+    ensures { IfOk result (λ completing. completing ≡ answered_by (Reply.Completed bucket.now key.now etag)) }
+{
+    let bucket = bucket.copy()?;
+    let key = key.copy()?;
+    Ok(answered(Reply::Completed { bucket, key, etag }))
+}
+
+/// The rest of CompleteUpload, of an upload that is open.
+fn complete_open<W: Swift>(
+    alloc: Global,
+    state: &mut Settled<'_, W>,
+    bucket: &Bytes,
+    key: &Bytes,
+    opened: Opened,
+    list: &List<Listed>,
+    label: &Label,
+) -> Result<Completing, PlanFault>
+    requires place { IsPlace bucket.now key.now }
+    requires list { IsProperList list.now }
+    requires moment { label.now.moment < moment_limit }
+    ensures stays { Stays state.old state.new }
+    ensures plans { (text : List ℕ) → Plans (by_account (4 + pages (named_by (present (W.history state.old.store.now)) bucket.now (id_digits opened.id))))
+        (W.history state.old.store.now) (W.history state.new.store.now) state.old.settings.now
+        (GivenOf (IsOpenAs bucket.now key.now text opened)) (CompleteUpload bucket.now key.now text list.now) label.now (known_in result) (end_in result) }
+    ensures unsure { LeavesUnsureOnly result }
+{
+    if !rises(list.as_slice()) {
+        return Ok(refused(Code::InvalidPartOrder));
+    }
+    let (parts, _) = list_parts(alloc, state, bucket, opened.id, 0, MOST_ITEMS)?;
+    complete_by(
+        alloc,
+        state,
+        bucket,
+        key,
+        opened,
+        parts.as_slice(),
+        list,
+        label,
+    )
+}
+
+/// The rest of CompleteUpload, of an upload whose parts are these.
+fn complete_by<W: Swift>(
+    alloc: Global,
+    state: &mut Settled<'_, W>,
+    bucket: &Bytes,
+    key: &Bytes,
+    opened: Opened,
+    parts: &[PartItem],
+    list: &List<Listed>,
+    label: &Label,
+) -> Result<Completing, PlanFault>
+    requires place { IsPlace bucket.now key.now }
+    requires list { IsProperList list.now }
+    requires ascends { rises list.now ≡ true }
+    requires moment { label.now.moment < moment_limit }
+    ensures stays { Stays state.old state.new }
+    ensures plans { (text : List ℕ) → Plans (always 4) (W.history state.old.store.now) (W.history state.new.store.now) state.old.settings.now
+        (GivenOf (HasParts bucket.now key.now text opened parts.now)) (CompleteUpload bucket.now key.now text list.now) label.now (known_in result) (end_in result) }
+    ensures unsure { LeavesUnsureOnly result }
+{
+    let Some(chosen) = chosen_parts(alloc, parts, list.as_slice())? else {
+        return Ok(refused(Code::InvalidPart));
+    };
+    if has_small(state.settings().least_part, chosen.as_slice()) {
+        return Ok(refused(Code::EntityTooSmall));
+    }
+    let sealed = sealed_of(alloc, bucket, key, opened, chosen, list, label.moment)?;
+    complete_sealed(alloc, state, &sealed)
+}
+
+/// The completion of an upload by parts that are there.
+fn sealed_of(
+    alloc: Global,
+    bucket: &Bytes,
+    key: &Bytes,
+    opened: Opened,
+    chosen: List<SealedPart>,
+    list: &List<Listed>,
+    moment: u64,
+) -> Result<Sealed, Memory>
+    ensures sealed { IfOk result (λ sealed. sealed ≡ completion_of bucket.now key.now opened chosen list.now moment) }
+    ensures fits { IfOk result (λ sealed. sealed.id < 2 ^ 128) }
+{
+    let etag = upload_etag(alloc, list.as_slice())?;
+    let bucket = bucket.copy()?;
+    let key = key.copy()?;
+    Ok(Sealed {
+        bucket,
+        key,
+        id: opened.id,
+        content_type: opened.content_type,
+        meta: opened.meta,
+        list: chosen,
+        etag,
+        started: opened.started,
+        moment,
+    })
+}
+
+/// The rest of CompleteUpload, by a completion that may be sealed. One that has no text comes of no consistent account.
+fn complete_sealed<W: Swift>(
+    alloc: Global,
+    state: &mut Settled<'_, W>,
+    sealed: &Sealed,
+) -> Result<Completing, PlanFault>
+    ensures stays { Stays state.old state.new }
+    ensures plans { (text : List ℕ) (list : List Listed) (label : Label) → Plans (always 4) (W.history state.old.store.now) (W.history state.new.store.now) state.old.settings.now
+        (GivenOf (MayComplete state.old.settings.now text list label sealed.now)) (CompleteUpload sealed.now.bucket sealed.now.key text list) label (known_in result) (end_in result) }
+    ensures unsure { LeavesUnsureOnly result }
+{
+    if !sealed.has_text() {
+        return Err(PlanFault::Inconsistent);
+    }
+    let reply = completed_reply(sealed)?;
+    Ok(seal_and_finish(alloc, state, sealed, reply))
+}
+
+fn completed_reply(sealed: &Sealed) -> Result<Reply, Memory>
+    ensures { IfOk result (λ reply. reply ≡ Reply.Completed sealed.now.bucket sealed.now.key sealed.now.etag) }
+{
+    let bucket = sealed.bucket.copy()?;
+    let key = sealed.key.copy()?;
+    let etag = sealed.etag.copy()?;
+    Ok(Reply::Completed { bucket, key, etag })
+}

@@ -1,0 +1,141 @@
+//! The upload that a completion is of.
+ghost use Rattle.std.specs.Prelude.{◌≡◌, true};
+ghost use Rattle.s3_names.specs.Bucket.{is_bucket};
+ghost use Rattle.s3_names.specs.Id.{id_digits};
+ghost use Rattle.upload_records.specs.Native.{IsSettled};
+ghost use Rattle.recovery.specs.Calls.{always, Asks, GivenOf};
+ghost use Rattle.recovery.specs.Lent.{Stays};
+ghost use Rattle.recovery.specs.Listing.{TellsOf};
+ghost use Rattle.plan_uploads.specs.Completing.{TellsToComplete, done_by, opened_by, to_complete_by};
+ghost use Rattle.plan_uploads.specs.Records.{InBucket};
+
+use crate::ids::read_id;
+use crate::records::get_record;
+use gate_base::Bytes;
+use recovery::{PlanFault, Settled, head_bucket};
+use s3_machine::{Listed, same_list};
+use s3_names::Meta;
+use std::alloc::Global;
+use swift_calls::Swift;
+use upload_texts::Record;
+
+/// An upload that is open, as it was created: its id, what its object is to be put with, and when it was started, in seconds
+/// since the beginning of 1970.
+#[derive(Debug, Drop)]
+pub(crate) struct Opened {
+    pub(crate) id: u128,
+    pub(crate) content_type: Bytes,
+    pub(crate) meta: Meta,
+    pub(crate) started: u64,
+}
+
+/// What is found of the upload that a completion is of.
+#[derive(Debug, Drop)]
+pub(crate) enum ToComplete {
+    /// The bucket is missing.
+    NoBucket,
+    /// No upload of the key is open under the id, and the same completion isn't kept.
+    NoUpload,
+    /// The same completion was done before, with this ETag.
+    Again(Bytes),
+    /// One is open.
+    Open(Opened),
+}
+
+/// Looks for the upload that a completion by a list of parts is of, by the text of its id: HEAD of the bucket's container, then
+/// GET of the upload's record, where the text is that of an id. At most two calls, and the S3 state stays. The faults are those
+/// of the calls.
+pub(crate) fn find_completion<W: Swift>(
+    alloc: Global,
+    state: &mut Settled<'_, W>,
+    bucket: &Bytes,
+    key: &Bytes,
+    text: &Bytes,
+    list: &[Listed],
+) -> Result<ToComplete, PlanFault>
+    requires { is_bucket bucket.now ≡ true }
+    ensures stays { Stays state.old state.new }
+    ensures asks { Asks (always 2) (W.history state.old.store.now) (W.history state.new.store.now)
+        IsSettled (TellsOf (TellsToComplete bucket.now key.now text.now list.now)) result }
+{
+    let Some(_) = head_bucket(state, bucket)? else {
+        return Ok(ToComplete::NoBucket);
+    };
+    let Some(id) = read_id(text.as_slice()) else {
+        return Ok(ToComplete::NoUpload);
+    };
+    find_recorded(alloc, state, bucket, key, id, list)
+}
+
+/// The same by an id, in a bucket that is there.
+fn find_recorded<W: Swift>(
+    alloc: Global,
+    state: &mut Settled<'_, W>,
+    bucket: &Bytes,
+    key: &Bytes,
+    id: u128,
+    list: &[Listed],
+) -> Result<ToComplete, PlanFault>
+    requires { is_bucket bucket.now ≡ true }
+    ensures stays { Stays state.old state.new }
+    ensures asks { Asks (always 1) (W.history state.old.store.now) (W.history state.new.store.now)
+        (GivenOf (InBucket bucket.now)) (TellsOf (TellsToComplete bucket.now key.now (id_digits id) list.now)) result }
+{
+    let record = get_record(alloc, state, bucket, id)?;
+    Ok(to_complete(record, key, id, list))
+}
+
+/// What a record says of a completion of this key by this list.
+fn to_complete(found: Option<Record>, key: &Bytes, id: u128, list: &[Listed]) -> ToComplete
+    ensures { result ≡ to_complete_by found key.now id list.now }
+{
+    match found {
+        Some(
+            Record::Open {
+                key: under,
+                content_type,
+                meta,
+                started,
+            },
+        ) => of_open(under, key, id, content_type, meta, started),
+        Some(
+            Record::Done {
+                key: under,
+                list: kept,
+                etag,
+                ..
+            },
+        ) => of_done(under, key, kept.as_slice(), list, etag),
+        None => ToComplete::NoUpload,
+    }
+}
+
+fn of_open(
+    under: Bytes,
+    key: &Bytes,
+    id: u128,
+    content_type: Bytes,
+    meta: Meta,
+    started: u64,
+) -> ToComplete
+    ensures { result ≡ opened_by under key.now id content_type meta started }
+{
+    if under.as_slice() != key.as_slice() {
+        return ToComplete::NoUpload;
+    }
+    ToComplete::Open(Opened {
+        id,
+        content_type,
+        meta,
+        started,
+    })
+}
+
+fn of_done(under: Bytes, key: &Bytes, kept: &[Listed], list: &[Listed], etag: Bytes) -> ToComplete
+    ensures { result ≡ done_by under key.now kept.now list.now etag }
+{
+    if under.as_slice() != key.as_slice() || !same_list(kept, list) {
+        return ToComplete::NoUpload;
+    }
+    ToComplete::Again(etag)
+}

@@ -1,0 +1,106 @@
+//! The call that seals a completion, and those behind it.
+ghost use Rattle.std.specs.Prelude.{◌≡◌, ◌≤◌, ℕ, true, List, length, IfOk, Ok};
+ghost use Rattle.s3_machine.specs.declared.operation.Label.{Label};
+ghost use Rattle.s3_machine.specs.declared.operation.Listed.{Listed};
+ghost use Rattle.s3_machine.specs.declared.operation.Op.TheVariants.{CompleteUpload};
+ghost use Rattle.swift_calls.specs.Step.{Fit};
+ghost use Rattle.upload_texts.specs.Sealed.{has_sealed_text};
+ghost use Rattle.recovery.specs.Calls.{always, GivenOf};
+ghost use Rattle.recovery.specs.Lent.{Stays};
+ghost use Rattle.recovery.specs.Plan.{Plans};
+ghost use Rattle.plan_uploads.specs.Completing.{CompletesBy, LeavesUnsureOnly, Seals, completing_by, most_sealed_text, put_sealed_text};
+
+use crate::complete::Completing;
+use crate::records::stored_in;
+use gate_base::{Bytes, List, Memory};
+use recovery::{Known, PlanFault, Settled};
+use s3_machine::{Reply, body_etag};
+use std::alloc::Global;
+use swift_calls::{Swift, SwiftRequest};
+use upload_records::{gateway_container, law_completion_sealed, sealed_name};
+use upload_texts::Sealed;
+
+/// Seals a completion, by PUT of its text into the gateway's own container (Object Storage API v1, "Create or replace object"):
+/// the one call that commits. At most one call. After Ok the completion is finished in the S3 state, though its object isn't put
+/// yet. After Failed, which comes only where the store's count of faults rose, and after Memory the state is the old one or that.
+/// Inconsistent never comes over an observable consistent account on which nothing is sealed and the completion's parts are there.
+pub(crate) fn seal<W: Swift>(
+    alloc: Global,
+    state: &mut Settled<'_, W>,
+    sealed: &Sealed,
+) -> Result<(), PlanFault>
+    requires { has_sealed_text sealed.now ≡ true }
+    ensures stays { Stays state.old state.new }
+    ensures seals { Seals (W.history state.old.store.now) (W.history state.new.store.now) sealed.now result }
+{
+    law_completion_sealed();
+    let text = sealed.write(alloc)?;
+    let etag = body_etag(text.as_slice());
+    let request = sealed_request(alloc, text)?;
+    let reply = state.call(request)?;
+    stored_in(&reply, &etag)
+}
+
+/// The PUT of a sealed completion of this text.
+fn sealed_request(alloc: Global, text: Bytes) -> Result<SwiftRequest, Memory>
+    requires short { length text ≤ most_sealed_text }
+    ensures request { IfOk result (λ request. request ≡ put_sealed_text text) }
+    ensures fits { IfOk result Fit }
+{
+    let container = gateway_container(alloc)?;
+    let name = sealed_name(alloc)?;
+    let content_type = Bytes::from_slice(alloc, b"application/json")?;
+    Ok(SwiftRequest::PutObject {
+        container,
+        name,
+        content_type,
+        meta: List::new(alloc),
+        body: text,
+    })
+}
+
+/// Seals a completion and finishes it: PUT of what is sealed, which commits, then PUT of the object, PUT of the record and DELETE
+/// of what is sealed. At most four calls. The reply is made before: where a call behind the commit fails, or memory runs out there,
+/// the completion is done all the same, and it is then unsure whether it is sealed still. The faults are those of [`seal`], after
+/// which that is unsure too.
+pub(crate) fn seal_and_finish<W: Swift>(
+    alloc: Global,
+    state: &mut Settled<'_, W>,
+    sealed: &Sealed,
+    reply: Reply,
+) -> Completing
+    requires text { has_sealed_text sealed.now ≡ true }
+    requires reply { reply ≡ Reply.Completed sealed.now.bucket sealed.now.key sealed.now.etag }
+    ensures stays { Stays state.old state.new }
+    ensures plans { (text : List ℕ) (list : List Listed) (label : Label) → Plans (always 4) (W.history state.old.store.now) (W.history state.new.store.now) state.old.settings.now
+        (GivenOf (CompletesBy state.old.settings.now text list label sealed.now)) (CompleteUpload sealed.now.bucket sealed.now.key text list) label result.known result.end }
+    ensures unsure { LeavesUnsureOnly (Ok result) }
+{
+    match seal(alloc, state, sealed) {
+        Ok(()) => completing_by(state.finish(alloc, sealed), reply),
+        Err(fault) => Completing {
+            end: Err(fault),
+            known: Known::Unsure,
+        },
+    }
+}
+
+/// The end of a completion behind the call that seals it.
+fn completing_by(finished: Result<(), PlanFault>, reply: Reply) -> Completing
+    ensures { result ≡ completing_by finished reply }
+{
+    match finished {
+        Ok(()) => Completing {
+            end: Ok(reply),
+            known: Known::Settled,
+        },
+        Err(PlanFault::Inconsistent) => Completing {
+            end: Err(PlanFault::Inconsistent),
+            known: Known::Unsure,
+        },
+        Err(_) => Completing {
+            end: Ok(reply),
+            known: Known::Unsure,
+        },
+    }
+}
