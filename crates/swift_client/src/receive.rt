@@ -17,9 +17,9 @@ const FRONT: usize = 16_384;
 
 const PIECE: usize = 65_536;
 
-/// The bytes of a head and a body together, at most: no answer to a call of ours has more. The longest are the bytes of an
-/// object, 16 MiB, and a page of names.
-const MOST: u64 = 67_108_864;
+/// The bytes of a head and a body together, at most: 256 MiB and the longest head. The longest answers are the bytes of an object,
+/// which are held whole; one that was completed from parts may have more, and is then read by ranges alone.
+const MOST: u64 = 268_500_992;
 
 /// A whole answer, and whether the connection may serve another exchange.
 #[derive(Drop)]
