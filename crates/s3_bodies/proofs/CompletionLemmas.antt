@@ -78,7 +78,7 @@ completion_breaks bytes left s =
 completion_reads : (bytes inner attribute : List ℕ) → Begins (Opening completion_start) bytes attribute inner → (r : Result (List P × List ℕ) ℕ) → Reads Parts inner r → Reads Completion bytes r
 completion_reads = document_reads completion_start 67 (codes "ompleteMultipartUpload") refl (λ h. omega (arith, h)) Parts
 
-completion_unique : Unique Completion
+pub completion_unique : Unique Completion
 completion_unique = document_unique completion_start 67 (codes "ompleteMultipartUpload") refl (λ h. omega (arith, h)) Parts parts_unique
 
 module _ (bytes inner attribute : List ℕ) (opens : Begins (Opening completion_start) bytes attribute inner) (none : Bool) (items : List P) (rest : List ℕ) (left : ℕ) (is : none ≡ (length items == 0)) (skips : Skips Part inner items rest left) where

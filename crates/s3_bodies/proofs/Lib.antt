@@ -5,3 +5,5 @@ pub mod ElementLemmas
 pub mod LocationTests
 pub mod Locations
 pub mod PartLemmas
+pub mod ValuesLemmas
+pub mod lemmas

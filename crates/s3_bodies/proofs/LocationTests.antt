@@ -58,13 +58,13 @@ equal w bytes e = (bytes_eq-Decides w bytes).1 (sym e)
 
 -- ---- forms and their tests
 
-record Found {A : Type 0} (form : A → List ℕ → Type 0) (ok : A → Bool) (bytes : List ℕ) : Type 0 where
+pub record Found {A : Type 0} (form : A → List ℕ → Type 0) (ok : A → Bool) (bytes : List ℕ) : Type 0 where
   pub value : A
   pub spells : form value bytes
   pub passes : ok value ≡ true
 
 -- the test passes the spellings of the values that pass the other one
-record Tells {A : Type 0} (form : A → List ℕ → Type 0) (ok : A → Bool) (test : List ℕ → Bool) : Type 0 where
+pub record Tells {A : Type 0} (form : A → List ℕ → Type 0) (ok : A → Bool) (test : List ℕ → Bool) : Type 0 where
   pub sound : (bytes : List ℕ) → test bytes ≡ true → Found form ok bytes
   pub complete : (a : A) (bytes : List ℕ) → form a bytes → ok a ≡ true → test bytes ≡ true
 
@@ -182,7 +182,7 @@ root_tag_tells name =
     spaced_tells (Then (Word name) (λ _. RootEnd)) is_any (is_cut (bytes_eq name) is_root_end)
     (then_tells (Word name) (λ _. RootEnd) (λ _. true) is_any (bytes_eq name) is_root_end (word_tells name) (λ _ _. root_end_tells) (λ _ _ _ _ _. refl))
 
-opening_tells : (name : List ℕ) → Tells (Opening name) is_any (is_opening name)
+pub opening_tells : (name : List ℕ) → Tells (Opening name) is_any (is_opening name)
 opening_tells name =
     either_tells (Declared name) (RootTag name) is_any (is_cut (bytes_eq (codes "<?xml")) (is_cut is_declaration_text (is_root_tag name))) (is_root_tag name)
     (then_tells (Word (codes "<?xml")) (λ _. Then DeclarationText (λ _. RootTag name)) (λ _. true) is_any (bytes_eq (codes "<?xml")) (is_cut is_declaration_text (is_root_tag name)) (word_tells (codes "<?xml"))

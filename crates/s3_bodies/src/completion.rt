@@ -4,6 +4,7 @@ ghost use Rattle.xml_forms.specs.Forms.{Skips, Word};
 ghost use Rattle.xml_forms.specs.Readers.{ReadsRest, rest_read};
 ghost use Rattle.xml_forms.specs.Runs.{Spaced};
 ghost use Rattle.s3_bodies.specs.Completion.{AnswersCompletion, Part, completion_end, listed_of};
+ghost use Rattle.s3_bodies.specs.Listed.{TellsListed};
 ghost use Rattle.s3_bodies.specs.PartReaders.{AnswersParts, ClosesParts, EndsParts, part_of};
 ghost use Rattle.s3_bodies.specs.declared.fault.BodyFault.{BodyFault};
 
@@ -16,6 +17,13 @@ use xml_forms::{nearer, only_space, opening, skip_space, word};
 
 /// The parts that the body of a CompleteMultipartUpload lists (Amazon S3 API Reference, CompleteMultipartUpload).
 pub fn read_completion(alloc: Global, bytes: &[u8]) -> Result<List<Listed>, BodyFault>
+    ensures answers { AnswersCompletion bytes.now result }
+    ensures tells { TellsListed bytes.now result }
+{
+    all_listed(alloc, bytes)
+}
+
+fn all_listed(alloc: Global, bytes: &[u8]) -> Result<List<Listed>, BodyFault>
     ensures { AnswersCompletion bytes.now result }
 {
     let parts = completion_parts(alloc, bytes)?;

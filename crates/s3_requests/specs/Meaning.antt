@@ -1,5 +1,5 @@
 -- What a request means: an operation, or the first reason to refuse it. Source: Amazon S3 API Reference, restated by
--- this profile; the order of the refusals is this profile's, and what isn't built is NotImplemented.
+-- this profile; the order of the refusals is this profile's.
 use Rattle.std.specs.Prelude.{◌≡◌, Bool, false, not, ◌&&◌, nat_lt, if◌then◌else◌, ℕ, List, [], ◌∷◌, length, Option, Some, None}
 use Rattle.gate_base.specs.declared.caller.Caller.{Caller}
 use Rattle.gate_base.specs.declared.caller.Caller.TheVariants.{Owner, Anonymous}
@@ -31,7 +31,7 @@ use Rattle.s3_requests.specs.Headers.{has_unsupported, is_chunked, is_conditiona
 use Rattle.s3_requests.specs.Conditions.{given_conditions}
 use Rattle.s3_requests.specs.Ranges.{given_range}
 use Rattle.s3_requests.specs.Listings.{has_bad_word, has_long_text, has_bad_token, first_asked, second_asked}
-use Rattle.s3_requests.specs.Uploads.{has_bad_number, given_upload, given_part, uploads_asked, parts_asked}
+use Rattle.s3_requests.specs.Uploads.{has_bad_number, given_upload, given_part, uploads_asked, parts_asked, has_bad_list, given_list}
 use Rattle.s3_requests.specs.Content.{has_bad_digest, is_other_body, taken_type, taken_meta, has_bad_entry, is_long_body, has_bad_location, has_other_location}
 
 -- a reason to refuse, and whether it holds
@@ -78,12 +78,15 @@ target_reasons message target =
 abbrev pub caller_reasons : Row → Caller → List Reason
 caller_reasons row caller = reason (is_denied row caller) AccessDenied ∷ []
 
+abbrev pub list_reasons : Row → Message → Caller → List Reason
+list_reasons row message caller = reason (has_bad_list row message.body) MalformedXML ∷ caller_reasons row caller
+
 abbrev pub body_reasons : Settings → Row → Message → Caller → List Reason
 body_reasons settings row message caller =
     reason (is_long_body message.body) EntityTooLarge
     ∷ reason (has_bad_location row message.body) MalformedXML
     ∷ reason (has_other_location row settings.region message.body) InvalidArgument
-    ∷ caller_reasons row caller
+    ∷ list_reasons row message caller
 
 abbrev pub content_reasons : Settings → Row → Message → Caller → List Reason
 content_reasons settings row message caller =
@@ -118,8 +121,7 @@ header_reasons settings row message target caller =
 
 abbrev pub reasons : Settings → Row → Message → Target → Caller → List Reason
 reasons settings row message target caller =
-    reason (not (shape_of row).is_built) NotImplemented
-    ∷ reason (has_foreign_name row target.query) NotImplemented
+    reason (has_foreign_name row target.query) NotImplemented
     ∷ reason (has_name_twice target.query) InvalidArgument
     ∷ header_reasons settings row message target caller
 
@@ -139,7 +141,7 @@ abbrev pub put_acl : List ℕ → Option Acl → Meant
 put_acl bucket None = Refused NotImplemented
 put_acl bucket (Some acl) = Op (op.PutBucketAcl bucket acl)
 
--- the operation that a row asks for; NotImplemented where it isn't built
+-- the operation that a row asks for
 abbrev pub op_of : Row → Message → Target → Meant
 op_of ListBuckets message target = Op op.ListBuckets
 op_of CreateBucket message target = Op (op.CreateBucket target.bucket (or_private (given_acl message.headers)))
@@ -175,7 +177,8 @@ op_of CreateMultipartUpload message target =
 op_of UploadPart message target = Op (op.UploadPart target.bucket target.key (given_upload target.query) (given_part target.query) message.body)
 op_of ListParts message target = Op (parts_asked target.bucket target.key target.query)
 op_of AbortMultipartUpload message target = Op (op.AbortUpload target.bucket target.key (given_upload target.query))
-op_of CompleteMultipartUpload message target = Refused NotImplemented
+op_of CompleteMultipartUpload message target =
+    Op (op.CompleteUpload target.bucket target.key (given_upload target.query) (given_list CompleteMultipartUpload message.body))
 
 -- a request without a row is refused
 abbrev pub judged : Settings → Option Row → Message → Target → Caller → Meant

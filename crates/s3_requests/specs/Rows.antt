@@ -13,36 +13,30 @@ use Rattle.s3_requests.specs.declared.rows.Row.TheVariants.{HeadObject, DeleteOb
 use Rattle.s3_requests.specs.declared.rows.Row.TheVariants.{CompleteMultipartUpload, AbortMultipartUpload}
 
 -- what the table says in a row: its method, its level, the selectors that the query has, and the further names that it may have;
--- whether the operation is built, whether anybody may ask for it, whether it takes a content type and metadata, whether its
+-- whether anybody may ask for it, whether it takes a content type and metadata, whether its
 -- body names a location, and whether the headers must name an access control list
 pub record Shape : Type 0 where
   pub method : List ℕ
   pub level : Level
   pub selectors : List (List ℕ)
   pub further : List (List ℕ)
-  pub is_built : Bool
   pub is_open : Bool
   pub has_content : Bool
   pub has_location : Bool
   pub needs_acl : Bool
 
--- a row that isn't built, for the owner alone
+-- a row for the owner alone
 abbrev pub plain : List ℕ → Level → List (List ℕ) → List (List ℕ) → Shape
 plain method level selectors further = record {
   method = method;
   level = level;
   selectors = selectors;
   further = further;
-  is_built = false;
   is_open = false;
   has_content = false;
   has_location = false;
   needs_acl = false;
 }
-
--- one that is built
-abbrev pub built : Shape → Shape
-built shape = record shape { is_built = true }
 
 -- one that anybody may ask for
 abbrev pub for_all : Shape → Shape
@@ -81,26 +75,26 @@ parts_names = codes "max-parts" ∷ codes "part-number-marker" ∷ []
 
 -- the table
 abbrev pub shape_of : Row → Shape
-shape_of ListBuckets = built (plain (codes "GET") Service [] [])
-shape_of CreateBucket = with_location (built (plain (codes "PUT") Bucket [] []))
-shape_of PutBucketAcl = with_acl (built (plain (codes "PUT") Bucket (codes "acl" ∷ []) []))
-shape_of DeleteBucket = built (plain (codes "DELETE") Bucket [] [])
-shape_of HeadBucket = for_all (built (plain (codes "HEAD") Bucket [] []))
-shape_of GetBucketLocation = built (plain (codes "GET") Bucket (codes "location" ∷ []) [])
-shape_of GetBucketAcl = built (plain (codes "GET") Bucket (codes "acl" ∷ []) [])
-shape_of ListObjects = for_all (built (plain (codes "GET") Bucket [] objects_names))
-shape_of ListObjectsV2 = for_all (built (plain (codes "GET") Bucket (codes "list-type" ∷ []) objects_v2_names))
-shape_of ListMultipartUploads = built (plain (codes "GET") Bucket (codes "uploads" ∷ []) uploads_names)
-shape_of PutObject = with_content (built (plain (codes "PUT") Key [] []))
-shape_of GetObject = for_all (built (plain (codes "GET") Key [] []))
-shape_of HeadObject = for_all (built (plain (codes "HEAD") Key [] []))
-shape_of DeleteObject = built (plain (codes "DELETE") Key [] [])
-shape_of GetObjectAcl = built (plain (codes "GET") Key (codes "acl" ∷ []) [])
-shape_of CreateMultipartUpload = with_content (built (plain (codes "POST") Key (codes "uploads" ∷ []) []))
-shape_of UploadPart = built (plain (codes "PUT") Key (codes "partNumber" ∷ codes "uploadId" ∷ []) [])
-shape_of ListParts = built (plain (codes "GET") Key (codes "uploadId" ∷ []) parts_names)
+shape_of ListBuckets = plain (codes "GET") Service [] []
+shape_of CreateBucket = with_location (plain (codes "PUT") Bucket [] [])
+shape_of PutBucketAcl = with_acl (plain (codes "PUT") Bucket (codes "acl" ∷ []) [])
+shape_of DeleteBucket = plain (codes "DELETE") Bucket [] []
+shape_of HeadBucket = for_all (plain (codes "HEAD") Bucket [] [])
+shape_of GetBucketLocation = plain (codes "GET") Bucket (codes "location" ∷ []) []
+shape_of GetBucketAcl = plain (codes "GET") Bucket (codes "acl" ∷ []) []
+shape_of ListObjects = for_all (plain (codes "GET") Bucket [] objects_names)
+shape_of ListObjectsV2 = for_all (plain (codes "GET") Bucket (codes "list-type" ∷ []) objects_v2_names)
+shape_of ListMultipartUploads = plain (codes "GET") Bucket (codes "uploads" ∷ []) uploads_names
+shape_of PutObject = with_content (plain (codes "PUT") Key [] [])
+shape_of GetObject = for_all (plain (codes "GET") Key [] [])
+shape_of HeadObject = for_all (plain (codes "HEAD") Key [] [])
+shape_of DeleteObject = plain (codes "DELETE") Key [] []
+shape_of GetObjectAcl = plain (codes "GET") Key (codes "acl" ∷ []) []
+shape_of CreateMultipartUpload = with_content (plain (codes "POST") Key (codes "uploads" ∷ []) [])
+shape_of UploadPart = plain (codes "PUT") Key (codes "partNumber" ∷ codes "uploadId" ∷ []) []
+shape_of ListParts = plain (codes "GET") Key (codes "uploadId" ∷ []) parts_names
 shape_of CompleteMultipartUpload = plain (codes "POST") Key (codes "uploadId" ∷ []) []
-shape_of AbortMultipartUpload = built (plain (codes "DELETE") Key (codes "uploadId" ∷ []) [])
+shape_of AbortMultipartUpload = plain (codes "DELETE") Key (codes "uploadId" ∷ []) []
 
 unfoldable pub rows : List Row
 rows =

@@ -1,12 +1,16 @@
 -- What a request for an upload in parts asks for beside its bucket and its key. Sources: Amazon S3 API Reference, "UploadPart",
--- "ListParts" and "ListMultipartUploads"; the limits of counts, and that a part's number has at most 9 digits, are this
+-- "ListParts", "ListMultipartUploads" and "CompleteMultipartUpload"; the limits of counts, and that a part's number has at most 9 digits, are this
 -- profile's. The id of an upload is the text that is given: one of another form is no upload's.
-use Rattle.std.specs.Prelude.{ℕ, Bool, ◌&&◌, ◌||◌, nat_le, if◌then◌else◌, List, codes, Option, Some, None, is_none}
+use Rattle.std.specs.Prelude.{ℕ, Bool, ◌&&◌, ◌||◌, nat_le, if◌then◌else◌, List, [], codes, Option, Some, None, is_none}
 use Rattle.std.specs.Option.{unwrap_or}
 use Rattle.gate_base.specs.declared.page.Pair.{Pair}
 use Rattle.s3_machine.specs.declared.limits.TheConstants.{GREATEST_PART_NUMBER}
+use Rattle.s3_machine.specs.declared.operation.Listed.{Listed}
 use Rattle.s3_machine.specs.declared.operation.Op.{Op}
 use Rattle.s3_machine.specs.declared.operation.Op.TheVariants.{ListUploads, ListParts}
+use Rattle.s3_bodies.specs.Listed.{listed_in}
+use Rattle.s3_requests.specs.declared.rows.Row.{Row}
+use Rattle.s3_requests.specs.declared.rows.Row.TheVariants.{CompleteMultipartUpload}
 use Rattle.s3_requests.specs.Listings.{count_of, has_bad_count, most_by}
 use Rattle.s3_requests.specs.Numbers.{number_of}
 use Rattle.s3_requests.specs.Query.{text_at}
@@ -34,7 +38,22 @@ given_part query = unwrap_or (part_of (text_at (codes "partNumber") query)) 1
 abbrev pub given_marker : List Pair → ℕ
 given_marker query = unwrap_or (count_of (text_at (codes "part-number-marker") query)) 0
 
+-- ---- the parts of a completion
+
+-- what the body lists of a row that completes an upload, if it can be read. No other row lists a part
+abbrev pub taken_list : Row → List ℕ → Option (List Listed)
+taken_list CompleteMultipartUpload body = listed_in body
+taken_list _ body = Some []
+
+-- its list; one that can't be read is refused before it counts
+abbrev pub given_list : Row → List ℕ → List Listed
+given_list row body = unwrap_or (taken_list row body) []
+
 -- ---- what is refused
+
+-- a body that should list parts and is no completion, or lists more parts than an upload has
+abbrev pub has_bad_list : Row → List ℕ → Bool
+has_bad_list row body = is_none (taken_list row body)
 
 abbrev pub has_bad_part : List Pair → Bool
 has_bad_part query = is_asked query (codes "partNumber") && is_none (part_of (text_at (codes "partNumber") query))

@@ -2,7 +2,7 @@
 ghost use Rattle.std.specs.Prelude.{◌≡◌, ◌≢◌, ◌&&◌, IfOk};
 ghost use Rattle.s3_machine.specs.Body.{IsDigestOf};
 ghost use Rattle.s3_requests.specs.Proper.{IsProperMeant};
-ghost use Rattle.s3_requests.specs.Meaning.{first_refusal, reasons, header_reasons, digest_reasons, argument_reasons, content_reasons, body_reasons, meaning_of, op_of, or_private, put_acl, KeepsFront, is_denied, has_bad_bucket, row_of};
+ghost use Rattle.s3_requests.specs.Meaning.{first_refusal, reasons, header_reasons, digest_reasons, argument_reasons, content_reasons, body_reasons, list_reasons, meaning_of, op_of, or_private, put_acl, KeepsFront, is_denied, has_bad_bucket, row_of};
 ghost use Rattle.s3_requests.specs.declared.meant.Meant.TheVariants as variant;
 ghost use Rattle.s3_requests.specs.Rows.{shape_of, level_of};
 ghost use Rattle.s3_requests.specs.Meaning.{has_long_key, has_bad_key};
@@ -11,7 +11,7 @@ ghost use Rattle.s3_requests.specs.Headers.{given_acl};
 ghost use Rattle.s3_requests.specs.Conditions.{given_conditions};
 ghost use Rattle.s3_requests.specs.Ranges.{given_range};
 ghost use Rattle.s3_requests.specs.Listings.{first_asked, second_asked};
-ghost use Rattle.s3_requests.specs.Uploads.{given_upload, given_part, uploads_asked, parts_asked};
+ghost use Rattle.s3_requests.specs.Uploads.{given_upload, given_part, given_list, taken_list, uploads_asked, parts_asked};
 
 use crate::conditions::given_conditions;
 use crate::content::{
@@ -26,10 +26,12 @@ use crate::listings::{first_asked, has_bad_token, has_bad_word, has_long_text, s
 use crate::query::{has_foreign_name, has_name_twice, has_unknown_name};
 use crate::ranges::given_range;
 use crate::rows::{Level, Row, is_method, is_same_level, level_of, row_for, shape_of};
-use crate::uploads::{given_part, given_upload, has_bad_number, parts_asked, uploads_asked};
-use gate_base::{Bytes, Caller, Copying, Memory, Pair};
+use crate::uploads::{
+    given_part, given_upload, has_bad_number, parts_asked, taken_list, uploads_asked,
+};
+use gate_base::{Bytes, Caller, Copying, List, Memory, Pair};
 use http_wire::Message;
-use s3_machine::{Body, Code, Op, Settings, is_content_type, is_proper_meta};
+use s3_machine::{Body, Code, Listed, Op, Settings, is_content_type, is_proper_meta};
 use s3_names::{Acl, MOST_KEY_BYTES, Meta, Target, is_bucket, is_key};
 use std::alloc::Global;
 use std::mem;
@@ -120,9 +122,6 @@ fn by_row(
     ensures value { IfOk result (λ meant. meant ≡ first_refusal (reasons settings.now row message.entry.now target.now caller.now) (op_of row message.entry.now target.now)) }
     ensures keeps { KeepsFront message.entry.now message.exit.now }
 {
-    if !shape_of(row).is_built() {
-        return Ok(Meant::Refused(Code::NotImplemented));
-    }
     if has_foreign_name(row, target.query.pairs()) {
         return Ok(Meant::Refused(Code::NotImplemented));
     }
@@ -292,18 +291,26 @@ fn by_body(
     if is_other {
         return Ok(Meant::Refused(Code::InvalidArgument));
     }
-    if is_denied(row, *caller) {
-        return Ok(Meant::Refused(Code::AccessDenied));
-    }
-    op_of(alloc, row, message, target, acl, content_type, meta, digest)
+    by_list(
+        alloc,
+        row,
+        message,
+        target,
+        caller,
+        acl,
+        content_type,
+        meta,
+        digest,
+    )
 }
 
-/// The operation of a row, with the access control list that is named, and the content type and the metadata that it takes.
-fn op_of(
+/// The reasons against the parts that the body lists and against the caller, and then the operation.
+fn by_list(
     alloc: Global,
     row: Row,
     message: &mut Message,
     target: &Target,
+    caller: &Caller,
     acl: Option<Acl>,
     content_type: Bytes,
     meta: Meta,
@@ -312,6 +319,48 @@ fn op_of(
     requires acl { acl ≡ given_acl message.now.headers }
     requires content_type { content_type ≡ taken_type row message.now.headers }
     requires meta { meta ≡ taken_meta row message.now.headers }
+    requires digest { IsDigestOf digest message.now.body }
+    ensures value { IfOk result (λ meant. meant ≡ first_refusal (list_reasons row message.entry.now caller.now) (op_of row message.entry.now target.now)) }
+    ensures keeps { KeepsFront message.entry.now message.exit.now }
+{
+    match taken_list(alloc, row, message.body.as_slice())? {
+        None => Ok(Meant::Refused(Code::MalformedXML)),
+        Some(list) => {
+            if is_denied(row, *caller) {
+                return Ok(Meant::Refused(Code::AccessDenied));
+            }
+            op_of(
+                alloc,
+                row,
+                message,
+                target,
+                acl,
+                content_type,
+                meta,
+                list,
+                digest,
+            )
+        }
+    }
+}
+
+/// The operation of a row, with the access control list that is named, the content type and the metadata that it takes, and
+/// the parts that the body lists.
+fn op_of(
+    alloc: Global,
+    row: Row,
+    message: &mut Message,
+    target: &Target,
+    acl: Option<Acl>,
+    content_type: Bytes,
+    meta: Meta,
+    list: List<Listed>,
+    digest: Option<[u8; 16]>,
+) -> Result<Meant, Memory>
+    requires acl { acl ≡ given_acl message.now.headers }
+    requires content_type { content_type ≡ taken_type row message.now.headers }
+    requires meta { meta ≡ taken_meta row message.now.headers }
+    requires list { list ≡ given_list row message.now.body }
     requires digest { IsDigestOf digest message.now.body }
     ensures value { IfOk result (λ meant. meant ≡ op_of row message.entry.now target.now) }
     ensures keeps { KeepsFront message.entry.now message.exit.now }
@@ -336,7 +385,7 @@ fn op_of(
         Row::UploadPart => upload_part(alloc, message, target, digest),
         Row::ListParts => list_parts(alloc, target),
         Row::AbortMultipartUpload => abort_upload(alloc, target),
-        Row::CompleteMultipartUpload => Ok(Meant::Refused(Code::NotImplemented)),
+        Row::CompleteMultipartUpload => complete_upload(alloc, target, list),
     }
 }
 
@@ -550,6 +599,19 @@ fn abort_upload(alloc: Global, target: &Target) -> Result<Meant, Memory>
     let (bucket, key) = place(target)?;
     let id = given_upload(alloc, target.query.pairs())?;
     Ok(Meant::Op(Op::AbortUpload { bucket, key, id }))
+}
+
+fn complete_upload(alloc: Global, target: &Target, list: List<Listed>) -> Result<Meant, Memory>
+    ensures { IfOk result (λ meant. meant ≡ Meant.Op (Op.CompleteUpload target.now.bucket target.now.key (given_upload target.now.query) list)) }
+{
+    let (bucket, key) = place(target)?;
+    let id = given_upload(alloc, target.query.pairs())?;
+    Ok(Meant::Op(Op::CompleteUpload {
+        bucket,
+        key,
+        id,
+        list,
+    }))
 }
 
 fn level_of_target(target: &Target) -> Level

@@ -2,7 +2,7 @@
 ghost use Rattle.std.specs.Prelude.{◌≡◌, true, false, ◌&&◌, find, bytes_eq};
 ghost use Rattle.std.specs.List.{list_any};
 ghost use Rattle.std.specs.Option.{option_copied};
-ghost use Rattle.s3_requests.specs.Rows.{rows, plain, built, for_all, with_content, with_location, with_acl, shape_of, level_of, is_same_level, is_asked, is_among, is_name_of, texts, agrees, is_same_set, fits, is_method};
+ghost use Rattle.s3_requests.specs.Rows.{rows, plain, for_all, with_content, with_location, with_acl, shape_of, level_of, is_same_level, is_asked, is_among, is_name_of, texts, agrees, is_same_set, fits, is_method};
 
 use crate::query::is_asked;
 use gate_base::Pair;
@@ -116,7 +116,6 @@ pub struct Shape {
     selectors: &'static [&'static [u8]],
     /// The names that it may have beside them.
     further: &'static [&'static [u8]],
-    is_built: bool,
     /// Whether anybody may ask for the operation.
     is_open: bool,
     /// Whether it takes a content type and metadata.
@@ -132,7 +131,7 @@ impl Model for Shape {
 
     ghost Value = { Seen };
 
-    ghost view = { λ s. record { method = s.method.now; level = s.level; selectors = texts s.selectors.now; further = texts s.further.now; is_built = s.is_built; is_open = s.is_open; has_content = s.has_content; has_location = s.has_location; needs_acl = s.needs_acl } };
+    ghost view = { λ s. record { method = s.method.now; level = s.level; selectors = texts s.selectors.now; further = texts s.further.now; is_open = s.is_open; has_content = s.has_content; has_location = s.has_location; needs_acl = s.needs_acl } };
 }
 
 /// What is asked of the row: the table.
@@ -140,40 +139,30 @@ pub fn shape_of(row: Row) -> Shape
     ensures { result ≡ shape_of row }
 {
     match row {
-        Row::ListBuckets => plain(b"GET", Level::Service, &[], &[]).built(),
-        Row::CreateBucket => plain(b"PUT", Level::Bucket, &[], &[])
-            .built()
-            .with_location(),
-        Row::PutBucketAcl => plain(b"PUT", Level::Bucket, &ACL, &[]).built().with_acl(),
-        Row::DeleteBucket => plain(b"DELETE", Level::Bucket, &[], &[]).built(),
-        Row::HeadBucket => plain(b"HEAD", Level::Bucket, &[], &[]).built().for_all(),
-        Row::GetBucketLocation => plain(b"GET", Level::Bucket, &LOCATION, &[]).built(),
-        Row::GetBucketAcl => plain(b"GET", Level::Bucket, &ACL, &[]).built(),
-        Row::ListObjects => plain(b"GET", Level::Bucket, &[], &OBJECTS_NAMES)
-            .built()
-            .for_all(),
-        Row::ListObjectsV2 => plain(b"GET", Level::Bucket, &LIST_TYPE, &OBJECTS_V2_NAMES)
-            .built()
-            .for_all(),
-        Row::ListMultipartUploads => {
-            plain(b"GET", Level::Bucket, &UPLOADS, &UPLOADS_NAMES).built()
-        }
-        Row::PutObject => plain(b"PUT", Level::Key, &[], &[]).built().with_content(),
-        Row::GetObject => plain(b"GET", Level::Key, &[], &[]).built().for_all(),
-        Row::HeadObject => plain(b"HEAD", Level::Key, &[], &[]).built().for_all(),
-        Row::DeleteObject => plain(b"DELETE", Level::Key, &[], &[]).built(),
-        Row::GetObjectAcl => plain(b"GET", Level::Key, &ACL, &[]).built(),
-        Row::CreateMultipartUpload => plain(b"POST", Level::Key, &UPLOADS, &[])
-            .built()
-            .with_content(),
-        Row::UploadPart => plain(b"PUT", Level::Key, &PART, &[]).built(),
-        Row::ListParts => plain(b"GET", Level::Key, &UPLOAD_ID, &PARTS_NAMES).built(),
+        Row::ListBuckets => plain(b"GET", Level::Service, &[], &[]),
+        Row::CreateBucket => plain(b"PUT", Level::Bucket, &[], &[]).with_location(),
+        Row::PutBucketAcl => plain(b"PUT", Level::Bucket, &ACL, &[]).with_acl(),
+        Row::DeleteBucket => plain(b"DELETE", Level::Bucket, &[], &[]),
+        Row::HeadBucket => plain(b"HEAD", Level::Bucket, &[], &[]).for_all(),
+        Row::GetBucketLocation => plain(b"GET", Level::Bucket, &LOCATION, &[]),
+        Row::GetBucketAcl => plain(b"GET", Level::Bucket, &ACL, &[]),
+        Row::ListObjects => plain(b"GET", Level::Bucket, &[], &OBJECTS_NAMES).for_all(),
+        Row::ListObjectsV2 => plain(b"GET", Level::Bucket, &LIST_TYPE, &OBJECTS_V2_NAMES).for_all(),
+        Row::ListMultipartUploads => { plain(b"GET", Level::Bucket, &UPLOADS, &UPLOADS_NAMES) }
+        Row::PutObject => plain(b"PUT", Level::Key, &[], &[]).with_content(),
+        Row::GetObject => plain(b"GET", Level::Key, &[], &[]).for_all(),
+        Row::HeadObject => plain(b"HEAD", Level::Key, &[], &[]).for_all(),
+        Row::DeleteObject => plain(b"DELETE", Level::Key, &[], &[]),
+        Row::GetObjectAcl => plain(b"GET", Level::Key, &ACL, &[]),
+        Row::CreateMultipartUpload => plain(b"POST", Level::Key, &UPLOADS, &[]).with_content(),
+        Row::UploadPart => plain(b"PUT", Level::Key, &PART, &[]),
+        Row::ListParts => plain(b"GET", Level::Key, &UPLOAD_ID, &PARTS_NAMES),
         Row::CompleteMultipartUpload => plain(b"POST", Level::Key, &UPLOAD_ID, &[]),
-        Row::AbortMultipartUpload => plain(b"DELETE", Level::Key, &UPLOAD_ID, &[]).built(),
+        Row::AbortMultipartUpload => plain(b"DELETE", Level::Key, &UPLOAD_ID, &[]),
     }
 }
 
-/// A row that isn't built, for the owner alone.
+/// A row for the owner alone.
 fn plain(
     method: &'static [u8],
     level: Level,
@@ -187,7 +176,6 @@ fn plain(
         level,
         selectors,
         further,
-        is_built: false,
         is_open: false,
         has_content: false,
         has_location: false,
@@ -196,15 +184,6 @@ fn plain(
 }
 
 impl Shape {
-    fn built(self) -> Shape
-        ensures { result ≡ built self }
-    {
-        Shape {
-            is_built: true,
-            ..self
-        }
-    }
-
     fn for_all(self) -> Shape
         ensures { result ≡ for_all self }
     {
@@ -239,12 +218,6 @@ impl Shape {
             needs_acl: true,
             ..self
         }
-    }
-
-    pub fn is_built(&self) -> bool
-        ensures { result ≡ self.now.is_built }
-    {
-        self.is_built
     }
 
     pub fn is_open(&self) -> bool

@@ -1,14 +1,17 @@
 //! What a request for an upload in parts asks for beside its bucket and its key.
 ghost use Rattle.std.specs.Prelude.{◌≡◌, ◌&&◌, ◌||◌, ◌≤◌, is_none, IfOk, IfSome};
+ghost use Rattle.s3_bodies.specs.Listed.{listed_in};
 ghost use Rattle.s3_requests.specs.Listings.{count_of, has_bad_count};
 ghost use Rattle.s3_requests.specs.Query.{text_at};
-ghost use Rattle.s3_requests.specs.Uploads.{given_upload, of_part, part_of, given_part, given_marker, has_bad_part, has_bad_number, uploads_asked, parts_asked};
+ghost use Rattle.s3_requests.specs.Uploads.{given_upload, of_part, part_of, given_part, given_marker, has_bad_part, has_bad_number, uploads_asked, parts_asked, taken_list};
 
 use crate::listings::{copy_at, count_of, has_bad_count, most_by};
 use crate::numbers::number_of;
 use crate::query::{is_asked, text_at};
-use gate_base::{Bytes, Memory, Pair};
-use s3_machine::{GREATEST_PART_NUMBER, Op};
+use crate::rows::Row;
+use gate_base::{Bytes, List, Memory, Pair};
+use s3_bodies::{BodyFault, read_completion};
+use s3_machine::{GREATEST_PART_NUMBER, Listed, Op};
 use std::alloc::Global;
 
 /// The most digits of the number of a part.
@@ -57,6 +60,27 @@ fn given_marker(query: &[Pair]) -> u32
     match count_of(text_at(query, b"part-number-marker")) {
         Some(number) => number as u32,
         None => 0,
+    }
+}
+
+/// What the body lists of a row that completes an upload, and no part for any other row. `None` where it is no
+/// completion, or lists too many parts. The body is read once.
+pub fn taken_list(alloc: Global, row: Row, body: &[u8]) -> Result<Option<List<Listed>>, Memory>
+    ensures { IfOk result (λ list. list ≡ taken_list row body.now) }
+{
+    match row {
+        Row::CompleteMultipartUpload => listed_in(alloc, body),
+        _ => Ok(Some(List::new(alloc))),
+    }
+}
+
+fn listed_in(alloc: Global, body: &[u8]) -> Result<Option<List<Listed>>, Memory>
+    ensures { IfOk result (λ list. list ≡ listed_in body.now) }
+{
+    match read_completion(alloc, body) {
+        Ok(list) => Ok(Some(list)),
+        Err(BodyFault::NotTheBody(_) | BodyFault::TooMany) => Ok(None),
+        Err(BodyFault::Memory) => Err(Memory),
     }
 }
 

@@ -1,6 +1,7 @@
 -- A request means an operation that keeps the limits, or a code that is none for a store that failed.
 use Rattle.std.proofs.Common.{◌≡◌, ◌≢◌, ◌≤◌, ℕ, Bool, true, false, not, ◌&&◌, cond, nat_lt, List, [], ◌∷◌, length, Option, Some, None, find, refl, ap, ◌∙◌, subst, arith}
-use Rattle.std.specs.Prelude.{codes}
+use Rattle.std.specs.Prelude.{codes, is_none}
+use Rattle.std.specs.Option.{unwrap_or}
 use Rattle.std.proofs.lemmas.Bool.{and_parts, not-false}
 use Rattle.std.proofs.lemmas.Bool.Decides.{nat_tests}
 use Rattle.gate_base.specs.declared.caller.Caller.{Caller}
@@ -12,7 +13,11 @@ use Rattle.s3_machine.specs.declared.code.Code.{Code}
 use Rattle.s3_machine.specs.declared.code.Code.TheVariants.{MethodNotAllowed, NotImplemented, ServiceUnavailable, InconsistentStore}
 use Rattle.s3_machine.specs.declared.operation.Settings.{Settings}
 use Rattle.s3_machine.specs.Limits.{most_body_bytes}
-use Rattle.s3_machine.specs.Step.{IsPlace}
+use Rattle.s3_machine.specs.declared.operation.Listed.{Listed}
+use Rattle.s3_machine.specs.Step.{IsPlace, IsProperList}
+use Rattle.s3_machine.specs.Uploads.{most_parts}
+use Rattle.s3_bodies.specs.Listed.{listed_in}
+use Rattle.s3_bodies.proofs.lemmas.Listings.{listed_filled, listed_few_parts}
 use Rattle.http_wire.specs.declared.message.Message.{Message}
 use Rattle.s3_requests.specs.declared.meant.Meant.{Meant}
 use Rattle.s3_requests.specs.declared.meant.Meant.TheVariants.{Refused, Memory}
@@ -124,6 +129,12 @@ short body h = grind (arith, nat_tests)
 bucket_of : (message : Message) (target : Target) → level_of target.bucket target.key ≡ Bucket → NoneHolds (target_reasons message target) → is_bucket target.bucket ≡ true
 bucket_of message target e none = bucket_at _ target.bucket (no_service _ e) none.1.0
 
+-- the list of a body that can be read
+list_proper : (found : Option (List Listed)) (body : List ℕ) → listed_in body ≡ found → is_none found ≡ false → IsProperList (unwrap_or found [])
+unfolding most_parts
+list_proper None body e some = cc
+list_proper (Some list) body e some = record { filled = listed_filled body list e; few = listed_few_parts body list e }
+
 put_acl_proper : (bucket : List ℕ) (acl : Option Acl) → is_bucket bucket ≡ true → IsProperMeant (put_acl bucket acl)
 put_acl_proper bucket None named = proper_code NotImplemented refl
 put_acl_proper bucket (Some acl) named = named
@@ -138,11 +149,11 @@ op_proper settings HeadBucket message target caller e none also = bucket_of mess
 op_proper settings GetBucketLocation message target caller e none also = bucket_of message target (at_level message target GetBucketLocation e) none
 op_proper settings GetBucketAcl message target caller e none also = bucket_of message target (at_level message target GetBucketAcl e) none
 op_proper settings ListObjects message target caller e none also =
-    (bucket_of message target (at_level message target ListObjects e) none, first_proper target.query also.1.1.1.1.1.1.1.1.1.1.1.1.1.0)
+    (bucket_of message target (at_level message target ListObjects e) none, first_proper target.query also.1.1.1.1.1.1.1.1.1.1.1.1.0)
 op_proper settings ListObjectsV2 message target caller e none also =
-    (bucket_of message target (at_level message target ListObjectsV2 e) none, second_proper target.query also.1.1.1.1.1.1.1.1.1.1.1.1.1.0)
+    (bucket_of message target (at_level message target ListObjectsV2 e) none, second_proper target.query also.1.1.1.1.1.1.1.1.1.1.1.1.0)
 op_proper settings PutObject message target caller e none also =
-    let content = also.1.1.1.1.1.1.1.1.1.1.1.1.1.1.1 in
+    let content = also.1.1.1.1.1.1.1.1.1.1.1.1.1.1 in
     (place_of message target (at_level message target PutObject e) none, record { typed = is_named _ content.0; described = is_named _ content.1.1.0; sized = short message.body content.1.1.1.0 })
 op_proper settings GetObject message target caller e none also =
     (place_of message target (at_level message target GetObject e) none, range_proper message.headers)
@@ -151,17 +162,19 @@ op_proper settings HeadObject message target caller e none also =
 op_proper settings DeleteObject message target caller e none also = place_of message target (at_level message target DeleteObject e) none
 op_proper settings GetObjectAcl message target caller e none also = place_of message target (at_level message target GetObjectAcl e) none
 op_proper settings ListMultipartUploads message target caller e none also =
-    (bucket_of message target (at_level message target ListMultipartUploads e) none, uploads_proper target.query also.1.1.1.1.1.1.1.1.1.1.1.1.1.0)
+    (bucket_of message target (at_level message target ListMultipartUploads e) none, uploads_proper target.query also.1.1.1.1.1.1.1.1.1.1.1.1.0)
 op_proper settings CreateMultipartUpload message target caller e none also =
-    let content = also.1.1.1.1.1.1.1.1.1.1.1.1.1.1.1 in
+    let content = also.1.1.1.1.1.1.1.1.1.1.1.1.1.1 in
     (place_of message target (at_level message target CreateMultipartUpload e) none, is_named _ content.0, is_named _ content.1.1.0)
 op_proper settings UploadPart message target caller e none also =
-    let content = also.1.1.1.1.1.1.1.1.1.1.1.1.1.1.1 in
+    let content = also.1.1.1.1.1.1.1.1.1.1.1.1.1.1 in
     (place_of message target (at_level message target UploadPart e) none, part_proper target.query, short message.body content.1.1.1.0)
 op_proper settings ListParts message target caller e none also =
     (place_of message target (at_level message target ListParts e) none, most_proper (codes "max-parts") target.query)
 op_proper settings AbortMultipartUpload message target caller e none also = place_of message target (at_level message target AbortMultipartUpload e) none
-op_proper settings CompleteMultipartUpload message target caller e none also = proper_code NotImplemented refl
+op_proper settings CompleteMultipartUpload message target caller e none also =
+    let content = also.1.1.1.1.1.1.1.1.1.1.1.1.1.1 in
+    (place_of message target (at_level message target CompleteMultipartUpload e) none, list_proper (listed_in message.body) message.body refl content.1.1.1.1.1.1.0)
 
 -- ---- the meaning
 
