@@ -6,7 +6,6 @@ ghost use Rattle.s3_machine.specs.declared.operation.Reply.TheVariants as answer
 ghost use Rattle.s3_machine.specs.Shown.{IsShowable};
 ghost use Rattle.s3_machine.specs.Step.{IsProper};
 ghost use Rattle.swift_calls.specs.History.{present};
-ghost use Rattle.recovery.specs.declared.state.Known.TheVariants as known;
 ghost use Rattle.recovery.specs.Answers.{most_calls};
 ghost use Rattle.recovery.specs.Calls.{GoesOn, Met};
 ghost use Rattle.recovery.specs.Settling.{IsKnown, Settles, settle_fault};
@@ -19,6 +18,7 @@ ghost use Rattle.gateway.specs.Request.{Request};
 ghost use Rattle.gateway.specs.Exchange.{store_cursor, Operated, RepliesBy, RepliesExpected, Where};
 ghost use Rattle.gateway.specs.Stands.{Stands};
 
+use plan_uploads::Replied;
 use recovery::{Known, SettleFault, Settled, Unsure, is_upload};
 use s3_machine::{Code, Label, Op, Reply, Settings};
 use s3_requests::Meant;
@@ -56,7 +56,8 @@ pub fn reply_to<W: Swift>(
     }
 }
 
-/// Settles the store where that is not known to be needless, and answers an operation over it.
+/// Settles the store where that is not known to be needless, and answers an operation over it. What is known of the store then
+/// goes to the next one.
 fn operate<W: Swift>(
     alloc: Global,
     store: &mut W,
@@ -75,7 +76,9 @@ fn operate<W: Swift>(
             Err(fault) => return unsettled(fault),
         },
     }
-    perform(alloc, store, settings, op, label)
+    let answer = perform(alloc, store, settings, op, label);
+    *known = answer.known;
+    answer.reply
 }
 
 fn settle<W: Swift>(alloc: Global, store: &mut W, settings: &Settings) -> Result<(), SettleFault>
@@ -84,22 +87,25 @@ fn settle<W: Swift>(alloc: Global, store: &mut W, settings: &Settings) -> Result
     Unsure::open(alloc, store, settings).settle()
 }
 
-/// Answers an operation over a store that is settled, by the crate that has its plan.
+/// Answers an operation over a store that is settled, by the crate that has its plan. A completion may be sealed after it.
 fn perform<W: Swift>(
     alloc: Global,
     store: &mut W,
     settings: &Settings,
     op: Op,
     label: &Label,
-) -> Reply
+) -> Replied
     requires { IsProper op label.now }
-    ensures { Answered (most_calls op (present (W.history store.old))) (W.history store.old) (W.history store.new) settings.now op label.now known.Settled result }
+    ensures { Answered (most_calls op (present (W.history store.old))) (W.history store.old) (W.history store.new) settings.now op label.now result.known result.reply }
 {
     let mut state = Settled::hold(store, settings);
     if is_upload(&op) {
         plan_uploads::answer(alloc, &mut state, op, label)
     } else {
-        planner::answer(alloc, &mut state, op, label)
+        Replied {
+            reply: planner::answer(alloc, &mut state, op, label),
+            known: Known::Settled,
+        }
     }
 }
 

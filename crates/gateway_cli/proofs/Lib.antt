@@ -1,2 +1,2 @@
-pub mod CountLemmas
+pub mod NumberLemmas
 pub mod WordsLemmas

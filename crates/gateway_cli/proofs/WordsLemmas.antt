@@ -1,7 +1,8 @@
 -- How the steps of reading the words follow one another.
-use Rattle.std.proofs.Common.{◌≡◌, ◌≢◌, ◌∙◌, refl, sym, ap, subst, inl, inr, arith, ℕ, Bool, true, false, if◌then◌else◌, List, [], ◌∷◌, Option, None, Some, option_and_then, Result, Err}
-use Rattle.clap.specs.Matches.{first_value}
-use Rattle.clap.specs.Walk.{Text, first_of, is_empty, rows_of}
+use Rattle.std.proofs.Common.{◌≡◌, ◌≢◌, ◌∙◌, refl, sym, ap, subst, inl, inr, arith, ℕ, Bool, true, false, if◌then◌else◌, List, [], ◌∷◌, Option, None, Some, option_and_then, option_map, Result, Err}
+use Rattle.std.proofs.lemmas.Option.{none-some, same_Some}
+use Rattle.clap.specs.Matches.{first_value, subcommand_name_of}
+use Rattle.clap.specs.Walk.{Row, Text, first_of, is_empty, rows_of}
 use Rattle.clap.specs.Simple.{App, HasMatchesOf, is_simple, subcommand_of, subcommand_rows_of}
 use Rattle.clap.specs.Faults.{fault_of, is_simple_and_free}
 use Rattle.clap.specs.Kinds.{HasKind, Kinds}
@@ -38,6 +39,18 @@ named name found result is reads = reads_where _ _ result (ap (option_and_then (
 
 pub unnamed : (name : Text) (found : Found) → None ≡ name_of name → command_in name (rows_of found) ≡ None
 unnamed name found is = ap (option_and_then (command_with (rows_of found))) (sym is)
+
+-- two fields that are told of one value are told of both at once
+both : {T A B : Type 0} (f : T → A) (g : T → B) (from : Option T) (a : A) (b : B) → option_map f from ≡ Some a → option_map (λ (p : A × B). p.1) (option_map {U = A × B} (λ t. (f t, g t)) from) ≡ Some b
+    → option_map {U = A × B} (λ t. (f t, g t)) from ≡ Some (a, b)
+both f g None a b first second = absurd (none-some a first)
+both f g (Some t) a b first second = λ i. Some (same_Some (f t) a first i, same_Some (g t) b second i)
+
+-- the command that was met, with what was found for it
+pub met : (matches : ArgMatches) (name : Text) (found : Found) (result : Result Command WordsFault) → Some name ≡ subcommand_name_of matches → Some (rows_of found) ≡ option_map (λ p. p.1) (subcommand_rows_of matches)
+    → ReadsWords (command_in name (rows_of found)) result → ReadsWords (option_and_then (λ p. command_in p.0 p.1) (subcommand_rows_of matches)) result
+met matches name found result named rows reads =
+    reads_where _ _ result (ap (option_and_then (λ (p : Text × List Row). command_in p.0 p.1)) (both _ _ _ name (rows_of found) (sym named) (sym rows))) reads
 
 -- the value that is had of an option is the one that was found for it
 pub given : (found : Found) (option : Text) {value : Option (List ℕ)} → value ≡ first_value found option → first_of option (rows_of found) ≡ value

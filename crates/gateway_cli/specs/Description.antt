@@ -1,5 +1,5 @@
 -- The words of the program as `clap` is told of them (this profile).
-use Rattle.std.specs.Prelude.{true, Some, codes}
+use Rattle.std.specs.Prelude.{ℕ, true, List, Some, codes}
 use Rattle.clap.specs.Walk.{Rule}
 use Rattle.clap.specs.Simple.{App, Shape, new_app, new_rule, on_top, with_rule, with_subcommand}
 use Rattle.clap.specs.declared.builder.action.ArgAction.TheVariants.{Set}
@@ -12,17 +12,25 @@ region_rule = record (new_rule (codes "region")) { long = Some (codes "region");
 abbrev pub key_rule : Rule
 key_rule = record (new_rule (codes "key")) { long = Some (codes "key"); action = Some Set; required = true }
 
--- `session`, with a region
+-- the option `--least-part N`
+abbrev pub least_part_rule : Rule
+least_part_rule = record (new_rule (codes "least-part")) { long = Some (codes "least-part"); action = Some Set }
+
+-- a command of that name that serves, with a region and a least part
+abbrev pub serving_app : List ℕ → App
+serving_app name = with_rule (with_rule (new_app name) region_rule) least_part_rule
+
+-- `session`, with these
 abbrev pub session_app : App
-session_app = with_rule (new_app (codes "session")) region_rule
+session_app = serving_app (codes "session")
 
 -- the option `--connections N`
 abbrev pub connections_rule : Rule
 connections_rule = record (new_rule (codes "connections")) { long = Some (codes "connections"); action = Some Set }
 
--- `serve`, with a region and a number of connections
+-- `serve`, with these and a number of connections
 abbrev pub serve_app : App
-serve_app = with_rule (with_rule (new_app (codes "serve")) region_rule) connections_rule
+serve_app = with_rule (serving_app (codes "serve")) connections_rule
 
 -- `sign`, with a key and a region
 abbrev pub sign_app : App

@@ -35,35 +35,41 @@ is_key_id text = nat_le 1 (length text) && nat_le (length text) 128 && list_all 
 abbrev pub is_number : List ℕ → Bool
 is_number text = nat_le 1 (length text) && nat_le (length text) 20 && list_all is_digit text
 
--- 1 to 1000000000
-abbrev pub is_count : ℕ → Bool
-is_count n = nat_le 1 n && nat_le n 1000000000
+-- 1 to `most`
+abbrev pub is_within : ℕ → ℕ → Bool
+is_within most n = nat_le 1 n && nat_le n most
 
--- the number of connections that is given, or the usual one; none where what is given isn't such a number
+-- the number that a text writes, where it is 1 to `most`; none where the text writes no such number
+abbrev pub number_in : ℕ → List ℕ → Option ℕ
+number_in most text = if is_number text && is_within most (digits_value 10 text) then Some (digits_value 10 text) else None
+
+-- the number of connections that is given, or the usual one; none where what is given isn't 1 to 1000000000
 abbrev pub count_of : Option (List ℕ) → Option ℕ
 count_of None = Some 1000
-count_of (Some text) = if is_number text && is_count (digits_value 10 text) then Some (digits_value 10 text) else None
+count_of (Some text) = number_in 1000000000 text
 
--- a second to a week
-abbrev pub is_span : ℕ → Bool
-is_span n = nat_le 1 n && nat_le n 604800
+-- the least part that is given, or the usual one, which is S3's 5 MiB; none where what is given isn't 1 to 16777216
+abbrev pub least_part_of : Option (List ℕ) → Option ℕ
+least_part_of None = Some 5242880
+least_part_of (Some text) = number_in 16777216 text
 
--- the number of seconds that is given; none where none is, or what is given isn't such a number
+-- the number of seconds that is given, a second to a week; none where none is, or what is given isn't such a number
 abbrev pub span_of : Option (List ℕ) → Option ℕ
 span_of None = None
-span_of (Some text) = if is_number text && is_span (digits_value 10 text) then Some (digits_value 10 text) else None
+span_of (Some text) = number_in 604800 text
 
 -- the region that is given, or the usual one
 abbrev pub region_of : Option (List ℕ) → List ℕ
 region_of given = unwrap_or given (codes "us-east-1")
 
--- `session`, with the region that is given
-abbrev pub session_with : Option (List ℕ) → Option Command
-session_with given = if is_region (region_of given) then Some (Session (region_of given)) else None
+-- `session`, with the region and the least part that are given
+abbrev pub session_with : Option (List ℕ) → Option (List ℕ) → Option Command
+session_with given least = if is_region (region_of given) then option_map (Session (region_of given)) (least_part_of least) else None
 
--- `serve`, with the region and the number of connections that are given
-abbrev pub serve_with : Option (List ℕ) → Option (List ℕ) → Option Command
-serve_with given connections = if is_region (region_of given) then option_map (Serve (region_of given)) (count_of connections) else None
+-- `serve`, with the region, the number of connections and the least part that are given
+abbrev pub serve_with : Option (List ℕ) → Option (List ℕ) → Option (List ℕ) → Option Command
+serve_with given connections least = if is_region (region_of given)
+    then option_and_then (λ n. option_map (Serve (region_of given) n) (least_part_of least)) (count_of connections) else None
 
 -- `sign`, with the key and the region that are given
 abbrev pub sign_with : Option (List ℕ) → Option (List ℕ) → Option Command
@@ -86,8 +92,8 @@ name_of text = if bytes_eq text (codes "session") then Some name.Session
 
 -- a command, with what `clap` found for it
 abbrev pub command_with : List Row → CommandName → Option Command
-command_with rows name.Session = session_with (first_of (codes "region") rows)
-command_with rows name.Serve = serve_with (first_of (codes "region") rows) (first_of (codes "connections") rows)
+command_with rows name.Session = session_with (first_of (codes "region") rows) (first_of (codes "least-part") rows)
+command_with rows name.Serve = serve_with (first_of (codes "region") rows) (first_of (codes "connections") rows) (first_of (codes "least-part") rows)
 command_with rows name.Sign = sign_with (first_of (codes "key") rows) (first_of (codes "region") rows)
 command_with rows name.Presign = presign_with (first_of (codes "key") rows) (first_of (codes "region") rows) (first_of (codes "expires") rows)
 command_with rows name.Recover = Some Recover
@@ -112,8 +118,8 @@ ReadsWords meant (Err Memory) = Unit {0}
 
 -- what making a URL asks for, which each command to make one has: a region of the form, and a second to a week
 abbrev pub IsProper : Command → Type 0
-IsProper (Session region) = Unit {0}
-IsProper (Serve region connections) = Unit {0}
+IsProper (Session region least) = Unit {0}
+IsProper (Serve region connections least) = Unit {0}
 IsProper (Sign key region) = Unit {0}
 IsProper (Presign key region expires) = (is_region region ≡ true) × (1 ≤ expires) × (expires ≤ 604800)
 IsProper Recover = Unit {0}

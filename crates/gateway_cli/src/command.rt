@@ -3,17 +3,20 @@ ghost use Rattle.std.specs.Prelude.{◌≡◌};
 use gate_base::{Bytes, Copying, Memory};
 use std::alloc::AllocError;
 
-/// What the words ask for. `Session`: to serve the connections of the line as this region. `Serve`: the same, but at
-/// most so many connections. `Sign`: to sign a request with the key of this id, for this region. `Presign`:
-/// to make a URL of it that holds for so many seconds. `Recover`: to settle the store.
+/// What the words ask for. `Session`: to serve the connections of the line as this region, where each part of a completed
+/// upload but the last has at least so many bytes. `Serve`: the same, but at most so many connections. `Sign`: to sign a
+/// request with the key of this id, for this region. `Presign`: to make a URL of it that holds for so many seconds.
+/// `Recover`: to settle the store.
 #[derive(Debug, Drop)]
 pub enum Command {
     Session {
         region: Bytes,
+        least_part: u64,
     },
     Serve {
         region: Bytes,
         connections: u64,
+        least_part: u64,
     },
     Sign {
         key: Bytes,
@@ -30,15 +33,18 @@ pub enum Command {
 impl Copying for Command {
     fn copy(&self) -> Result<Command, Memory> {
         match self {
-            Command::Session { region } => Ok(Command::Session {
+            Command::Session { region, least_part } => Ok(Command::Session {
                 region: region.copy()?,
+                least_part: *least_part,
             }),
             Command::Serve {
                 region,
                 connections,
+                least_part,
             } => Ok(Command::Serve {
                 region: region.copy()?,
                 connections: *connections,
+                least_part: *least_part,
             }),
             Command::Sign { key, region } => Ok(Command::Sign {
                 key: key.copy()?,

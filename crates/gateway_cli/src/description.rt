@@ -1,7 +1,7 @@
 ghost use Rattle.std.specs.Prelude.{◌≡◌, false, IfOk};
 ghost use Rattle.clap.specs.Words.{app_of, with_subcommand};
 ghost use Rattle.clap.specs.declared.builder.command.Command.TheViews.{out-Command as fields_of};
-ghost use Rattle.gateway_cli.specs.Description.{gate_app, presign_app, recover_app, serve_app, session_app, sign_app, signer_app};
+ghost use Rattle.gateway_cli.specs.Description.{gate_app, presign_app, recover_app, serve_app, serving_app, session_app, sign_app, signer_app};
 
 use clap::{Arg, ArgAction, Command};
 use std::alloc::{AllocError, Global};
@@ -23,7 +23,7 @@ pub(crate) fn gate<'a>(alloc: Global) -> Result<Command<'a>, AllocError>
 fn with_session<'a>(alloc: Global, gate: Command<'a>) -> Result<Command<'a>, AllocError>
     ensures { IfOk result (λ command. app_of command ≡ with_subcommand (app_of gate.entry) session_app.top) }
 {
-    let session = session(alloc)?;
+    let session = serving(alloc, "session")?;
     gate.subcommand(session)
 }
 
@@ -54,27 +54,28 @@ fn with_recover<'a>(alloc: Global, gate: Command<'a>) -> Result<Command<'a>, All
     gate.subcommand(Command::new(alloc, "recover"))
 }
 
-fn session<'a>(alloc: Global) -> Result<Command<'a>, AllocError>
-    ensures app { IfOk result (λ command. app_of command ≡ session_app) }
+/// A command of that name that serves, with the options of what its service is set to.
+fn serving<'a>(alloc: Global, name: &'a str) -> Result<Command<'a>, AllocError>
+    ensures app { IfOk result (λ command. app_of command ≡ serving_app name.now) }
     ensures local { IfOk result (λ command. (fields_of command).has_globals ≡ false) }
 {
     let region = Arg::new(alloc, "region")
         .long("region")
         .action(ArgAction::Set);
-    Command::new(alloc, "session").arg(region)
+    let least_part = Arg::new(alloc, "least-part")
+        .long("least-part")
+        .action(ArgAction::Set);
+    Command::new(alloc, name).arg(region)?.arg(least_part)
 }
 
 fn serve<'a>(alloc: Global) -> Result<Command<'a>, AllocError>
     ensures app { IfOk result (λ command. app_of command ≡ serve_app) }
     ensures local { IfOk result (λ command. (fields_of command).has_globals ≡ false) }
 {
-    let region = Arg::new(alloc, "region")
-        .long("region")
-        .action(ArgAction::Set);
     let connections = Arg::new(alloc, "connections")
         .long("connections")
         .action(ArgAction::Set);
-    Command::new(alloc, "serve").arg(region)?.arg(connections)
+    serving(alloc, "serve")?.arg(connections)
 }
 
 fn sign<'a>(alloc: Global) -> Result<Command<'a>, AllocError>

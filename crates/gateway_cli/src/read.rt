@@ -1,9 +1,9 @@
 ghost use Rattle.std.specs.Prelude.{◌≡◌, IfOk, map, option_and_then, option_map, string_bytes};
 ghost use Rattle.clap.specs.Words.{found_of, kind_of, rows_of, subcommand_rows_of};
-ghost use Rattle.gateway_cli.specs.Words.{FaultOf, IsProper, Parses, ReadsWords, command_in, command_of, command_with, count_of, name_of, presign_with, region_of, serve_with, session_with, sign_with, span_of};
+ghost use Rattle.gateway_cli.specs.Words.{FaultOf, IsProper, Parses, ReadsWords, command_in, command_of, command_with, count_of, least_part_of, name_of, presign_with, region_of, serve_with, session_with, sign_with, span_of};
 
 use crate::description::gate;
-use crate::text::{count_in, is_key_id, is_region, span_in};
+use crate::text::{is_key_id, is_region, number_in};
 use crate::{Command, WordsFault};
 use clap::error::ErrorKind;
 use clap::{ArgMatches, Error};
@@ -15,6 +15,18 @@ const USUAL_REGION: &str = "us-east-1";
 
 /// How many connections are served where the words don't say.
 const USUAL_CONNECTIONS: u64 = 1000;
+
+/// The most connections that may be asked for.
+const MOST_CONNECTIONS: u64 = 1_000_000_000;
+
+/// The least size in bytes of a part that isn't the last, where the words give none: S3's 5 MiB.
+const USUAL_LEAST_PART: u64 = 5_242_880;
+
+/// The greatest least size of a part that may be asked for: the most bytes that a part may have.
+const MOST_LEAST_PART: u64 = 16_777_216;
+
+/// The most seconds that a URL may hold for: a week.
+const LONGEST_SPAN: u64 = 604_800;
 
 /// The commands, by name alone.
 #[derive(Clone, Copy, Debug, PartialEq, Eq)]
@@ -28,8 +40,8 @@ enum CommandName {
 
 /// The command that the words name. The words are those behind the program's name. They are refused where `clap`
 /// refuses them or answers with a help text, where a region isn't 1 to 32 bytes of `a-z 0-9 -`, where a number of
-/// connections isn't 1 to 1000000000 in at most 20 digits, where a number of seconds isn't 1 to 604800 in as many, and where the
-/// id of a key isn't 1 to 128 letters and digits.
+/// connections isn't 1 to 1000000000 in at most 20 digits, where a least part isn't 1 to 16777216 or a number of seconds
+/// 1 to 604800 in as many, and where the id of a key isn't 1 to 128 letters and digits.
 pub fn read_words(alloc: Global, words: &[String]) -> Result<Command, WordsFault>
     ensures reads { ReadsWords (command_of words.now) result }
     ensures proper { IfOk result IsProper }
@@ -100,10 +112,15 @@ fn command_with(alloc: Global, name: CommandName, found: &ArgMatches) -> Result<
     ensures proper { IfOk result IsProper }
 {
     match name {
-        CommandName::Session => session_with(alloc, found.get_str("region")),
-        CommandName::Serve => {
-            serve_with(alloc, found.get_str("region"), found.get_str("connections"))
+        CommandName::Session => {
+            session_with(alloc, found.get_str("region"), found.get_str("least-part"))
         }
+        CommandName::Serve => serve_with(
+            alloc,
+            found.get_str("region"),
+            found.get_str("connections"),
+            found.get_str("least-part"),
+        ),
         CommandName::Sign => sign_with(alloc, found.get_str("key"), found.get_str("region")),
         CommandName::Presign => presign_with(
             alloc,
@@ -115,16 +132,24 @@ fn command_with(alloc: Global, name: CommandName, found: &ArgMatches) -> Result<
     }
 }
 
-fn session_with(alloc: Global, region: Option<&str>) -> Result<Command, WordsFault>
-    ensures reads { ReadsWords (session_with (option_map (λ text. text.now) region.entry)) result }
+fn session_with(
+    alloc: Global,
+    region: Option<&str>,
+    least_part: Option<&str>,
+) -> Result<Command, WordsFault>
+    ensures reads { ReadsWords (session_with (option_map (λ text. text.now) region.entry) (option_map (λ text. text.now) least_part.entry)) result }
     ensures proper { IfOk result IsProper }
 {
     let region = region_of(region);
     if !is_region(region) {
         return Err(WordsFault::Refused);
     }
+    let Some(least_part) = least_part_of(least_part) else {
+        return Err(WordsFault::Refused);
+    };
     Ok(Command::Session {
         region: Bytes::from_slice(alloc, region)?,
+        least_part,
     })
 }
 
@@ -132,8 +157,9 @@ fn serve_with(
     alloc: Global,
     region: Option<&str>,
     connections: Option<&str>,
+    least_part: Option<&str>,
 ) -> Result<Command, WordsFault>
-    ensures reads { ReadsWords (serve_with (option_map (λ text. text.now) region.entry) (option_map (λ text. text.now) connections.entry)) result }
+    ensures reads { ReadsWords (serve_with (option_map (λ text. text.now) region.entry) (option_map (λ text. text.now) connections.entry) (option_map (λ text. text.now) least_part.entry)) result }
     ensures proper { IfOk result IsProper }
 {
     let region = region_of(region);
@@ -143,9 +169,13 @@ fn serve_with(
     let Some(connections) = count_of(connections) else {
         return Err(WordsFault::Refused);
     };
+    let Some(least_part) = least_part_of(least_part) else {
+        return Err(WordsFault::Refused);
+    };
     Ok(Command::Serve {
         region: Bytes::from_slice(alloc, region)?,
         connections,
+        least_part,
     })
 }
 
@@ -207,8 +237,17 @@ fn count_of(given: Option<&str>) -> Option<u64>
     ensures { result ≡ count_of (option_map (λ text. text.now) given.entry) }
 {
     match given {
-        Some(text) => count_in(text),
+        Some(text) => number_in(text, MOST_CONNECTIONS),
         None => Some(USUAL_CONNECTIONS),
+    }
+}
+
+fn least_part_of(given: Option<&str>) -> Option<u64>
+    ensures { result ≡ least_part_of (option_map (λ text. text.now) given.entry) }
+{
+    match given {
+        Some(text) => number_in(text, MOST_LEAST_PART),
+        None => Some(USUAL_LEAST_PART),
     }
 }
 
@@ -216,7 +255,7 @@ fn span_of(given: Option<&str>) -> Option<u64>
     ensures { result ≡ span_of (option_map (λ text. text.now) given.entry) }
 {
     match given {
-        Some(text) => span_in(text),
+        Some(text) => number_in(text, LONGEST_SPAN),
         None => None,
     }
 }

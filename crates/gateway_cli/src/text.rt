@@ -1,7 +1,7 @@
-ghost use Rattle.std.specs.Prelude.{◌≡◌, Some};
+ghost use Rattle.std.specs.Prelude.{◌≡◌};
 ghost use Rattle.std.specs.List.{list_all};
 ghost use Rattle.gate_base.specs.Ascii.{is_digit, is_letter_or_digit};
-ghost use Rattle.gateway_cli.specs.Words.{count_of, is_count, is_number, is_region, is_region_byte, is_key_id, is_span, span_of};
+ghost use Rattle.gateway_cli.specs.Words.{is_key_id, is_number, is_region, is_region_byte, is_within, number_in};
 
 /// The longest name of a region, in bytes.
 const LONGEST_REGION: usize = 32;
@@ -11,12 +11,6 @@ const LONGEST_KEY_ID: usize = 128;
 
 /// The longest number, in digits.
 const LONGEST_NUMBER: usize = 20;
-
-/// The most connections that may be asked for.
-const MOST_CONNECTIONS: u64 = 1_000_000_000;
-
-/// The most seconds that a URL may hold for: a week.
-const LONGEST_SPAN: u64 = 604_800;
 
 pub(crate) fn is_region(text: &[u8]) -> bool
     ensures { result ≡ is_region text.now }
@@ -54,42 +48,23 @@ fn is_letter_or_digit(byte: u8) -> bool
     byte.is_ascii_digit() || byte.is_ascii_uppercase() || byte.is_ascii_lowercase()
 }
 
-/// The number that the text writes, where it is one of connections.
-pub(crate) fn count_in(text: &str) -> Option<u64>
-    ensures { result ≡ count_of (Some text.now) }
+/// The number that the text writes, where it is 1 to `most`.
+pub(crate) fn number_in(text: &str, most: u64) -> Option<u64>
+    ensures { result ≡ number_in most text.now }
 {
     if !is_number(text.as_bytes()) {
         return None;
     }
     match text.parse::<u64>() {
-        Ok(count) if is_count(count) => Some(count),
+        Ok(number) if is_within(number, most) => Some(number),
         _ => None,
     }
 }
 
-fn is_count(count: u64) -> bool
-    ensures { result ≡ is_count count }
+fn is_within(number: u64, most: u64) -> bool
+    ensures { result ≡ is_within most number }
 {
-    1 <= count && count <= MOST_CONNECTIONS
-}
-
-/// The number that the text writes, where it is one of seconds that a URL may hold for.
-pub(crate) fn span_in(text: &str) -> Option<u64>
-    ensures { result ≡ span_of (Some text.now) }
-{
-    if !is_number(text.as_bytes()) {
-        return None;
-    }
-    match text.parse::<u64>() {
-        Ok(seconds) if is_span(seconds) => Some(seconds),
-        _ => None,
-    }
-}
-
-fn is_span(seconds: u64) -> bool
-    ensures { result ≡ is_span seconds }
-{
-    1 <= seconds && seconds <= LONGEST_SPAN
+    1 <= number && number <= most
 }
 
 fn is_number(text: &[u8]) -> bool

@@ -146,9 +146,9 @@ does_none (to_presign id region expires) keys ended line store clock draws idle 
     run_presigns_none id region expires keys store.called ended line clock (idle_fails idle) (idle_never idle)
 does_none to_recover keys ended line store clock draws idle = nothing_done refl idle
 
--- what connections are served by as a region, at most so many
-abbrev pub as_region : List ℕ → Option ℕ → Serving
-as_region region most = record { settings = settings_of region; most = most }
+-- what connections are served by as a region, with a least part, at most so many
+abbrev pub as_region : List ℕ → ℕ → Option ℕ → Serving
+as_region region least most = record { settings = settings_of region least; most = most }
 
 -- how a session ended, as a run
 done_is : (status : Status) → is_done (Plain status) ≡ true → status ≡ Done
@@ -167,19 +167,14 @@ status_line serving status old new line = record {
   none_faulty = line.none_faulty;
 }
 
--- what connections are served by, as the words and the keys make it
-pub serves_by : {service : Service} {region : List ℕ} {keys : List AccessKey} {old new : World} → service ≡ record { settings = settings_of region; keys = keys }
-    → ServesOver service.settings (RunTraces service) old new → ServesOver (settings_of region) (RunTraces (record { settings = settings_of region; keys = keys })) old new
-serves_by {old = old} {new = new} is serves = subst (λ (s : Service). ServesOver s.settings (RunTraces s) old new) is serves
-
 -- a run that is a session, with such a number of connections
-pub run_session : (region : List ℕ) (most : Option ℕ) (keys : List ℕ) {read : List AccessKey} {service : Service} {status : Status} {old : World} {new : Known → World} (known : Known)
-    → service ≡ record { settings = settings_of region; keys = read } → read ≡ keys_of keys
-    → LineServesAll most status old.line (new known).line → ServesOver service.settings (RunTraces service) old (new known) → RunServes (as_region region most) keys (Plain status) old new
-run_session region most keys {status = status} {old = old} {new = new} known by read line serves = record {
+pub run_session : (serving : Serving) (keys : List ℕ) {read : List AccessKey} {status : Status} {old : World} {new : Known → World} (known : Known) → read ≡ keys_of keys
+    → LineServesAll serving.most status old.line (new known).line → ServesOver serving.settings (RunTraces (record { settings = serving.settings; keys = read })) old (new known)
+    → RunServes serving keys (Plain status) old new
+run_session serving keys {status = status} {old = old} {new = new} known read line serves = record {
   known = known;
-  line = status_line (as_region region most) status old.line (new known).line line;
-  serves = subst (λ (s : Service). ServesOver s.settings (RunTraces s) old (new known)) (by ∙ ap (λ k. record { settings = settings_of region; keys = k }) read) serves;
+  line = status_line serving status old.line (new known).line line;
+  serves = subst (λ (k : List AccessKey). ServesOver serving.settings (RunTraces (record { settings = serving.settings; keys = k })) old (new known)) read serves;
 }
 
 -- how it may end

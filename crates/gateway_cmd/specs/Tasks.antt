@@ -7,11 +7,10 @@ use Rattle.gateway.specs.declared.service.Service.{Service}
 use Rattle.gateway_cli.specs.Words.{command_of}
 use Rattle.gateway_cli.specs.declared.command.Command.{Command}
 use Rattle.gateway_cli.specs.declared.command.Command.TheVariants.{Session, Serve, Sign, Presign, Recover}
-use Rattle.gateway_cmd.specs.declared.service.TheConstants.{LEAST_PART}
 
--- the settings of a service of that region
-abbrev pub settings_of : List ℕ → Settings
-settings_of region = record { region = region; least_part = LEAST_PART }
+-- the settings of a service of that region, with that least part
+abbrev pub settings_of : List ℕ → ℕ → Settings
+settings_of region least = record { region = region; least_part = least }
 
 -- what connections are served by: the settings that the words ask for, and how many connections at most; and the keys of a
 -- key text
@@ -33,8 +32,8 @@ pub data Task : Type 0 where
 
 abbrev pub task_of : Option Command → Task
 task_of None = nothing
-task_of (Some (Session region)) = to_serve (record { settings = settings_of region; most = None })
-task_of (Some (Serve region connections)) = to_serve (record { settings = settings_of region; most = Some connections })
+task_of (Some (Session region least)) = to_serve (record { settings = settings_of region least; most = None })
+task_of (Some (Serve region connections least)) = to_serve (record { settings = settings_of region least; most = Some connections })
 task_of (Some (Sign id region)) = to_sign id region
 task_of (Some (Presign id region expires)) = to_presign id region expires
 task_of (Some Recover) = to_recover

@@ -11,20 +11,22 @@ ghost use Rattle.presign_cmd.specs.declared.first.Presigning.{Presigning};
 ghost use Rattle.gateway_cli.specs.Words.{IsProper, is_region};
 ghost use Rattle.gateway.specs.World.{world, Continues, ServesOver};
 ghost use Rattle.gateway_cmd.specs.Report.{Admits, Fits, is_failed_run, end_of, end_of_url};
-ghost use Rattle.gateway_cmd.specs.Tasks.{Apart, asked_for, is_possible, settings_of, task_of, to_sign, to_presign};
+ghost use Rattle.gateway_cmd.specs.Tasks.{Apart, asked_for, is_possible, task_of, to_sign, to_presign};
 ghost use Rattle.gateway_cmd.specs.declared.status.RunOutcome.TheVariants as ended;
 ghost use Rattle.gateway_cmd.specs.declared.status.Status.TheVariants as status;
 ghost use Rattle.gateway_cmd.specs.Run.{RunTraces};
 ghost use Rattle.gateway_cmd.specs.Session.{Does, LineServesAll};
 
+use crate::keys::read_keys;
 use crate::recover::recover;
-use crate::service::{read_keys, service};
 use crate::session::session;
 use crate::status::{RunOutcome, Status, Told};
 use gate_base::{Bytes, Clock, Draws, Line};
+use gateway::Service;
 use gateway_cli::{Command, WordsFault, read_words};
 use presign_cmd::{Presigning, presign_first};
 use recovery::Known;
+use s3_machine::Settings;
 use sign_cmd::{Signing, sign_first};
 use sigv4::{Keys, KeysFault};
 use std::alloc::Global;
@@ -82,22 +84,20 @@ fn perform<N: Line<W>, W: Swift, C: Clock, D: Draws>(
 {
     match read_keys(alloc, keys) {
         Ok(keys) => match command {
-            Command::Session { region } => RunOutcome::Plain(serve(
-                alloc, region, keys, None, line, store, clock, draws,
-            )),
+            Command::Session { region, least_part } => {
+                let settings = Settings { region, least_part };
+                let most = None;
+                RunOutcome::Plain(serve(alloc, settings, keys, most, line, store, clock, draws))
+            }
             Command::Serve {
                 region,
                 connections,
-            } => RunOutcome::Plain(serve(
-                alloc,
-                region,
-                keys,
-                Some(connections),
-                line,
-                store,
-                clock,
-                draws,
-            )),
+                least_part,
+            } => {
+                let settings = Settings { region, least_part };
+                let most = Some(connections);
+                RunOutcome::Plain(serve(alloc, settings, keys, most, line, store, clock, draws))
+            }
             Command::Recover => recover(alloc, store),
             Command::Sign { key, region } => sign(alloc, &keys, &key, &region, line, store),
             Command::Presign {
@@ -115,7 +115,7 @@ fn perform<N: Line<W>, W: Swift, C: Clock, D: Draws>(
 /// Serves the connections of the line, so many at most.
 fn serve<N: Line<W>, W: Swift, C: Clock, D: Draws>(
     alloc: Global,
-    region: Bytes,
+    settings: Settings,
     keys: Keys,
     most: Option<u64>,
     line: &mut N,
@@ -124,11 +124,11 @@ fn serve<N: Line<W>, W: Swift, C: Clock, D: Draws>(
     draws: &mut D,
 ) -> Status
     ensures line { LineServesAll most result (N.model line.old) (N.model line.new) }
-    ensures serves { (known : what_is_known) × ServesOver (settings_of region) (RunTraces (record { settings = settings_of region; keys = keys }))
+    ensures serves { (known : what_is_known) × ServesOver settings (RunTraces (record { settings = settings; keys = keys }))
         (world (N.model line.old) (W.history store.old) Unsure (C.model clock.old) (D.model draws.old))
         (world (N.model line.new) (W.history store.new) known (C.model clock.new) (D.model draws.new)) }
 {
-    let service = service(region, keys);
+    let service = Service { settings, keys };
     let mut known = Known::Unsure;
     session(alloc, &service, most, line, store, &mut known, clock, draws)
 }

@@ -3,9 +3,9 @@
 
 mod attempt;
 mod command;
+mod keys;
 mod laws;
 mod recover;
-mod service;
 mod session;
 mod status;
 

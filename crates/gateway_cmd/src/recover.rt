@@ -6,10 +6,10 @@ ghost use Rattle.recovery.specs.Settling.{Settles};
 ghost use Rattle.gateway_cmd.specs.Report.{Fits, recovered};
 ghost use Rattle.gateway_cmd.specs.Tasks.{to_recover};
 
-use crate::service::settings;
 use crate::status::{RunOutcome, Status, Told};
 use gate_base::Bytes;
 use recovery::{SettleFault, Unsure};
+use s3_machine::Settings;
 use std::alloc::Global;
 use swift_calls::Swift;
 
@@ -29,10 +29,13 @@ pub fn recover<W: Swift>(alloc: Global, store: &mut W) -> RunOutcome
     }
 }
 
-/// Settles the store, by settings of no region: settling uses none.
+/// Settles the store, by settings of no region and no least part: settling uses neither.
 fn settle<W: Swift>(alloc: Global, store: &mut W) -> Result<(), SettleFault>
     ensures { Settles (W.history store.old) (W.history store.new) result }
 {
-    let settings = settings(Bytes::new(alloc));
+    let settings = Settings {
+        region: Bytes::new(alloc),
+        least_part: 0,
+    };
     Unsure::open(alloc, store, &settings).settle()
 }

@@ -8,8 +8,10 @@ use Rattle.gateway_cli.proofs.read.command_with.Goals as goal
 pub returns-in-Session-clause-reads : goal.returns-in-Session-clause-reads
 returns-in-Session-clause-reads c =
     let found = found_of c.args.found.now in
+    let region = given found (codes "region") c.get_str.ensures in
+    let least = given found (codes "least-part") c.get_str-in-Session.ensures in
     reads_where _ _ c.session_with.result
-    (ap (command_with (rows_of found)) c.in-Session.is ∙ ap session_with (given found (codes "region") c.get_str.ensures))
+    (ap (command_with (rows_of found)) c.in-Session.is ∙ (λ i. session_with (region i) (least i)))
     c.session_with.ensures.reads
 
 pub returns-in-Serve-clause-reads : goal.returns-in-Serve-clause-reads
@@ -17,8 +19,9 @@ returns-in-Serve-clause-reads c =
     let found = found_of c.args.found.now in
     let region = given found (codes "region") c.get_str-in-Serve.ensures in
     let connections = given found (codes "connections") c.get_str-in-Serve-2.ensures in
+    let least = given found (codes "least-part") c.get_str-in-Serve-3.ensures in
     reads_where _ _ c.serve_with.result
-    (ap (command_with (rows_of found)) c.in-Serve.is ∙ (λ i. serve_with (region i) (connections i)))
+    (ap (command_with (rows_of found)) c.in-Serve.is ∙ (λ i. serve_with (region i) (connections i) (least i)))
     c.serve_with.ensures.reads
 
 pub returns-in-Sign-clause-reads : goal.returns-in-Sign-clause-reads

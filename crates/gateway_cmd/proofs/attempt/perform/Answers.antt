@@ -17,17 +17,17 @@ returns-clause-does g c = does_none _ c.args.keys.now _ _ _ _ _ (out_of_memory r
 
 pub returns-in-Session-clause-does : goal.returns-in-Session-clause-does
 returns-in-Session-clause-does g c = rw c.in-Session.is
-    (run_session c.in-Session.region None c.args.keys.now c.serve.ensures.serves.0 refl c.in-Ok.ensures.0 c.serve.ensures.line c.serve.ensures.serves.1)
+    (run_session (as_region c.in-Session.region c.in-Session.least_part None) c.args.keys.now c.serve.ensures.serves.0 c.in-Ok.ensures.0 c.serve.ensures.line c.serve.ensures.serves.1)
 
 pub returns-in-Serve-clause-does : goal.returns-in-Serve-clause-does
 returns-in-Serve-clause-does g c = rw c.in-Serve.is
-    (run_session c.in-Serve.region (Some c.in-Serve.connections) c.args.keys.now c.serve-in-Serve.ensures.serves.0 refl c.in-Ok.ensures.0 c.serve-in-Serve.ensures.line c.serve-in-Serve.ensures.serves.1)
+    (run_session (as_region c.in-Serve.region c.in-Serve.least_part (Some c.in-Serve.connections)) c.args.keys.now c.serve-in-Serve.ensures.serves.0 c.in-Ok.ensures.0 c.serve-in-Serve.ensures.line c.serve-in-Serve.ensures.serves.1)
 
 pub returns-in-Session-clause-fits : goal.returns-in-Session-clause-fits
-returns-in-Session-clause-fits g c = subst (λ command. Fits (task_of (Some command)) (Plain c.serve.result)) (sym c.in-Session.is) (session_fits (as_region c.in-Session.region None) c.serve.result c.serve.ensures.line.ends)
+returns-in-Session-clause-fits g c = subst (λ command. Fits (task_of (Some command)) (Plain c.serve.result)) (sym c.in-Session.is) (session_fits (as_region c.in-Session.region c.in-Session.least_part None) c.serve.result c.serve.ensures.line.ends)
 
 pub returns-in-Serve-clause-fits : goal.returns-in-Serve-clause-fits
-returns-in-Serve-clause-fits g c = subst (λ command. Fits (task_of (Some command)) (Plain c.serve-in-Serve.result)) (sym c.in-Serve.is) (session_fits (as_region c.in-Serve.region (Some c.in-Serve.connections)) c.serve-in-Serve.result c.serve-in-Serve.ensures.line.ends)
+returns-in-Serve-clause-fits g c = subst (λ command. Fits (task_of (Some command)) (Plain c.serve-in-Serve.result)) (sym c.in-Serve.is) (session_fits (as_region c.in-Serve.region c.in-Serve.least_part (Some c.in-Serve.connections)) c.serve-in-Serve.result c.serve-in-Serve.ensures.line.ends)
 
 pub returns-in-Sign-clause-fits : goal.returns-in-Sign-clause-fits
 returns-in-Sign-clause-fits g c = subst (λ command. Fits (task_of (Some command)) c.sign.result) (sym c.in-Sign.is) (c.sign.ensures.fits c.in-Sign.key c.in-Sign.region)
