@@ -142,12 +142,12 @@ class Program:
 
 
 class Gate(Program):
-    """`s3gate serve` over the store at that place."""
+    """`s3gate serve` over the store at that place, with further words."""
 
-    def __init__(self, store, connections=1000000, place=None, **variables):
+    def __init__(self, store, connections=1000000, place=None, words=(), **variables):
         self.place = place or PLACES.take()
         usual = {"S3GATE_KEYS": KEYS, "S3GATE_LISTEN": "%s:%d" % self.place, "S3GATE_STORE": store, "S3GATE_ACCOUNT": ACCOUNT, "S3GATE_TOKEN": TOKEN, "S3GATE_LOG": "off"}
-        super().__init__([S3GATE, "serve", "--connections", str(connections)], {**usual, **variables})
+        super().__init__([S3GATE, "serve", "--connections", str(connections), *words], {**usual, **variables})
 
     def client(self, *requests):
         return Client(self, *requests)
@@ -369,7 +369,7 @@ GET, FOUND = ("GET", "/photos/a"), (200, b"abc")
 def words_and_environment_of_s3gate(check):
     place = "%s:%d" % PLACES.take()
     usual = {"S3GATE_LISTEN": place, "S3GATE_STORE": NOWHERE, "S3GATE_ACCOUNT": ACCOUNT, "S3GATE_TOKEN": TOKEN}
-    for words in (["photos"], ["serve", "photos"], ["serve", "--connections", "0"], ["serve", "--connections", "1000000001"], ["serve", "--region", ""], ["serve", "--region", "US"]):
+    for words in (["photos"], ["serve", "photos"], ["serve", "--connections", "0"], ["serve", "--connections", "1000000001"], ["serve", "--least-part", "0"], ["serve", "--least-part", "16777217"], ["serve", "--region", ""], ["serve", "--region", "US"]):
         output, report = (b"", USAGE + BUILT) if words[0] == "serve" else (USAGE, BUILT)
         check(f"the words {' '.join(words)!r}", (2, output, report), ran(S3GATE, words, **usual))
     check("no words", (2, USAGE, BUILT), ran(S3GATE, []))
@@ -1620,12 +1620,149 @@ def uploads(check):
             check("those behind a key", (due[2:], ["false"]), open_ones("&key-marker=a%2Fc"))
             check("those behind a key and an id", (due[3:], ["false"]), open_ones(f"&key-marker=v.bin&upload-id-marker={due[2][1]}"))
             check("none of them", ([], ["false"]), open_ones("&max-uploads=0"))
-            check("a completion isn't built", (501, "NotImplemented"), brief(ask("POST", v, [], b"<CompleteMultipartUpload><Part><PartNumber>1</PartNumber><ETag>x</ETag></Part></CompleteMultipartUpload>")))
+            check("a part below 5 MiB before another", (400, "EntityTooSmall"), brief(ask("POST", v, [], completion((1, b"hello"), (3, b"world")))))
             check("and no object is there", (404, "NoSuchKey"), brief(ask("GET", "/photos/v.bin")))
             check("the upload ends, and once", [204, no_upload], [brief(ask("DELETE", v)) for _ in range(2)])
             check("and takes no part, and shows none", [no_upload] * 2, [brief(ask("PUT", v + "&partNumber=1", [], b"abc")), brief(ask("GET", v))])
             check("the others are left", (sorted(set(due) - {("v.bin", id_)}), ["false"]), open_ones())
             check("the bucket goes with them, and is made without them", [204, 200, (200, 0)], [brief(ask("DELETE", "/photos")), brief(ask("PUT", "/photos")), listed(ask("GET", "/photos?uploads"))])
+
+
+# A completion of the upload of `v`, the texts of what it leaves, and its calls.
+LEAST = ("--least-part", "1")
+JOINED = {UPLOAD: ("v", {1: b"hello", 3: b"world"})}
+
+
+def completion(*parts):
+    """The body of a completion by these parts."""
+    items = (f"<Part><PartNumber>{number}</PartNumber><ETag>{hashlib.md5(body).hexdigest()}</ETag></Part>" for number, body in parts)
+    return f"<CompleteMultipartUpload>{''.join(items)}</CompleteMultipartUpload>".encode()
+
+
+def joined_etag(*bodies):
+    return hashlib.md5(b"".join(hashlib.md5(it).digest() for it in bodies)).hexdigest() + f"-{len(bodies)}"
+
+
+COMPLETE = ("POST", V, [], completion((1, b"hello"), (3, b"world")))
+COMPLETED = (
+    '<CompleteMultipartUploadResult xmlns="http://s3.amazonaws.com/doc/2006-03-01/"><Location>/photos/v</Location><Bucket>photos</Bucket>'
+    f"<Key>v</Key><ETag>&quot;{joined_etag(b'hello', b'world')}&quot;</ETag></CompleteMultipartUploadResult>"
+)
+
+
+def done(reply):
+    """A reply that is that of the completion done, and otherwise as `brief`."""
+    return "done" if (reply.status, reply.body.decode().partition("\n")[2]) == (200, COMPLETED) else brief(reply)
+
+
+@group()
+def calls_of_a_completion_are_spelled(check):
+    with Store(account=account({}, uploads=JOINED)) as store, Gate(store.text, words=LEAST).settled(store) as gate:
+
+        def call(line, *headers, body=""):
+            return spelled(store, line, *headers, body=body)
+
+        bucket = f"/v1/{ACCOUNT}/photos"
+        record_file, sealed_file = f"{bucket}%2Buploads/{UPLOAD}", f"/v1/{ACCOUNT}/%2Bgateway/sealed"
+        reply = gate.ask(*COMPLETE)
+        moment, etag, segments = moment_of(reply), joined_etag(b"hello", b"world"), f"{bucket}%2Bsegments"
+        first = [call(f"HEAD {bucket}"), call(f"GET {record_file}")]
+        md5s = [hashlib.md5(it).hexdigest() for it in (b"hello", b"world")]
+        sealed = (
+            f'{{"at":{moment},"bucket":"photos","etag":"{etag}","id":"{UPLOAD}","key":"v","list":[[1,"{md5s[0]}",5],[3,"{md5s[1]}",5]],'
+            f'"meta":[],"started":{MADE},"type":"binary/octet-stream","v":1}}'
+        )
+        manifest = "[%s]" % ",".join(
+            f'{{"etag":"{it}","path":"/photos+segments/{UPLOAD}/{number:05}","size_bytes":5}}' for number, it in ((1, md5s[0]), (3, md5s[1]))
+        )
+        kept = f'{{"at":{MADE},"done":{moment},"etag":"{etag}","key":"v","list":[[1,"{md5s[0]}"],[3,"{md5s[1]}"]],"state":"done","v":2}}'
+        listing = call(f"GET {segments}?format=json&limit=1000&marker={UPLOAD}%2F00000&prefix={UPLOAD}%2F")
+        puts = [
+            call(f"PUT {sealed_file}", "Content-Type: application/json", body=sealed),
+            call(f"PUT {bucket}/v?multipart-manifest=put", f"Content-Type: binary/octet-stream;s3={etag}.{moment}.{UPLOAD}", body=manifest),
+            call(f"PUT {record_file}", "Content-Type: application/json", body=kept),
+        ]
+        check("a completion is done", "done", done(reply))
+        check("the calls of CompleteUpload", [*first, listing, *puts, call(f"DELETE {sealed_file}")], heard(store))
+        check("and again, by two of them", ("done", first), (done(gate.ask(*COMPLETE)), heard(store)))
+        for title, words, wanted in (
+            ("by another list", ("POST", V, [], completion((1, b"hello"))), (404, "NoSuchUpload")),
+            ("by a body that is none", ("POST", V, [], b"<x/>"), (400, "MalformedXML")),
+        ):
+            check(f"{title} it isn't", wanted, brief(gate.ask(*words)))
+        store.begin({})
+        check("nobody's completion makes no call", ((403, "AccessDenied"), []), (brief(gate.ask(*COMPLETE, owner=False)), heard(store)))
+
+
+@group()
+def each_call_of_a_completion_is_lost(check):
+    """Behind the call that seals it the reply is that of the completion done; the next operation finishes what is left of it."""
+    whole = (200, b"helloworld")
+    with Store() as store, Gate(store.text, words=LEAST).settled(store) as gate:
+        for number in range(1, 8):
+            for title, act in (("its request", lose_request), ("its answer", lose_answer), ("a byte of its answer", cut_answer(1))):
+                store.account = {**account(uploads=JOINED), "+gateway": ([], {})}
+                store.begin({number: act})
+                reply, made = done(gate.ask(*COMPLETE)), len(store.calls)
+                is_sealed = number > 4 or number == 4 and act is not lose_request
+                store.begin({})
+                read = gate.ask("GET", "/photos/v", owner=False)
+                found = [reply, made, both(read) if read.status == 200 else brief(read), done(gate.ask(*COMPLETE)), both(gate.ask("GET", "/photos/v"))]
+                wanted = ["done" if number > 4 else (503, "ServiceUnavailable"), number, whole if is_sealed else (404, "NoSuchKey"), "done", whole]
+                check(f"a completion whose call {number} loses {title}", wanted, found)
+                check("and nothing is sealed", {}, store.account["+gateway"][1])
+
+
+@group()
+def a_completion_is_finished_by_another_gateway(check):
+    """The store is gone behind each call of a completion, and so is the gateway."""
+    for number in range(1, 8):
+        with Store() as store:
+            store.account = {**account(uploads=JOINED), "+gateway": ([], {})}
+            with Gate(store.text, words=LEAST).settled(store) as gate:
+                store.begin({it: lose_request for it in range(number, 100)})
+                reply = done(gate.ask(*COMPLETE))
+                check(f"the store is gone from call {number} on", (503, "ServiceUnavailable") if number <= 4 else "done", reply)
+                gate.signal(signal.SIGKILL)
+            store.begin({})
+            if number % 2:
+                check("recover finishes it", (0, b"settled\n"), ran(S3GATE, ["recover"], S3GATE_STORE=store.text, S3GATE_ACCOUNT=ACCOUNT, S3GATE_TOKEN=TOKEN, S3GATE_LOG="off")[:2])
+            with Gate(store.text, words=LEAST) as gate:
+                read = gate.ask("GET", "/photos/v")
+                check("another gateway has the object or not", (200, b"helloworld") if number > 4 else (404, "NoSuchKey"), both(read) if read.status == 200 else brief(read))
+                check("and answers the completion", "done", done(gate.ask(*COMPLETE)))
+                check("of which nothing is left", {}, store.account["+gateway"][1])
+
+
+@group()
+def completions(check):
+    for title, store in (("a scripted store", Store()), ("swiftd", Swiftd())):
+        with store, Gate(store.text, words=LEAST) as gate, gate.client(request("PUT", "/photos")) as client:
+            client.reply()
+
+            def ask(*words):
+                client.send(request(*words))
+                return client.reply()
+
+            id_ = (text_of(b"UploadId", ask("POST", "/photos/a%20b?uploads", [("Content-Type", "text/plain"), ("x-amz-meta-colour", "red")]).body) or ["none"])[0]
+            v = f"/photos/a%20b?uploadId={id_}"
+            bodies = {1: b"hello", 2: b"-", 7: bytes(range(256)) * 16, 1000: b"."}
+            for number, body in bodies.items():
+                ask("PUT", f"{v}&partNumber={number}", [], body)
+            whole, etag = b"".join(bodies.values()), joined_etag(*bodies.values())
+            lists = completion(*bodies.items())
+            check(f"{title}: a part that isn't there", (400, "InvalidPart"), brief(ask("POST", v, [], completion((1, b"hello"), (3, b"")))))
+            check("parts in another order", (400, "InvalidPartOrder"), brief(ask("POST", v, [], completion((2, b"-"), (1, b"hello")))))
+            for again in range(2):
+                reply = ask("POST", v, [], lists)
+                check("a completion, and the same again", (200, ["/photos/a%20b"], [f"&quot;{etag}&quot;"]), (reply.status, *(text_of(it, reply.body) for it in (b"Location", b"ETag"))))
+            reply = ask("GET", "/photos/a%20b")
+            shown = [reply.headers.get(it) for it in ("etag", "content-type", "x-amz-meta-colour")]
+            check("its object", (200, whole, [f'"{etag}"', "text/plain", "red"]), (*both(reply), shown))
+            reply = ask("GET", "/photos/a%20b", [("Range", "bytes=3-4100")])
+            check("a range over its parts", (206, whole[3:4101]), both(reply))
+            check("the upload is no more", [(404, "NoSuchUpload")] * 3, [brief(ask(*it)) for it in (("GET", v), ("DELETE", v), ("PUT", v + "&partNumber=1", [], b"x"))])
+            check("the object goes, and the completion stays kept", [204, 200, (404, "NoSuchKey")], [brief(ask("DELETE", "/photos/a%20b")), brief(ask("POST", v, [], lists)), brief(ask("GET", "/photos/a%20b"))])
 
 
 @group()

@@ -251,6 +251,8 @@ class Store:
         if found is None or (call.method != "PUT" and call.name not in found[1]):
             return 404, [], b""
         objects = found[1]
+        if call.method == "PUT" and call.query.get("multipart-manifest") == "put":
+            return self.put_manifest(call, objects)
         if call.method == "PUT":
             etag = ("Etag", hashlib.md5(call.body).hexdigest())
             objects[call.name] = ([("Content-Type", call.headers["content-type"]), etag] + kept(call, "x-object-meta-"), call.body)
@@ -259,11 +261,36 @@ class Store:
             del objects[call.name]
             return 204, [], b""
         headers, body = objects[call.name]
+        if isinstance(body, Segments):
+            body = b"".join(self.account[container][1].get(name, (None, b""))[1] for container, name in body.places)
         if "range" not in call.headers:
             return 200, headers, body
         first, _, last = call.headers["range"].removeprefix("bytes=").partition("-")
         part = body[int(first) : int(last) + 1]
         return 206, headers + [("Content-Range", f"bytes {first}-{int(first) + len(part) - 1}/{len(body)}")], part
+
+
+    def put_manifest(self, call, objects):
+        """A static large object, of segments that are there as they are listed."""
+        entries = [(*it["path"].lstrip("/").split("/", 1), it["etag"], it["size_bytes"]) for it in json.loads(call.body)]
+        for container, name, etag, size in entries:
+            headers, body = self.account.get(container, (None, {}))[1].get(name.encode(), ([], b""))
+            if not size or len(body) != size or dict(headers).get("Etag") != etag:
+                return 400, [], b""
+        etag = ("Etag", '"%s"' % hashlib.md5("".join(it[2] for it in entries).encode()).hexdigest())
+        headers = [("Content-Type", call.headers["content-type"]), etag, ("X-Static-Large-Object", "True")] + kept(call, "x-object-meta-")
+        objects[call.name] = (headers, Segments([(container, name.encode()) for container, name, _, _ in entries], sum(it[3] for it in entries)))
+        return (201, [etag], b"") if entries else (400, [], b"")
+
+
+class Segments:
+    """What a static large object has for its bytes: where they are, and how many."""
+
+    def __init__(self, places, size):
+        self.places, self.size = places, size
+
+    def __len__(self):
+        return self.size
 
 
 def listed(items):

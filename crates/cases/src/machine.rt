@@ -54,21 +54,26 @@ pub(crate) fn follow_case(
     if meets_fault(given) || says(given, "nomodel") || pieces.is_empty() {
         return;
     }
-    if let Some(mut machine) = machine_after(alloc, first, told) {
+    if let Some(mut machine) = machine_after(alloc, first, given, told) {
         machine.follow(given, pieces, told);
     }
 }
 
-/// The machine that was asked what the run was that stands before a case.
-pub(crate) fn machine_after(alloc: Global, first: &First, told: &mut Told) -> Option<Machine> {
-    let mut machine = machine_of(alloc, first.given, told)?;
+/// The machine that was asked what the run was that stands before a case, with the settings of the case.
+pub(crate) fn machine_after(
+    alloc: Global,
+    first: &First,
+    given: Given<'_>,
+    told: &mut Told,
+) -> Option<Machine> {
+    let mut machine = machine_of(alloc, given, told)?;
     machine.follow(first.given, first.pieces, told);
     Some(machine)
 }
 
 /// A machine without a bucket.
 fn machine_of(alloc: Global, given: Given<'_>, told: &mut Told) -> Option<Machine> {
-    let settings = settings_of(alloc, region_of(given), told)?;
+    let settings = settings_of(alloc, region_of(given), least_part_of(given), told)?;
     let service = service_of(alloc, given, told)?;
     Some(Machine {
         alloc,
@@ -245,29 +250,58 @@ fn label_of(turn: u64, moments: &[u64]) -> Label {
     }
 }
 
+/// The least size of a part that isn't the last, where the words give none: 5 MiB.
+pub(crate) const USUAL_LEAST_PART: u64 = 5_242_880;
+
 /// A copy of the settings of a region.
-pub(crate) fn settings_of(alloc: Global, region: &[u8], told: &mut Told) -> Option<Settings> {
+pub(crate) fn settings_of(
+    alloc: Global,
+    region: &[u8],
+    least_part: u64,
+    told: &mut Told,
+) -> Option<Settings> {
     let settings = Settings {
         region: bytes_of(alloc, region, told),
-        least_part: 5_242_880,
+        least_part,
     };
     told.keep(settings.copy())
 }
 
-/// What stands behind `--region` in the words of the program, or the usual region.
+/// The word that stands behind an option in the words of the program.
+fn option_of<'a>(given: Given<'a>, option: &str) -> Option<&'a str> {
+    let words = behind(given, "words")?;
+    let (_, rest) = words.split_once(option)?;
+    match rest.split_once(' ') {
+        Some((value, _)) => Some(value),
+        None => Some(rest),
+    }
+}
+
+/// The region of the words, or the usual one.
 fn region_of(given: Given<'_>) -> &[u8] {
-    let words = match behind(given, "words") {
-        Some(text) => text,
-        None => "",
-    };
-    match words.split_once(" --region ") {
-        Some((_, region)) => region.as_bytes(),
+    match option_of(given, " --region ") {
+        Some(region) => region.as_bytes(),
         None => b"us-east-1",
     }
 }
 
+/// The least size of a part of the words, or the usual one, 5 MiB.
+fn least_part_of(given: Given<'_>) -> u64 {
+    match option_of(given, " --least-part ") {
+        Some(value) => number_in(value),
+        None => USUAL_LEAST_PART,
+    }
+}
+
+fn number_in(text: &str) -> u64 {
+    match text.parse::<u64>() {
+        Ok(number) => number,
+        Err(_) => 0,
+    }
+}
+
 pub(crate) fn service_of(alloc: Global, given: Given<'_>, told: &mut Told) -> Option<Service> {
-    let settings = settings_of(alloc, region_of(given), told)?;
+    let settings = settings_of(alloc, region_of(given), least_part_of(given), told)?;
     let text = keys(alloc, given);
     let keys = told.keep(Keys::read(alloc, text.text().as_bytes()))?;
     Some(Service { settings, keys })
@@ -323,7 +357,7 @@ pub(crate) fn is_shown(reply: &Reply) -> bool
         Reply::Memory => false,
         Reply::Refused(_) | Reply::Done | Reply::Gone | Reply::AclOf(_) => true,
         Reply::Made { .. } | Reply::Location { .. } | Reply::Stored { .. } => true,
-        Reply::Started { .. } | Reply::Completed { .. } => true,
+        Reply::Started { .. } | Reply::Completed { .. } | Reply::Deleted { .. } => true,
         Reply::NotModified(head) => head.modified < MOMENT_LIMIT,
         Reply::Buckets(items) => are_dated(items.as_slice()),
         Reply::Objects { items, .. } => are_items_dated(items.as_slice()),

@@ -1,6 +1,6 @@
 //! What requests mean.
 use crate::cases::cut_text;
-use crate::machine::settings_of;
+use crate::machine::{USUAL_LEAST_PART, settings_of};
 use crate::s3_verbs::caller_of;
 use crate::s3_verbs_message::message_of;
 use crate::told::{Told, tell, tell_copied};
@@ -37,7 +37,7 @@ fn by_target(
     target: &Target,
     told: &mut Told,
 ) {
-    if let Some(settings) = settings_of(alloc, b"us-east-1", told) {
+    if let Some(settings) = settings_of(alloc, b"us-east-1", USUAL_LEAST_PART, told) {
         let meant = meaning(alloc, message, target, &caller, &settings);
         tell_meant(verb, &meant, told);
     }

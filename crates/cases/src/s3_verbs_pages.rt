@@ -1,7 +1,7 @@
 //! The pages of replies that cases give. What a reply bears stands in fields `name: value`. Each field `item` of one that lists
 //! has four words, of which the last may have spaces: `MOMENT NUMBER WORD TEXT`. Of a bucket they are `CREATED 0 - NAME`; of an
 //! object `MODIFIED SIZE ETAG KEY`, and of a common prefix `0 0 - PREFIX`; of an upload `STARTED ID - KEY`; of a part
-//! `MODIFIED SIZE NUMBER ETAG`.
+//! `MODIFIED SIZE NUMBER ETAG`. Each field `key` of a deletion is one of its keys.
 use crate::cases::cut_text;
 use crate::given::number_of;
 use crate::machine::is_shown;
@@ -103,6 +103,7 @@ fn reply_of(alloc: Global, name: &str, fields: &[Pair], body: &Bytes, told: &mut
         "objects" => objects(alloc, fields, told),
         "uploads" => uploads(alloc, fields, told),
         "parts" => parts(alloc, fields, told),
+        "deleted" => deleted(alloc, fields, told),
         _ => small_reply_of(alloc, name, fields, told),
     }
 }
@@ -339,6 +340,25 @@ fn part_items(alloc: Global, fields: &[Pair], told: &mut Told) -> List<PartItem>
         }
     }
     items
+}
+
+fn deleted(alloc: Global, fields: &[Pair], told: &mut Told) -> Reply {
+    Reply::Deleted {
+        keys: keys_in(alloc, fields, told),
+        quiet: is_said(fields, b"quiet"),
+    }
+}
+
+/// The keys of the fields `key`, in their order.
+fn keys_in(alloc: Global, fields: &[Pair], told: &mut Told) -> List<Bytes> {
+    let mut keys = List::new(alloc);
+    for field in fields {
+        if field.name.as_slice() == b"key".as_slice() {
+            let done = keys.push(bytes_of(alloc, field.value.as_slice(), told));
+            told.check(done);
+        }
+    }
+    keys
 }
 
 /// The bytes of a field; none where it is missing.

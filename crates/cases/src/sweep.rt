@@ -144,7 +144,7 @@ fn follow_probe(
     if says(setting.given, "nomodel") {
         return;
     }
-    if let Some(mut machine) = machine_after(alloc, setting.first, told) {
+    if let Some(mut machine) = machine_after(alloc, setting.first, setting.given, told) {
         machine.follow(setting.given, pieces, told);
         machine.follow(setting.probe, seen, told);
     }
