@@ -8,11 +8,12 @@ import boto3
 from boto3.s3.transfer import TransferConfig
 from botocore.config import Config
 
-# A file of up to 16 MiB goes in one PUT; a larger one is sent in parts, whose completion s3gate answers 501 NotImplemented.
-transfer = TransferConfig(multipart_threshold=16777217)
+# boto3's own configuration works too: parts of 8 MiB, from 8 MiB on. s3gate takes 1000 parts of up to 16 MiB each, and larger parts
+# are fewer requests.
+transfer = TransferConfig(multipart_threshold=16 << 20, multipart_chunksize=16 << 20)
 
-# Since 1.36 botocore sends a checksum that nobody asked for, over TLS in chunks, which s3gate answers 501 too. Older ones know no such
-# option, and need none.
+# Since 1.36 botocore sends a checksum that nobody asked for, over TLS in chunks, which s3gate answers 501 NotImplemented. Older
+# ones know no such option, and need none.
 CHECKSUMS = ("request_checksum_calculation", "response_checksum_validation")
 
 

@@ -6,8 +6,8 @@
 #   examples/clients/duplicity.sh verify boto3+s3://backup/home /home
 #   examples/clients/duplicity.sh restore boto3+s3://backup/home /tmp/restored
 #
-# --volsize 10: a volume has some 10 MB, and goes in one PUT. duplicity's own 200 MB are sent in parts, whose completion is
-# answered 501.
+# --volsize 10: a volume has some 10 MB. duplicity's own volumes of 200 MB are sent in parts of 20 MB, which are EntityTooLarge;
+# --s3-multipart-chunk-size 10 makes them smaller.
 # S3GATE_ENDPOINT is s3gate's place, or a front's. With botocore from 1.36 on and TLS: export
 # AWS_REQUEST_CHECKSUM_CALCULATION=when_required AWS_RESPONSE_CHECKSUM_VALIDATION=when_required.
 set -euo pipefail
