@@ -2,18 +2,19 @@
 use Rattle.std.proofs.Common.{◌≡◌, ◌==◌, ◌↔◌, IsTrue, ℕ, inl, inr, List, [], ◌∷◌, ◌++◌, length, map, refl, sym, ◌∙◌, ap, subst, append_assoc, true, false, Bool, arith, Result, Ok, Err, Bor, codes, suc}
 use Rattle.std.proofs.lemmas.Bool.Decides.{nat_tests}
 use Rattle.std.proofs.lemmas.List.{map-append}
-use Rattle.xml_forms.specs.Forms.{Begins, Stops, Reads, Exactly, Many, Skips, SpellsAll, Word, Unique, Apart, Possible, Opens, nearer}
+use Rattle.xml_forms.specs.Forms.{Begins, Stops, Reads, Exactly, Many, Skips, SpellsAll, Unique, Apart, Possible, Opens, nearer}
 use Rattle.xml_forms.specs.Openings.{Opening}
-use Rattle.xml_forms.specs.Runs.{has, IsRun, Spaced}
+use Rattle.xml_forms.specs.Runs.{has}
 use Rattle.xml_forms.specs.declared.class.Class.TheVariants.{Space}
 use Rattle.xml_forms.proofs.lemmas.Elements.{exactly_unique, is_zero}
 use Rattle.xml_forms.proofs.lemmas.Manies.{many_reads, many_some, many_unique}
 use Rattle.xml_forms.proofs.lemmas.Openings.{document_breaks, document_reads, document_unique}
-use Rattle.xml_forms.proofs.lemmas.Readers.{exactly_heads, nearer_value, opens_heads, spaced_exactly, spaced_reads, spaced_some, spaced_unique, then_reads, with_value, word_heads}
+use Rattle.xml_forms.proofs.lemmas.Readers.{exactly_heads, nearer_value, opens_heads, spaced_exactly, spaced_some, spaced_unique, then_reads, with_value}
 use Rattle.xml_forms.proofs.lemmas.Sequence.{then_some, then_stops_first, then_unique}
 use Rattle.xml_forms.proofs.lemmas.Wholes.{Stuck, stuck_behind, stuck_within, whole}
 use Rattle.s3_bodies.specs.Completion.{Completion, IsCompletion, Part, Parts, PartsEnd, completion_end, completion_start, listed_of}
-use Rattle.s3_bodies.specs.PartReaders.{ClosesParts, EndsParts, part_of}
+use Rattle.s3_bodies.specs.PartReaders.{part_of}
+use Rattle.s3_bodies.specs.RootEnd.{ClosesRoot, EndsRoot}
 use Rattle.s3_bodies.proofs.PartLemmas.{part_apart, part_some, part_unique}
 
 abbrev P : Type 0
@@ -33,9 +34,6 @@ end_some parts = spaced_some (Exactly parts completion_end) (record { value = pa
 end_unique : (parts : List P) → Unique (PartsEnd parts)
 end_unique parts = spaced_unique (Exactly parts completion_end) (end_opens parts) (exactly_unique parts completion_end)
 
-pub root_end_reads : (bytes run rest : List ℕ) → IsRun Space (length bytes) bytes run rest → (r : Result (Unit {0} × List ℕ) ℕ) → Reads (Word completion_end) rest r → Reads (Spaced (Word completion_end)) bytes r
-root_end_reads = spaced_reads (Word completion_end) (opens_heads (Word completion_end) (codes "/CompleteMultipartUpload>") (word_heads completion_end))
-
 -- ---- the parts
 
 abbrev rest_of : P → List P → List P → List ℕ → Type 0
@@ -52,7 +50,7 @@ all_some : Possible Parts
 all_some = then_some Part (λ first. Many Part (rest_of first)) part_some parts_some
 
 parts_read_at : (none : Bool) (items : List P) (bytes inner rest : List ℕ) (left : ℕ) → none ≡ (length items == 0) → SpellsAll Part items inner → bytes ≡ inner ++ rest → Stops Part rest left
-    → (r : Result (Unit {0} × List ℕ) ℕ) → EndsParts none rest left r → Reads Parts bytes (with_value items r)
+    → (r : Result (Unit {0} × List ℕ) ℕ) → EndsRoot completion_end none rest left r → Reads Parts bytes (with_value items r)
 parts_read_at true [] bytes inner rest left is s at stops r e =
     let same : bytes ≡ rest = at ∙ ap (λ i. i ++ rest) s in
     subst (λ x. Reads Parts bytes (with_value [] x)) (sym e) (subst (λ w. Stops Parts w left) (sym same) (then_stops_first Part (λ first. Many Part (rest_of first)) parts_some rest left stops))
@@ -62,11 +60,11 @@ parts_read_at false (first ∷ items) bytes inner rest left is s at stops r e =
     subst (λ x. Reads Parts bytes x) (nearer_value (first ∷ items) left e.0 ∙ ap (with_value (first ∷ items)) (sym e.2))
     (then_reads Part (λ f. Many Part (rest_of f)) part_unique bytes (s.1 ++ rest) first (record { word = s.0; spells = s.2; at = at ∙ ap (λ i. i ++ rest) s.4 ∙ append_assoc s.0 s.1 rest })
     (nearer (Err left) (with_value (first ∷ items) e.0))
-    (many_reads Part part_unique (rest_of first) (λ l. end_apart (first ∷ l)) (λ l. end_some (first ∷ l)) (s.1 ++ rest) items rest left (record { inner = s.1; spells = s.3; at = refl; stops = stops })
+    (many_reads Part part_unique (rest_of first) (λ l. end_apart (first ∷ l)) (λ a l. end_some (first ∷ a ∷ l)) (s.1 ++ rest) items rest left (record { inner = s.1; spells = s.3; at = refl; stops = stops })
     (with_value (first ∷ items) e.0) (spaced_exactly (first ∷ items) completion_end rest e.0 e.1)))
 
 parts_read : (none : Bool) (items : List P) (bytes rest : List ℕ) (left : ℕ) → none ≡ (length items == 0) → Skips Part bytes items rest left
-    → (r : Result (Unit {0} × List ℕ) ℕ) → EndsParts none rest left r → Reads Parts bytes (with_value items r)
+    → (r : Result (Unit {0} × List ℕ) ℕ) → EndsRoot completion_end none rest left r → Reads Parts bytes (with_value items r)
 parts_read none items bytes rest left is s r e = parts_read_at none items bytes s.inner rest left is s.spells s.at s.stops r e
 
 -- ---- a completion
@@ -82,13 +80,13 @@ pub completion_unique : Unique Completion
 completion_unique = document_unique completion_start 67 (codes "ompleteMultipartUpload") refl (λ h. omega (arith, h)) Parts parts_unique
 
 module _ (bytes inner attribute : List ℕ) (opens : Begins (Opening completion_start) bytes attribute inner) (none : Bool) (items : List P) (rest : List ℕ) (left : ℕ) (is : none ≡ (length items == 0)) (skips : Skips Part inner items rest left) where
-  read_by_end : (r : Result (Unit {0} × List ℕ) ℕ) → EndsParts none rest left r → Reads Completion bytes (with_value items r)
+  read_by_end : (r : Result (Unit {0} × List ℕ) ℕ) → EndsRoot completion_end none rest left r → Reads Completion bytes (with_value items r)
   read_by_end r e = completion_reads bytes inner attribute opens (with_value items r) (parts_read none items inner rest left is skips r e)
 
-  pub completed : ClosesParts none rest left (Ok tt) → IsCompletion items bytes
+  pub completed : ClosesRoot completion_end none rest left (Ok tt) → IsCompletion items bytes
   completed c = whole Completion bytes c.0 items (read_by_end (Ok (tt, c.0)) c.1) c.2
 
-  pub closed_at : (stop : ℕ) → ClosesParts none rest left (Err stop) → Stuck Completion bytes stop
+  pub closed_at : (stop : ℕ) → ClosesRoot completion_end none rest left (Err stop) → Stuck Completion bytes stop
   closed_at stop (inl e) = stuck_within Completion bytes stop (read_by_end (Err stop) e)
   closed_at stop (inr e) = stuck_behind Completion bytes completion_unique e.0 items stop (read_by_end (Ok (tt, e.0)) e.1) e.2
 

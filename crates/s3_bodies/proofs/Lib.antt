@@ -1,9 +1,16 @@
 pub mod Checksums
 pub mod CompletionLemmas
+pub mod DeleteLemmas
 pub mod Digits
 pub mod ElementLemmas
+pub mod HexDigits
+pub mod KeyTexts
+pub mod Keys
 pub mod LocationTests
 pub mod Locations
+pub mod ObjectLemmas
 pub mod PartLemmas
+pub mod Pieces
+pub mod RootEnds
 pub mod ValuesLemmas
 pub mod lemmas

@@ -36,7 +36,7 @@ sum_shorter bytes rest p = spaced_shorter Checksum checksum_opens bytes rest tt 
 
 module _ {B : Type 0} (next : B → List ℕ → Type 0) (apart : Apart sum next) where
   sums_read : Possible next → (bytes rest : List ℕ) (left : ℕ) → SkipsChecksums bytes rest left → (r : Result (B × List ℕ) ℕ) → Reads next rest r → Reads (Checksums next) bytes (nearer (Err left) r)
-  sums_read some bytes rest left s r q = many_reads sum sum_unique (λ _. next) (λ _. apart) (λ _. some) bytes s.0 rest left s.1 r q
+  sums_read some bytes rest left s r q = many_reads sum sum_unique (λ _. next) (λ _. apart) (λ _ _. some) bytes s.0 rest left s.1 r q
 
   sums_unique : Unique next → Unique (Checksums next)
   sums_unique unique = many_unique sum sum_unique (λ _. next) (λ _. apart) (λ _. unique)

@@ -1,5 +1,5 @@
 -- The values of a form are those that the bytes spell.
-use Rattle.std.proofs.Common.{◌≡◌, ◌≤◌, ◌<◌, ◌⊎◌, ℕ, ◌+◌, zero, suc, Bool, true, false, ◌&&◌, inl, inr, List, [], ◌∷◌, ◌++◌, length, map, flat_map, refl, sym, ◌∙◌, ap, subst, append_assoc, None, Some, Option, bytes_eq, arith}
+use Rattle.std.proofs.Common.{◌≡◌, ◌≤◌, ◌<◌, ◌⊎◌, ℕ, zero, suc, Bool, true, false, ◌&&◌, inl, inr, List, [], ◌∷◌, ◌++◌, length, map, flat_map, refl, sym, ◌∙◌, ap, subst, append_assoc, None, Some, Option, bytes_eq, arith}
 use Rattle.std.specs.List.{list_all}
 use Rattle.std.proofs.lemmas.Bool.{and_parts, and_from}
 use Rattle.std.proofs.lemmas.Bool.Decides.{nat_tests}
@@ -80,6 +80,15 @@ unfolding Among
 when_complete true value a e same = inl (sym same)
 when_complete false value a e same = cc
 
+pub guarded_sound : {A : Type 0} (test : Bool) (values : List A) (a : A) → Among (when test values) a → (test ≡ true) × Among values a
+unfolding Among
+guarded_sound true values a h = (refl, h)
+guarded_sound false values a h = absurd h
+
+pub guarded_complete : {A : Type 0} (test : Bool) (values : List A) (a : A) → test ≡ true → Among values a → Among (when test values) a
+guarded_complete true values a e h = h
+guarded_complete false values a e h = cc
+
 -- ---- forms and their values
 
 pub record Values {A : Type 0} (form : A → List ℕ → Type 0) (values : List ℕ → List A) : Type 0 where
@@ -105,6 +114,14 @@ pub word_values : (word : List ℕ) → Values (Word word) (words word)
 word_values word = record {
   sound = λ bytes a h. let s = when_sound (bytes_eq word bytes) tt a h in same word bytes s.0;
   complete = λ a bytes f. when_complete (bytes_eq word bytes) tt a (equal word bytes f) (unit_is a);
+}
+
+-- a form that says the same has the same values
+pub same_values : {A : Type 0} (F G : A → List ℕ → Type 0) (f : List ℕ → List A) → ((a : A) (bytes : List ℕ) → F a bytes → G a bytes) → ((a : A) (bytes : List ℕ) → G a bytes → F a bytes)
+    → Values F f → Values G f
+same_values F G f to from of = record {
+  sound = λ bytes a h. to a bytes (of.sound bytes a h);
+  complete = λ a bytes p. of.complete a bytes (from a bytes p);
 }
 
 pub either_values : {A : Type 0} (F G : A → List ℕ → Type 0) (f g : List ℕ → List A) → Values F f → Values G g → Values (Either F G) (either f g)

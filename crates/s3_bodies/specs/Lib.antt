@@ -1,6 +1,11 @@
 pub mod Completion
+pub mod Delete
+pub mod DeleteReaders
+pub mod Deletes
+pub mod KeyText
 pub mod Listed
 pub mod Location
 pub mod LocationTest
 pub mod PartReaders
+pub mod RootEnd
 pub mod Values

@@ -1,19 +1,17 @@
 //! The body of a CompleteMultipartUpload.
-ghost use Rattle.std.specs.Prelude.{◌≡◌, ◌≤◌, ◌-◌, length, map, IfOk};
-ghost use Rattle.xml_forms.specs.Forms.{Skips, Word};
-ghost use Rattle.xml_forms.specs.Readers.{ReadsRest, rest_read};
-ghost use Rattle.xml_forms.specs.Runs.{Spaced};
-ghost use Rattle.s3_bodies.specs.Completion.{AnswersCompletion, Part, completion_end, listed_of};
+ghost use Rattle.std.specs.Prelude.{◌≡◌, map, IfOk};
+ghost use Rattle.xml_forms.specs.Forms.{Skips};
+ghost use Rattle.s3_bodies.specs.Completion.{AnswersCompletion, Part, listed_of};
 ghost use Rattle.s3_bodies.specs.Listed.{TellsListed};
-ghost use Rattle.s3_bodies.specs.PartReaders.{AnswersParts, ClosesParts, EndsParts, part_of};
-ghost use Rattle.s3_bodies.specs.declared.fault.BodyFault.{BodyFault};
+ghost use Rattle.s3_bodies.specs.PartReaders.{AnswersParts, part_of};
 
 use crate::BodyFault;
 use crate::part::part;
+use crate::root_end::{closing, not_the_body};
 use gate_base::{Bytes, List, Memory};
 use s3_machine::{Listed, MOST_PARTS};
 use std::alloc::Global;
-use xml_forms::{nearer, only_space, opening, skip_space, word};
+use xml_forms::opening;
 
 /// The parts that the body of a CompleteMultipartUpload lists (Amazon S3 API Reference, CompleteMultipartUpload).
 pub fn read_completion(alloc: Global, bytes: &[u8]) -> Result<List<Listed>, BodyFault>
@@ -41,17 +39,10 @@ fn completion_parts(alloc: Global, bytes: &[u8]) -> Result<List<(u32, &[u8])>, B
         Err(left) => return Err(not_the_body(bytes, left)),
     };
     let (parts, rest, left) = parts(alloc, inner)?;
-    match closing(rest, left, parts.is_empty()) {
+    match closing(rest, left, parts.is_empty(), b"</CompleteMultipartUpload>") {
         Ok(()) => Ok(parts),
         Err(left) => Err(not_the_body(bytes, left)),
     }
-}
-
-fn not_the_body(bytes: &[u8], left: usize) -> BodyFault
-    requires { left ≤ length bytes.now }
-    ensures { result ≡ BodyFault.NotTheBody (length bytes.now - left) }
-{
-    BodyFault::NotTheBody((bytes.len() - left) as u64)
 }
 
 // All parts that can be read, the bytes behind them, and how many were left where no further one could be read.
@@ -69,29 +60,6 @@ fn parts(alloc: Global, bytes: &[u8]) -> Result<(List<(u32, &[u8])>, &[u8], usiz
             Err(left) => return Ok((parts, rest, left)),
         }
     }
-}
-
-// The root's end, and nothing but white space behind it.
-fn closing(bytes: &[u8], left: usize, none: bool) -> Result<(), usize>
-    ensures { ClosesParts none bytes.now left result }
-{
-    let rest = parts_end(bytes, left, none)?;
-    only_space(rest)
-}
-
-fn parts_end(bytes: &[u8], left: usize, none: bool) -> Result<&[u8], usize>
-    ensures { EndsParts none bytes.now left (rest_read result) }
-{
-    if none {
-        return Err(left);
-    }
-    nearer(Err(left), root_end(bytes))
-}
-
-fn root_end(bytes: &[u8]) -> Result<&[u8], usize>
-    ensures { ReadsRest (Spaced (Word completion_end)) bytes.now result }
-{
-    word(skip_space(bytes), b"</CompleteMultipartUpload>")
 }
 
 fn listed(alloc: Global, parts: &[(u32, &[u8])]) -> Result<List<Listed>, Memory>

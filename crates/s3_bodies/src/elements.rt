@@ -24,7 +24,8 @@ fn bare_number(bytes: &[u8]) -> Result<(u32, &[u8]), usize>
     Ok((value_of(digits), rest))
 }
 
-fn value_of(digits: &[u8]) -> u32
+/// The number that at most nine digits write.
+pub(crate) fn value_of(digits: &[u8]) -> u32
     requires short { length digits.now ≤ 9 }
     requires digits { list_all is_digit digits.now ≡ true }
     ensures { result ≡ digits_value 10 digits.now }

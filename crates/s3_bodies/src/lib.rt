@@ -2,11 +2,17 @@
 #![tactic(auto)]
 
 mod completion;
+mod delete;
 mod elements;
 mod fault;
+mod key;
+mod key_text;
 mod location;
+mod objects;
 mod part;
+mod root_end;
 
 pub use completion::read_completion;
+pub use delete::{Deletes, read_delete};
 pub use fault::BodyFault;
 pub use location::read_location;

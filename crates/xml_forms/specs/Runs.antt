@@ -1,18 +1,24 @@
 -- Runs of bytes of a class, and elements: a text between two tags.
-use Rattle.std.specs.Prelude.{◌≡◌, ℕ, ◌≤◌, ◌<◌, ◌==◌, ◌&&◌, ◌||◌, not, Bool, true, false, List, ◌∷◌, ◌++◌, length, Option, Some, None}
+use Rattle.std.specs.Prelude.{◌≡◌, ℕ, ◌≤◌, ◌<◌, ◌==◌, ◌&&◌, ◌||◌, not, nat_le, Bool, true, false, List, ◌∷◌, ◌++◌, length, Option, Some, None}
 use Rattle.std.specs.List.{list_all}
 use Rattle.gate_base.specs.Ascii.{is_digit, is_letter_or_digit}
 use Rattle.xml_forms.specs.Forms.{Word, Exactly, Then, RunThen}
 use Rattle.xml_forms.specs.declared.class.Class.{Class}
-use Rattle.xml_forms.specs.declared.class.Class.TheVariants.{Space, Digit, LetterOrDigit, Dashed, Text, InDouble, InSingle}
+use Rattle.xml_forms.specs.declared.class.Class.TheVariants.{Space, Digit, HexDigit, LetterOrDigit, Dashed, Text, InText, InDouble, InSingle}
+
+-- `0` to `9`, `A` to `F`, `a` to `f`
+abbrev pub is_hex_digit : ℕ → Bool
+is_hex_digit byte = is_digit byte || (nat_le 65 byte && nat_le byte 70) || (nat_le 97 byte && nat_le byte 102)
 
 -- whether a byte is of a class
 abbrev pub has : Class → ℕ → Bool
 has Space byte = byte == 32 || byte == 9 || byte == 13 || byte == 10
 has Digit byte = is_digit byte
+has HexDigit byte = is_hex_digit byte
 has LetterOrDigit byte = is_letter_or_digit byte
 has Dashed byte = is_letter_or_digit byte || byte == 45
 has Text byte = not (byte == 60)
+has InText byte = not (byte == 60) && not (byte == 38)
 has InDouble byte = not (byte == 34) && not (byte == 60) && not (byte == 38)
 has InSingle byte = not (byte == 39) && not (byte == 60) && not (byte == 38)
 

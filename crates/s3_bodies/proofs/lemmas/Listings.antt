@@ -1,5 +1,5 @@
 -- What a body lists is what it spells.
-use Rattle.std.proofs.Common.{◌≡◌, ◌≤◌, ◌<◌, ℕ, ◌+◌, Bool, true, false, inl, List, [], ◌∷◌, ◌++◌, length, map, nat_le, refl, sym, ◌∙◌, ap, subst, None, Some, Result, Ok, Err, cond, codes, arith}
+use Rattle.std.proofs.Common.{◌≡◌, ◌≤◌, ◌<◌, ℕ, Bool, true, false, inl, List, [], ◌∷◌, ◌++◌, length, map, nat_le, refl, sym, ◌∙◌, ap, subst, None, Some, Result, Ok, Err, cond, codes, arith}
 use Rattle.std.specs.Str.Parse.{digits_value}
 use Rattle.std.proofs.lemmas.Bool.Decides.{nat_tests}
 use Rattle.std.proofs.lemmas.List.{append-nil, length-append, length-map}
@@ -55,10 +55,10 @@ checksums_values = then_values (Word (codes "<Checksum")) (λ _. ChecksumName) (
 
 -- ---- no item is empty
 
-head_some : (k : ℕ) (word head tail : List ℕ) → 0 < k → length head ≡ k → word ≡ head ++ tail → 0 < length word
+pub head_some : (k : ℕ) (word head tail : List ℕ) → 0 < k → length head ≡ k → word ≡ head ++ tail → 0 < length word
 head_some k word head tail some long at = omega (arith, some, long, ap length at, length-append head tail)
 
-tail_some : (word head tail : List ℕ) → 0 < length tail → word ≡ head ++ tail → 0 < length word
+pub tail_some : (word head tail : List ℕ) → 0 < length tail → word ≡ head ++ tail → 0 < length word
 tail_some word head tail some at = omega (arith, some, ap length at, length-append head tail)
 
 checksum_some : (a : Unit {0}) (word : List ℕ) → Spaced Checksum a word → 0 < length word

@@ -5,7 +5,7 @@ use Rattle.std.proofs.lemmas.List.{length-append}
 use Rattle.xml_forms.specs.Forms.{Begins, Stops, Unique, Possible, Word, Exactly, RunThen, Opens}
 use Rattle.xml_forms.specs.Runs.{has, Sized, IsShort, IsFilled, Element, IsRun, IsPositive}
 use Rattle.xml_forms.specs.declared.class.Class.{Class}
-use Rattle.xml_forms.specs.declared.class.Class.TheVariants.{Space, Digit, LetterOrDigit, Dashed, Text, InDouble, InSingle}
+use Rattle.xml_forms.specs.declared.class.Class.TheVariants.{Space, Digit, HexDigit, LetterOrDigit, Dashed, Text, InText, InDouble, InSingle}
 use Rattle.xml_forms.proofs.lemmas.Sequence.{then_begins, then_stops_first, then_stops, then_unique, word_unique}
 use Rattle.xml_forms.proofs.lemmas.Runs.{Closed, ran_begins, ran_stops, ran_short, ran_unique}
 
@@ -52,9 +52,11 @@ sized_run class filled (Some most) bytes run rest full r = record { is_filled = 
 sample : Class → ℕ
 sample Space = 32
 sample Digit = 48
+sample HexDigit = 48
 sample LetterOrDigit = 97
 sample Dashed = 97
 sample Text = 97
+sample InText = 97
 sample InDouble = 97
 sample InSingle = 97
 
@@ -62,9 +64,11 @@ sample_has : (class : Class) → has class (sample class) ≡ true
 unfolding sample
 sample_has Space = refl
 sample_has Digit = refl
+sample_has HexDigit = refl
 sample_has LetterOrDigit = refl
 sample_has Dashed = refl
 sample_has Text = refl
+sample_has InText = refl
 sample_has InDouble = refl
 sample_has InSingle = refl
 

@@ -4,9 +4,9 @@ use Rattle.std.proofs.lemmas.List.{append_cancel_left}
 use Rattle.xml_forms.specs.Forms.{Begins, Stops, Reads, Either, Then, Many, Valued, SpellsAll, Skips, Unique, Apart, Possible, Opens, nearer}
 use Rattle.xml_forms.specs.Runs.{has, Sized, Spaced}
 use Rattle.xml_forms.specs.declared.class.Class.TheVariants.{Space}
-use Rattle.xml_forms.proofs.lemmas.Sequence.{then_begins, then_stops, then_stops_first}
+use Rattle.xml_forms.proofs.lemmas.Sequence.{then_stops_first}
 use Rattle.xml_forms.proofs.lemmas.Choices.{Heads}
-use Rattle.xml_forms.proofs.lemmas.Readers.{either_reads}
+use Rattle.xml_forms.proofs.lemmas.Readers.{chosen_reads, either_reads}
 use Rattle.xml_forms.proofs.lemmas.Runs.{same_run}
 
 -- a form goes for another that has the same spellings
@@ -22,6 +22,20 @@ same_reads F G to from bytes (Err left) s = record {
   more = s.more;
   lives = to s.value (s.front ++ s.more) s.lives;
   dead = λ a word after next f follows e. s.dead a word after next (from a word f) follows e;
+}
+
+-- forms that have the same spellings, each with values of its own, stop at the same place
+pub same_stops : {A B : Type 0} (F : A → List ℕ → Type 0) (G : B → List ℕ → Type 0) → ((a : A) (w : List ℕ) → F a w → (b : B) × G b w) → ((b : B) (w : List ℕ) → G b w → (a : A) × F a w)
+    → (bytes : List ℕ) (left : ℕ) → Stops F bytes left → Stops G bytes left
+same_stops F G to from bytes left s = let t = to s.value (s.front ++ s.more) s.lives in record {
+  front = s.front;
+  rest = s.rest;
+  at = s.at;
+  counts = s.counts;
+  value = t.0;
+  more = s.more;
+  lives = t.1;
+  dead = λ b word after next f follows e. let g = from b word f in s.dead g.0 word after next g.1 follows e;
 }
 
 -- ---- a value that is a function of another
@@ -108,31 +122,11 @@ unfolds : {A B : Type 0} (item : A → List ℕ → Type 0) (last : List A → B
 unfolds item last b w f = unfolds_at item last b w f.items f.inner f.tail f.spells f.tails f.at
 
 module _ {A B : Type 0} (item : A → List ℕ → Type 0) (unique : Unique item) where
-  more_stops : (last : List A → B → List ℕ → Type 0) → Apart item (last []) → (bytes rest : List ℕ) (a : A) (left : ℕ) → Begins item bytes a rest
-      → Stops (Many item (λ items. last (a ∷ items))) rest left → Stops (Many item last) bytes left
-  unfolding then_stops
-  more_stops last apart bytes rest a left p s =
-      let t = then_stops item (λ x. Many item (λ items. last (x ∷ items))) unique bytes rest a left p s in
-      record {
-        front = p.word ++ s.front;
-        rest = s.rest;
-        at = t.at;
-        counts = s.counts;
-        value = s.value;
-        more = s.more;
-        lives = folds item last s.value ((p.word ++ s.front) ++ s.more) (inl t.lives);
-        dead = λ b word after next f follows e. elim (unfolds item last b word f) [
-          | inl q ↦ t.dead b word after next q follows e
-          | inr q ↦ apart.none a b p.word word (s.front ++ next) after p.spells q (sym (append_assoc p.word s.front next) ∙ e)
-        ];
-      }
-
   more_reads : (last : List A → B → List ℕ → Type 0) → Apart item (last []) → (bytes rest : List ℕ) (a : A) → Begins item bytes a rest
       → (r : Result (B × List ℕ) ℕ) → Reads (Many item (λ items. last (a ∷ items))) rest r → Reads (Many item last) bytes r
-  more_reads last apart bytes rest a p (Ok x) q =
-      let t = then_begins item (λ x. Many item (λ items. last (x ∷ items))) bytes rest x.1 a x.0 p q in
-      record { word = t.word; spells = folds item last x.0 t.word (inl t.spells); at = t.at }
-  more_reads last apart bytes rest a p (Err left) s = more_stops last apart bytes rest a left p s
+  more_reads last apart bytes rest a p r q =
+      same_reads (Unfolded item last) (Many item last) (folds item last) (unfolds item last) bytes r
+      (chosen_reads item (λ x. Many item (λ items. last (x ∷ items))) (last []) unique apart bytes rest a p r q)
 
   no_more : (last : List A → B → List ℕ → Type 0) → ((a : A) → Possible (last (a ∷ []))) → (bytes : List ℕ) (left : ℕ) → Stops item bytes left
       → (r : Result (B × List ℕ) ℕ) → Reads (last []) bytes r → Reads (Many item last) bytes (nearer (Err left) r)
@@ -141,19 +135,27 @@ module _ {A B : Type 0} (item : A → List ℕ → Type 0) (unique : Unique item
       (either_reads (Then item (λ a. Many item (λ items. last (a ∷ items)))) (last []) bytes (Err left) r
       (then_stops_first item (λ a. Many item (λ items. last (a ∷ items))) (λ a. many_some item (λ items. last (a ∷ items)) (some a)) bytes left s) q)
 
-  reads_all : (last : List A → B → List ℕ → Type 0) → ((l : List A) → Apart item (last l)) → ((l : List A) → Possible (last l)) → (items : List A) (inner bytes rest : List ℕ) (left : ℕ)
+  reads_all : (last : List A → B → List ℕ → Type 0) → ((l : List A) → Apart item (last l)) → ((a : A) (l : List A) → Possible (last (a ∷ l))) → (items : List A) (inner bytes rest : List ℕ) (left : ℕ)
       → SpellsAll item items inner → bytes ≡ inner ++ rest → Stops item rest left → (r : Result (B × List ℕ) ℕ) → Reads (last items) rest r → Reads (Many item last) bytes (nearer (Err left) r)
   reads_all last apart some [] inner bytes rest left s at stops r q =
       let is : bytes ≡ rest = at ∙ ap (λ i. i ++ rest) s in
-      subst (λ w. Reads (Many item last) w (nearer (Err left) r)) (sym is) (no_more last (λ a. some (a ∷ [])) rest left stops r q)
+      subst (λ w. Reads (Many item last) w (nearer (Err left) r)) (sym is) (no_more last (λ a. some a []) rest left stops r q)
   reads_all last apart some (a ∷ items) inner bytes rest left s at stops r q =
       more_reads last (apart []) bytes (s.1 ++ rest) a (record { word = s.0; spells = s.2; at = at ∙ ap (λ i. i ++ rest) s.4 ∙ append_assoc s.0 s.1 rest }) (nearer (Err left) r)
-      (reads_all (λ l. last (a ∷ l)) (λ l. apart (a ∷ l)) (λ l. some (a ∷ l)) items s.1 (s.1 ++ rest) rest left s.3 refl stops r q)
+      (reads_all (λ l. last (a ∷ l)) (λ l. apart (a ∷ l)) (λ b l. some a (b ∷ l)) items s.1 (s.1 ++ rest) rest left s.3 refl stops r q)
 
   -- all items that are there, and then the other form
-  pub many_reads : (last : List A → B → List ℕ → Type 0) → ((l : List A) → Apart item (last l)) → ((l : List A) → Possible (last l)) → (bytes : List ℕ) (items : List A) (rest : List ℕ) (left : ℕ)
+  pub many_reads : (last : List A → B → List ℕ → Type 0) → ((l : List A) → Apart item (last l)) → ((a : A) (l : List A) → Possible (last (a ∷ l))) → (bytes : List ℕ) (items : List A) (rest : List ℕ) (left : ℕ)
       → Skips item bytes items rest left → (r : Result (B × List ℕ) ℕ) → Reads (last items) rest r → Reads (Many item last) bytes (nearer (Err left) r)
   many_reads last apart some bytes items rest left s r q = reads_all last apart some items s.inner bytes rest left s.spells s.at s.stops r q
+
+  -- no item is there, and without one the other form has no spelling
+  pub many_stops_first : (last : List A → B → List ℕ → Type 0) → ((b : B) (w : List ℕ) → last [] b w → ⊥) → ((a : A) → Possible (last (a ∷ []))) → (bytes : List ℕ) (left : ℕ)
+      → Stops item bytes left → Stops (Many item last) bytes left
+  many_stops_first last none some bytes left s =
+      same_reads (Then item (λ a. Many item (λ items. last (a ∷ items)))) (Many item last) (λ b w f. folds item last b w (inl f))
+      (λ b w f. elim (unfolds item last b w f) [ inl g ↦ g | inr g ↦ absurd (none b w g) ])
+      bytes (Err left) (then_stops_first item (λ a. Many item (λ items. last (a ∷ items))) (λ a. many_some item (λ items. last (a ∷ items)) (some a)) bytes left s)
 
   agree : (last : List A → B → List ℕ → Type 0) → ((l : List A) → Apart item (last l)) → ((l : List A) → Unique (last l)) → (is js : List A) (a b : B) (i t k s u v : List ℕ)
       → SpellsAll item is i → SpellsAll item js k → last is a t → last js b s → i ++ (t ++ u) ≡ k ++ (s ++ v) → (a ≡ b) × (i ++ t ≡ k ++ s)

@@ -1,5 +1,5 @@
 -- Readers made of readers.
-use Rattle.std.proofs.Common.{◌≡◌, ℕ, ◌≤◌, ◌<◌, ◌⊎◌, inl, inr, List, [], ◌∷◌, ◌++◌, length, min, refl, sym, ◌∙◌, ap, subst, false, Result, Ok, Err, Bor, None, arith}
+use Rattle.std.proofs.Common.{◌≡◌, ℕ, ◌≤◌, ◌<◌, ◌⊎◌, inl, inr, List, [], ◌∷◌, ◌++◌, length, min, refl, append_assoc, sym, ◌∙◌, ap, subst, false, Result, Ok, Err, Bor, None, arith}
 use Rattle.std.proofs.Math.Nat.{min-eq_left, min-eq_right}
 use Rattle.std.proofs.lemmas.Bool.{cases_lt}
 use Rattle.std.proofs.lemmas.List.{append-nil, length-append}
@@ -10,7 +10,7 @@ use Rattle.xml_forms.specs.declared.class.Class.{Class}
 use Rattle.xml_forms.specs.declared.class.Class.TheVariants.{Space}
 use Rattle.xml_forms.proofs.lemmas.Sequence.{then_begins, then_stops}
 use Rattle.xml_forms.proofs.lemmas.Runs.{ran_begins, ran_stops, ran_unique}
-use Rattle.xml_forms.proofs.lemmas.Choices.{begins_left, begins_right, either_stops_first, either_stops_second, Heads}
+use Rattle.xml_forms.proofs.lemmas.Choices.{begins_left, begins_right, cut_twice, either_stops_first, either_stops_second, Heads}
 use Rattle.xml_forms.proofs.lemmas.Elements.{closed_run}
 
 least_of : (l m : ℕ) → ((l ≤ m) × (min l m ≡ l)) ⊎ ((m ≤ l) × (min l m ≡ m))
@@ -60,6 +60,46 @@ pub then_reads : {A B : Type 0} (F : A → List ℕ → Type 0) (G : A → B →
     → (r : Result (B × List ℕ) ℕ) → Reads (G a) rest r → Reads (Then F G) bytes r
 then_reads F G unique bytes rest a p (Ok x) q = then_begins F G bytes rest x.1 a x.0 p q
 then_reads F G unique bytes rest a p (Err left) s = then_stops F G unique bytes rest a left p s
+
+-- a choice that is made by the first form of a sequence
+module _ {A B : Type 0} (F : A → List ℕ → Type 0) (G : A → B → List ℕ → Type 0) (H : B → List ℕ → Type 0) (unique : Unique F) (apart : Apart F H) where
+  chosen_stops : (bytes rest : List ℕ) (a : A) (left : ℕ) → Begins F bytes a rest → Stops (G a) rest left → Stops (Either (Then F G) H) bytes left
+  unfolding then_stops
+  chosen_stops bytes rest a left p s =
+      let t = then_stops F G unique bytes rest a left p s in
+      record {
+        front = p.word ++ s.front;
+        rest = s.rest;
+        at = t.at;
+        counts = s.counts;
+        value = s.value;
+        more = s.more;
+        lives = inl t.lives;
+        dead = λ b word after next f follows e. elim f [
+          | inl q ↦ t.dead b word after next q follows e
+          | inr q ↦ apart.none a b p.word word (s.front ++ next) after p.spells q (sym (append_assoc p.word s.front next) ∙ e)
+        ];
+      }
+
+  pub chosen_reads : (bytes rest : List ℕ) (a : A) → Begins F bytes a rest → (r : Result (B × List ℕ) ℕ) → Reads (G a) rest r → Reads (Either (Then F G) H) bytes r
+  chosen_reads bytes rest a p (Ok x) q = begins_left (Then F G) H bytes x.1 x.0 (then_begins F G bytes rest x.1 a x.0 p q)
+  chosen_reads bytes rest a p (Err left) s = chosen_stops bytes rest a left p s
+
+-- where one of two forms that are apart begins, the other stops within it
+pub apart_within : {A B : Type 0} (F : A → List ℕ → Type 0) (G : B → List ℕ → Type 0) → Apart F G → (bytes rest : List ℕ) (b : B) (left : ℕ) → Stops F bytes left → Begins G bytes b rest
+    → length rest ≤ left
+apart_within F G apart bytes rest b left s p = elim (cases_lt left (length rest)) [
+  | inl less ↦
+      let m = cut_twice s.front s.rest p.word rest (sym s.at ∙ p.at) (omega (arith, s.counts)) in
+      absurd (apart.none s.value b (s.front ++ s.more) p.word [] (m.0 ++ s.more) s.lives p.spells
+      (append-nil (s.front ++ s.more) ∙ ap (λ w. w ++ s.more) m.1 ∙ append_assoc p.word m.0 s.more))
+  | inr within ↦ within
+]
+
+-- an attempt that got no further than another
+pub nearer_past : {T : Type 0} (left : ℕ) (r : Result T ℕ) → ((n : ℕ) → r ≡ Err n → n ≤ left) → nearer (Err left) r ≡ r
+nearer_past left (Ok x) h = refl
+nearer_past left (Err n) h = ap (λ m. Err m) (min-eq_right (h n refl))
 
 -- a form behind the longest run of a class
 pub run_reads : {B : Type 0} (class : Class) (G : List ℕ → B → List ℕ → Type 0) → ((run : List ℕ) → Opens (has class) (G run)) → (bytes run rest : List ℕ)

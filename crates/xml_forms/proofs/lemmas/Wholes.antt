@@ -8,7 +8,7 @@ use Rattle.xml_forms.specs.Runs.{has, IsRun}
 use Rattle.xml_forms.specs.declared.class.Class.TheVariants.{Space}
 use Rattle.xml_forms.proofs.lemmas.Choices.{cut_twice}
 
-follows_self : (rest : List ℕ) → Follows rest rest
+pub follows_self : (rest : List ℕ) → Follows rest rest
 follows_self [] = refl
 follows_self (b ∷ rest) = (rest, refl)
 

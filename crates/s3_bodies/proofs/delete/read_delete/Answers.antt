@@ -1,0 +1,5 @@
+use Rattle.s3_bodies.proofs.lemmas.Deletions.{deletes_tells}
+use Rattle.s3_bodies.proofs.delete.read_delete.Goals as goal
+
+pub returns-clause-tells : goal.returns-clause-tells
+returns-clause-tells c = deletes_tells c.args.bytes.now c.all_named.result c.all_named.ensures
