@@ -1,5 +1,6 @@
 pub mod Conditions
 pub mod Content
+pub mod Deletes
 pub mod Headers
 pub mod Laws
 pub mod Listings

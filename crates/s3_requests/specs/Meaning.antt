@@ -24,7 +24,7 @@ use Rattle.s3_requests.specs.declared.rows.Row.{Row}
 use Rattle.s3_requests.specs.declared.rows.Row.TheVariants.{ListBuckets, CreateBucket, PutBucketAcl, DeleteBucket, HeadBucket, GetBucketLocation}
 use Rattle.s3_requests.specs.declared.rows.Row.TheVariants.{GetBucketAcl, ListObjects, ListObjectsV2, PutObject, GetObject, HeadObject}
 use Rattle.s3_requests.specs.declared.rows.Row.TheVariants.{DeleteObject, GetObjectAcl, ListMultipartUploads, CreateMultipartUpload, UploadPart}
-use Rattle.s3_requests.specs.declared.rows.Row.TheVariants.{ListParts, AbortMultipartUpload, CompleteMultipartUpload}
+use Rattle.s3_requests.specs.declared.rows.Row.TheVariants.{ListParts, AbortMultipartUpload, CompleteMultipartUpload, DeleteObjects}
 use Rattle.s3_requests.specs.Rows.{shape_of, is_method, level_of, is_same_level, row_for}
 use Rattle.s3_requests.specs.Query.{has_unknown_name, has_foreign_name, has_name_twice}
 use Rattle.s3_requests.specs.Headers.{has_unsupported, is_chunked, is_conditional_write, given_acl, has_other_acl, lacks_acl, has_other_class}
@@ -32,6 +32,7 @@ use Rattle.s3_requests.specs.Conditions.{given_conditions}
 use Rattle.s3_requests.specs.Ranges.{given_range}
 use Rattle.s3_requests.specs.Listings.{has_bad_word, has_long_text, has_bad_token, first_asked, second_asked}
 use Rattle.s3_requests.specs.Uploads.{has_bad_number, given_upload, given_part, uploads_asked, parts_asked, has_bad_list, given_list}
+use Rattle.s3_requests.specs.Deletes.{has_bad_deletes, given_deletes, deletes_asked}
 use Rattle.s3_requests.specs.Content.{has_bad_digest, is_other_body, taken_type, taken_meta, has_bad_entry, is_long_body, has_bad_location, has_other_location}
 
 -- a reason to refuse, and whether it holds
@@ -78,8 +79,11 @@ target_reasons message target =
 abbrev pub caller_reasons : Row → Caller → List Reason
 caller_reasons row caller = reason (is_denied row caller) AccessDenied ∷ []
 
+abbrev pub deletes_reasons : Row → Message → Caller → List Reason
+deletes_reasons row message caller = reason (has_bad_deletes row message.body) MalformedXML ∷ caller_reasons row caller
+
 abbrev pub list_reasons : Row → Message → Caller → List Reason
-list_reasons row message caller = reason (has_bad_list row message.body) MalformedXML ∷ caller_reasons row caller
+list_reasons row message caller = reason (has_bad_list row message.body) MalformedXML ∷ deletes_reasons row message caller
 
 abbrev pub body_reasons : Settings → Row → Message → Caller → List Reason
 body_reasons settings row message caller =
@@ -166,6 +170,7 @@ op_of HeadObject message target = Op (op.HeadObject target.bucket target.key (gi
 op_of DeleteObject message target = Op (op.DeleteObject target.bucket target.key)
 op_of GetObjectAcl message target = Op (op.GetObjectAcl target.bucket target.key)
 op_of ListMultipartUploads message target = Op (uploads_asked target.bucket target.query)
+op_of DeleteObjects message target = Op (deletes_asked target.bucket (given_deletes DeleteObjects message.body))
 op_of CreateMultipartUpload message target =
     Op
     (op.CreateUpload

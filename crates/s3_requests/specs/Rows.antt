@@ -10,7 +10,7 @@ use Rattle.s3_requests.specs.declared.rows.Row.{Row}
 use Rattle.s3_requests.specs.declared.rows.Row.TheVariants.{ListBuckets, CreateBucket, PutBucketAcl, DeleteBucket, HeadBucket, GetBucketLocation}
 use Rattle.s3_requests.specs.declared.rows.Row.TheVariants.{GetBucketAcl, ListObjects, ListObjectsV2, ListMultipartUploads, PutObject, GetObject}
 use Rattle.s3_requests.specs.declared.rows.Row.TheVariants.{HeadObject, DeleteObject, GetObjectAcl, CreateMultipartUpload, UploadPart, ListParts}
-use Rattle.s3_requests.specs.declared.rows.Row.TheVariants.{CompleteMultipartUpload, AbortMultipartUpload}
+use Rattle.s3_requests.specs.declared.rows.Row.TheVariants.{CompleteMultipartUpload, AbortMultipartUpload, DeleteObjects}
 
 -- what the table says in a row: its method, its level, the selectors that the query has, and the further names that it may have;
 -- whether anybody may ask for it, whether it takes a content type and metadata, whether its
@@ -56,7 +56,7 @@ with_acl shape = record shape { needs_acl = true }
 
 -- the names by which a query chooses a row
 abbrev pub selectors : List (List ℕ)
-selectors = codes "acl" ∷ codes "location" ∷ codes "uploads" ∷ codes "uploadId" ∷ codes "partNumber" ∷ codes "list-type" ∷ []
+selectors = codes "acl" ∷ codes "location" ∷ codes "uploads" ∷ codes "uploadId" ∷ codes "partNumber" ∷ codes "list-type" ∷ codes "delete" ∷ []
 
 -- the names that rows have beside their selectors
 abbrev pub objects_names : List (List ℕ)
@@ -85,6 +85,7 @@ shape_of GetBucketAcl = plain (codes "GET") Bucket (codes "acl" ∷ []) []
 shape_of ListObjects = for_all (plain (codes "GET") Bucket [] objects_names)
 shape_of ListObjectsV2 = for_all (plain (codes "GET") Bucket (codes "list-type" ∷ []) objects_v2_names)
 shape_of ListMultipartUploads = plain (codes "GET") Bucket (codes "uploads" ∷ []) uploads_names
+shape_of DeleteObjects = plain (codes "POST") Bucket (codes "delete" ∷ []) []
 shape_of PutObject = with_content (plain (codes "PUT") Key [] [])
 shape_of GetObject = for_all (plain (codes "GET") Key [] [])
 shape_of HeadObject = for_all (plain (codes "HEAD") Key [] [])
@@ -99,7 +100,7 @@ shape_of AbortMultipartUpload = plain (codes "DELETE") Key (codes "uploadId" ∷
 unfoldable pub rows : List Row
 rows =
     ListBuckets ∷ CreateBucket ∷ PutBucketAcl ∷ DeleteBucket ∷ HeadBucket ∷ GetBucketLocation ∷ GetBucketAcl
-    ∷ ListObjects ∷ ListObjectsV2 ∷ ListMultipartUploads
+    ∷ ListObjects ∷ ListObjectsV2 ∷ ListMultipartUploads ∷ DeleteObjects
     ∷ PutObject ∷ GetObject ∷ HeadObject ∷ DeleteObject ∷ GetObjectAcl ∷ CreateMultipartUpload ∷ UploadPart
     ∷ ListParts ∷ CompleteMultipartUpload ∷ AbortMultipartUpload ∷ []
 

@@ -4,6 +4,7 @@
 
 mod conditions;
 mod content;
+mod deletes;
 mod headers;
 mod laws;
 mod listings;

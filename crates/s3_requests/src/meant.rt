@@ -2,7 +2,7 @@
 ghost use Rattle.std.specs.Prelude.{◌≡◌, ◌≢◌, ◌&&◌, IfOk};
 ghost use Rattle.s3_machine.specs.Body.{IsDigestOf};
 ghost use Rattle.s3_requests.specs.Proper.{IsProperMeant};
-ghost use Rattle.s3_requests.specs.Meaning.{first_refusal, reasons, header_reasons, digest_reasons, argument_reasons, content_reasons, body_reasons, list_reasons, meaning_of, op_of, or_private, put_acl, KeepsFront, is_denied, has_bad_bucket, row_of};
+ghost use Rattle.s3_requests.specs.Meaning.{first_refusal, reasons, header_reasons, digest_reasons, argument_reasons, content_reasons, body_reasons, list_reasons, deletes_reasons, meaning_of, op_of, or_private, put_acl, KeepsFront, is_denied, has_bad_bucket, row_of};
 ghost use Rattle.s3_requests.specs.declared.meant.Meant.TheVariants as variant;
 ghost use Rattle.s3_requests.specs.Rows.{shape_of, level_of};
 ghost use Rattle.s3_requests.specs.Meaning.{has_long_key, has_bad_key};
@@ -11,6 +11,7 @@ ghost use Rattle.s3_requests.specs.Headers.{given_acl};
 ghost use Rattle.s3_requests.specs.Conditions.{given_conditions};
 ghost use Rattle.s3_requests.specs.Ranges.{given_range};
 ghost use Rattle.s3_requests.specs.Listings.{first_asked, second_asked};
+ghost use Rattle.s3_requests.specs.Deletes.{deletes_asked, given_deletes};
 ghost use Rattle.s3_requests.specs.Uploads.{given_upload, given_part, given_list, taken_list, uploads_asked, parts_asked};
 
 use crate::conditions::given_conditions;
@@ -18,6 +19,7 @@ use crate::content::{
     has_bad_digest, has_bad_entry, is_long_body, is_other_body, location_faults, taken_meta,
     taken_type,
 };
+use crate::deletes::{deletes_asked, taken_deletes};
 use crate::headers::{
     given_acl, has_other_acl, has_other_class, has_unsupported, is_chunked, is_conditional_write,
     lacks_acl,
@@ -31,6 +33,7 @@ use crate::uploads::{
 };
 use gate_base::{Bytes, Caller, Copying, List, Memory, Pair};
 use http_wire::Message;
+use s3_bodies::Deletes;
 use s3_machine::{Body, Code, Listed, Op, Settings, is_content_type, is_proper_meta};
 use s3_names::{Acl, MOST_KEY_BYTES, Meta, Target, is_bucket, is_key};
 use std::alloc::Global;
@@ -304,7 +307,7 @@ fn by_body(
     )
 }
 
-/// The reasons against the parts that the body lists and against the caller, and then the operation.
+/// The reasons against the parts that the body lists, and then those against the keys that it lists.
 fn by_list(
     alloc: Global,
     row: Row,
@@ -325,7 +328,45 @@ fn by_list(
 {
     match taken_list(alloc, row, message.body.as_slice())? {
         None => Ok(Meant::Refused(Code::MalformedXML)),
-        Some(list) => {
+        Some(list) => by_deletes(
+            alloc,
+            row,
+            message,
+            target,
+            caller,
+            acl,
+            content_type,
+            meta,
+            list,
+            digest,
+        ),
+    }
+}
+
+/// The reasons against the keys that the body lists and against the caller, and then the operation.
+fn by_deletes(
+    alloc: Global,
+    row: Row,
+    message: &mut Message,
+    target: &Target,
+    caller: &Caller,
+    acl: Option<Acl>,
+    content_type: Bytes,
+    meta: Meta,
+    list: List<Listed>,
+    digest: Option<[u8; 16]>,
+) -> Result<Meant, Memory>
+    requires acl { acl ≡ given_acl message.now.headers }
+    requires content_type { content_type ≡ taken_type row message.now.headers }
+    requires meta { meta ≡ taken_meta row message.now.headers }
+    requires list { list ≡ given_list row message.now.body }
+    requires digest { IsDigestOf digest message.now.body }
+    ensures value { IfOk result (λ meant. meant ≡ first_refusal (deletes_reasons row message.entry.now caller.now) (op_of row message.entry.now target.now)) }
+    ensures keeps { KeepsFront message.entry.now message.exit.now }
+{
+    match taken_deletes(alloc, row, message.body.as_slice())? {
+        None => Ok(Meant::Refused(Code::MalformedXML)),
+        Some(deletes) => {
             if is_denied(row, *caller) {
                 return Ok(Meant::Refused(Code::AccessDenied));
             }
@@ -338,6 +379,7 @@ fn by_list(
                 content_type,
                 meta,
                 list,
+                deletes,
                 digest,
             )
         }
@@ -345,7 +387,7 @@ fn by_list(
 }
 
 /// The operation of a row, with the access control list that is named, the content type and the metadata that it takes, and
-/// the parts that the body lists.
+/// the parts and the keys that the body lists.
 fn op_of(
     alloc: Global,
     row: Row,
@@ -355,12 +397,14 @@ fn op_of(
     content_type: Bytes,
     meta: Meta,
     list: List<Listed>,
+    deletes: Deletes,
     digest: Option<[u8; 16]>,
 ) -> Result<Meant, Memory>
     requires acl { acl ≡ given_acl message.now.headers }
     requires content_type { content_type ≡ taken_type row message.now.headers }
     requires meta { meta ≡ taken_meta row message.now.headers }
     requires list { list ≡ given_list row message.now.body }
+    requires deletes { deletes ≡ given_deletes row message.now.body }
     requires digest { IsDigestOf digest message.now.body }
     ensures value { IfOk result (λ meant. meant ≡ op_of row message.entry.now target.now) }
     ensures keeps { KeepsFront message.entry.now message.exit.now }
@@ -381,6 +425,7 @@ fn op_of(
         Row::DeleteObject => delete_object(target),
         Row::GetObjectAcl => get_object_acl(target),
         Row::ListMultipartUploads => list_uploads(alloc, target),
+        Row::DeleteObjects => delete_objects(target, deletes),
         Row::CreateMultipartUpload => create_upload(target, acl, content_type, meta),
         Row::UploadPart => upload_part(alloc, message, target, digest),
         Row::ListParts => list_parts(alloc, target),
@@ -544,6 +589,13 @@ fn list_uploads(alloc: Global, target: &Target) -> Result<Meant, Memory>
     let bucket = target.bucket.copy()?;
     let op = uploads_asked(alloc, bucket, target.query.pairs())?;
     Ok(Meant::Op(op))
+}
+
+fn delete_objects(target: &Target, deletes: Deletes) -> Result<Meant, Memory>
+    ensures { IfOk result (λ meant. meant ≡ Meant.Op (deletes_asked target.now.bucket deletes)) }
+{
+    let bucket = target.bucket.copy()?;
+    Ok(Meant::Op(deletes_asked(bucket, deletes)))
 }
 
 fn create_upload(

@@ -29,6 +29,7 @@ pub enum Row {
     ListObjects,
     ListObjectsV2,
     ListMultipartUploads,
+    DeleteObjects,
     PutObject,
     GetObject,
     HeadObject,
@@ -41,7 +42,7 @@ pub enum Row {
     AbortMultipartUpload,
 }
 
-const ROWS: [Row; 20] = [
+const ROWS: [Row; 21] = [
     Row::ListBuckets,
     Row::CreateBucket,
     Row::PutBucketAcl,
@@ -52,6 +53,7 @@ const ROWS: [Row; 20] = [
     Row::ListObjects,
     Row::ListObjectsV2,
     Row::ListMultipartUploads,
+    Row::DeleteObjects,
     Row::PutObject,
     Row::GetObject,
     Row::HeadObject,
@@ -69,6 +71,8 @@ const ACL: [&[u8]; 1] = [b"acl"];
 const LOCATION: [&[u8]; 1] = [b"location"];
 
 const LIST_TYPE: [&[u8]; 1] = [b"list-type"];
+
+const DELETE: [&[u8]; 1] = [b"delete"];
 
 const UPLOADS: [&[u8]; 1] = [b"uploads"];
 
@@ -149,6 +153,7 @@ pub fn shape_of(row: Row) -> Shape
         Row::ListObjects => plain(b"GET", Level::Bucket, &[], &OBJECTS_NAMES).for_all(),
         Row::ListObjectsV2 => plain(b"GET", Level::Bucket, &LIST_TYPE, &OBJECTS_V2_NAMES).for_all(),
         Row::ListMultipartUploads => { plain(b"GET", Level::Bucket, &UPLOADS, &UPLOADS_NAMES) }
+        Row::DeleteObjects => plain(b"POST", Level::Bucket, &DELETE, &[]),
         Row::PutObject => plain(b"PUT", Level::Key, &[], &[]).with_content(),
         Row::GetObject => plain(b"GET", Level::Key, &[], &[]).for_all(),
         Row::HeadObject => plain(b"HEAD", Level::Key, &[], &[]).for_all(),
@@ -282,6 +287,7 @@ impl Shape {
             && self.agrees(query, b"uploadId")
             && self.agrees(query, b"partNumber")
             && self.agrees(query, b"list-type")
+            && self.agrees(query, b"delete")
     }
 }
 

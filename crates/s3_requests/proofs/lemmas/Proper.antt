@@ -14,9 +14,12 @@ use Rattle.s3_machine.specs.declared.code.Code.TheVariants.{MethodNotAllowed, No
 use Rattle.s3_machine.specs.declared.operation.Settings.{Settings}
 use Rattle.s3_machine.specs.Limits.{most_body_bytes}
 use Rattle.s3_machine.specs.declared.operation.Listed.{Listed}
-use Rattle.s3_machine.specs.Step.{IsPlace, IsProperList}
+use Rattle.s3_machine.specs.Step.{IsPlace, IsProperKeys, IsProperList}
 use Rattle.s3_machine.specs.Uploads.{most_parts}
+use Rattle.s3_bodies.specs.declared.delete.Deletes.{Deletes}
+use Rattle.s3_bodies.specs.Deletes.{deletes_in}
 use Rattle.s3_bodies.specs.Listed.{listed_in}
+use Rattle.s3_bodies.proofs.lemmas.Deletions.{deletes_proper}
 use Rattle.s3_bodies.proofs.lemmas.Listings.{listed_filled, listed_few_parts}
 use Rattle.http_wire.specs.declared.message.Message.{Message}
 use Rattle.s3_requests.specs.declared.meant.Meant.{Meant}
@@ -27,8 +30,9 @@ use Rattle.s3_requests.specs.declared.rows.Row.{Row}
 use Rattle.s3_requests.specs.declared.rows.Row.TheVariants.{ListBuckets, CreateBucket, PutBucketAcl, DeleteBucket, HeadBucket, GetBucketLocation}
 use Rattle.s3_requests.specs.declared.rows.Row.TheVariants.{GetBucketAcl, ListObjects, ListObjectsV2, PutObject, GetObject, HeadObject}
 use Rattle.s3_requests.specs.declared.rows.Row.TheVariants.{DeleteObject, GetObjectAcl, ListMultipartUploads, CreateMultipartUpload, UploadPart}
-use Rattle.s3_requests.specs.declared.rows.Row.TheVariants.{ListParts, AbortMultipartUpload, CompleteMultipartUpload}
+use Rattle.s3_requests.specs.declared.rows.Row.TheVariants.{ListParts, AbortMultipartUpload, CompleteMultipartUpload, DeleteObjects}
 use Rattle.s3_requests.specs.Rows.{rows, shape_of, level_of, is_same_level, is_same_set, fits}
+use Rattle.s3_requests.specs.Deletes.{no_deletes}
 use Rattle.s3_requests.specs.Headers.{given_acl}
 use Rattle.s3_requests.specs.Proper.{IsProperCode, IsProperMeant}
 use Rattle.s3_requests.proofs.ProperReads.{range_proper, first_proper, second_proper, uploads_proper, most_proper, part_proper}
@@ -135,6 +139,11 @@ unfolding most_parts
 list_proper None body e some = cc
 list_proper (Some list) body e some = record { filled = listed_filled body list e; few = listed_few_parts body list e }
 
+-- the keys of a body that can be read
+keys_proper : (found : Option Deletes) (body : List ℕ) → deletes_in body ≡ found → is_none found ≡ false → IsProperKeys (unwrap_or found no_deletes).keys
+keys_proper None body e some = cc
+keys_proper (Some deletes) body e some = deletes_proper body deletes e
+
 put_acl_proper : (bucket : List ℕ) (acl : Option Acl) → is_bucket bucket ≡ true → IsProperMeant (put_acl bucket acl)
 put_acl_proper bucket None named = proper_code NotImplemented refl
 put_acl_proper bucket (Some acl) named = named
@@ -163,6 +172,9 @@ op_proper settings DeleteObject message target caller e none also = place_of mes
 op_proper settings GetObjectAcl message target caller e none also = place_of message target (at_level message target GetObjectAcl e) none
 op_proper settings ListMultipartUploads message target caller e none also =
     (bucket_of message target (at_level message target ListMultipartUploads e) none, uploads_proper target.query also.1.1.1.1.1.1.1.1.1.1.1.1.0)
+op_proper settings DeleteObjects message target caller e none also =
+    let content = also.1.1.1.1.1.1.1.1.1.1.1.1.1.1 in
+    (bucket_of message target (at_level message target DeleteObjects e) none, keys_proper (deletes_in message.body) message.body refl content.1.1.1.1.1.1.1.0)
 op_proper settings CreateMultipartUpload message target caller e none also =
     let content = also.1.1.1.1.1.1.1.1.1.1.1.1.1.1 in
     (place_of message target (at_level message target CreateMultipartUpload e) none, is_named _ content.0, is_named _ content.1.1.0)
@@ -179,7 +191,7 @@ op_proper settings CompleteMultipartUpload message target caller e none also =
 -- ---- the meaning
 
 own : (settings : Settings) (row : Row) (message : Message) (target : Target) (caller : Caller) → AllProper (reasons settings row message target caller)
-own settings row message target caller = (refl, (refl, (refl, (refl, (refl, (refl, (refl, (refl, (refl, (refl, (refl, (refl, (refl, (refl, (refl, (refl, (refl, (refl, (refl, (refl, (refl, (refl, tt))))))))))))))))))))))
+own settings row message target caller = (refl, (refl, (refl, (refl, (refl, (refl, (refl, (refl, (refl, (refl, (refl, (refl, (refl, (refl, (refl, (refl, (refl, (refl, (refl, (refl, (refl, (refl, (refl, tt)))))))))))))))))))))))
 
 judged_proper : (settings : Settings) (found : Option Row) (message : Message) (target : Target) (caller : Caller) → row_of message target ≡ found → NoneHolds (target_reasons message target) → IsProperMeant (judged settings found message target caller)
 judged_proper settings None message target caller e none = proper_code MethodNotAllowed refl
@@ -221,6 +233,7 @@ op_known HeadObject message target e = cc
 op_known DeleteObject message target e = cc
 op_known GetObjectAcl message target e = cc
 op_known ListMultipartUploads message target e = cc
+op_known DeleteObjects message target e = cc
 op_known CreateMultipartUpload message target e = cc
 op_known UploadPart message target e = cc
 op_known ListParts message target e = cc
