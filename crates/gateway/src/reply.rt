@@ -19,7 +19,7 @@ ghost use Rattle.gateway.specs.Exchange.{store_cursor, Operated, RepliesBy, Repl
 ghost use Rattle.gateway.specs.Stands.{Stands};
 
 use plan_uploads::Replied;
-use recovery::{Known, SettleFault, Settled, Unsure, is_upload};
+use recovery::{Known, SettleFault, Settled, Unsure, is_many, is_upload};
 use s3_machine::{Code, Label, Op, Reply, Settings};
 use s3_requests::Meant;
 use std::alloc::Global;
@@ -100,12 +100,16 @@ fn perform<W: Swift>(
 {
     let mut state = Settled::hold(store, settings);
     if is_upload(&op) {
-        plan_uploads::answer(alloc, &mut state, op, label)
+        return plan_uploads::answer(alloc, &mut state, op, label);
+    }
+    let reply = if is_many(&op) {
+        many_keys::answer(&mut state, op, label)
     } else {
-        Replied {
-            reply: planner::answer(alloc, &mut state, op, label),
-            known: Known::Settled,
-        }
+        planner::answer(alloc, &mut state, op, label)
+    };
+    Replied {
+        reply,
+        known: Known::Settled,
     }
 }
 

@@ -1,0 +1,11 @@
+use Rattle.std.specs.Prelude.{Err}
+use Rattle.std.proofs.Common.{refl}
+use Rattle.recovery.specs.declared.fault.PlanFault.TheVariants.{Memory}
+use Rattle.recovery.proofs.lemmas.Ends.{out_of_memory}
+use Rattle.many_keys.proofs.operation.plan.Goals as goal
+
+pub returns-in-DeleteObjects-clause-plans : goal.returns-in-DeleteObjects-clause-plans
+returns-in-DeleteObjects-clause-plans g c = rw c.in-DeleteObjects.is (c.delete_objects.ensures.plans c.args.label.now)
+
+pub returns : goal.returns
+returns g c = record { stays = record { store = refl; settings = refl }; plans = out_of_memory _ (Err Memory) refl }

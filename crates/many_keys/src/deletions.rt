@@ -1,0 +1,74 @@
+//! The plan of DeleteObjects.
+ghost use Rattle.std.specs.Prelude.{◌≡◌, ◌+◌, true, length};
+ghost use Rattle.std.specs.List.{list_all};
+ghost use Rattle.s3_names.specs.Bucket.{is_bucket};
+ghost use Rattle.s3_names.specs.Key.{is_key};
+ghost use Rattle.s3_machine.specs.declared.operation.Label.{Label};
+ghost use Rattle.s3_machine.specs.declared.operation.Op.TheVariants.{DeleteObjects};
+ghost use Rattle.recovery.specs.Calls.{always, Any, Becomes, Changes, Given, drops_object};
+ghost use Rattle.recovery.specs.declared.state.Known.TheVariants as known;
+ghost use Rattle.recovery.specs.Lent.{Stays};
+ghost use Rattle.recovery.specs.Plan.{Plans};
+ghost use Rattle.many_keys.specs.Deletions.{Deletes};
+
+use gate_base::{Bytes, Copying, List};
+use recovery::{PlanFault, Settled, delete_object, head_bucket};
+use s3_machine::{Code, Reply};
+use swift_calls::Swift;
+
+/// DeleteObjects: HEAD of the bucket's container, and then DELETE of the file of each key, in the order of the list. At most one
+/// call more than there are keys. The reply takes no memory. The faults are those of the calls; after one the first of the keys
+/// may be gone.
+pub(crate) fn delete_objects<W: Swift>(
+    state: &mut Settled<'_, W>,
+    bucket: &Bytes,
+    keys: List<Bytes>,
+    quiet: bool,
+) -> Result<Reply, PlanFault>
+    requires named { is_bucket bucket.now ≡ true }
+    requires keyed { list_all is_key keys ≡ true }
+    ensures stays { Stays state.old state.new }
+    ensures plans { (label : Label) → Plans (always (1 + length keys)) (W.history state.old.store.now) (W.history state.new.store.now) state.old.settings.now
+        (Given Any) (DeleteObjects bucket.now keys quiet) label known.Settled result }
+{
+    let Some(list) = head_bucket(state, bucket)? else {
+        return Ok(Reply::Refused(Code::NoSuchBucket));
+    };
+    delete_keys(state, bucket, keys.as_slice())?;
+    Ok(Reply::Deleted { keys, quiet })
+}
+
+/// Deletes the objects of these keys, one after another, from a bucket that is there. At most one call for each. A key under
+/// which nothing stands, or that was deleted before, is done as any other. After a fault the first of the keys may be gone, and
+/// no later one is.
+fn delete_keys<W: Swift>(
+    state: &mut Settled<'_, W>,
+    bucket: &Bytes,
+    keys: &[Bytes],
+) -> Result<(), PlanFault>
+    requires named { is_bucket bucket.now ≡ true }
+    requires keyed { list_all is_key keys.now ≡ true }
+    ensures stays { Stays state.old state.new }
+    ensures deletes { Deletes bucket.now keys.now (W.history state.old.store.now) (W.history state.new.store.now) state.old.settings.now result }
+{
+    for key in keys {
+        delete_key(state, bucket, key)?;
+    }
+    Ok(())
+}
+
+/// Deletes the object of a key ([`recovery::delete_object`]). Bucket and key are copied for the call.
+fn delete_key<W: Swift>(
+    state: &mut Settled<'_, W>,
+    bucket: &Bytes,
+    key: &Bytes,
+) -> Result<(), PlanFault>
+    requires named { is_bucket bucket.now ≡ true }
+    requires keyed { is_key key.now ≡ true }
+    ensures stays { Stays state.old state.new }
+    ensures changes { Changes (always 1) (W.history state.old.store.now) (W.history state.new.store.now) (Given Any) (Becomes (drops_object bucket.now key.now)) result }
+{
+    let container = bucket.copy()?;
+    let name = key.copy()?;
+    delete_object(state, container, name)
+}
