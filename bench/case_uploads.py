@@ -146,7 +146,7 @@ def segment(body):
 def request(method, target, *headers, body=None):
     lines = [f"> {method} {target} HTTP/1.1", ">~", *(f"> {header}" for header in headers)]
     if body is not None:
-        lines.append(f"> Content-Length: {len(body)}")
+        lines.append(f"> Content-Length: {len(body.encode())}")
     return lines + [">"] + ([f">. {body}"] if body else [])
 
 

@@ -6,7 +6,7 @@ use crate::told::{Told, bytes_of, tell, tell_copied};
 use case_text::Fault;
 use gate_base::{Caller, Copying, Memory, cut};
 use gateway_cli::read_words;
-use s3_bodies::{read_completion, read_location};
+use s3_bodies::{read_completion, read_delete, read_location};
 use s3_machine::{
     body_etag, is_content_type, is_meta_name, is_meta_value, is_other_acl, is_proper_meta, may_read,
 };
@@ -65,6 +65,7 @@ fn read_from(alloc: Global, verb: &str, bytes: &[u8], told: &mut Told) {
         "target" => tell_read(Target::read(alloc, bytes), told),
         "location" => tell_read(read_location(alloc, bytes), told),
         "completion" => tell_read(read_completion(alloc, bytes), told),
+        "delete" => tell_read(read_delete(alloc, bytes), told),
         _ => told.note(Fault::Unread("no such verb")),
     }
 }
