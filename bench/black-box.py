@@ -15,6 +15,7 @@ import datetime
 import email.utils
 import hashlib
 import hmac
+import html
 import importlib.util
 import json
 import os
@@ -1763,6 +1764,54 @@ def completions(check):
             check("a range over its parts", (206, whole[3:4101]), both(reply))
             check("the upload is no more", [(404, "NoSuchUpload")] * 3, [brief(ask(*it)) for it in (("GET", v), ("DELETE", v), ("PUT", v + "&partNumber=1", [], b"x"))])
             check("the object goes, and the completion stays kept", [204, 200, (404, "NoSuchKey")], [brief(ask("DELETE", "/photos/a%20b")), brief(ask("POST", v, [], lists)), brief(ask("GET", "/photos/a%20b"))])
+
+
+def deletion(*keys, quiet=False):
+    """The body of a DeleteObjects."""
+    objects = "".join(f"<Object><Key>{html.escape(it)}</Key></Object>" for it in keys)
+    return f"<Delete>{'<Quiet>true</Quiet>' if quiet else ''}{objects}</Delete>".encode()
+
+
+@group()
+def deletions_of_many_keys(check):
+    bucket = f"/v1/{ACCOUNT}/photos"
+    keys = ("a", "b&<", "missing", "c\nd", "a")
+    with Store(account=account({b"a": b"1", b"b&<": b"2", b"c\nd": b"3", b"e": b"4"})) as store, Gate(store.text).settled(store) as gate:
+        reply = gate.ask("POST", "/photos?delete", [], deletion(*keys))
+        told = [html.unescape(it) for it in text_of(b"Key", reply.body)]
+        names = ("a", "b%26%3C", "missing", "c%0Ad", "a")
+        check("many keys are deleted, and told in their order", (200, list(keys)), (reply.status, told))
+        check("by HEAD of the bucket and a DELETE for each", [spelled(store, f"HEAD {bucket}"), *(spelled(store, f"DELETE {bucket}/{it}") for it in names)], heard(store))
+        check("and no other", [b"e"], sorted(store.account["photos"][1]))
+        reply = gate.ask("POST", "/photos?delete", [], deletion("e", quiet=True))
+        check("a quiet one tells no key", (200, [], []), (reply.status, text_of(b"Key", reply.body), sorted(store.account["photos"][1])))
+        store.begin({})
+        for title, words, wanted, calls in (
+            ("1001 keys", ("POST", "/photos?delete", [], deletion(*map(str, range(1001)))), (400, "MalformedXML"), 0),
+            ("no key", ("POST", "/photos?delete", [], b"<Delete></Delete>"), (400, "MalformedXML"), 0),
+            ("a missing bucket", ("POST", "/nothing?delete", [], deletion("a")), (404, "NoSuchBucket"), 1),
+        ):
+            store.begin({})
+            check(f"{title}: refused", (wanted, calls), (brief(gate.ask(*words)), len(store.calls)))
+        store.begin({})
+        check("nobody deletes", ((403, "AccessDenied"), []), (brief(gate.ask("POST", "/photos?delete", [], deletion("a"), owner=False)), heard(store)))
+
+
+@group()
+def each_call_of_a_deletion_is_lost(check):
+    """The first of the keys are gone, and the others are there; the same request again deletes the rest."""
+    keys = ("a", "b", "c")
+    with Store() as store, Gate(store.text).settled(store) as gate:
+        for number in range(1, 5):
+            for title, act in (("its request", lose_request), ("its answer", lose_answer), ("a byte of its answer", cut_answer(1))):
+                store.account = {**account({it.encode(): b"." for it in keys}), "+gateway": ([], {})}
+                store.begin({number: act})
+                reply, made = brief(gate.ask("POST", "/photos?delete", [], deletion(*keys))), len(store.calls)
+                gone = max(0, number - (2 if act is lose_request else 1))
+                left = [it.encode() for it in keys[gone:]]
+                check(f"a deletion whose call {number} loses {title}", ((503, "ServiceUnavailable"), number, left), (reply, made, sorted(store.account["photos"][1])))
+                store.begin({})
+                check("and again", (200, []), (gate.ask("POST", "/photos?delete", [], deletion(*keys)).status, sorted(store.account["photos"][1])))
 
 
 @group()
