@@ -17,7 +17,7 @@ trap 'rm -rf "$room"' EXIT
 mkdir "$room/.git"
 tar --exclude=out -cf - crates.txt HANDLES crates | tar -xf - -C "$room"
 main="$room/crates/s3gate/src/main.rt"
-sed -i 's/variable(rt, "S3GATE_KEYS")?/Some(String::from_str(rt.alloc(), "keys.txt")?)/' "$main"
+sed -i 's/match variable(rt, KEYS)? {/match Some(String::from_str(rt.alloc(), "keys.txt").map_err(|_| SetupFault::Memory)?) {/' "$main"
 grep -q '"keys.txt"' "$main" || { echo "try.sh: main takes its keys otherwise, so change the line of sed" >&2; exit 1; }
 examples/sign.py "$requests" >"$room/requests"
 cd "$room/crates/s3gate"
