@@ -97,7 +97,7 @@ risen : (before now : ℕ) → now ≡ before + 1 → Rose before now
 risen before now e = omega (arith, e)
 
 module _ {E T : Type 0} (told : T → Bool) (account : T → SwiftAccount) (was : E → T) (lost : E → Bool) where
-  module _ (place : Place) (request reply : List ℕ) (log : List E) (old new : T) (on : IsTrue (told old) → IsTrue (told new)) (sure sure' : Bool) (stays_sure : IsTrue sure → IsTrue sure') where
+  module _ (place : Place) (request reply : List ℕ) (log : List E) (old new : T) (on : (IsTrue (told old) → IsTrue (told new)) × (IsTrue (told new) → IsTrue (told old))) (sure sure' : Bool) (stays_sure : IsTrue sure → IsTrue sure') where
     -- memory ran out, and nothing was written down
     wanted : (log' : List E) → log' ≡ log → (IsTrue (told old) → account new ≡ account old)
         → Exchanges place (history_by told account was lost sure log old) request reply (Err NoMemory) (history_by told account was lost sure' log' new)
@@ -105,7 +105,8 @@ module _ {E T : Type 0} (told : T → Bool) (account : T → SwiftAccount) (was 
         (record {
           counts = inr refl;
           faults = refl;
-          observable = on;
+          observable = on.0;
+          told = on.1;
           sure = stays_sure;
           never = λ is_sure failed. cc;
           kept = λ o. record { accounts = λ k within. state_same was account log old new (same o) k; counts = λ k within. refl };
@@ -147,7 +148,8 @@ module _ {E T : Type 0} (told : T → Bool) (account : T → SwiftAccount) (was 
           (record {
             counts = one_more log e;
             faults = risen _ _ (one_lost lost log e (is_lost ∙ is_none));
-            observable = on;
+            observable = on.0;
+            told = on.1;
             sure = stays_sure;
             never = λ is_sure failed. never_lost is_sure;
             kept = λ o. kept_by;
@@ -165,7 +167,8 @@ module _ {E T : Type 0} (told : T → Bool) (account : T → SwiftAccount) (was 
           (record {
             counts = one_more log e;
             faults = none_lost lost log e (is_lost ∙ is_none);
-            observable = on;
+            observable = on.0;
+            told = on.1;
             sure = stays_sure;
             never = λ is_sure failed. cc;
             kept = λ o. kept_by;

@@ -57,6 +57,7 @@ impl<S: Shelf> Store<S> {
         ensures sure { IsTrue (S.model self.old.shelf).sure → IsTrue (S.model self.new.shelf).sure }
         ensures never { IsTrue (S.model self.old.shelf).sure → IfOk result (λ lost. lost ≡ false) }
         ensures observable { IsTrue (S.model self.old.shelf).observable → IsTrue (S.model self.new.shelf).observable }
+        ensures told { IsTrue (S.model self.new.shelf).observable → IsTrue (S.model self.old.shelf).observable }
         ensures same { IsTrue (S.model self.old.shelf).observable → OnErr result ((S.model self.new.shelf).account ≡ (S.model self.old.shelf).account) }
         ensures hands { out.old ≡ [] → length out.new < 2 ^ 63 → IsTrue (S.model self.old.shelf).observable → (call : SwiftRequest) → Fit call
             → SpellsRequest self.old.place call bytes.now → Hands call (S.model self.old.shelf).account (S.model self.new.shelf).account out.new result }

@@ -1,6 +1,6 @@
 //! A link to a store that is at hand.
 ghost use Rattle.std.specs.Prelude.{◌≡◌, ◌+◌, ◌<◌, ◌≤◌, ◌^◌, [], ◌∷◌, ◌++◌, length, take, count_by, vec_len, vec_capacity, false, IsTrue, IfOk, IsErrOf, OnErr};
-ghost use Rattle.std.proofs.Common.{refl, ap, subst};
+ghost use Rattle.std.proofs.Common.{refl, ap, subst, arith};
 ghost use Rattle.std.proofs.Math.Seq.{take-length};
 ghost use Rattle.std.proofs.lemmas.List.{take-take};
 ghost use Rattle.std.proofs.lemmas.List.Sums.{sum_by-take-le};
@@ -93,6 +93,7 @@ fn hand_by<S: Shelf>(
 ) -> Result<bool, Memory>
     ensures place { store.new.place ≡ store.old.place }
     ensures observable { IsTrue (S.model store.old.shelf).observable → IsTrue (S.model store.new.shelf).observable }
+    ensures told { IsTrue (S.model store.new.shelf).observable → IsTrue (S.model store.old.shelf).observable }
     ensures same { IsTrue (S.model store.old.shelf).observable → OnErr result ((S.model store.new.shelf).account ≡ (S.model store.old.shelf).account) }
     ensures sure { IsTrue (S.model store.old.shelf).sure → IsTrue (S.model store.new.shelf).sure }
     ensures never { outcome ≡ Outcome.Answered → IsTrue (S.model store.old.shelf).sure → IfOk result (λ lost. lost ≡ false) }
@@ -148,6 +149,8 @@ impl<S: Shelf> Link for StoreLink<S> {
       rise = λ observable j k order within.
           subst (λ entries. count_by (λ e. e.lost) entries ≤ lost_after (λ e. e.lost) l.log.items k) (take-take j k l.log.items order) (sum_by-take-le _ (take k l.log.items) j);
     } };
+
+    ghost left = { λ l observable. let ok = l.log.ok in let small = l.log.small in omega (arith, ok, small) };
 
     fn exchange(&mut self, request: &[u8], reply: &mut Bytes) -> Result<(), LinkFault>
         requires { length self.old.log.items < budget }

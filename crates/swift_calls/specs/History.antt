@@ -74,11 +74,13 @@ Called h p q request (Ok reply) = Replied h p q request reply
 Called h p q request (Err Failed) = Lost h p q request ⊎ ((budget ≤ p) × (q ≡ p))
 Called h p q request (Err Memory) = Unread h p q request ⊎ (q ≡ p)
 
--- one call of a store: how it is counted, and where the store is observable, what it answered and what it did
+-- one call of a store: how it is counted, and where the store is observable, what it answered and what it did. A store that is
+-- observable stays so, and one that isn't does too: what is told of a store now was told of it before
 pub record Calls (old new : History) (request : SwiftRequest) (result : Result SwiftReply SwiftFault) : Type 0 where
   pub counts : Counts old.called new.called result
   pub faults : CountsFaults old.faults new.faults result
   pub observable : IsTrue old.observable → IsTrue new.observable
+  pub told : IsTrue new.observable → IsTrue old.observable
   pub sure : IsTrue old.sure → IsTrue new.sure
   pub never : IsTrue old.observable → IsTrue old.sure → old.called < budget → IsErrOf result Failed → ⊥
   pub kept : IsTrue old.observable → Extends old.called old new

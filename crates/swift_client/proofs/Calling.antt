@@ -1,7 +1,7 @@
 -- A call of a store over a link, by how its exchange went.
-use Rattle.std.specs.Prelude.{◌≡◌, ◌⊎◌, ℕ, ◌+◌, ◌<◌, ◌≤◌, nat_lt, nat_eq, Bool, true, false, cond, ◌&&◌, IsTrue, List, length, drop, Result, Ok, Err, Option, Some, None}
+use Rattle.std.specs.Prelude.{◌≡◌, ◌⊎◌, ℕ, ◌+◌, ◌<◌, ◌≤◌, nat_eq, Bool, true, false, ◌&&◌, IsTrue, List, length, drop, Result, Ok, Err, Option, Some, None}
 use Rattle.std.proofs.Common.{refl, sym, ap, subst, ◌∙◌, inl, inr, arith}
-use Rattle.std.proofs.lemmas.Bool.{and_parts, and_from, eqb-true, eq-eqb, lt-ltb, ltb-true}
+use Rattle.std.proofs.lemmas.Bool.{and_parts, and_from, eqb-true, eq-eqb}
 use Rattle.std.proofs.lemmas.Slice.Eq.{bytes_eq-Decides}
 use Rattle.gate_base.specs.Causes.{Rose}
 use Rattle.httparse.specs.Grammar.{print_response}
@@ -19,7 +19,7 @@ use Rattle.swift_requests.specs.Link.{Exchanges, Exchanged}
 use Rattle.swift_requests.specs.declared.place.Place.{Place}
 use Rattle.swift_requests.specs.declared.link.LinkFault.{LinkFault}
 use Rattle.swift_requests.specs.declared.link.LinkFault.TheVariants.{Failed as NoLink, Memory as NoMemory}
-use Rattle.swift_client.specs.Client.{is_same_place, is_clean, history_over, ReadsAs}
+use Rattle.swift_client.specs.Client.{is_same_place, history_over, ReadsAs}
 
 -- ---- what it is to be observable
 
@@ -40,32 +40,22 @@ place_same a b e =
 pub record IsTold (link : History) (there place : Place) (own : ℕ) : Type 0 where
   pub link_told : IsTrue link.observable
   pub same : there ≡ place
-  pub clean : link.called < budget → own ≡ 0
-
-clean_by : (own called : ℕ) → cond (nat_lt called budget) (nat_eq own 0) true ≡ true → called < budget → own ≡ 0
-clean_by own called e left = eqb-true own 0 (sym (ap (λ more. cond more (nat_eq own 0) true) (lt-ltb called budget left)) ∙ e)
-
-by_clean : (own called : ℕ) → (called < budget → own ≡ 0) → cond (nat_lt called budget) (nat_eq own 0) true ≡ true
-by_clean own called clean = cases (nat_lt called budget) refl
-  where
-    cases : (more : Bool) → nat_lt called budget ≡ more → cond (nat_lt called budget) (nat_eq own 0) true ≡ true
-    cases true e = ap (λ m. cond m (nat_eq own 0) true) e ∙ eq-eqb own 0 (clean (ltb-true called budget e))
-    cases false e = ap (λ m. cond m (nat_eq own 0) true) e
+  pub clean : own ≡ 0
 
 told : (link : History) (there place : Place) (own : ℕ) → IsTrue (history_over link there place own).observable → IsTold link there place own
 told link there place own e =
     let first = and_parts _ _ e in
     let rest = and_parts _ _ first.1 in
-    record { link_told = first.0; same = same_place there place rest.0; clean = clean_by own link.called rest.1 }
+    record { link_told = first.0; same = same_place there place rest.0; clean = eqb-true own 0 rest.1 }
 
 tells : (link : History) (there place : Place) (own : ℕ) → IsTold link there place own → IsTrue (history_over link there place own).observable
-tells link there place own t = and_from _ _ t.link_told (and_from _ _ (place_same there place t.same) (by_clean own link.called t.clean))
+tells link there place own t = and_from _ _ t.link_told (and_from _ _ (place_same there place t.same) (eq-eqb own 0 t.clean))
 
 -- ---- the history of a store over a link
 
 tells_fresh : (link : History) (there place : Place) (o : Bool) → link.observable ≡ o → (IsTrue link.observable → there ≡ place) → (history_over link there place 0).observable ≡ link.observable
-tells_fresh link there place true e same = and_from _ _ e (and_from _ _ (place_same there place (same e)) (by_clean 0 link.called (λ left. refl))) ∙ sym e
-tells_fresh link there place false e same = ap (λ o. o && (is_same_place there place && is_clean link 0)) e ∙ sym e
+tells_fresh link there place true e same = and_from _ _ e (and_from _ _ (place_same there place (same e)) refl) ∙ sym e
+tells_fresh link there place false e same = ap (λ o. o && (is_same_place there place && nat_eq 0 0)) e ∙ sym e
 
 -- a store that has made no call of its own has the history of its link
 pub fresh_history : (link : History) (there place : Place) → (IsTrue link.observable → there ≡ place) → history_over link there place 0 ≡ link
@@ -92,12 +82,13 @@ one_reply call a b bytes (h, n, m, is, says) (k, n', m', is', says') =
 -- ---- the exits of a call
 
 module _ (link : History) (there place : Place) (own : ℕ) (request : SwiftRequest) where
-  -- no exchange was left
-  pub spent : (own' : ℕ) → budget ≤ link.called → Rose own own' → Calls (history_over link there place own) (history_over link there place own') request (Err Failed)
-  spent own' left rose = record {
+  -- no exchange was left, so the link isn't observable
+  pub spent : (own' : ℕ) → (IsTrue link.observable → link.called < budget) → budget ≤ link.called → Rose own own' → Calls (history_over link there place own) (history_over link there place own') request (Err Failed)
+  spent own' more left rose = record {
     counts = inr (left, refl);
     faults = omega (arith, rose);
-    observable = λ o. let t = told link there place own o in tells link there place own' (record { link_told = t.link_told; same = t.same; clean = λ more. omega (arith, left, more) });
+    observable = λ o. let some = more (and_parts _ _ o).0 in absurd (omega (arith, left, some));
+    told = λ o. let some = more (and_parts _ _ o).0 in absurd (omega (arith, left, some));
     sure = λ s. s;
     never = λ o s more failed. omega (arith, left, more);
     kept = λ o. record { accounts = λ k within. refl; counts = λ k within. refl };
@@ -110,6 +101,7 @@ module _ (link : History) (there place : Place) (own : ℕ) (request : SwiftRequ
     counts = inr refl;
     faults = refl;
     observable = λ o. o;
+    told = λ o. o;
     sure = λ s. s;
     never = λ o s more failed. cc;
     kept = λ o. record { accounts = λ k within. refl; counts = λ k within. refl };
@@ -126,7 +118,15 @@ module _ (link : History) (there place : Place) (own : ℕ) (request : SwiftRequ
         → IsTrue (history_over link there place own).observable → IsTrue (history_over link' there' place own').observable
     still result e own' same o =
         let t = told link there place own o in
-        tells link' there' place own' (record { link_told = e.observable t.link_told; same = stays ∙ t.same; clean = λ more. same ∙ t.clean left })
+        tells link' there' place own' (record { link_told = e.observable t.link_told; same = stays ∙ t.same; clean = same ∙ t.clean })
+
+    -- it was told before the exchange
+    was_told : (result : Result (Unit {0}) LinkFault) → Exchanges there link bytes reply result link' → (own' : ℕ) → own ≤ own'
+        → IsTrue (history_over link' there' place own').observable → IsTrue (history_over link there place own).observable
+    was_told result e own' more o =
+        let t = told link' there' place own' o in
+        let clean = t.clean in
+        tells link there place own (record { link_told = e.told t.link_told; same = sym stays ∙ t.same; clean = omega (arith, more, clean) })
 
     kept_by : (result : Result (Unit {0}) LinkFault) → Exchanges there link bytes reply result link' → (own' : ℕ)
         → IsTrue (history_over link there place own).observable → Extends link.called (history_over link there place own) (history_over link' there' place own')
@@ -138,6 +138,7 @@ module _ (link : History) (there place : Place) (own : ℕ) (request : SwiftRequ
       counts = inl (left, e.counts);
       faults = let rose = e.faults in omega (arith, rose);
       observable = still (Err NoLink) e own refl;
+      told = was_told (Err NoLink) e own (omega arith);
       sure = e.sure;
       never = λ o s more failed. e.never s refl;
       kept = kept_by (Err NoLink) e own;
@@ -166,6 +167,7 @@ module _ (link : History) (there place : Place) (own : ℕ) (request : SwiftRequ
       counts = unread_counts e.counts;
       faults = let same = e.faults in omega (arith, same);
       observable = still (Err NoMemory) e own refl;
+      told = was_told (Err NoMemory) e own (omega arith);
       sure = e.sure;
       never = λ o s more failed. cc;
       kept = kept_by (Err NoMemory) e own;
@@ -179,6 +181,7 @@ module _ (link : History) (there place : Place) (own : ℕ) (request : SwiftRequ
       counts = (left, e.counts);
       faults = let steady = e.faults in omega (arith, steady, same);
       observable = still (Ok tt) e own' same;
+      told = was_told (Ok tt) e own' (omega (arith, same));
       sure = e.sure;
       never = λ o s more failed. cc;
       kept = kept_by (Ok tt) e own';
@@ -188,6 +191,7 @@ module _ (link : History) (there place : Place) (own : ℕ) (request : SwiftRequ
       counts = inl (left, e.counts);
       faults = let steady = e.faults in omega (arith, steady, rose);
       observable = λ o. absurd (none _ (effect_of (Ok tt) e o).spells);
+      told = was_told (Ok tt) e own' (omega (arith, rose));
       sure = e.sure;
       never = λ o s more failed. none _ (effect_of (Ok tt) e o).spells;
       kept = kept_by (Ok tt) e own';
@@ -197,6 +201,7 @@ module _ (link : History) (there place : Place) (own : ℕ) (request : SwiftRequ
       counts = inl (left, e.counts);
       faults = let steady = e.faults in omega (arith, steady, same);
       observable = still (Ok tt) e own' same;
+      told = was_told (Ok tt) e own' (omega (arith, same));
       sure = e.sure;
       never = λ o s more failed. cc;
       kept = kept_by (Ok tt) e own';

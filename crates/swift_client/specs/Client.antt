@@ -1,6 +1,6 @@
 -- What a store over a link tells of itself, and how it reads answers. Source: this profile.
-use Rattle.std.specs.Prelude.{ℕ, ◌+◌, nat_lt, nat_eq, Bool, true, ◌&&◌, if◌then◌else◌, List, bytes_eq, Result, Ok, Err}
-use Rattle.swift_calls.specs.History.{History, budget}
+use Rattle.std.specs.Prelude.{ℕ, ◌+◌, nat_eq, Bool, ◌&&◌, List, bytes_eq, Result, Ok, Err}
+use Rattle.swift_calls.specs.History.{History}
 use Rattle.swift_calls.specs.declared.calls.SwiftRequest.{SwiftRequest}
 use Rattle.swift_calls.specs.declared.calls.SwiftReply.{SwiftReply}
 use Rattle.swift_calls.specs.declared.calls.SwiftFault.{SwiftFault}
@@ -11,15 +11,12 @@ use Rattle.swift_requests.specs.declared.place.Place.{Place}
 abbrev pub is_same_place : Place → Place → Bool
 is_same_place a b = bytes_eq a.host b.host && (bytes_eq a.account b.account && bytes_eq a.token b.token)
 
--- while exchanges are left, no answer spelled nothing, so that all faults are the link's
-abbrev pub is_clean : History → ℕ → Bool
-is_clean link own = if nat_lt link.called budget then nat_eq own 0 else true
-
 -- the history of a store over a link with a place, where the store's calls name another or the same place: the link's, with
--- the faults that are the store's own added. It is told where the link tells its history and the places are the same
+-- the faults that are the store's own added. It is told where the link tells its history, the places are the same, and no fault
+-- is the store's own
 abbrev pub history_over : History → Place → Place → ℕ → History
 history_over link there place own =
-    record link { observable = link.observable && (is_same_place there place && is_clean link own); faults = link.faults + own }
+    record link { observable = link.observable && (is_same_place there place && nat_eq own 0); faults = link.faults + own }
 
 -- how an answer was read: as a reply that it spells, or it spells none
 abbrev pub ReadsAs : SwiftRequest → List ℕ → Result SwiftReply SwiftFault → Type 0

@@ -1,9 +1,9 @@
 //! A store over a link.
-ghost use Rattle.std.specs.Prelude.{◌≡◌, ◌+◌, nat_eq, if◌then◌else◌, true, IsTrue, IsErrOf};
+ghost use Rattle.std.specs.Prelude.{◌≡◌, ◌+◌, IsTrue, IsErrOf};
 ghost use Rattle.std.proofs.Common.{sym, ap, ◌∙◌};
 ghost use Rattle.std.proofs.Math.Nat.{add-zero};
-ghost use Rattle.std.proofs.lemmas.Bool.{and_parts, eqb-true, lt-ltb};
-ghost use Rattle.swift_calls.specs.History.{CountsFaults, budget};
+ghost use Rattle.std.proofs.lemmas.Bool.{and_parts, eqb-true};
+ghost use Rattle.swift_calls.specs.History.{CountsFaults};
 ghost use Rattle.swift_calls.specs.Step.{Fit};
 ghost use Rattle.swift_requests.specs.Place.{IsPlace};
 ghost use Rattle.swift_client.specs.Client.{history_over, ReadsAs};
@@ -19,8 +19,8 @@ use wire_log::{Cause, Explains, unread_cause};
 /// A Swift store over a link. Each call is one exchange, so its calls are those of the link.
 ///
 /// It counts a fault where the link counts one, where an answer spells nothing (its status is none of the call's, a
-/// header is missing or doesn't read), and where no call is left. It is observable where the link is, and then the
-/// account after each call is the link's.
+/// header is missing or doesn't read), and where no call is left. It is observable where the link is and no answer spelled
+/// nothing, and then the account after each call is the link's.
 #[derive(Drop)]
 pub struct SwiftClient<L: Link> {
     link: L,
@@ -99,7 +99,7 @@ impl<L: Link> Swift for SwiftClient<L> {
 
     ghost is_history = { λ c. record {
       last = λ observable left.
-          let own = eqb-true c.own 0 (sym (ap (λ more. if more then nat_eq c.own 0 else true) (lt-ltb (L.history c.link).called budget left)) ∙ (and_parts _ _ (and_parts _ _ observable).1).1) in
+          let own = eqb-true c.own 0 (and_parts _ _ (and_parts _ _ observable).1).1 in
           (L.is_history c.link).last (and_parts _ _ observable).0 left ∙ sym (ap (λ own. (L.history c.link).faults + own) own ∙ add-zero (L.history c.link).faults);
       rise = λ observable. (L.is_history c.link).rise (and_parts _ _ observable).0;
     } };

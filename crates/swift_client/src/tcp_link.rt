@@ -156,6 +156,8 @@ impl<R: Net + Drop> Link for TcpLink<R> {
 
     ghost is_history = { λ l. record { last = λ observable. absurd (true≢false (sym observable)); rise = λ observable. absurd (true≢false (sym observable)) } };
 
+    ghost left = { λ l observable. absurd (true≢false (sym observable)) };
+
     fn exchange(&mut self, request: &[u8], reply: &mut Bytes) -> Result<(), LinkFault> {
         self.calls += 1;
         match self.go(request, reply) {

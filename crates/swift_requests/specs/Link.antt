@@ -41,6 +41,7 @@ pub record Exchanges (place : Place) (old : History) (request reply : List ℕ) 
   pub counts : CountsExchange old.called new.called result
   pub faults : CountsLinkFaults old.faults new.faults result
   pub observable : IsTrue old.observable → IsTrue new.observable
+  pub told : IsTrue new.observable → IsTrue old.observable
   pub sure : IsTrue old.sure → IsTrue new.sure
   pub never : IsTrue old.sure → IsErrOf result Failed → ⊥
   pub kept : IsTrue old.observable → Extends old.called old new

@@ -1,5 +1,5 @@
 //! What brings a request to a store and its answer back.
-ghost use Rattle.std.specs.Prelude.{◌≡◌, ◌<◌};
+ghost use Rattle.std.specs.Prelude.{◌≡◌, ◌<◌, IsTrue};
 ghost use Rattle.swift_calls.specs.History.{History, IsHistory, budget};
 ghost use Rattle.swift_requests.specs.Link.{Exchanges};
 ghost use Rattle.swift_requests.specs.declared.place.Place.{Place};
@@ -57,4 +57,7 @@ pub trait Link: Counted {
 
     /// The last count of the history is the count of faults itself, and from exchange to exchange it never falls.
     ghost is_history: { (link : Self) → IsHistory (history link) };
+
+    /// While it is observable, exchanges are left: it keeps what each of them found, so memory ends before the count.
+    ghost left: { (link : Self) → IsTrue (history link).observable → (history link).called < budget };
 }

@@ -13,11 +13,12 @@ keeps_on {new = new} {result = result} one two = record {
   sure = λ s. two.sure (one.sure s);
   never = λ s. two.never (one.sure s);
   observable = λ o. two.observable (one.observable o);
+  told = λ o. one.told (two.told o);
 }
 
 -- whatever was answered
 pub keeps_ok : {A B : Type 0} {old new : ShelfModel} {value : A} {other : B} → ShelfKeeps old (Ok value) new → ShelfKeeps old (Ok other) new
-keeps_ok one = record { faults = one.faults; sure = one.sure; never = λ s failed. cc; observable = one.observable }
+keeps_ok one = record { faults = one.faults; sure = one.sure; never = λ s failed. cc; observable = one.observable; told = one.told }
 
 -- what is told less of it
 pub reads_as : {A : Type 0} {told less : SwiftAccount → A → Type 0} {old new : ShelfModel} (result : Result A StoreFault) → ((account : SwiftAccount) (value : A) → told account value → less account value)
@@ -27,8 +28,8 @@ reads_as (Err fault) weaker one = record { keeps = one.keeps; same = one.same; e
 
 -- a call that was not answered
 pub keeps_err : {A B : Type 0} {old new : ShelfModel} (fault : StoreFault) → ShelfKeeps {A = A} old (Err fault) new → ShelfKeeps {A = B} old (Err fault) new
-keeps_err Failed one = record { faults = one.faults; sure = one.sure; never = λ s failed. one.never s refl; observable = one.observable }
-keeps_err Memory one = record { faults = one.faults; sure = one.sure; never = λ s failed. cc; observable = one.observable }
+keeps_err Failed one = record { faults = one.faults; sure = one.sure; never = λ s failed. one.never s refl; observable = one.observable; told = one.told }
+keeps_err Memory one = record { faults = one.faults; sure = one.sure; never = λ s failed. cc; observable = one.observable; told = one.told }
 
 pub reads_err : {A B : Type 0} {told : SwiftAccount → A → Type 0} {less : SwiftAccount → B → Type 0} {old new : ShelfModel} (fault : StoreFault) → ShelfReads told old (Err fault) new → ShelfReads less old (Err fault) new
 reads_err fault one = record { keeps = keeps_err fault one.keeps; same = one.same; effect = λ o. tt }
@@ -65,7 +66,7 @@ reads_ok {old = old} one of = record { keeps = keeps_ok one.keeps; same = one.sa
 -- nothing was called
 pub reads_none : {A : Type 0} {told : SwiftAccount → A → Type 0} {old : ShelfModel} {value : A} → ((account : SwiftAccount) → told account value) → ShelfReads told old (Ok value) old
 reads_none {old = old} of = record {
-  keeps = record { faults = refl; sure = λ s. s; never = λ s failed. cc; observable = λ o. o };
+  keeps = record { faults = refl; sure = λ s. s; never = λ s failed. cc; observable = λ o. o; told = λ o. o };
   same = λ o. refl;
   effect = λ o. of old.account;
 }

@@ -28,12 +28,14 @@ CountsStoreFaults before now (Ok value) = now ≡ before
 CountsStoreFaults before now (Err Failed) = Rose before now
 CountsStoreFaults before now (Err Memory) = now ≡ before
 
--- what each call keeps: the count of faults rises exactly where it failed, and a shelf that never fails, or is observable, stays so
+-- what each call keeps: the count of faults rises exactly where it failed, a shelf that never fails stays so, and one is
+-- observable after it exactly where it was before
 pub record ShelfKeeps {A : Type 0} (old : ShelfModel) (result : Result A StoreFault) (new : ShelfModel) : Type 0 where
   pub faults : CountsStoreFaults old.faults new.faults result
   pub sure : IsTrue old.sure → IsTrue new.sure
   pub never : IsTrue old.sure → IsErrOf result Failed → ⊥
   pub observable : IsTrue old.observable → IsTrue new.observable
+  pub told : IsTrue new.observable → IsTrue old.observable
 
 -- a call that reads: it leaves the account, and what it answers is told of it
 pub record ShelfReads {A : Type 0} (told : SwiftAccount → A → Type 0) (old : ShelfModel) (result : Result A StoreFault) (new : ShelfModel) : Type 0 where

@@ -12,6 +12,7 @@ returns-clause-calls c =
       counts = grind (arith, common_steps);
       faults = grind (arith, common_steps);
       observable = λ observable. observable;
+      told = λ observable. observable;
       sure = sure_kept old new c.make.ensures.plan;
       never = λ observable sure left. never_failed old (calls_of old + 1) c.args.request.now c.make.result old.log.items new.log.items c.make.ensures.logs sure;
       kept = λ observable. grind (arith, common_steps);
