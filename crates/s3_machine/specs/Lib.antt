@@ -1,5 +1,6 @@
 pub mod Body
 pub mod Conditions
+pub mod Copies
 pub mod ETag
 pub mod Finish
 pub mod Items

@@ -27,6 +27,7 @@ use Rattle.s3_machine.specs.declared.operation.Reply.TheVariants.{
   Parts,
   Completed,
   Deleted,
+  Copied,
 }
 
 -- a moment that has a date
@@ -73,3 +74,4 @@ IsShowable (Started bucket key id) = Unit {0}
 IsShowable (Parts bucket key id marker max items truncated) = All IsShownPart items
 IsShowable (Completed bucket key etag) = Unit {0}
 IsShowable (Deleted keys quiet) = Unit {0}
+IsShowable (Copied part etag modified) = IsDated modified

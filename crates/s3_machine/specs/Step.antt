@@ -1,6 +1,6 @@
 -- One step of the S3 service: what an operation is answered, and the state after it. The refusals are tried in
 -- the order given, and a refused step leaves the state. Source: Amazon S3 API Reference and this profile.
-use Rattle.std.specs.Prelude.{◌≡◌, ◌<◌, ◌≤◌, ◌^◌, ◌==◌, ℕ, nat_eq, bytes_eq, Bool, true, false, not, if◌then◌else◌, List, [], ◌∷◌, map, length, Option, Some, None, IfSome}
+use Rattle.std.specs.Prelude.{◌≡◌, ◌<◌, ◌≤◌, ◌^◌, ◌==◌, ℕ, nat_eq, nat_lt, bytes_eq, Bool, true, false, not, if◌then◌else◌, List, [], ◌∷◌, map, length, Option, Some, None, IfSome}
 use Rattle.std.specs.List.{list_all}
 use Rattle.std.specs.Option.{unwrap_or}
 use Rattle.std.specs.FinMap.{entries, get, insert, remove, empty, len}
@@ -19,10 +19,12 @@ use Rattle.s3_machine.specs.declared.code.Code.TheVariants.{
   AccessDenied,
   BucketAlreadyOwnedByYou,
   BucketNotEmpty,
+  EntityTooLarge,
   EntityTooSmall,
   InvalidPart,
   InvalidPartOrder,
   InvalidRange,
+  InvalidRequest,
   NoSuchBucket,
   NoSuchKey,
   NoSuchUpload,
@@ -63,11 +65,15 @@ use Rattle.s3_machine.specs.declared.operation.Op.TheVariants.{
   CompleteUpload,
   AbortUpload,
   DeleteObjects,
+  CopyObject,
+  CopyPart,
 }
 use Rattle.s3_machine.specs.declared.operation.Listed.{Listed}
 use Rattle.s3_machine.specs.declared.operation.ObjectHead.{ObjectHead}
+use Rattle.s3_machine.specs.declared.operation.Replaced.{Replaced}
 use Rattle.s3_machine.specs.declared.operation.Reply.{Reply}
 use Rattle.s3_machine.specs.declared.operation.Reply.TheVariants as reply
+use Rattle.s3_machine.specs.Copies.{copied, is_onto_itself, has_last, copied_span}
 use Rattle.s3_machine.specs.ETag.{body_etag}
 use Rattle.s3_machine.specs.Items.{items}
 use Rattle.s3_machine.specs.Limits.{is_content_type, is_listing_text, is_proper_meta, most_body_bytes, most_items, most_keys, range_limit}
@@ -335,6 +341,40 @@ completes_by None settings old bucket key id list moment b = in_upload old key i
 abbrev pub completes : Settings → State → List ℕ → List ℕ → List ℕ → List Listed → ℕ → Bucket → Outcome
 completes settings old bucket key id list moment b = completes_by (kept_as key list (get b.kept id)) settings old bucket key id list moment b
 
+-- ---- copies
+
+-- the object of the key in the bucket that a copy is of
+abbrev pub in_source : State → List ℕ → List ℕ → (Object → Outcome) → Bucket → Outcome
+in_source old from_bucket from_key f b = in_bucket old from_bucket (λ from. in_object_by (get from.objects from_key) old f)
+
+-- CopyObject of an object: its copy in place of what stands under the key
+abbrev pub copies_object : State → List ℕ → List ℕ → List ℕ → List ℕ → Option Replaced → ℕ → Object → Outcome
+copies_object old bucket key from_bucket from_key replaced moment o =
+    unless (is_onto_itself bucket key from_bucket from_key replaced) InvalidRequest old
+    (gives (reply.Copied false o.etag moment) (adjust bucket (put_object key (copied replaced moment o)) old))
+
+-- CopyObject in a bucket
+abbrev pub copies : State → List ℕ → List ℕ → Option Acl → List ℕ → List ℕ → Option Replaced → ℕ → Bucket → Outcome
+copies old bucket key acl from_bucket from_key replaced moment b =
+    unless (is_other_acl acl b.acl) NotImplemented old
+    (in_source old from_bucket from_key (copies_object old bucket key from_bucket from_key replaced moment) b)
+
+-- CopyPart of these bytes: the part in place of what stands under its number
+abbrev pub puts_copy : State → List ℕ → List ℕ → ℕ → Part → Outcome
+puts_copy old bucket id number p = gives (reply.Copied true p.etag p.modified) (adjust bucket (on_upload id (with_part number p)) old)
+
+-- CopyPart of an object, of all its bytes or of a range that it has
+abbrev pub copies_bytes : State → List ℕ → List ℕ → ℕ → Option (ℕ × ℕ) → ℕ → Object → Outcome
+copies_bytes old bucket id number range moment o =
+    unless (not (has_last range (length o.bytes))) InvalidRange old
+    (unless (nat_lt most_body_bytes (copied_span range (length o.bytes)).length) EntityTooLarge old
+    (puts_copy old bucket id number (new_part moment (taken (copied_span range (length o.bytes)) o.bytes))))
+
+-- CopyPart in a bucket
+abbrev pub copies_part : State → List ℕ → List ℕ → List ℕ → ℕ → List ℕ → List ℕ → Option (ℕ × ℕ) → ℕ → Bucket → Outcome
+copies_part old bucket key id number from_bucket from_key range moment b =
+    in_upload old key id (λ u. in_source old from_bucket from_key (copies_bytes old bucket id number range moment) b) b
+
 -- ---- the step
 
 -- the step of each operation, with the id that a new upload gets
@@ -364,6 +404,10 @@ step settings old (ListParts bucket key upload marker max) label id = in_bucket 
 step settings old (CompleteUpload bucket key upload list) label id = in_bucket old bucket (completes settings old bucket key upload list label.moment)
 step settings old (AbortUpload bucket key upload) label id = in_bucket old bucket (in_upload old key upload (aborts old bucket upload))
 step settings old (DeleteObjects bucket keys quiet) label id = in_bucket old bucket (deletes_all old bucket keys quiet)
+step settings old (CopyObject bucket key acl from_bucket from_key replaced) label id =
+    in_bucket old bucket (copies old bucket key acl from_bucket from_key replaced label.moment)
+step settings old (CopyPart bucket key upload number from_bucket from_key range) label id =
+    in_bucket old bucket (copies_part old bucket key upload number from_bucket from_key range label.moment)
 
 -- an id of 128 bits that is neither open nor kept in the bucket
 pub record IsNewId (b : Bucket) (id : ℕ) : Type 0 where
@@ -393,6 +437,8 @@ IsFree old (ListParts bucket key upload marker max) id = Unit {0}
 IsFree old (CompleteUpload bucket key upload list) id = Unit {0}
 IsFree old (AbortUpload bucket key upload) id = Unit {0}
 IsFree old (DeleteObjects bucket keys quiet) id = Unit {0}
+IsFree old (CopyObject bucket key acl from_bucket from_key replaced) id = Unit {0}
+IsFree old (CopyPart bucket key upload number from_bucket from_key range) id = Unit {0}
 
 -- the service goes by this operation from the old state to the new one, and answers this
 pub record S3Step (settings : Settings) (old : State) (op : Op) (label : Label) (reply : Reply) (new : State) : Type 0 where
@@ -447,6 +493,15 @@ pub record IsProperKeys (keys : List (List ℕ)) : Type 0 where
   pub few : length keys ≤ most_keys
   pub keyed : list_all is_key keys ≡ true
 
+-- what a copy is put with in place of what its source has
+pub record IsProperReplaced (replaced : Replaced) : Type 0 where
+  pub typed : is_content_type replaced.content_type ≡ true
+  pub described : is_proper_meta replaced.meta ≡ true
+
+-- the range of a part that is copied: its numbers have at most 18 digits, and it doesn't end before it begins
+abbrev pub IsProperCopyRange : ℕ × ℕ → Type 0
+IsProperCopyRange range = (range.0 ≤ range.1) × (range.1 < range_limit)
+
 -- an operation that keeps the limits of this profile, at a moment that a clock can give
 abbrev pub IsProperOp : Op → Type 0
 IsProperOp ListBuckets = Unit {0}
@@ -469,6 +524,9 @@ IsProperOp (ListParts bucket key upload marker max) = IsPlace bucket key × (max
 IsProperOp (CompleteUpload bucket key upload list) = IsPlace bucket key × IsProperList list
 IsProperOp (AbortUpload bucket key upload) = IsPlace bucket key
 IsProperOp (DeleteObjects bucket keys quiet) = (is_bucket bucket ≡ true) × IsProperKeys keys
+IsProperOp (CopyObject bucket key acl from_bucket from_key replaced) = IsPlace bucket key × IsPlace from_bucket from_key × IfSome replaced IsProperReplaced
+IsProperOp (CopyPart bucket key upload number from_bucket from_key range) =
+    IsPlace bucket key × IsPartNumber number × IsPlace from_bucket from_key × IfSome range IsProperCopyRange
 
 abbrev pub IsProper : Op → Label → Type 0
 IsProper op label = IsProperOp op × (label.moment < moment_limit)

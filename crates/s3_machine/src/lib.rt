@@ -24,5 +24,5 @@ pub use limits::{
     GREATEST_PART_NUMBER, MOST_BODY_BYTES, MOST_ITEMS, MOST_KEYS, MOST_PARTS, RANGE_LIMIT,
     is_content_type, is_listing_text, is_meta_name, is_meta_value, is_proper_meta,
 };
-pub use operation::{Label, Listed, ObjectHead, Op, Reply, Settings};
+pub use operation::{Label, Listed, ObjectHead, Op, Replaced, Reply, Settings};
 pub use reading::{Conditions, ETags, Judged, Range, Span, judge};

@@ -1,6 +1,6 @@
 ghost use Rattle.std.specs.Prelude.{◌≡◌, IfOk};
 
-use crate::items::{Asked, BucketItem, Item, PartItem, UploadItem};
+use crate::items::{Asked, BucketItem, Item, PartItem, UploadItem, copy_option};
 use crate::reading::{Conditions, Range};
 use crate::{Body, Code};
 use gate_base::{Bytes, Caller, Copying, List, Memory};
@@ -54,8 +54,25 @@ impl Copying for Listed {
     }
 }
 
+/// What a copy is put with in place of what its source has.
+#[derive(Debug, Drop)]
+pub struct Replaced {
+    pub content_type: Bytes,
+    pub meta: Meta,
+}
+
+impl Copying for Replaced {
+    fn copy(&self) -> Result<Replaced, Memory> {
+        Ok(Replaced {
+            content_type: self.content_type.copy()?,
+            meta: self.meta.copy()?,
+        })
+    }
+}
+
 /// The operations of Amazon S3. An access control list that isn't given is the bucket's. The id of an upload is a text as it was
-/// given: one that is no open upload's is NoSuchUpload.
+/// given: one that is no open upload's is NoSuchUpload. The range of a part that is copied has the number of its first byte and
+/// that of its last.
 #[derive(Debug, Drop)]
 pub enum Op {
     ListBuckets,
@@ -155,6 +172,23 @@ pub enum Op {
         keys: List<Bytes>,
         quiet: bool,
     },
+    CopyObject {
+        bucket: Bytes,
+        key: Bytes,
+        acl: Option<Acl>,
+        from_bucket: Bytes,
+        from_key: Bytes,
+        replaced: Option<Replaced>,
+    },
+    CopyPart {
+        bucket: Bytes,
+        key: Bytes,
+        id: Bytes,
+        number: u32,
+        from_bucket: Bytes,
+        from_key: Bytes,
+        range: Option<(u64, u64)>,
+    },
 }
 
 impl Copying for Op {
@@ -244,6 +278,23 @@ impl Copying for Op {
                 keys,
                 quiet,
             } => copy_delete_objects(bucket, keys, *quiet),
+            Op::CopyObject {
+                bucket,
+                key,
+                acl,
+                from_bucket,
+                from_key,
+                replaced,
+            } => copy_copy_object(bucket, key, *acl, from_bucket, from_key, replaced),
+            Op::CopyPart {
+                bucket,
+                key,
+                id,
+                number,
+                from_bucket,
+                from_key,
+                range,
+            } => copy_copy_part(bucket, key, id, *number, from_bucket, from_key, *range),
         }
     }
 }
@@ -435,6 +486,48 @@ fn copy_delete_objects(bucket: &Bytes, keys: &List<Bytes>, quiet: bool) -> Resul
     })
 }
 
+fn copy_copy_object(
+    bucket: &Bytes,
+    key: &Bytes,
+    acl: Option<Acl>,
+    from_bucket: &Bytes,
+    from_key: &Bytes,
+    replaced: &Option<Replaced>,
+) -> Result<Op, Memory>
+    ensures { IfOk result (λ op. op ≡ Op.CopyObject bucket.now key.now acl from_bucket.now from_key.now replaced.now) }
+{
+    Ok(Op::CopyObject {
+        bucket: bucket.copy()?,
+        key: key.copy()?,
+        acl,
+        from_bucket: from_bucket.copy()?,
+        from_key: from_key.copy()?,
+        replaced: copy_option(replaced)?,
+    })
+}
+
+fn copy_copy_part(
+    bucket: &Bytes,
+    key: &Bytes,
+    id: &Bytes,
+    number: u32,
+    from_bucket: &Bytes,
+    from_key: &Bytes,
+    range: Option<(u64, u64)>,
+) -> Result<Op, Memory>
+    ensures { IfOk result (λ op. op ≡ Op.CopyPart bucket.now key.now id.now number from_bucket.now from_key.now range) }
+{
+    Ok(Op::CopyPart {
+        bucket: bucket.copy()?,
+        key: key.copy()?,
+        id: id.copy()?,
+        number,
+        from_bucket: from_bucket.copy()?,
+        from_key: from_key.copy()?,
+        range,
+    })
+}
+
 /// An object but for its bytes: its ETag without quotes, the moment of its last change in seconds since the
 /// beginning of 1970, its size in bytes, its content type and its user metadata.
 #[derive(Debug, Drop)]
@@ -461,7 +554,8 @@ impl Copying for ObjectHead {
 /// What an operation is answered. `Memory` says that memory ran out; the machine itself never gives it. An
 /// `Object` has `length` bytes from the byte `from` on, all of them in `body` or, in the reply to a HEAD, none; it is
 /// `partial` where a range was asked for. A listing is `truncated` where items are left over. ETags stand without quotes. A
-/// `quiet` deletion of many keys shows none of them.
+/// `quiet` deletion of many keys shows none of them. What was `Copied` is a part or an object, with the ETag and the moment that
+/// it has since.
 #[derive(Debug, Drop)]
 pub enum Reply {
     Refused(Code),
@@ -525,6 +619,11 @@ pub enum Reply {
         keys: List<Bytes>,
         quiet: bool,
     },
+    Copied {
+        part: bool,
+        etag: Bytes,
+        modified: u64,
+    },
 }
 
 impl Copying for Reply {
@@ -582,6 +681,15 @@ impl Copying for Reply {
             Reply::Deleted { keys, quiet } => Ok(Reply::Deleted {
                 keys: keys.copy()?,
                 quiet: *quiet,
+            }),
+            Reply::Copied {
+                part,
+                etag,
+                modified,
+            } => Ok(Reply::Copied {
+                part: *part,
+                etag: etag.copy()?,
+                modified: *modified,
             }),
         }
     }

@@ -1,6 +1,7 @@
 //! The machine of `s3_machine` in its running form: plain and slow, for tests.
 #![tactic(auto)]
 
+mod copies;
 mod kept;
 mod listing;
 mod native;

@@ -150,7 +150,7 @@ impl NativeObject {
     }
 
     /// The bytes of a span.
-    fn taken(&self, alloc: Global, span: Span) -> Result<Bytes, Memory>
+    pub(crate) fn taken(&self, alloc: Global, span: Span) -> Result<Bytes, Memory>
         requires { span.from + span.length ≤ length self.now.bytes }
         ensures { IfOk result (λ bytes. bytes ≡ taken span self.now.bytes) }
     {
@@ -236,7 +236,7 @@ impl NativeBucket {
         is_other_acl(acl, self.acl)
     }
 
-    fn object(&self, key: &[u8]) -> Option<&NativeObject>
+    pub(crate) fn object(&self, key: &[u8]) -> Option<&NativeObject>
         ensures { option_copied result ≡ get self.now.objects key.now }
     {
         self.objects.get(key)
@@ -296,7 +296,7 @@ fn set_acl(buckets: &mut Table<NativeBucket>, bucket: &[u8], acl: Acl)
 
 /// Puts an object into a bucket, in place of what stands under its key. Where memory runs out, all is as before.
 #[tactic(auto, using(name_table::proofs::lemmas::Tables::nothing_there))]
-fn put_object(
+pub(crate) fn put_object(
     buckets: &mut Table<NativeBucket>,
     bucket: &[u8],
     key: &[u8],
@@ -408,6 +408,7 @@ impl Native {
                 quiet,
             } => self.delete_objects(bucket, keys, *quiet, label),
             Op::GetObjectAcl { bucket, key } => Ok(self.get_object_acl(bucket, key, label)),
+            Op::CopyObject { .. } | Op::CopyPart { .. } => self.step_copy(op, label),
             _ => self.step_upload(op, label),
         }
     }

@@ -270,7 +270,7 @@ fn open_upload(
 }
 
 /// Puts a part into an upload of a bucket. Where memory runs out, all is as before.
-fn put_part(
+pub(crate) fn put_part(
     buckets: &mut Table<NativeBucket>,
     bucket: &[u8],
     id: &[u8],

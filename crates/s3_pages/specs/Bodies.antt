@@ -348,3 +348,21 @@ deleted_body keys quiet =
     ++ root (codes "DeleteResult")
     ++ where_true (not quiet) (flat_map deleted_element keys)
     ++ end_of (codes "DeleteResult")
+
+-- ---- copies
+
+-- a part's copy and an object's have roots of their own
+abbrev pub copied_name : Bool → List ℕ
+copied_name true = codes "CopyPartResult"
+copied_name false = codes "CopyObjectResult"
+
+unfoldable pub copied_as : List ℕ → List ℕ → ℕ → List ℕ
+copied_as name etag modified =
+    declaration
+    ++ root name
+    ++ time_element (codes "LastModified") modified
+    ++ etag_element etag
+    ++ end_of name
+
+abbrev pub copied_body : Bool → List ℕ → ℕ → List ℕ
+copied_body part etag modified = copied_as (copied_name part) etag modified

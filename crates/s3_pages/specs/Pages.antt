@@ -24,11 +24,12 @@ use Rattle.s3_machine.specs.declared.operation.Reply.TheVariants.{
   Parts,
   Completed,
   Deleted,
+  Copied,
 }
 use Rattle.s3_machine.specs.Limits.{is_own_name}
 use Rattle.s3_pages.specs.Codes.{status_of}
 use Rattle.s3_pages.specs.Date.{http_date}
-use Rattle.s3_pages.specs.Bodies.{acl_body, buckets_body, completed_body, deleted_body, location_body, objects_body, parts_body, started_body, uploads_body}
+use Rattle.s3_pages.specs.Bodies.{acl_body, buckets_body, completed_body, copied_body, deleted_body, location_body, objects_body, parts_body, started_body, uploads_body}
 use Rattle.s3_pages.specs.Texts.{id_text, quoted}
 use Rattle.s3_pages.specs.Xml.{error_body}
 
@@ -135,3 +136,4 @@ page_of (Started bucket key id) label resource = xml_page 200 (started_body buck
 page_of (Parts bucket key id marker max items truncated) label resource = xml_page 200 (parts_body bucket key id marker max items truncated) label
 page_of (Completed bucket key etag) label resource = xml_page 200 (completed_body bucket key etag) label
 page_of (Deleted keys quiet) label resource = xml_page 200 (deleted_body keys quiet) label
+page_of (Copied part etag modified) label resource = xml_page 200 (copied_body part etag modified) label

@@ -3,6 +3,7 @@
 
 mod buckets;
 mod codes;
+mod copied;
 mod deleted;
 mod listing;
 mod object;

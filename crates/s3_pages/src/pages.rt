@@ -5,6 +5,7 @@ ghost use Rattle.s3_pages.specs.Pages.{page_of, common_headers, done_page, gone_
 ghost use Rattle.s3_pages.specs.Xml.{error_body};
 
 use crate::buckets::{acl, buckets, location};
+use crate::copied::copied;
 use crate::deleted::deleted;
 use crate::listing::objects;
 use crate::object::object;
@@ -121,6 +122,11 @@ fn other_page(alloc: Global, reply: &Reply, label: &Label, resource: &[u8]) -> R
             label,
         ),
         Reply::Deleted { keys, quiet } => deleted(alloc, keys.as_slice(), *quiet, label),
+        Reply::Copied {
+            part,
+            etag,
+            modified,
+        } => copied(alloc, *part, etag.as_slice(), *modified, label),
     }
 }
 

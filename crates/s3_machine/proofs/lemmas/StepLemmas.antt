@@ -1,6 +1,6 @@
 -- Laws of the step, for the crates above: what each operation does by what is found in the state and in the bucket, and
 -- the replies that the machine never gives.
-use Rattle.std.specs.Prelude.{◌≡◌, ◌≢◌, ◌⊎◌, ℕ, Bool, true, false, not, bytes_eq, List, [], map, Option, Some, None, is_some}
+use Rattle.std.specs.Prelude.{◌≡◌, ◌≢◌, ◌⊎◌, ℕ, Bool, true, false, not, bytes_eq, nat_lt, List, [], map, length, Option, Some, None, is_some}
 use Rattle.std.proofs.Common.{refl, sym, ap, subst, ◌∙◌, inl, inr, true≢false}
 use Rattle.std.specs.FinMap.{get, insert, remove}
 use Rattle.gate_base.specs.Maps.{adjust}
@@ -12,10 +12,13 @@ use Rattle.s3_machine.specs.declared.code.Code.TheVariants.{
   AccessDenied,
   BucketAlreadyOwnedByYou,
   BucketNotEmpty,
+  EntityTooLarge,
   EntityTooSmall,
   InconsistentStore,
   InvalidPart,
   InvalidPartOrder,
+  InvalidRange as bad_range,
+  InvalidRequest,
   NoSuchBucket,
   NoSuchKey,
   NoSuchUpload,
@@ -49,17 +52,22 @@ use Rattle.s3_machine.specs.declared.operation.Op.TheVariants.{
   CompleteUpload,
   AbortUpload,
   DeleteObjects,
+  CopyObject,
+  CopyPart,
 }
 use Rattle.s3_machine.specs.declared.operation.Listed.{Listed}
 use Rattle.s3_machine.specs.declared.operation.ObjectHead.{ObjectHead}
+use Rattle.s3_machine.specs.declared.operation.Replaced.{Replaced}
 use Rattle.s3_machine.specs.declared.operation.Reply.{Reply}
-use Rattle.s3_machine.specs.declared.operation.Reply.TheVariants.{Refused, Done, Made, Memory, Stored, Gone, Buckets, Location, AclOf, Started, Completed, Deleted}
+use Rattle.s3_machine.specs.declared.operation.Reply.TheVariants.{Refused, Done, Made, Memory, Stored, Gone, Buckets, Location, AclOf, Started, Completed, Deleted, Copied}
 use Rattle.s3_machine.specs.declared.reading.Conditions.{Conditions}
 use Rattle.s3_machine.specs.declared.reading.Judged.{Judged}
 use Rattle.s3_machine.specs.declared.reading.Judged.TheVariants.{PreconditionFailed, NotModified, InvalidRange, Bytes}
 use Rattle.s3_machine.specs.declared.reading.Range.{Range}
 use Rattle.s3_machine.specs.declared.reading.Span.{Span}
+use Rattle.s3_machine.specs.Copies.{copied, is_onto_itself, has_last, copied_span}
 use Rattle.s3_machine.specs.ETag.{body_etag}
+use Rattle.s3_machine.specs.Limits.{most_body_bytes}
 use Rattle.s3_machine.specs.Reading.{judged, taken}
 use Rattle.s3_machine.specs.State.{Object, Part, Upload, Bucket, State}
 use Rattle.s3_machine.specs.Finish.{finished}
@@ -130,6 +138,12 @@ use Rattle.s3_machine.specs.Step.{
   completes_by,
   completes_open,
   completes_chosen,
+  in_source,
+  copies_object,
+  copies,
+  puts_copy,
+  copies_bytes,
+  copies_part,
 }
 
 -- a step by what it comes to
@@ -395,6 +409,108 @@ module _ (settings : Settings) (old : State) (bucket : List ℕ) (label : Label)
       in_found old bucket b found (completes settings old bucket key id list label.moment)
       ∙ ap (λ v. completes_by v settings old bucket key id list label.moment b) kept)
 
+-- ---- copies
+
+-- the object of a key in a bucket
+pub record HasSource (old : State) (from_bucket from_key : List ℕ) : Type 0 where
+  pub b : Bucket
+  pub o : Object
+  pub in_bucket : get old from_bucket ≡ Some b
+  pub in_objects : get b.objects from_key ≡ Some o
+
+module _ (old : State) (from_bucket from_key : List ℕ) (f : Object → Outcome) (b : Bucket) where
+  pub source_without_bucket : get old from_bucket ≡ None → in_source old from_bucket from_key f b ≡ refuses NoSuchBucket old
+  source_without_bucket none = in_missing old from_bucket none (λ from. in_object_by (get from.objects from_key) old f)
+
+  pub source_without_key : (from : Bucket) → get old from_bucket ≡ Some from → get from.objects from_key ≡ None → in_source old from_bucket from_key f b ≡ refuses NoSuchKey old
+  source_without_key from found none = in_found old from_bucket from found (λ from. in_object_by (get from.objects from_key) old f) ∙ ap (λ v. in_object_by v old f) none
+
+  pub source_there : (has : HasSource old from_bucket from_key) → in_source old from_bucket from_key f b ≡ f has.o
+  source_there has = in_found old from_bucket has.b has.in_bucket (λ from. in_object_by (get from.objects from_key) old f) ∙ ap (λ v. in_object_by v old f) has.in_objects
+
+module _ (settings : Settings) (old : State) (bucket key : List ℕ) (acl : Option Acl) (from_bucket from_key : List ℕ) (replaced : Option Replaced) (label : Label) where
+  abbrev copying : Op
+  copying = CopyObject bucket key acl from_bucket from_key replaced
+
+  abbrev object_copies : Object → Outcome
+  object_copies = copies_object old bucket key from_bucket from_key replaced label.moment
+
+  pub copy_without_bucket : get old bucket ≡ None → S3Step settings old copying label (Refused NoSuchBucket) old
+  copy_without_bucket none = steps _ _ 0 tt (in_missing old bucket none (copies old bucket key acl from_bucket from_key replaced label.moment))
+
+  module _ (b : Bucket) (found : get old bucket ≡ Some b) where
+    pub copy_with_another_acl : is_other_acl acl b.acl ≡ true → S3Step settings old copying label (Refused NotImplemented) old
+    copy_with_another_acl e = steps _ _ 0 tt (in_found old bucket b found (copies old bucket key acl from_bucket from_key replaced label.moment) ∙ unless_true _ _ _ _ e)
+
+    module _ (same : is_other_acl acl b.acl ≡ false) where
+      of_source : in_bucket_by (get old bucket) old (copies old bucket key acl from_bucket from_key replaced label.moment) ≡ in_source old from_bucket from_key object_copies b
+      of_source = in_found old bucket b found (copies old bucket key acl from_bucket from_key replaced label.moment) ∙ unless_false _ _ _ _ same
+
+      pub copy_without_source_bucket : get old from_bucket ≡ None → S3Step settings old copying label (Refused NoSuchBucket) old
+      copy_without_source_bucket none = steps _ _ 0 tt (of_source ∙ source_without_bucket old from_bucket from_key object_copies b none)
+
+      pub copy_without_source : (from : Bucket) → get old from_bucket ≡ Some from → get from.objects from_key ≡ None → S3Step settings old copying label (Refused NoSuchKey) old
+      copy_without_source from there none = steps _ _ 0 tt (of_source ∙ source_without_key old from_bucket from_key object_copies b from there none)
+
+      pub copy_onto_itself : (has : HasSource old from_bucket from_key) → is_onto_itself bucket key from_bucket from_key replaced ≡ true
+          → S3Step settings old copying label (Refused InvalidRequest) old
+      copy_onto_itself has e = steps _ _ 0 tt (of_source ∙ source_there old from_bucket from_key object_copies b has ∙ unless_true _ _ _ _ e)
+
+      pub step_copied : (has : HasSource old from_bucket from_key) → is_onto_itself bucket key from_bucket from_key replaced ≡ false
+          → S3Step settings old copying label (Copied false has.o.etag label.moment) (adjust bucket (put_object key (copied replaced label.moment has.o)) old)
+      step_copied has e = steps _ _ 0 tt (of_source ∙ source_there old from_bucket from_key object_copies b has ∙ unless_false _ _ _ _ e)
+
+-- the bytes of a part that is copied of an object
+abbrev pub bytes_copied : Option (ℕ × ℕ) → Object → List ℕ
+bytes_copied range o = taken (copied_span range (length o.bytes)) o.bytes
+
+module _ (settings : Settings) (old : State) (bucket key id : List ℕ) (number : ℕ) (from_bucket from_key : List ℕ) (range : Option (ℕ × ℕ)) (label : Label) where
+  abbrev part_copying : Op
+  part_copying = CopyPart bucket key id number from_bucket from_key range
+
+  abbrev bytes_copies : Object → Outcome
+  bytes_copies = copies_bytes old bucket id number range label.moment
+
+  pub part_copy_without_bucket : get old bucket ≡ None → S3Step settings old part_copying label (Refused NoSuchBucket) old
+  part_copy_without_bucket none = steps _ _ 0 tt (in_missing old bucket none (copies_part old bucket key id number from_bucket from_key range label.moment))
+
+  module _ (b : Bucket) (found : get old bucket ≡ Some b) where
+    abbrev of_upload : Upload → Outcome
+    of_upload u = in_source old from_bucket from_key bytes_copies b
+
+    pub part_copy_without_upload : get b.uploads id ≡ None → S3Step settings old part_copying label (Refused NoSuchUpload) old
+    part_copy_without_upload none = steps _ _ 0 tt (in_found old bucket b found (copies_part old bucket key id number from_bucket from_key range label.moment) ∙ upload_none old key id of_upload b none)
+
+    pub part_copy_of_other : (u : Upload) → get b.uploads id ≡ Some u → bytes_eq u.key key ≡ false → S3Step settings old part_copying label (Refused NoSuchUpload) old
+    part_copy_of_other u there other = steps _ _ 0 tt (in_found old bucket b found (copies_part old bucket key id number from_bucket from_key range label.moment) ∙ upload_other old key id of_upload b u there other)
+
+  module _ (opened : HasUpload old bucket key id) where
+    in_open : in_bucket_by (get old bucket) old (copies_part old bucket key id number from_bucket from_key range label.moment) ≡ in_source old from_bucket from_key bytes_copies opened.b
+    in_open = in_found old bucket opened.b opened.in_bucket (copies_part old bucket key id number from_bucket from_key range label.moment)
+        ∙ upload_there old key id (λ u. in_source old from_bucket from_key bytes_copies opened.b) opened.b opened.u opened.in_uploads opened.of_key
+
+    pub part_copy_without_source_bucket : get old from_bucket ≡ None → S3Step settings old part_copying label (Refused NoSuchBucket) old
+    part_copy_without_source_bucket none = steps _ _ 0 tt (in_open ∙ source_without_bucket old from_bucket from_key bytes_copies opened.b none)
+
+    pub part_copy_without_source : (from : Bucket) → get old from_bucket ≡ Some from → get from.objects from_key ≡ None → S3Step settings old part_copying label (Refused NoSuchKey) old
+    part_copy_without_source from there none = steps _ _ 0 tt (in_open ∙ source_without_key old from_bucket from_key bytes_copies opened.b from there none)
+
+    module _ (has : HasSource old from_bucket from_key) where
+      of_object : in_bucket_by (get old bucket) old (copies_part old bucket key id number from_bucket from_key range label.moment) ≡ bytes_copies has.o
+      of_object = in_open ∙ source_there old from_bucket from_key bytes_copies opened.b has
+
+      pub part_copy_past_end : has_last range (length has.o.bytes) ≡ false → S3Step settings old part_copying label (Refused bad_range) old
+      part_copy_past_end e = steps _ _ 0 tt (of_object ∙ unless_true _ _ _ _ (ap not e))
+
+      pub part_copy_too_large : has_last range (length has.o.bytes) ≡ true → nat_lt most_body_bytes (copied_span range (length has.o.bytes)).length ≡ true
+          → S3Step settings old part_copying label (Refused EntityTooLarge) old
+      part_copy_too_large e large = steps _ _ 0 tt (of_object ∙ unless_false _ _ _ _ (ap not e) ∙ unless_true _ _ _ _ large)
+
+      pub step_part_copied : has_last range (length has.o.bytes) ≡ true → nat_lt most_body_bytes (copied_span range (length has.o.bytes)).length ≡ false
+          → S3Step settings old part_copying label (Copied true (body_etag (bytes_copied range has.o)) label.moment)
+          (adjust bucket (on_upload id (with_part number (new_part label.moment (bytes_copied range has.o)))) old)
+      step_part_copied e small = steps _ _ 0 tt (of_object ∙ unless_false _ _ _ _ (ap not e) ∙ unless_false _ _ _ _ small)
+
 -- ---- the replies of outcomes, for any property of replies
 
 module _ (P : Reply → Type 0) where
@@ -405,6 +521,16 @@ module _ (P : Reply → Type 0) where
   pub in_bucket_has : (v : Option Bucket) (old : State) (f : Bucket → Outcome) → P (Refused NoSuchBucket) → ((b : Bucket) → v ≡ Some b → P (f b).reply) → P (in_bucket_by v old f).reply
   in_bucket_has None old f refused own = refused
   in_bucket_has (Some b) old f refused own = own b refl
+
+  pub in_object_has : (v : Option Object) (old : State) (f : Object → Outcome) → P (Refused NoSuchKey) → ((o : Object) → v ≡ Some o → P (f o).reply) → P (in_object_by v old f).reply
+  in_object_has None old f refused own = refused
+  in_object_has (Some o) old f refused own = own o refl
+
+  pub in_source_has : (old : State) (from_bucket from_key : List ℕ) (f : Object → Outcome) (b : Bucket) → P (Refused NoSuchBucket) → P (Refused NoSuchKey) → ((o : Object) → P (f o).reply)
+      → P (in_source old from_bucket from_key f b).reply
+  in_source_has old from_bucket from_key f b no_bucket no_key own =
+      in_bucket_has (get old from_bucket) old (λ from. in_object_by (get from.objects from_key) old f) no_bucket
+      (λ from there. in_object_has (get from.objects from_key) old f no_key (λ o is. own o))
 
   pub in_upload_has : (v : Option Upload) (key : List ℕ) (old : State) (f : Upload → Outcome) → P (Refused NoSuchUpload) → ((u : Upload) → v ≡ Some u → P (f u).reply) → P (in_upload_by v key old f).reply
   in_upload_has None key old f refused own = refused
@@ -561,6 +687,31 @@ module _ (old : State) where
       in_bucket_has IsMachineReply v old (completes settings old bucket key id list moment) ((λ f. cc), (λ f. cc), (λ f. cc))
       (λ b e. completes_has IsMachineReply (kept_as key list (get b.kept id)) settings old bucket key id list moment b refused_code (λ name etag. ((λ f. cc), (λ f. cc), (λ f. cc))))
 
+  copies_reply : (v : Option Bucket) (bucket key : List ℕ) (acl : Option Acl) (from_bucket from_key : List ℕ) (replaced : Option Replaced) (moment : ℕ)
+      → IsMachineReply (in_bucket_by v old (copies old bucket key acl from_bucket from_key replaced moment)).reply
+  copies_reply v bucket key acl from_bucket from_key replaced moment =
+      in_bucket_has IsMachineReply v old (copies old bucket key acl from_bucket from_key replaced moment) ((λ f. cc), (λ f. cc), (λ f. cc))
+      (λ b e. unless_has IsMachineReply (is_other_acl acl b.acl) NotImplemented old (in_source old from_bucket from_key (copies_object old bucket key from_bucket from_key replaced moment) b) ((λ f. cc), (λ f. cc), (λ f. cc))
+      (in_source_has IsMachineReply old from_bucket from_key (copies_object old bucket key from_bucket from_key replaced moment) b ((λ f. cc), (λ f. cc), (λ f. cc)) ((λ f. cc), (λ f. cc), (λ f. cc))
+      (λ o. unless_has IsMachineReply (is_onto_itself bucket key from_bucket from_key replaced) InvalidRequest old
+      (gives (Copied false o.etag moment) (adjust bucket (put_object key (copied replaced moment o)) old)) ((λ f. cc), (λ f. cc), (λ f. cc)) ((λ f. cc), (λ f. cc), (λ f. cc)))))
+
+  bytes_reply : (bucket id : List ℕ) (number : ℕ) (range : Option (ℕ × ℕ)) (moment : ℕ) (o : Object) → IsMachineReply (copies_bytes old bucket id number range moment o).reply
+  bytes_reply bucket id number range moment o =
+      unless_has IsMachineReply (not (has_last range (length o.bytes))) bad_range old
+      (unless (nat_lt most_body_bytes (copied_span range (length o.bytes)).length) EntityTooLarge old (puts_copy old bucket id number (new_part moment (bytes_copied range o))))
+      ((λ f. cc), (λ f. cc), (λ f. cc))
+      (unless_has IsMachineReply (nat_lt most_body_bytes (copied_span range (length o.bytes)).length) EntityTooLarge old (puts_copy old bucket id number (new_part moment (bytes_copied range o)))
+      ((λ f. cc), (λ f. cc), (λ f. cc)) ((λ f. cc), (λ f. cc), (λ f. cc)))
+
+  copies_part_reply : (v : Option Bucket) (bucket key id : List ℕ) (number : ℕ) (from_bucket from_key : List ℕ) (range : Option (ℕ × ℕ)) (moment : ℕ)
+      → IsMachineReply (in_bucket_by v old (copies_part old bucket key id number from_bucket from_key range moment)).reply
+  copies_part_reply v bucket key id number from_bucket from_key range moment =
+      in_bucket_has IsMachineReply v old (copies_part old bucket key id number from_bucket from_key range moment) ((λ f. cc), (λ f. cc), (λ f. cc))
+      (λ b e. in_upload_has IsMachineReply (get b.uploads id) key old (λ u. in_source old from_bucket from_key (copies_bytes old bucket id number range moment) b) ((λ f. cc), (λ f. cc), (λ f. cc))
+      (λ u there. in_source_has IsMachineReply old from_bucket from_key (copies_bytes old bucket id number range moment) b ((λ f. cc), (λ f. cc), (λ f. cc)) ((λ f. cc), (λ f. cc), (λ f. cc))
+      (bytes_reply bucket id number range moment)))
+
 -- the machine itself never gives the reply of wanting memory, nor the two codes of the store below it
 pub machine_reply : (settings : Settings) (old : State) (op : Op) (label : Label) (reply : Reply) (new : State) → S3Step settings old op label reply new
     → (reply ≢ Memory) × (reply ≢ Refused ServiceUnavailable) × (reply ≢ Refused InconsistentStore)
@@ -584,3 +735,7 @@ machine_reply settings old (ListParts bucket key id marker max) label reply new 
 machine_reply settings old (CompleteUpload bucket key id list) label reply new s = subst IsMachineReply (sym s.replies) (completes_reply old (get old bucket) settings bucket key id list label.moment)
 machine_reply settings old (AbortUpload bucket key id) label reply new s = subst IsMachineReply (sym s.replies) (upload_reply old (get old bucket) key id (aborts old bucket id) (λ u. ((λ f. cc), (λ f. cc), (λ f. cc))))
 machine_reply settings old (DeleteObjects bucket keys quiet) label reply new s = subst IsMachineReply (sym s.replies) (delete_all_reply old (get old bucket) bucket keys quiet)
+machine_reply settings old (CopyObject bucket key acl from_bucket from_key replaced) label reply new s =
+    subst IsMachineReply (sym s.replies) (copies_reply old (get old bucket) bucket key acl from_bucket from_key replaced label.moment)
+machine_reply settings old (CopyPart bucket key id number from_bucket from_key range) label reply new s =
+    subst IsMachineReply (sym s.replies) (copies_part_reply old (get old bucket) bucket key id number from_bucket from_key range label.moment)

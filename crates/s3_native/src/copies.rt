@@ -1,0 +1,236 @@
+//! The copies of objects in the machine's running form.
+ghost use Rattle.std.specs.Prelude.{◌≡◌, ◌≤◌, IfOk, IfSome, OnErr, true};
+ghost use Rattle.s3_machine.specs.declared.operation.Op.TheVariants.{CopyObject, CopyPart};
+ghost use Rattle.s3_machine.specs.Copies.{copied, copied_span, has_last, is_onto_itself};
+ghost use Rattle.s3_machine.specs.Step.{IsProper, IsProperCopyRange, S3Step};
+
+use crate::native::{Native, NativeObject, put_object};
+use crate::upload::NativePart;
+use crate::uploads::put_part;
+use gate_base::{Bytes, Copying, Memory};
+use s3_machine::{Body, Code, Label, MOST_BODY_BYTES, Op, Replaced, Reply, Span};
+use s3_names::{Acl, Meta};
+
+/// Whether an object would be copied onto itself, and nothing of it replaced.
+fn is_onto_itself(
+    bucket: &[u8],
+    key: &[u8],
+    from_bucket: &[u8],
+    from_key: &[u8],
+    replaced: &Option<Replaced>,
+) -> bool
+    ensures { result ≡ is_onto_itself bucket.now key.now from_bucket.now from_key.now replaced.now }
+{
+    match replaced {
+        None => bucket == from_bucket && key == from_key,
+        Some(_) => false,
+    }
+}
+
+/// Whether an object of this size has the last byte of the range.
+fn has_last(range: Option<(u64, u64)>, size: u64) -> bool
+    ensures { result ≡ has_last range size }
+{
+    match range {
+        None => true,
+        Some((_, last)) => last < size,
+    }
+}
+
+/// The bytes of a range that an object of this size has; without one all of them.
+fn copied_span(range: Option<(u64, u64)>, size: u64) -> Span
+    requires rises { IfSome range IsProperCopyRange }
+    requires within { has_last range size ≡ true }
+    ensures { result ≡ copied_span range size }
+{
+    match range {
+        None => Span {
+            from: 0,
+            length: size,
+        },
+        Some((first, last)) => Span {
+            from: first,
+            length: last + 1 - first,
+        },
+    }
+}
+
+impl NativeObject {
+    /// Its copy, with its content type and metadata or those in their place.
+    fn copied(&self, replaced: &Option<Replaced>, moment: u64) -> Result<NativeObject, Memory>
+        ensures { IfOk result (λ made. made ≡ copied replaced.now moment self.now) }
+    {
+        match replaced {
+            None => self.copied_with(&self.content_type, &self.meta, moment),
+            Some(given) => self.copied_with(&given.content_type, &given.meta, moment),
+        }
+    }
+
+    fn copied_with(
+        &self,
+        content_type: &Bytes,
+        meta: &Meta,
+        moment: u64,
+    ) -> Result<NativeObject, Memory>
+        ensures { IfOk result (λ made. made ≡ record {
+          bytes = self.now.bytes;
+          etag = self.now.etag;
+          content_type = content_type.now;
+          meta = meta.now;
+          modified = moment;
+        }) }
+    {
+        Ok(NativeObject {
+            bytes: self.bytes.copy()?,
+            etag: self.etag.copy()?,
+            content_type: content_type.copy()?,
+            meta: meta.copy()?,
+            modified: moment,
+        })
+    }
+}
+
+impl Native {
+    /// A step of a copy. It is asked for no other operation; such a one ends as where memory runs out.
+    pub(crate) fn step_copy(&mut self, op: &Op, label: &Label) -> Result<Reply, Memory>
+        requires { IsProper op.now label.now }
+        ensures settings { self.new.settings ≡ self.old.settings }
+        ensures ok { IfOk result (λ reply. S3Step self.old.settings self.old.state op.now label.now reply self.new.state) }
+        ensures err { OnErr result (self.new.state ≡ self.old.state) }
+    {
+        match op {
+            Op::CopyObject {
+                bucket,
+                key,
+                acl,
+                from_bucket,
+                from_key,
+                replaced,
+            } => self.copy_object(bucket, key, *acl, from_bucket, from_key, replaced, label),
+            Op::CopyPart {
+                bucket,
+                key,
+                id,
+                number,
+                from_bucket,
+                from_key,
+                range,
+            } => self.copy_part(
+                bucket,
+                key,
+                id,
+                *number,
+                from_bucket,
+                from_key,
+                *range,
+                label,
+            ),
+            _ => Err(Memory),
+        }
+    }
+
+    /// Where memory runs out, the state is as before.
+    fn copy_object(
+        &mut self,
+        bucket: &Bytes,
+        key: &Bytes,
+        acl: Option<Acl>,
+        from_bucket: &Bytes,
+        from_key: &Bytes,
+        replaced: &Option<Replaced>,
+        label: &Label,
+    ) -> Result<Reply, Memory>
+        ensures settings { self.new.settings ≡ self.old.settings }
+        ensures ok { IfOk result (λ reply.
+            S3Step self.old.settings self.old.state (CopyObject bucket.now key.now acl from_bucket.now from_key.now replaced.now) label.now reply self.new.state) }
+        ensures err { OnErr result (self.new.state ≡ self.old.state) }
+    {
+        let Some(found) = self.buckets.get(bucket.as_slice()) else {
+            return Ok(Reply::Refused(Code::NoSuchBucket));
+        };
+        if found.has_another_acl(acl) {
+            return Ok(Reply::Refused(Code::NotImplemented));
+        }
+        let Some(source) = self.buckets.get(from_bucket.as_slice()) else {
+            return Ok(Reply::Refused(Code::NoSuchBucket));
+        };
+        let Some(object) = source.object(from_key.as_slice()) else {
+            return Ok(Reply::Refused(Code::NoSuchKey));
+        };
+        if is_onto_itself(
+            bucket.as_slice(),
+            key.as_slice(),
+            from_bucket.as_slice(),
+            from_key.as_slice(),
+            replaced,
+        ) {
+            return Ok(Reply::Refused(Code::InvalidRequest));
+        }
+        let copied = object.copied(replaced, label.moment)?;
+        let etag = copied.etag.copy()?;
+        put_object(&mut self.buckets, bucket.as_slice(), key.as_slice(), copied)?;
+        Ok(Reply::Copied {
+            part: false,
+            etag,
+            modified: label.moment,
+        })
+    }
+
+    /// Where memory runs out, the state is as before.
+    fn copy_part(
+        &mut self,
+        bucket: &Bytes,
+        key: &Bytes,
+        id: &Bytes,
+        number: u32,
+        from_bucket: &Bytes,
+        from_key: &Bytes,
+        range: Option<(u64, u64)>,
+        label: &Label,
+    ) -> Result<Reply, Memory>
+        requires { IfSome range IsProperCopyRange }
+        ensures settings { self.new.settings ≡ self.old.settings }
+        ensures ok { IfOk result (λ reply.
+            S3Step self.old.settings self.old.state (CopyPart bucket.now key.now id.now number from_bucket.now from_key.now range) label.now reply self.new.state) }
+        ensures err { OnErr result (self.new.state ≡ self.old.state) }
+    {
+        let Some(found) = self.buckets.get(bucket.as_slice()) else {
+            return Ok(Reply::Refused(Code::NoSuchBucket));
+        };
+        let Some(upload) = found.uploads.get(id.as_slice()) else {
+            return Ok(Reply::Refused(Code::NoSuchUpload));
+        };
+        if !upload.is_of(key.as_slice()) {
+            return Ok(Reply::Refused(Code::NoSuchUpload));
+        }
+        let Some(source) = self.buckets.get(from_bucket.as_slice()) else {
+            return Ok(Reply::Refused(Code::NoSuchBucket));
+        };
+        let Some(object) = source.object(from_key.as_slice()) else {
+            return Ok(Reply::Refused(Code::NoSuchKey));
+        };
+        let size = object.bytes.len() as u64;
+        if !has_last(range, size) {
+            return Ok(Reply::Refused(Code::InvalidRange));
+        }
+        let span = copied_span(range, size);
+        if MOST_BODY_BYTES < span.length {
+            return Ok(Reply::Refused(Code::EntityTooLarge));
+        }
+        let body = Body::new(object.taken(self.alloc, span)?);
+        let part = NativePart::new(self.alloc, label.moment, &body)?;
+        let etag = part.etag()?;
+        put_part(
+            &mut self.buckets,
+            bucket.as_slice(),
+            id.as_slice(),
+            number,
+            part,
+        )?;
+        Ok(Reply::Copied {
+            part: true,
+            etag,
+            modified: label.moment,
+        })
+    }
+}

@@ -1,0 +1,60 @@
+ghost use Rattle.std.specs.Prelude.{◌≡◌, ◌<◌, IfOk};
+ghost use Rattle.gate_base.specs.Told.{moment_limit};
+ghost use Rattle.s3_pages.specs.Bodies.{copied_as, copied_body, copied_name};
+ghost use Rattle.s3_pages.specs.Pages.{xml_page};
+
+use crate::pages::xml_headers;
+use crate::xml::Xml;
+use gate_base::{Bytes, Memory, Page};
+use s3_machine::Label;
+use std::alloc::Global;
+
+/// The page of CopyObject and CopyPart.
+pub(crate) fn copied(
+    alloc: Global,
+    part: bool,
+    etag: &[u8],
+    modified: u64,
+    label: &Label,
+) -> Result<Page, Memory>
+    requires dated { modified < moment_limit }
+    requires moment { label.now.moment < moment_limit }
+    ensures { IfOk result (λ page. page ≡ xml_page 200 (copied_body part etag.now modified) label.now) }
+{
+    Ok(Page {
+        status: 200,
+        headers: xml_headers(alloc, label)?,
+        body: copied_body(alloc, part, etag, modified)?,
+    })
+}
+
+fn copied_body(alloc: Global, part: bool, etag: &[u8], modified: u64) -> Result<Bytes, Memory>
+    requires { modified < moment_limit }
+    ensures { IfOk result (λ body. body ≡ copied_body part etag.now modified) }
+{
+    copied_as(alloc, copied_name(part), etag, modified)
+}
+
+#[tactic(auto, unfolding(crate::specs::Bodies::copied_as))]
+fn copied_as(alloc: Global, name: &[u8], etag: &[u8], modified: u64) -> Result<Bytes, Memory>
+    requires { modified < moment_limit }
+    ensures { IfOk result (λ body. body ≡ copied_as name.now etag.now modified) }
+{
+    let mut xml = Xml::new(alloc)?;
+    xml.root(name)?;
+    xml.time(b"LastModified", modified)?;
+    xml.etag(etag)?;
+    xml.end(name)?;
+    Ok(xml.text)
+}
+
+/// The name of the root.
+fn copied_name(part: bool) -> &'static [u8]
+    ensures { result.now ≡ copied_name part }
+{
+    if part {
+        b"CopyPartResult"
+    } else {
+        b"CopyObjectResult"
+    }
+}
