@@ -1,7 +1,9 @@
 pub mod Digits
 pub mod Entries
+pub mod ProperCopies
 pub mod ProperReads
 pub mod Ranging
+pub mod Sources
 pub mod Tags
 pub mod Texts
 pub mod Tokens

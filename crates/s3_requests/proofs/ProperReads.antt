@@ -78,7 +78,7 @@ behind_proper text =
     if_proper (list_any is_dash text) (range_by (before_first is_dash text) (after_first is_dash text))
     (by_proper (before_first is_dash text) (after_first is_dash text))
 
-of_proper : (text : List ℕ) → IfSome (range_of text) IsProperRange
+pub of_proper : (text : List ℕ) → IfSome (range_of text) IsProperRange
 unfolding range_of
 of_proper text = if_proper (starts_with nat_eq text (codes "bytes=")) (range_behind (drop 6 text)) (behind_proper (drop 6 text))
 

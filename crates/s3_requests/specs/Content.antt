@@ -13,7 +13,9 @@ use Rattle.s3_names.specs.Meta.{has_name, with_pair}
 use Rattle.s3_bodies.specs.LocationTest.{is_any, names_location}
 use Rattle.s3_machine.specs.Limits.{is_kept_header, is_proper_pair, most_body_bytes}
 use Rattle.s3_requests.specs.declared.rows.Row.{Row}
+use Rattle.s3_requests.specs.declared.rows.Row.TheVariants.{CopyObject}
 use Rattle.http_wire.specs.Headers.{has_header, text_of}
+use Rattle.s3_requests.specs.Copies.{replaces}
 use Rattle.s3_requests.specs.Rows.{shape_of}
 
 abbrev pub has_sixteen_bytes : Result (List ℕ) DecodeError → Bool
@@ -38,8 +40,13 @@ abbrev pub given_type : List Pair → List ℕ
 given_type headers =
     if length (text_of (codes "content-type") headers) == 0 then codes "binary/octet-stream" else text_of (codes "content-type") headers
 
+-- a copy of an object takes a content type and metadata where they replace those of its source; of the other rows the table says it
+abbrev pub takes_content : Row → List Pair → Bool
+takes_content CopyObject headers = replaces headers
+takes_content row headers = (shape_of row).has_content
+
 abbrev pub taken_type : Row → List Pair → List ℕ
-taken_type row headers = if (shape_of row).has_content then given_type headers else codes "binary/octet-stream"
+taken_type row headers = if takes_content row headers then given_type headers else codes "binary/octet-stream"
 
 -- a header of the user's own
 abbrev pub is_own_header : List ℕ → Bool
@@ -65,7 +72,7 @@ unfoldable pub given_meta : List Pair → List Pair
 given_meta headers = fold (entered headers) [] headers
 
 abbrev pub taken_meta : Row → List Pair → List Pair
-taken_meta row headers = if (shape_of row).has_content then given_meta headers else []
+taken_meta row headers = if takes_content row headers then given_meta headers else []
 
 abbrev pub is_bad_entry : Pair → Bool
 is_bad_entry entry = not (is_proper_pair entry)

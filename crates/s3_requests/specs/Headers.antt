@@ -9,11 +9,11 @@ use Rattle.http_wire.specs.Headers.{has_header, text_of}
 use Rattle.s3_requests.specs.declared.rows.Row.{Row}
 use Rattle.s3_requests.specs.Rows.{shape_of}
 
--- copies, tags, redirections and the tokens of sessions
+-- tags, redirections and the tokens of sessions
 abbrev pub is_unsupported_name : List ℕ → Bool
 is_unsupported_name name =
-    bytes_eq name (codes "x-amz-copy-source") || bytes_eq name (codes "x-amz-tagging")
-    || bytes_eq name (codes "x-amz-website-redirect-location") || bytes_eq name (codes "x-amz-security-token")
+    bytes_eq name (codes "x-amz-tagging") || bytes_eq name (codes "x-amz-website-redirect-location")
+    || bytes_eq name (codes "x-amz-security-token")
 
 -- encryption, locks and grants
 abbrev pub is_unsupported_kind : List ℕ → Bool

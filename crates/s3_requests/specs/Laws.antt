@@ -1,11 +1,15 @@
 -- What the laws of this crate say of definitions.
-use Rattle.std.specs.Prelude.{◌≡◌, ◌↔◌, ℕ, true, List, Contains, Some}
+use Rattle.std.specs.Prelude.{◌≡◌, ◌↔◌, ℕ, true, List, ◌++◌, codes, Contains, Some}
 use Rattle.hex.specs.Hex.{encode_lower, IsBytes}
 use Rattle.gate_base.specs.declared.page.Pair.{Pair}
+use Rattle.s3_names.specs.Bucket.{is_bucket}
+use Rattle.s3_names.specs.Escapes.{StandsFor}
+use Rattle.s3_names.specs.Key.{is_key}
 use Rattle.s3_names.specs.Meta.{names_ascend}
 use Rattle.s3_machine.specs.declared.reading.Range.{Range}
 use Rattle.s3_machine.specs.Limits.{is_listing_text}
 use Rattle.s3_requests.specs.Content.{is_entry, entry_name, given_meta}
+use Rattle.s3_requests.specs.Copies.{without_slash, place_named}
 use Rattle.s3_requests.specs.Listings.{token_of}
 use Rattle.s3_requests.specs.Ranges.{AsksFor, range_of}
 use Rattle.http_wire.specs.Headers.{text_of}
@@ -33,6 +37,16 @@ GivenMeta = (headers : List Pair) → HasMade headers (given_meta headers)
 -- a value of Range is read as a range exactly where it asks for it
 abbrev pub RangeAsked : Type 0
 RangeAsked = (text : List ℕ) (range : Range) → (range_of text ≡ Some range) ↔ AsksFor text range
+
+-- the text, without one `/` at its start, stands for a bucket, a `/` and a key
+pub record Names (text bucket key : List ℕ) : Type 0 where
+  pub named : is_bucket bucket ≡ true
+  pub keyed : is_key key ≡ true
+  pub stands : StandsFor (without_slash text) (bucket ++ codes "/" ++ key)
+
+-- a text is read as a bucket and a key exactly where it names them
+abbrev pub SourceNamed : Type 0
+SourceNamed = (text bucket key : List ℕ) → (place_named text ≡ Some (bucket, key)) ↔ Names text bucket key
 
 -- the token that a reply prints for a text is read as the text
 abbrev pub TokenReturns : Type 0

@@ -1,5 +1,6 @@
 pub mod Conditions
 pub mod Content
+pub mod Copies
 pub mod Deletes
 pub mod Headers
 pub mod Laws
@@ -10,4 +11,5 @@ pub mod Proper
 pub mod Query
 pub mod Ranges
 pub mod Rows
+pub mod Taken
 pub mod Uploads

@@ -1,6 +1,6 @@
 -- What a request means: an operation, or the first reason to refuse it. Source: Amazon S3 API Reference, restated by
 -- this profile; the order of the refusals is this profile's.
-use Rattle.std.specs.Prelude.{◌≡◌, Bool, false, not, ◌&&◌, nat_lt, if◌then◌else◌, ℕ, List, [], ◌∷◌, length, Option, Some, None}
+use Rattle.std.specs.Prelude.{◌≡◌, Bool, false, not, ◌&&◌, nat_lt, if◌then◌else◌, ℕ, List, [], ◌∷◌, length, Option, Some, None, option_map}
 use Rattle.gate_base.specs.declared.caller.Caller.{Caller}
 use Rattle.gate_base.specs.declared.caller.Caller.TheVariants.{Owner, Anonymous}
 use Rattle.s3_names.specs.declared.key.TheConstants.{MOST_KEY_BYTES}
@@ -12,7 +12,7 @@ use Rattle.s3_names.specs.Key.{is_key}
 use Rattle.s3_machine.specs.declared.code.Code.{Code}
 use Rattle.s3_machine.specs.declared.code.Code.TheVariants.{AccessDenied, BadDigest, EntityTooLarge, InvalidArgument, InvalidBucketName}
 use Rattle.s3_machine.specs.declared.code.Code.TheVariants.{InvalidDigest, InvalidStorageClass, InvalidURI, KeyTooLongError, MalformedXML}
-use Rattle.s3_machine.specs.declared.code.Code.TheVariants.{MetadataTooLarge, MethodNotAllowed, NotImplemented}
+use Rattle.s3_machine.specs.declared.code.Code.TheVariants.{MetadataTooLarge, MethodNotAllowed, NotImplemented, InvalidRequest}
 use Rattle.s3_machine.specs.declared.operation.Op.TheVariants as op
 use Rattle.s3_machine.specs.declared.operation.Settings.{Settings}
 use Rattle.s3_machine.specs.Limits.{is_content_type, is_proper_meta}
@@ -24,7 +24,7 @@ use Rattle.s3_requests.specs.declared.rows.Row.{Row}
 use Rattle.s3_requests.specs.declared.rows.Row.TheVariants.{ListBuckets, CreateBucket, PutBucketAcl, DeleteBucket, HeadBucket, GetBucketLocation}
 use Rattle.s3_requests.specs.declared.rows.Row.TheVariants.{GetBucketAcl, ListObjects, ListObjectsV2, PutObject, GetObject, HeadObject}
 use Rattle.s3_requests.specs.declared.rows.Row.TheVariants.{DeleteObject, GetObjectAcl, ListMultipartUploads, CreateMultipartUpload, UploadPart}
-use Rattle.s3_requests.specs.declared.rows.Row.TheVariants.{ListParts, AbortMultipartUpload, CompleteMultipartUpload, DeleteObjects}
+use Rattle.s3_requests.specs.declared.rows.Row.TheVariants.{ListParts, AbortMultipartUpload, CompleteMultipartUpload, DeleteObjects, CopyObject, UploadPartCopy}
 use Rattle.s3_requests.specs.Rows.{shape_of, is_method, level_of, is_same_level, row_for}
 use Rattle.s3_requests.specs.Query.{has_unknown_name, has_foreign_name, has_name_twice}
 use Rattle.s3_requests.specs.Headers.{has_unsupported, is_chunked, is_conditional_write, given_acl, has_other_acl, lacks_acl, has_other_class}
@@ -33,6 +33,8 @@ use Rattle.s3_requests.specs.Ranges.{given_range}
 use Rattle.s3_requests.specs.Listings.{has_bad_word, has_long_text, has_bad_token, first_asked, second_asked}
 use Rattle.s3_requests.specs.Uploads.{has_bad_number, given_upload, given_part, uploads_asked, parts_asked, has_bad_list, given_list}
 use Rattle.s3_requests.specs.Deletes.{has_bad_deletes, given_deletes, deletes_asked}
+use Rattle.s3_requests.specs.Copies.{names_source, copying, has_unsupported_source, has_bad_source, has_body_of_copy, given_source, part_copy_asked}
+use Rattle.s3_requests.specs.Taken.{given, copy_asked}
 use Rattle.s3_requests.specs.Content.{has_bad_digest, is_other_body, taken_type, taken_meta, has_bad_entry, is_long_body, has_bad_location, has_other_location}
 
 -- a reason to refuse, and whether it holds
@@ -92,12 +94,20 @@ body_reasons settings row message caller =
     ∷ reason (has_other_location row settings.region message.body) InvalidArgument
     ∷ list_reasons row message caller
 
+abbrev pub meta_reasons : Settings → Row → Message → Caller → List Reason
+meta_reasons settings row message caller =
+    reason (has_bad_entry (taken_meta row message.headers)) InvalidArgument
+    ∷ reason (has_body_of_copy row message.body) InvalidRequest
+    ∷ reason (not (is_proper_meta (taken_meta row message.headers))) MetadataTooLarge
+    ∷ body_reasons settings row message caller
+
 abbrev pub content_reasons : Settings → Row → Message → Caller → List Reason
 content_reasons settings row message caller =
     reason (not (is_content_type (taken_type row message.headers))) InvalidArgument
-    ∷ reason (has_bad_entry (taken_meta row message.headers)) InvalidArgument
-    ∷ reason (not (is_proper_meta (taken_meta row message.headers))) MetadataTooLarge
-    ∷ body_reasons settings row message caller
+    ∷ meta_reasons settings row message caller
+
+abbrev pub source_reasons : Settings → Row → Message → Caller → List Reason
+source_reasons settings row message caller = reason (has_bad_source row message.headers) InvalidArgument ∷ content_reasons settings row message caller
 
 abbrev pub argument_reasons : Settings → Row → Message → Target → Caller → List Reason
 argument_reasons settings row message target caller =
@@ -105,7 +115,7 @@ argument_reasons settings row message target caller =
     ∷ reason (has_bad_number target.query) InvalidArgument
     ∷ reason (has_long_text target.query) InvalidArgument
     ∷ reason (has_bad_token target.query) InvalidArgument
-    ∷ content_reasons settings row message caller
+    ∷ source_reasons settings row message caller
 
 abbrev pub digest_reasons : Settings → Row → Message → Target → Caller → List Reason
 digest_reasons settings row message target caller =
@@ -116,6 +126,7 @@ digest_reasons settings row message target caller =
 abbrev pub header_reasons : Settings → Row → Message → Target → Caller → List Reason
 header_reasons settings row message target caller =
     reason (has_unsupported message.headers) NotImplemented
+    ∷ reason (has_unsupported_source row message.headers) NotImplemented
     ∷ reason (is_chunked message.headers) NotImplemented
     ∷ reason (is_conditional_write message.method message.headers) NotImplemented
     ∷ reason (has_other_acl message.headers) NotImplemented
@@ -131,9 +142,10 @@ reasons settings row message target caller =
 
 -- ---- the meaning
 
--- the row of a request, if there is one
+-- the row of a request, if there is one: that of its method, its level and its names, or a copy's where it names a source
 abbrev pub row_of : Message → Target → Option Row
-row_of message target = row_for message.method (level_of target.bucket target.key) target.query
+row_of message target =
+    option_map (copying (names_source message.headers)) (row_for message.method (level_of target.bucket target.key) target.query)
 
 -- a bucket is private where no list is named
 abbrev pub or_private : Option Acl → Acl
@@ -184,6 +196,9 @@ op_of ListParts message target = Op (parts_asked target.bucket target.key target
 op_of AbortMultipartUpload message target = Op (op.AbortUpload target.bucket target.key (given_upload target.query))
 op_of CompleteMultipartUpload message target =
     Op (op.CompleteUpload target.bucket target.key (given_upload target.query) (given_list CompleteMultipartUpload message.body))
+op_of CopyObject message target = Op (copy_asked target.bucket target.key (given CopyObject message.headers))
+op_of UploadPartCopy message target =
+    Op (part_copy_asked target.bucket target.key target.query (given_source UploadPartCopy message.headers))
 
 -- a request without a row is refused
 abbrev pub judged : Settings → Option Row → Message → Target → Caller → Meant

@@ -10,10 +10,10 @@ use Rattle.s3_requests.specs.declared.rows.Row.{Row}
 use Rattle.s3_requests.specs.declared.rows.Row.TheVariants.{ListBuckets, CreateBucket, PutBucketAcl, DeleteBucket, HeadBucket, GetBucketLocation}
 use Rattle.s3_requests.specs.declared.rows.Row.TheVariants.{GetBucketAcl, ListObjects, ListObjectsV2, ListMultipartUploads, PutObject, GetObject}
 use Rattle.s3_requests.specs.declared.rows.Row.TheVariants.{HeadObject, DeleteObject, GetObjectAcl, CreateMultipartUpload, UploadPart, ListParts}
-use Rattle.s3_requests.specs.declared.rows.Row.TheVariants.{CompleteMultipartUpload, AbortMultipartUpload, DeleteObjects}
+use Rattle.s3_requests.specs.declared.rows.Row.TheVariants.{CompleteMultipartUpload, AbortMultipartUpload, DeleteObjects, CopyObject, UploadPartCopy}
 
 -- what the table says in a row: its method, its level, the selectors that the query has, and the further names that it may have;
--- whether anybody may ask for it, whether it takes a content type and metadata, whether its
+-- whether anybody may ask for it, whether it takes a content type and metadata whatever else the headers say, whether its
 -- body names a location, and whether the headers must name an access control list
 pub record Shape : Type 0 where
   pub method : List ℕ
@@ -96,7 +96,21 @@ shape_of UploadPart = plain (codes "PUT") Key (codes "partNumber" ∷ codes "upl
 shape_of ListParts = plain (codes "GET") Key (codes "uploadId" ∷ []) parts_names
 shape_of CompleteMultipartUpload = plain (codes "POST") Key (codes "uploadId" ∷ []) []
 shape_of AbortMultipartUpload = plain (codes "DELETE") Key (codes "uploadId" ∷ []) []
+shape_of CopyObject = plain (codes "PUT") Key [] []
+shape_of UploadPartCopy = plain (codes "PUT") Key (codes "partNumber" ∷ codes "uploadId" ∷ []) []
 
+-- a row whose operation takes neither a content type and metadata, nor a source, nor anything of the body
+abbrev pub is_plain : Row → Bool
+is_plain PutObject = false
+is_plain UploadPart = false
+is_plain CreateMultipartUpload = false
+is_plain CompleteMultipartUpload = false
+is_plain DeleteObjects = false
+is_plain CopyObject = false
+is_plain UploadPartCopy = false
+is_plain _ = true
+
+-- the rows that method, level and names tell apart. A header makes two more of them, of the same shape but for the content
 unfoldable pub rows : List Row
 rows =
     ListBuckets ∷ CreateBucket ∷ PutBucketAcl ∷ DeleteBucket ∷ HeadBucket ∷ GetBucketLocation ∷ GetBucketAcl

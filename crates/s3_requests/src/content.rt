@@ -8,8 +8,9 @@ ghost use Rattle.s3_machine.specs.Body.{IsDigestOf};
 ghost use Rattle.s3_machine.specs.Limits.{is_kept_header};
 ghost use Rattle.http_wire.specs.Headers.{has_header, text_of};
 ghost use Rattle.s3_requests.specs.Rows.{shape_of};
-ghost use Rattle.s3_requests.specs.Content.{is_digest, has_bad_digest, is_other_body, given_type, taken_type, is_own_header, is_entry, entry_name, entered, given_meta, taken_meta, is_bad_entry, has_bad_entry, is_long_body, is_here, has_bad_location, has_other_location};
+ghost use Rattle.s3_requests.specs.Content.{is_digest, has_bad_digest, is_other_body, given_type, takes_content, taken_type, is_own_header, is_entry, entry_name, entered, given_meta, taken_meta, is_bad_entry, has_bad_entry, is_long_body, is_here, has_bad_location, has_other_location};
 
+use crate::copies::replaces;
 use crate::rows::{Row, shape_of};
 use base64::DecodeAllocError;
 use base64::engine::general_purpose::STANDARD;
@@ -79,11 +80,22 @@ fn given_type(alloc: Global, headers: &[Pair]) -> Result<Bytes, Memory>
     }
 }
 
+/// Whether the operation takes a content type and metadata: a copy of an object does where they replace those of its
+/// source.
+fn takes_content(alloc: Global, row: Row, headers: &[Pair]) -> Result<bool, Memory>
+    ensures { IfOk result (λ takes. takes ≡ takes_content row headers.now) }
+{
+    match row {
+        Row::CopyObject => replaces(alloc, headers),
+        _ => Ok(shape_of(row).has_content()),
+    }
+}
+
 /// The content type that the operation takes.
 pub fn taken_type(alloc: Global, row: Row, headers: &[Pair]) -> Result<Bytes, Memory>
     ensures { IfOk result (λ text. text ≡ taken_type row headers.now) }
 {
-    if shape_of(row).has_content() {
+    if takes_content(alloc, row, headers)? {
         given_type(alloc, headers)
     } else {
         Bytes::from_slice(alloc, b"binary/octet-stream")
@@ -151,7 +163,7 @@ fn given_meta(alloc: Global, headers: &[Pair]) -> Result<Meta, Memory>
 pub fn taken_meta(alloc: Global, row: Row, headers: &[Pair]) -> Result<Meta, Memory>
     ensures { IfOk result (λ meta. meta ≡ taken_meta row headers.now) }
 {
-    if shape_of(row).has_content() {
+    if takes_content(alloc, row, headers)? {
         given_meta(alloc, headers)
     } else {
         Ok(Meta::new(alloc))

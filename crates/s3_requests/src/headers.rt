@@ -14,8 +14,7 @@ use std::alloc::Global;
 fn is_unsupported_name(name: &[u8]) -> bool
     ensures { result ≡ is_unsupported_name name.now }
 {
-    name == b"x-amz-copy-source".as_slice()
-        || name == b"x-amz-tagging".as_slice()
+    name == b"x-amz-tagging".as_slice()
         || name == b"x-amz-website-redirect-location".as_slice()
         || name == b"x-amz-security-token".as_slice()
 }

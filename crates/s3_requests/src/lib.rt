@@ -4,6 +4,7 @@
 
 mod conditions;
 mod content;
+mod copies;
 mod deletes;
 mod headers;
 mod laws;
@@ -13,7 +14,8 @@ mod numbers;
 mod query;
 mod ranges;
 mod rows;
+mod taken;
 mod uploads;
 
-pub use laws::{law_given_meta, law_range_asked, law_token_returns};
+pub use laws::{law_given_meta, law_range_asked, law_source_named, law_token_returns};
 pub use meant::{Meant, meaning};

@@ -1,13 +1,15 @@
 //! What a request means.
-ghost use Rattle.std.specs.Prelude.{◌≡◌, ◌≢◌, ◌&&◌, IfOk};
+ghost use Rattle.std.specs.Prelude.{◌≡◌, ◌≢◌, ◌&&◌, true, IfOk};
 ghost use Rattle.s3_machine.specs.Body.{IsDigestOf};
 ghost use Rattle.s3_requests.specs.Proper.{IsProperMeant};
-ghost use Rattle.s3_requests.specs.Meaning.{first_refusal, reasons, header_reasons, digest_reasons, argument_reasons, content_reasons, body_reasons, list_reasons, deletes_reasons, meaning_of, op_of, or_private, put_acl, KeepsFront, is_denied, has_bad_bucket, row_of};
+ghost use Rattle.s3_requests.specs.Meaning.{first_refusal, reasons, header_reasons, digest_reasons, argument_reasons, source_reasons, content_reasons, meta_reasons, body_reasons, list_reasons, deletes_reasons, meaning_of, op_of, or_private, put_acl, KeepsFront, is_denied, has_bad_bucket, row_of};
 ghost use Rattle.s3_requests.specs.declared.meant.Meant.TheVariants as variant;
-ghost use Rattle.s3_requests.specs.Rows.{shape_of, level_of};
+ghost use Rattle.s3_requests.specs.Rows.{shape_of, is_plain, level_of, row_for};
 ghost use Rattle.s3_requests.specs.Meaning.{has_long_key, has_bad_key};
 ghost use Rattle.s3_requests.specs.Content.{taken_type, taken_meta};
 ghost use Rattle.s3_requests.specs.Headers.{given_acl};
+ghost use Rattle.s3_requests.specs.Copies.{given_source, part_copy_asked};
+ghost use Rattle.s3_requests.specs.Taken.{given, copy_asked};
 ghost use Rattle.s3_requests.specs.Conditions.{given_conditions};
 ghost use Rattle.s3_requests.specs.Ranges.{given_range};
 ghost use Rattle.s3_requests.specs.Listings.{first_asked, second_asked};
@@ -19,6 +21,9 @@ use crate::content::{
     has_bad_digest, has_bad_entry, is_long_body, is_other_body, location_faults, taken_meta,
     taken_type,
 };
+use crate::copies::{
+    Source, copying, has_body_of_copy, has_unsupported_source, part_copy_asked, taken_source,
+};
 use crate::deletes::{deletes_asked, taken_deletes};
 use crate::headers::{
     given_acl, has_other_acl, has_other_class, has_unsupported, is_chunked, is_conditional_write,
@@ -28,6 +33,7 @@ use crate::listings::{first_asked, has_bad_token, has_bad_word, has_long_text, s
 use crate::query::{has_foreign_name, has_name_twice, has_unknown_name};
 use crate::ranges::given_range;
 use crate::rows::{Level, Row, is_method, is_same_level, level_of, row_for, shape_of};
+use crate::taken::{Taken, copy_asked};
 use crate::uploads::{
     given_part, given_upload, has_bad_number, parts_asked, taken_list, uploads_asked,
 };
@@ -151,6 +157,9 @@ fn by_headers(
     if has_unsupported(headers) {
         return Ok(Meant::Refused(Code::NotImplemented));
     }
+    if has_unsupported_source(alloc, row, headers)? {
+        return Ok(Meant::Refused(Code::NotImplemented));
+    }
     if is_chunked(alloc, headers)? {
         return Ok(Meant::Refused(Code::NotImplemented));
     }
@@ -192,7 +201,7 @@ fn by_digest(
     by_arguments(alloc, settings, row, message, target, caller, digest)
 }
 
-/// The reasons against the values of the query, and then those against the content.
+/// The reasons against the values of the query, and then those against the source of a copy.
 fn by_arguments(
     alloc: Global,
     settings: &Settings,
@@ -219,11 +228,11 @@ fn by_arguments(
     if has_bad_token(alloc, query)? {
         return Ok(Meant::Refused(Code::InvalidArgument));
     }
-    by_content(alloc, settings, row, message, target, caller, digest)
+    by_source(alloc, settings, row, message, target, caller, digest)
 }
 
-/// The reasons against the content, and then those against the body.
-fn by_content(
+/// The reasons against the source of a copy, and then those against the content type.
+fn by_source(
     alloc: Global,
     settings: &Settings,
     row: Row,
@@ -233,34 +242,73 @@ fn by_content(
     digest: Option<[u8; 16]>,
 ) -> Result<Meant, Memory>
     requires digest { IsDigestOf digest message.now.body }
+    ensures value { IfOk result (λ meant. meant ≡ first_refusal (source_reasons settings.now row message.entry.now caller.now) (op_of row message.entry.now target.now)) }
+    ensures keeps { KeepsFront message.entry.now message.exit.now }
+{
+    match taken_source(alloc, row, message.headers.as_slice())? {
+        None => Ok(Meant::Refused(Code::InvalidArgument)),
+        Some(source) => by_content(
+            alloc, settings, row, message, target, caller, source, digest,
+        ),
+    }
+}
+
+/// The reasons against the content type, and then those against the metadata.
+fn by_content(
+    alloc: Global,
+    settings: &Settings,
+    row: Row,
+    message: &mut Message,
+    target: &Target,
+    caller: &Caller,
+    source: Source,
+    digest: Option<[u8; 16]>,
+) -> Result<Meant, Memory>
+    requires source { source ≡ given_source row message.now.headers }
+    requires digest { IsDigestOf digest message.now.body }
     ensures value { IfOk result (λ meant. meant ≡ first_refusal (content_reasons settings.now row message.entry.now caller.now) (op_of row message.entry.now target.now)) }
     ensures keeps { KeepsFront message.entry.now message.exit.now }
 {
     let headers = message.headers.as_slice();
-    let acl = given_acl(alloc, headers)?;
     let content_type = taken_type(alloc, row, headers)?;
     if !is_content_type(content_type.as_slice()) {
         return Ok(Meant::Refused(Code::InvalidArgument));
     }
-    let meta = taken_meta(alloc, row, headers)?;
-    if has_bad_entry(&meta) {
+    let taken = Taken {
+        acl: given_acl(alloc, headers)?,
+        content_type,
+        meta: taken_meta(alloc, row, headers)?,
+        source,
+    };
+    by_meta(alloc, settings, row, message, target, caller, taken, digest)
+}
+
+/// The reasons against the metadata and the bytes of a copy, and then those against the body.
+fn by_meta(
+    alloc: Global,
+    settings: &Settings,
+    row: Row,
+    message: &mut Message,
+    target: &Target,
+    caller: &Caller,
+    taken: Taken,
+    digest: Option<[u8; 16]>,
+) -> Result<Meant, Memory>
+    requires taken { taken ≡ given row message.now.headers }
+    requires digest { IsDigestOf digest message.now.body }
+    ensures value { IfOk result (λ meant. meant ≡ first_refusal (meta_reasons settings.now row message.entry.now caller.now) (op_of row message.entry.now target.now)) }
+    ensures keeps { KeepsFront message.entry.now message.exit.now }
+{
+    if has_bad_entry(&taken.meta) {
         return Ok(Meant::Refused(Code::InvalidArgument));
     }
-    if !is_proper_meta(&meta) {
+    if has_body_of_copy(row, message.body.as_slice()) {
+        return Ok(Meant::Refused(Code::InvalidRequest));
+    }
+    if !is_proper_meta(&taken.meta) {
         return Ok(Meant::Refused(Code::MetadataTooLarge));
     }
-    by_body(
-        alloc,
-        settings,
-        row,
-        message,
-        target,
-        caller,
-        acl,
-        content_type,
-        meta,
-        digest,
-    )
+    by_body(alloc, settings, row, message, target, caller, taken, digest)
 }
 
 /// The reasons against the body and the caller, and then the operation.
@@ -271,14 +319,10 @@ fn by_body(
     message: &mut Message,
     target: &Target,
     caller: &Caller,
-    acl: Option<Acl>,
-    content_type: Bytes,
-    meta: Meta,
+    taken: Taken,
     digest: Option<[u8; 16]>,
 ) -> Result<Meant, Memory>
-    requires acl { acl ≡ given_acl message.now.headers }
-    requires content_type { content_type ≡ taken_type row message.now.headers }
-    requires meta { meta ≡ taken_meta row message.now.headers }
+    requires taken { taken ≡ given row message.now.headers }
     requires digest { IsDigestOf digest message.now.body }
     ensures value { IfOk result (λ meant. meant ≡ first_refusal (body_reasons settings.now row message.entry.now caller.now) (op_of row message.entry.now target.now)) }
     ensures keeps { KeepsFront message.entry.now message.exit.now }
@@ -294,17 +338,7 @@ fn by_body(
     if is_other {
         return Ok(Meant::Refused(Code::InvalidArgument));
     }
-    by_list(
-        alloc,
-        row,
-        message,
-        target,
-        caller,
-        acl,
-        content_type,
-        meta,
-        digest,
-    )
+    by_list(alloc, row, message, target, caller, taken, digest)
 }
 
 /// The reasons against the parts that the body lists, and then those against the keys that it lists.
@@ -314,32 +348,17 @@ fn by_list(
     message: &mut Message,
     target: &Target,
     caller: &Caller,
-    acl: Option<Acl>,
-    content_type: Bytes,
-    meta: Meta,
+    taken: Taken,
     digest: Option<[u8; 16]>,
 ) -> Result<Meant, Memory>
-    requires acl { acl ≡ given_acl message.now.headers }
-    requires content_type { content_type ≡ taken_type row message.now.headers }
-    requires meta { meta ≡ taken_meta row message.now.headers }
+    requires taken { taken ≡ given row message.now.headers }
     requires digest { IsDigestOf digest message.now.body }
     ensures value { IfOk result (λ meant. meant ≡ first_refusal (list_reasons row message.entry.now caller.now) (op_of row message.entry.now target.now)) }
     ensures keeps { KeepsFront message.entry.now message.exit.now }
 {
     match taken_list(alloc, row, message.body.as_slice())? {
         None => Ok(Meant::Refused(Code::MalformedXML)),
-        Some(list) => by_deletes(
-            alloc,
-            row,
-            message,
-            target,
-            caller,
-            acl,
-            content_type,
-            meta,
-            list,
-            digest,
-        ),
+        Some(list) => by_deletes(alloc, row, message, target, caller, taken, list, digest),
     }
 }
 
@@ -350,15 +369,11 @@ fn by_deletes(
     message: &mut Message,
     target: &Target,
     caller: &Caller,
-    acl: Option<Acl>,
-    content_type: Bytes,
-    meta: Meta,
+    taken: Taken,
     list: List<Listed>,
     digest: Option<[u8; 16]>,
 ) -> Result<Meant, Memory>
-    requires acl { acl ≡ given_acl message.now.headers }
-    requires content_type { content_type ≡ taken_type row message.now.headers }
-    requires meta { meta ≡ taken_meta row message.now.headers }
+    requires taken { taken ≡ given row message.now.headers }
     requires list { list ≡ given_list row message.now.body }
     requires digest { IsDigestOf digest message.now.body }
     ensures value { IfOk result (λ meant. meant ≡ first_refusal (deletes_reasons row message.entry.now caller.now) (op_of row message.entry.now target.now)) }
@@ -370,44 +385,52 @@ fn by_deletes(
             if is_denied(row, *caller) {
                 return Ok(Meant::Refused(Code::AccessDenied));
             }
-            op_of(
-                alloc,
-                row,
-                message,
-                target,
-                acl,
-                content_type,
-                meta,
-                list,
-                deletes,
-                digest,
-            )
+            op_of(alloc, row, message, target, taken, list, deletes, digest)
         }
     }
 }
 
-/// The operation of a row, with the access control list that is named, the content type and the metadata that it takes, and
-/// the parts and the keys that the body lists.
+/// The operation of a row, with what the headers give it, and the parts and the keys that the body lists.
 fn op_of(
     alloc: Global,
     row: Row,
     message: &mut Message,
     target: &Target,
-    acl: Option<Acl>,
-    content_type: Bytes,
-    meta: Meta,
+    taken: Taken,
     list: List<Listed>,
     deletes: Deletes,
     digest: Option<[u8; 16]>,
 ) -> Result<Meant, Memory>
-    requires acl { acl ≡ given_acl message.now.headers }
-    requires content_type { content_type ≡ taken_type row message.now.headers }
-    requires meta { meta ≡ taken_meta row message.now.headers }
+    requires taken { taken ≡ given row message.now.headers }
     requires list { list ≡ given_list row message.now.body }
     requires deletes { deletes ≡ given_deletes row message.now.body }
     requires digest { IsDigestOf digest message.now.body }
     ensures value { IfOk result (λ meant. meant ≡ op_of row message.entry.now target.now) }
     ensures keeps { KeepsFront message.entry.now message.exit.now }
+{
+    match row {
+        Row::PutObject => put_object(alloc, message, target, taken, digest),
+        Row::UploadPart => upload_part(alloc, message, target, digest),
+        Row::CreateMultipartUpload => create_upload(target, taken),
+        Row::CompleteMultipartUpload => complete_upload(alloc, target, list),
+        Row::DeleteObjects => delete_objects(target, deletes),
+        Row::CopyObject => copy_object(target, taken),
+        Row::UploadPartCopy => upload_part_copy(alloc, target, taken.source),
+        _ => plain_op(alloc, row, message, target, taken.acl),
+    }
+}
+
+/// The same of a row that takes no content, no source and nothing of the body.
+fn plain_op(
+    alloc: Global,
+    row: Row,
+    message: &Message,
+    target: &Target,
+    acl: Option<Acl>,
+) -> Result<Meant, Memory>
+    requires row { is_plain row ≡ true }
+    requires acl { acl ≡ given_acl message.now.headers }
+    ensures { IfOk result (λ meant. meant ≡ op_of row message.now target.now) }
 {
     match row {
         Row::ListBuckets => Ok(Meant::Op(Op::ListBuckets)),
@@ -417,20 +440,16 @@ fn op_of(
         Row::HeadBucket => head_bucket(target),
         Row::GetBucketLocation => get_location(target),
         Row::GetBucketAcl => get_bucket_acl(target),
-        Row::PutObject => put_object(alloc, message, target, acl, content_type, meta, digest),
         Row::ListObjects => list_objects(alloc, target),
         Row::ListObjectsV2 => list_objects_v2(alloc, target),
+        Row::ListMultipartUploads => list_uploads(alloc, target),
         Row::GetObject => get_object(alloc, message.headers.as_slice(), target),
         Row::HeadObject => head_object(alloc, message.headers.as_slice(), target),
         Row::DeleteObject => delete_object(target),
         Row::GetObjectAcl => get_object_acl(target),
-        Row::ListMultipartUploads => list_uploads(alloc, target),
-        Row::DeleteObjects => delete_objects(target, deletes),
-        Row::CreateMultipartUpload => create_upload(target, acl, content_type, meta),
-        Row::UploadPart => upload_part(alloc, message, target, digest),
         Row::ListParts => list_parts(alloc, target),
         Row::AbortMultipartUpload => abort_upload(alloc, target),
-        Row::CompleteMultipartUpload => complete_upload(alloc, target, list),
+        _ => unreachable!(),
     }
 }
 
@@ -494,22 +513,20 @@ fn put_object(
     alloc: Global,
     message: &mut Message,
     target: &Target,
-    acl: Option<Acl>,
-    content_type: Bytes,
-    meta: Meta,
+    taken: Taken,
     digest: Option<[u8; 16]>,
 ) -> Result<Meant, Memory>
     requires digest { IsDigestOf digest message.now.body }
-    ensures value { IfOk result (λ meant. meant ≡ Meant.Op (Op.PutObject target.now.bucket target.now.key acl content_type meta message.entry.now.body)) }
+    ensures value { IfOk result (λ meant. meant ≡ Meant.Op (Op.PutObject target.now.bucket target.now.key taken.acl taken.content_type taken.meta message.entry.now.body)) }
     ensures keeps { KeepsFront message.entry.now message.exit.now }
 {
     let (bucket, key) = place(target)?;
     Ok(Meant::Op(Op::PutObject {
         bucket,
         key,
-        acl,
-        content_type,
-        meta,
+        acl: taken.acl,
+        content_type: taken.content_type,
+        meta: taken.meta,
         body: Body::with(mem::replace(&mut message.body, Bytes::new(alloc)), digest),
     }))
 }
@@ -598,21 +615,16 @@ fn delete_objects(target: &Target, deletes: Deletes) -> Result<Meant, Memory>
     Ok(Meant::Op(deletes_asked(bucket, deletes)))
 }
 
-fn create_upload(
-    target: &Target,
-    acl: Option<Acl>,
-    content_type: Bytes,
-    meta: Meta,
-) -> Result<Meant, Memory>
-    ensures { IfOk result (λ meant. meant ≡ Meant.Op (Op.CreateUpload target.now.bucket target.now.key acl content_type meta)) }
+fn create_upload(target: &Target, taken: Taken) -> Result<Meant, Memory>
+    ensures { IfOk result (λ meant. meant ≡ Meant.Op (Op.CreateUpload target.now.bucket target.now.key taken.acl taken.content_type taken.meta)) }
 {
     let (bucket, key) = place(target)?;
     Ok(Meant::Op(Op::CreateUpload {
         bucket,
         key,
-        acl,
-        content_type,
-        meta,
+        acl: taken.acl,
+        content_type: taken.content_type,
+        meta: taken.meta,
     }))
 }
 
@@ -666,20 +678,44 @@ fn complete_upload(alloc: Global, target: &Target, list: List<Listed>) -> Result
     }))
 }
 
+fn copy_object(target: &Target, taken: Taken) -> Result<Meant, Memory>
+    ensures { IfOk result (λ meant. meant ≡ Meant.Op (copy_asked target.now.bucket target.now.key taken)) }
+{
+    let (bucket, key) = place(target)?;
+    Ok(Meant::Op(copy_asked(bucket, key, taken)))
+}
+
+fn upload_part_copy(alloc: Global, target: &Target, source: Source) -> Result<Meant, Memory>
+    ensures { IfOk result (λ meant. meant ≡ Meant.Op (part_copy_asked target.now.bucket target.now.key target.now.query source)) }
+{
+    let (bucket, key) = place(target)?;
+    let op = part_copy_asked(alloc, bucket, key, target.query.pairs(), source)?;
+    Ok(Meant::Op(op))
+}
+
 fn level_of_target(target: &Target) -> Level
     ensures { result ≡ level_of target.now.bucket target.now.key }
 {
     level_of(target.bucket.as_slice(), target.key.as_slice())
 }
 
-fn row_of(message: &Message, target: &Target) -> Option<Row>
-    ensures { result ≡ row_of message.now target.now }
+fn table_row(message: &Message, target: &Target) -> Option<Row>
+    ensures { result ≡ row_for message.now.method (level_of target.now.bucket target.now.key) target.now.query }
 {
     row_for(
         message.method.as_slice(),
         level_of_target(target),
         target.query.pairs(),
     )
+}
+
+fn row_of(message: &Message, target: &Target) -> Option<Row>
+    ensures { result ≡ row_of message.now target.now }
+{
+    match table_row(message, target) {
+        Some(row) => Some(copying(message.headers.as_slice(), row)),
+        None => None,
+    }
 }
 
 fn has_bad_bucket(target: &Target) -> bool

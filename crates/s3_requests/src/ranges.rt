@@ -74,7 +74,7 @@ fn has_dash(text: &[u8]) -> bool
 
 /// The range that the value of a Range header asks for (RFC 9110, section 14.1.2); none where it is of another form.
 #[tactic(auto, unfolding(crate::specs::Ranges::range_of))]
-fn range_of(text: &[u8]) -> Option<Range>
+pub fn range_of(text: &[u8]) -> Option<Range>
     ensures { result ≡ range_of text.now }
 {
     if text.starts_with(b"bytes=") {

@@ -40,8 +40,11 @@ pub enum Row {
     ListParts,
     CompleteMultipartUpload,
     AbortMultipartUpload,
+    CopyObject,
+    UploadPartCopy,
 }
 
+/// The rows that method, level and names tell apart. A header makes two more of them.
 const ROWS: [Row; 21] = [
     Row::ListBuckets,
     Row::CreateBucket,
@@ -122,7 +125,7 @@ pub struct Shape {
     further: &'static [&'static [u8]],
     /// Whether anybody may ask for the operation.
     is_open: bool,
-    /// Whether it takes a content type and metadata.
+    /// Whether it takes a content type and metadata, whatever else the headers say.
     has_content: bool,
     /// Whether its body names a location.
     has_location: bool,
@@ -154,6 +157,16 @@ pub fn shape_of(row: Row) -> Shape
         Row::ListObjectsV2 => plain(b"GET", Level::Bucket, &LIST_TYPE, &OBJECTS_V2_NAMES).for_all(),
         Row::ListMultipartUploads => { plain(b"GET", Level::Bucket, &UPLOADS, &UPLOADS_NAMES) }
         Row::DeleteObjects => plain(b"POST", Level::Bucket, &DELETE, &[]),
+        _ => key_shape(row),
+    }
+}
+
+/// The same of a row of a key.
+fn key_shape(row: Row) -> Shape
+    requires { is_same_level (shape_of row).level Level.Key ≡ true }
+    ensures { result ≡ shape_of row }
+{
+    match row {
         Row::PutObject => plain(b"PUT", Level::Key, &[], &[]).with_content(),
         Row::GetObject => plain(b"GET", Level::Key, &[], &[]).for_all(),
         Row::HeadObject => plain(b"HEAD", Level::Key, &[], &[]).for_all(),
@@ -164,6 +177,9 @@ pub fn shape_of(row: Row) -> Shape
         Row::ListParts => plain(b"GET", Level::Key, &UPLOAD_ID, &PARTS_NAMES),
         Row::CompleteMultipartUpload => plain(b"POST", Level::Key, &UPLOAD_ID, &[]),
         Row::AbortMultipartUpload => plain(b"DELETE", Level::Key, &UPLOAD_ID, &[]),
+        Row::CopyObject => plain(b"PUT", Level::Key, &[], &[]),
+        Row::UploadPartCopy => plain(b"PUT", Level::Key, &PART, &[]),
+        _ => unreachable!(),
     }
 }
 

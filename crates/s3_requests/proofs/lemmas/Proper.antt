@@ -1,6 +1,6 @@
 -- A request means an operation that keeps the limits, or a code that is none for a store that failed.
-use Rattle.std.proofs.Common.{◌≡◌, ◌≢◌, ◌≤◌, ℕ, Bool, true, false, not, ◌&&◌, cond, nat_lt, List, [], ◌∷◌, length, Option, Some, None, find, refl, ap, ◌∙◌, subst, arith}
-use Rattle.std.specs.Prelude.{codes, is_none}
+use Rattle.std.proofs.Common.{◌≡◌, ◌≢◌, ◌≤◌, ℕ, Bool, true, false, not, ◌&&◌, cond, nat_lt, List, [], ◌∷◌, length, Option, Some, None, find, refl, ap, sym, ◌∙◌, subst, arith}
+use Rattle.std.specs.Prelude.{codes, is_none, option_map}
 use Rattle.std.specs.Option.{unwrap_or}
 use Rattle.std.proofs.lemmas.Bool.{and_parts, not-false}
 use Rattle.std.proofs.lemmas.Bool.Decides.{nat_tests}
@@ -30,13 +30,16 @@ use Rattle.s3_requests.specs.declared.rows.Row.{Row}
 use Rattle.s3_requests.specs.declared.rows.Row.TheVariants.{ListBuckets, CreateBucket, PutBucketAcl, DeleteBucket, HeadBucket, GetBucketLocation}
 use Rattle.s3_requests.specs.declared.rows.Row.TheVariants.{GetBucketAcl, ListObjects, ListObjectsV2, PutObject, GetObject, HeadObject}
 use Rattle.s3_requests.specs.declared.rows.Row.TheVariants.{DeleteObject, GetObjectAcl, ListMultipartUploads, CreateMultipartUpload, UploadPart}
-use Rattle.s3_requests.specs.declared.rows.Row.TheVariants.{ListParts, AbortMultipartUpload, CompleteMultipartUpload, DeleteObjects}
-use Rattle.s3_requests.specs.Rows.{rows, shape_of, level_of, is_same_level, is_same_set, fits}
+use Rattle.s3_requests.specs.declared.rows.Row.TheVariants.{ListParts, AbortMultipartUpload, CompleteMultipartUpload, DeleteObjects, CopyObject, UploadPartCopy}
+use Rattle.s3_requests.specs.Copies.{names_source, copying}
+use Rattle.s3_requests.specs.Rows.{rows, row_for, shape_of, level_of, is_same_level, is_same_set, fits}
 use Rattle.s3_requests.specs.Deletes.{no_deletes}
 use Rattle.s3_requests.specs.Headers.{given_acl}
+use Rattle.s3_requests.specs.Listings.{has_long_text}
 use Rattle.s3_requests.specs.Proper.{IsProperCode, IsProperMeant}
+use Rattle.s3_requests.proofs.ProperCopies.{source_proper, replaced_proper}
 use Rattle.s3_requests.proofs.ProperReads.{range_proper, first_proper, second_proper, uploads_proper, most_proper, part_proper}
-use Rattle.s3_requests.specs.Meaning.{Reason, first_refusal, target_reasons, reasons, row_of, judged, put_acl, op_of, meaning_of}
+use Rattle.s3_requests.specs.Meaning.{Reason, first_refusal, target_reasons, reasons, source_reasons, content_reasons, row_of, judged, put_acl, op_of, meaning_of}
 
 -- ---- the reasons
 
@@ -98,12 +101,47 @@ same_level Key Service h = cc
 same_level Key Bucket h = cc
 same_level Key Key h = refl
 
+-- a row with a source is at the level of the row without
+copied_level : (b : Bool) (row : Row) → (shape_of (copying b row)).level ≡ (shape_of row).level
+copied_level false row = refl
+copied_level true ListBuckets = refl
+copied_level true CreateBucket = refl
+copied_level true PutBucketAcl = refl
+copied_level true DeleteBucket = refl
+copied_level true HeadBucket = refl
+copied_level true GetBucketLocation = refl
+copied_level true GetBucketAcl = refl
+copied_level true ListObjects = refl
+copied_level true ListObjectsV2 = refl
+copied_level true ListMultipartUploads = refl
+copied_level true DeleteObjects = refl
+copied_level true PutObject = refl
+copied_level true GetObject = refl
+copied_level true HeadObject = refl
+copied_level true DeleteObject = refl
+copied_level true GetObjectAcl = refl
+copied_level true CreateMultipartUpload = refl
+copied_level true UploadPart = refl
+copied_level true ListParts = refl
+copied_level true CompleteMultipartUpload = refl
+copied_level true AbortMultipartUpload = refl
+copied_level true CopyObject = refl
+copied_level true UploadPartCopy = refl
+
+copied_from : (b : Bool) (found : Option Row) (row : Row) → option_map (copying b) found ≡ Some row → (base : Row) × (found ≡ Some base) × (copying b base ≡ row)
+copied_from b None row h = cc
+copied_from b (Some base) row h = (base, refl, cc)
+
 -- a request of a row has the row's level
 at_level : (message : Message) (target : Target) (row : Row) → row_of message target ≡ Some row → level_of target.bucket target.key ≡ (shape_of row).level
 at_level message target row h =
-    let fit = find_fits (fits message.method (level_of target.bucket target.key) target.query) rows row h in
-    let parts = and_parts _ (is_same_set target.query (shape_of row).selectors) fit in
-    same_level _ _ (and_parts _ (is_same_level (level_of target.bucket target.key) (shape_of row).level) parts.0).1
+    let level = level_of target.bucket target.key in
+    let from = copied_from (names_source message.headers) (row_for message.method level target.query) row h in
+    let fit = find_fits (fits message.method level target.query) rows from.0 from.1 in
+    let parts = and_parts _ (is_same_set target.query (shape_of from.0).selectors) fit in
+    same_level _ _ (and_parts _ (is_same_level level (shape_of from.0).level) parts.0).1
+    ∙ sym (copied_level (names_source message.headers) from.0)
+    ∙ ap (λ r. (shape_of r).level) from.2
 
 is_named : (b : Bool) → not b ≡ false → b ≡ true
 is_named b h = not-false b h
@@ -148,6 +186,16 @@ put_acl_proper : (bucket : List ℕ) (acl : Option Acl) → is_bucket bucket ≡
 put_acl_proper bucket None named = proper_code NotImplemented refl
 put_acl_proper bucket (Some acl) named = named
 
+-- of the reasons that don't hold, those against the texts of the query, the source of a copy, and the content
+texts_of : (settings : Settings) (row : Row) (message : Message) (target : Target) (caller : Caller) → NoneHolds (reasons settings row message target caller) → has_long_text target.query ≡ false
+texts_of settings row message target caller also = also.1.1.1.1.1.1.1.1.1.1.1.1.1.0
+
+sources_of : (settings : Settings) (row : Row) (message : Message) (target : Target) (caller : Caller) → NoneHolds (reasons settings row message target caller) → NoneHolds (source_reasons settings row message caller)
+sources_of settings row message target caller also = also.1.1.1.1.1.1.1.1.1.1.1.1.1.1.1
+
+content_of : (settings : Settings) (row : Row) (message : Message) (target : Target) (caller : Caller) → NoneHolds (reasons settings row message target caller) → NoneHolds (content_reasons settings row message caller)
+content_of settings row message target caller also = (sources_of settings row message target caller also).1
+
 op_proper : (settings : Settings) (row : Row) (message : Message) (target : Target) (caller : Caller) → row_of message target ≡ Some row → NoneHolds (target_reasons message target) → NoneHolds (reasons settings row message target caller) → IsProperMeant (op_of row message target)
 op_proper settings ListBuckets message target caller e none also = tt
 op_proper settings CreateBucket message target caller e none also = bucket_of message target (at_level message target CreateBucket e) none
@@ -158,12 +206,12 @@ op_proper settings HeadBucket message target caller e none also = bucket_of mess
 op_proper settings GetBucketLocation message target caller e none also = bucket_of message target (at_level message target GetBucketLocation e) none
 op_proper settings GetBucketAcl message target caller e none also = bucket_of message target (at_level message target GetBucketAcl e) none
 op_proper settings ListObjects message target caller e none also =
-    (bucket_of message target (at_level message target ListObjects e) none, first_proper target.query also.1.1.1.1.1.1.1.1.1.1.1.1.0)
+    (bucket_of message target (at_level message target ListObjects e) none, first_proper target.query (texts_of settings ListObjects message target caller also))
 op_proper settings ListObjectsV2 message target caller e none also =
-    (bucket_of message target (at_level message target ListObjectsV2 e) none, second_proper target.query also.1.1.1.1.1.1.1.1.1.1.1.1.0)
+    (bucket_of message target (at_level message target ListObjectsV2 e) none, second_proper target.query (texts_of settings ListObjectsV2 message target caller also))
 op_proper settings PutObject message target caller e none also =
-    let content = also.1.1.1.1.1.1.1.1.1.1.1.1.1.1 in
-    (place_of message target (at_level message target PutObject e) none, record { typed = is_named _ content.0; described = is_named _ content.1.1.0; sized = short message.body content.1.1.1.0 })
+    let content = content_of settings PutObject message target caller also in
+    (place_of message target (at_level message target PutObject e) none, record { typed = is_named _ content.0; described = is_named _ content.1.1.1.0; sized = short message.body content.1.1.1.1.0 })
 op_proper settings GetObject message target caller e none also =
     (place_of message target (at_level message target GetObject e) none, range_proper message.headers)
 op_proper settings HeadObject message target caller e none also =
@@ -171,27 +219,34 @@ op_proper settings HeadObject message target caller e none also =
 op_proper settings DeleteObject message target caller e none also = place_of message target (at_level message target DeleteObject e) none
 op_proper settings GetObjectAcl message target caller e none also = place_of message target (at_level message target GetObjectAcl e) none
 op_proper settings ListMultipartUploads message target caller e none also =
-    (bucket_of message target (at_level message target ListMultipartUploads e) none, uploads_proper target.query also.1.1.1.1.1.1.1.1.1.1.1.1.0)
+    (bucket_of message target (at_level message target ListMultipartUploads e) none, uploads_proper target.query (texts_of settings ListMultipartUploads message target caller also))
 op_proper settings DeleteObjects message target caller e none also =
-    let content = also.1.1.1.1.1.1.1.1.1.1.1.1.1.1 in
-    (bucket_of message target (at_level message target DeleteObjects e) none, keys_proper (deletes_in message.body) message.body refl content.1.1.1.1.1.1.1.0)
+    let content = content_of settings DeleteObjects message target caller also in
+    (bucket_of message target (at_level message target DeleteObjects e) none, keys_proper (deletes_in message.body) message.body refl content.1.1.1.1.1.1.1.1.0)
 op_proper settings CreateMultipartUpload message target caller e none also =
-    let content = also.1.1.1.1.1.1.1.1.1.1.1.1.1.1 in
-    (place_of message target (at_level message target CreateMultipartUpload e) none, is_named _ content.0, is_named _ content.1.1.0)
+    let content = content_of settings CreateMultipartUpload message target caller also in
+    (place_of message target (at_level message target CreateMultipartUpload e) none, is_named _ content.0, is_named _ content.1.1.1.0)
 op_proper settings UploadPart message target caller e none also =
-    let content = also.1.1.1.1.1.1.1.1.1.1.1.1.1.1 in
-    (place_of message target (at_level message target UploadPart e) none, part_proper target.query, short message.body content.1.1.1.0)
+    let content = content_of settings UploadPart message target caller also in
+    (place_of message target (at_level message target UploadPart e) none, part_proper target.query, short message.body content.1.1.1.1.0)
 op_proper settings ListParts message target caller e none also =
     (place_of message target (at_level message target ListParts e) none, most_proper (codes "max-parts") target.query)
 op_proper settings AbortMultipartUpload message target caller e none also = place_of message target (at_level message target AbortMultipartUpload e) none
 op_proper settings CompleteMultipartUpload message target caller e none also =
-    let content = also.1.1.1.1.1.1.1.1.1.1.1.1.1.1 in
-    (place_of message target (at_level message target CompleteMultipartUpload e) none, list_proper (listed_in message.body) message.body refl content.1.1.1.1.1.1.0)
+    let content = content_of settings CompleteMultipartUpload message target caller also in
+    (place_of message target (at_level message target CompleteMultipartUpload e) none, list_proper (listed_in message.body) message.body refl content.1.1.1.1.1.1.1.0)
+op_proper settings CopyObject message target caller e none also =
+    let content = content_of settings CopyObject message target caller also in
+    let source = source_proper CopyObject message.headers (sources_of settings CopyObject message target caller also).0 in
+    (place_of message target (at_level message target CopyObject e) none, source.0, replaced_proper _ _ _ (is_named _ content.0) (is_named _ content.1.1.1.0))
+op_proper settings UploadPartCopy message target caller e none also =
+    let source = source_proper UploadPartCopy message.headers (sources_of settings UploadPartCopy message target caller also).0 in
+    (place_of message target (at_level message target UploadPartCopy e) none, part_proper target.query, source.0, source.1)
 
 -- ---- the meaning
 
 own : (settings : Settings) (row : Row) (message : Message) (target : Target) (caller : Caller) → AllProper (reasons settings row message target caller)
-own settings row message target caller = (refl, (refl, (refl, (refl, (refl, (refl, (refl, (refl, (refl, (refl, (refl, (refl, (refl, (refl, (refl, (refl, (refl, (refl, (refl, (refl, (refl, (refl, (refl, tt)))))))))))))))))))))))
+own settings row message target caller = (refl, (refl, (refl, (refl, (refl, (refl, (refl, (refl, (refl, (refl, (refl, (refl, (refl, (refl, (refl, (refl, (refl, (refl, (refl, (refl, (refl, (refl, (refl, (refl, (refl, (refl, tt))))))))))))))))))))))))))
 
 judged_proper : (settings : Settings) (found : Option Row) (message : Message) (target : Target) (caller : Caller) → row_of message target ≡ found → NoneHolds (target_reasons message target) → IsProperMeant (judged settings found message target caller)
 judged_proper settings None message target caller e none = proper_code MethodNotAllowed refl
@@ -239,6 +294,8 @@ op_known UploadPart message target e = cc
 op_known ListParts message target e = cc
 op_known AbortMultipartUpload message target e = cc
 op_known CompleteMultipartUpload message target e = cc
+op_known CopyObject message target e = cc
+op_known UploadPartCopy message target e = cc
 
 judged_known : (settings : Settings) (found : Option Row) (message : Message) (target : Target) (caller : Caller) → judged settings found message target caller ≢ Memory
 judged_known settings None message target caller = λ e. cc
