@@ -14,12 +14,11 @@ use Rattle.s3_names.specs.Id.{id_digits}
 use Rattle.swift_calls.specs.declared.account.ReadList.{ReadList}
 use Rattle.swift_calls.specs.declared.account.ReadList.TheVariants.{Nobody}
 use Rattle.swift_calls.specs.Account.{SwiftObject, SwiftContainer, SwiftAccount, files, files_of, find_object, new_folder, on_files, with_readers, put_file, remove_file}
-use Rattle.swift_calls.specs.Bodies.{is_list}
 use Rattle.upload_records.specs.Layout.{uploads_name, segments_name, gateway_name, readers_of}
 use Rattle.upload_records.specs.Native.{record_of, record_at, seal_of, IsUnsealed}
-use Rattle.upload_records.specs.Consistent.{Head, heads, head_of, IsBeside, IsFolderName, IsHere, ConsistentContainers, IsOpen, HasList, by_object, ConsistentBucket, sealed_in, sealed_id, bucket_sound, IsObject, IsStored, IsThere, HasBareSides, IsConsistent}
+use Rattle.upload_records.specs.Consistent.{Head, heads, head_of, IsBeside, IsFolderName, IsHere, ConsistentContainers, IsOpen, IsListOf, HasList, by_object, ConsistentBucket, sealed_in, sealed_id, bucket_sound, IsObject, IsStored, IsThere, HasBareSides, IsConsistent}
 use Rattle.upload_records.proofs.Apart.{uploads_apart, segments_apart, gateway_apart}
-use Rattle.upload_records.proofs.Sides.{bucket_side}
+use Rattle.upload_records.proofs.lemmas.Sides.{bucket_side}
 use Rattle.upload_records.proofs.lemmas.Settled.{OffSame, seal_holds, seal_none, unsealed_empty}
 
 pub none_found : {X : Type 0} (x : X) → None ≡ Some x → ⊥
@@ -256,10 +255,10 @@ heads_stay tree c g n = elim (same_key by_name n c) [
 ]
 
 -- a change of a bucket's files leaves the account consistent where each file that is there after it is an object, and none lists
--- the segments of an id that none listed before
+-- the segments of an upload that is open and that none listed before
 sound_changed : (tree : SwiftAccount) (b : List ℕ) (g : Names SwiftObject → Names SwiftObject) → is_bucket b ≡ true → IsConsistent tree → IsUnsealed tree
     → ((key : List ℕ) (file : SwiftObject) → get (g (files tree b)) key ≡ Some file → IsObject (files tree (segments_name b)) (segments_name b) key file × IsStored key file)
-    → ((id : ℕ) → HasList (g (files tree b)) (files tree (segments_name b)) id → HasList (files tree b) (files tree (segments_name b)) id)
+    → ((id : ℕ) → HasList (g (files tree b)) (files tree (segments_name b)) id → IsOpen (record_at (files tree (uploads_name b)) (id_digits id)) → HasList (files tree b) (files tree (segments_name b)) id)
     → IsConsistent (adjust b (on_files g) tree)
 sound_changed tree b g is sound unsealed all lists =
     let new : SwiftAccount = adjust b (on_files g) tree in
@@ -275,11 +274,11 @@ sound_changed tree b g is sound unsealed all lists =
       of_objects = λ key file found. (all key file found).0;
       of_segments = (old there).of_segments;
       of_records = (old there).of_records;
-      apart = λ id listed opens. (old there).apart id (lists id listed) opens;
+      apart = λ id listed opens. (old there).apart id (lists id listed opens) opens;
     })))
     (λ key file found. (all key file (found_after g (get tree b) key file (ap (λ o. get (files_of o) key) (sym at) ∙ found))).1)
 
-there_by : (o : Option SwiftContainer) (key : List ℕ) (file : SwiftObject) → get (files_of o) key ≡ Some file → is_some o ≡ true
+pub there_by : (o : Option SwiftContainer) (key : List ℕ) (file : SwiftObject) → get (files_of o) key ≡ Some file → is_some o ≡ true
 there_by None key file found = absurd (none_found file (sym (get_empty by_name key) ∙ found))
 there_by (Some folder) key file found = refl
 
@@ -287,24 +286,24 @@ there_by (Some folder) key file found = refl
 pub sound_object : (tree : SwiftAccount) (b key : List ℕ) (file : SwiftObject) → IsConsistent tree → is_bucket b ≡ true → find_object tree b key ≡ Some file → IsObject (files tree (segments_name b)) (segments_name b) key file
 sound_object tree b key file sound is found = (sound.buckets b is (there_by (get tree b) key file found)).of_objects key file found
 
--- a file that lists nothing brings no list
-lists_before : (objects segments : Names SwiftObject) (key : List ℕ) (file : SwiftObject) → is_list file.content ≡ false → (id : ℕ) → HasList (insert objects key file) segments id → HasList objects segments id
-lists_before objects segments key file own id (by_object k f found lists) = elim (same_key by_name k key) [
-  | inl e ↦ absurd (true≢false (sym lists.lists ∙ ap (λ (x : SwiftObject). is_list x.content) (sym (same_Some file f (sym (at_insert by_name objects key file) ∙ ap (get (insert objects key file)) (sym e) ∙ found))) ∙ own))
+-- a file that doesn't list the segments of an id brings no list of it
+lists_before : (objects segments : Names SwiftObject) (key : List ℕ) (file : SwiftObject) (id : ℕ) → (IsListOf file id → ⊥) → HasList (insert objects key file) segments id → HasList objects segments id
+lists_before objects segments key file id apart (by_object k f found lists) = elim (same_key by_name k key) [
+  | inl e ↦ absurd (apart (subst (λ x. IsListOf x id) (sym (same_Some file f (sym (at_insert by_name objects key file) ∙ ap (get (insert objects key file)) (sym e) ∙ found))) lists))
   | inr a ↦ by_object k f (sym (off_insert by_name objects key file k a) ∙ found) lists
 ]
 
 lists_left : (objects segments : Names SwiftObject) (key : List ℕ) (id : ℕ) → HasList (remove objects key) segments id → HasList objects segments id
 lists_left objects segments key id (by_object k f found lists) = by_object k f (remove_is by_name (λ n x. get objects n ≡ Some x) objects key k f (λ was. was) found) lists
 
--- an object that lists no segments is put, with a name and a size that a store takes
+-- an object that lists the segments of no open upload is put, with a name and a size that a store takes
 pub sound_put : (tree : SwiftAccount) (b key : List ℕ) (file : SwiftObject) → is_bucket b ≡ true → IsConsistent tree → IsUnsealed tree → IsObject (files tree (segments_name b)) (segments_name b) key file
-    → is_list file.content ≡ false → IsStored key file → IsConsistent (put_file b key file tree)
-sound_put tree b key file is sound unsealed object own stored =
+    → ((id : ℕ) → IsListOf file id → IsOpen (record_at (files tree (uploads_name b)) (id_digits id)) → ⊥) → IsStored key file → IsConsistent (put_file b key file tree)
+sound_put tree b key file is sound unsealed object closed stored =
     sound_changed tree b (λ fs. insert fs key file) is sound unsealed
     (λ k f found. insert_is by_name (λ n x. IsObject (files tree (segments_name b)) (segments_name b) n x × IsStored n x) (files tree b) key file k f (object, stored)
     (λ was. (sound_object tree b k f sound is was, sound.stored b k f was)) found)
-    (lists_before (files tree b) (files tree (segments_name b)) key file own)
+    (λ id listed opens. lists_before (files tree b) (files tree (segments_name b)) key file id (λ lists. closed id lists opens) listed)
 
 -- an object that goes
 pub sound_removed : (tree : SwiftAccount) (b key : List ℕ) → is_bucket b ≡ true → IsConsistent tree → IsUnsealed tree → IsConsistent (remove_file b key tree)
@@ -312,7 +311,7 @@ sound_removed tree b key is sound unsealed =
     sound_changed tree b (λ fs. remove fs key) is sound unsealed
     (λ k f found. remove_is by_name (λ n x. IsObject (files tree (segments_name b)) (segments_name b) n x × IsStored n x) (files tree b) key k f
     (λ was. (sound_object tree b k f sound is was, sound.stored b k f was)) found)
-    (lists_left (files tree b) (files tree (segments_name b)) key)
+    (λ id listed opens. lists_left (files tree b) (files tree (segments_name b)) key id listed)
 
 -- ---- the account without a container
 

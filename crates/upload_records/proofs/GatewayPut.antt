@@ -26,9 +26,9 @@ use Rattle.upload_records.specs.Native.{bucket_from, bucket_of, plain, seal_by, 
 use Rattle.upload_records.specs.Consistent.{Head, head_of, heads, IsFolderName, ConsistentContainers, ConsistentBucket, sealed_in, sealed_id, ConsistentSealed, IsSealedFile, IsStored, IsThere, SealedIn, IsConsistent}
 use Rattle.upload_records.specs.Laws.{file_put, MakesGateway, SealsCompletion}
 use Rattle.upload_records.proofs.Apart.{gateway_apart}
-use Rattle.upload_records.proofs.Sides.{gateway_uploads, gateway_segments}
+use Rattle.upload_records.proofs.lemmas.Sides.{gateway_uploads, gateway_segments}
 use Rattle.upload_records.proofs.Carried.{none_found, bucket_as, containers_same, heads_stay, files_after}
-use Rattle.upload_records.proofs.Plain.{get_plain}
+use Rattle.upload_records.proofs.lemmas.Plain.{get_plain}
 use Rattle.upload_records.proofs.lemmas.Settled.{OffSame, seal_holds, seal_none, s3_state_unsealed}
 use Rattle.upload_records.proofs.lemmas.Objects.{put_leaves}
 use Rattle.upload_records.proofs.lemmas.Off.{put_off}

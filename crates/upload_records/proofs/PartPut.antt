@@ -20,9 +20,9 @@ use Rattle.upload_records.specs.Laws.{ChangesBy, file_put, part_in}
 use Rattle.upload_records.proofs.lemmas.Settled.{seal_none}
 use Rattle.upload_records.proofs.lemmas.Objects.{put_leaves}
 use Rattle.upload_records.proofs.Carried.{none_found, bucket_as}
-use Rattle.upload_records.proofs.Sides.{segment_id, segment_number, uploads_segments}
+use Rattle.upload_records.proofs.lemmas.Sides.{segment_id, segment_number, uploads_segments}
 use Rattle.upload_records.proofs.Segments.{objects_stay, objects_same, lists_as}
-use Rattle.upload_records.proofs.Beside.{bucket_stays, id_beside, same_beside, plain_beside, segments_there, file_off, files_new, sound_files}
+use Rattle.upload_records.proofs.lemmas.Beside.{bucket_stays, id_beside, same_beside, plain_beside, segments_there, file_off, files_new, sound_files}
 use Rattle.upload_records.proofs.Leaves.{changes_same}
 
 -- ---- the parts of an upload
@@ -78,13 +78,13 @@ module _ (S : Names SwiftObject) (name : List ℕ) (file : SwiftObject) (part : 
 
 -- ---- the bucket
 
-module _ (folder : List ℕ) (O R S : Names SwiftObject) (name : List ℕ) (file : SwiftObject) (old : ConsistentBucket folder O R S None) (part : IsPart name file) (opens : IsOpen (record_at R (id_digits part.id))) where
+module _ (folder : List ℕ) (O R S : Names SwiftObject) (sealed : Option ℕ) (name : List ℕ) (file : SwiftObject) (old : ConsistentBucket folder O R S sealed) (part : IsPart name file)
+    (unlisted : (j : ℕ) → id_digits j ≡ id_digits part.id → HasList O S j → ⊥) where
   -- a list of the bucket is under another id
   other_id : (id : ℕ) → HasList O S id → (k : ℕ) → get (insert S name file) (segment_name (id_digits id) k) ≡ get S (segment_name (id_digits id) k)
-  other_id id lists k = other_name S name file part (segment_name (id_digits id) k) (λ e.
-      none_found id (old.apart id lists (subst (λ t. IsOpen (record_at R t)) (sym (segment_id (id_digits id) (id_digits part.id) k part.number (e ∙ part.named))) opens)))
+  other_id id lists k = other_name S name file part (segment_name (id_digits id) k) (λ e. unlisted id (segment_id (id_digits id) (id_digits part.id) k part.number (e ∙ part.named)) lists)
 
-  part_bucket : ConsistentBucket folder O R (insert S name file) None
+  part_bucket : ConsistentBucket folder O R (insert S name file) sealed
   part_bucket = record {
     of_objects = objects_stay folder O S (insert S name file) old.of_objects other_id;
     of_segments = λ n f found. put_is IsSegment S name file n f (is_part part) (old.of_segments n f) found;
@@ -101,29 +101,23 @@ module _ (folder : List ℕ) (O R S : Names SwiftObject) (name : List ℕ) (file
 -- ---- the account
 
 module _ (tree : SwiftAccount) (b name : List ℕ) (file : SwiftObject) (is : is_bucket b ≡ true) (sound : IsConsistent tree) (unsealed : IsUnsealed tree) (part : IsPart name file)
-    (opens : IsOpen (record_at (files tree (uploads_name b)) (id_digits part.id))) (stored : IsStored name file) where
+    (unlisted : IsThere tree b → (j : ℕ) → id_digits j ≡ id_digits part.id → HasList (files tree b) (files tree (segments_name b)) j → ⊥) (stored : IsStored name file) where
   beside : IsBeside (segments_name b) b
   beside = record { of_bucket = is; is = inr refl }
 
-  none_sealed : sealed_id tree b ≡ None
-  none_sealed = ap (λ s. sealed_in s b) (seal_none tree unsealed)
+  pub bucket_new : get (put_file (segments_name b) name file tree) b ≡ get tree b
+  bucket_new = bucket_stays tree (put_file (segments_name b) name file tree) b (segments_name b) beside (file_off tree b (segments_name b) (λ fs. insert fs name file) beside) b is
 
-  old_bucket : IsThere tree b → ConsistentBucket (segments_name b) (files tree b) (files tree (uploads_name b)) (files tree (segments_name b)) None
-  old_bucket there = bucket_as (segments_name b) refl refl refl (sym none_sealed) (sound.buckets b is there)
-
-  objects_new : files (put_file (segments_name b) name file tree) b ≡ files tree b
-  objects_new = ap files_of (bucket_stays tree (put_file (segments_name b) name file tree) b (segments_name b) beside (file_off tree b (segments_name b) (λ fs. insert fs name file) beside) b is)
-
-  records_new : files (put_file (segments_name b) name file tree) (uploads_name b) ≡ files tree (uploads_name b)
+  pub records_new : files (put_file (segments_name b) name file tree) (uploads_name b) ≡ files tree (uploads_name b)
   records_new = ap files_of (file_off tree b (segments_name b) (λ fs. insert fs name file) beside (uploads_name b) (uploads_segments b b is is))
 
-  segments_new : IsThere tree b → files (put_file (segments_name b) name file tree) (segments_name b) ≡ insert (files tree (segments_name b)) name file
+  pub segments_new : IsThere tree b → files (put_file (segments_name b) name file tree) (segments_name b) ≡ insert (files tree (segments_name b)) name file
   segments_new there = files_new tree b (segments_name b) (λ fs. insert fs name file) beside (segments_there tree b sound is there)
 
   this_bucket : IsThere tree b → bucket_sound (put_file (segments_name b) name file tree) b
-  this_bucket there = bucket_as (segments_name b) objects_new records_new (segments_new there)
-      (id_beside tree (put_file (segments_name b) name file tree) b (segments_name b) beside (file_off tree b (segments_name b) (λ fs. insert fs name file) beside) b ∙ none_sealed)
-      (part_bucket (segments_name b) (files tree b) (files tree (uploads_name b)) (files tree (segments_name b)) name file (old_bucket there) part opens)
+  this_bucket there = bucket_as (segments_name b) (ap files_of bucket_new) records_new (segments_new there)
+      (id_beside tree (put_file (segments_name b) name file tree) b (segments_name b) beside (file_off tree b (segments_name b) (λ fs. insert fs name file) beside) b)
+      (part_bucket (segments_name b) (files tree b) (files tree (uploads_name b)) (files tree (segments_name b)) (sealed_id tree b) name file (sound.buckets b is there) part (unlisted there))
 
   part_sound : IsConsistent (put_file (segments_name b) name file tree)
   part_sound = sound_files tree b (segments_name b) (λ fs. insert fs name file) beside sound unsealed this_bucket
@@ -136,18 +130,33 @@ module _ (tree : SwiftAccount) (b name : List ℕ) (file : SwiftObject) (is : is
       let there : IsThere tree b = ap is_some found in
       let news = segments_new there in
       (λ i. bucket_from (records_new i) (news i) folder)
-      ∙ part_from (segments_name b) (files tree b) (files tree (uploads_name b)) (files tree (segments_name b)) name file (old_bucket there) part opens folder (sym (ap files_of found))
+      ∙ part_from (segments_name b) (files tree b) (files tree (uploads_name b)) (files tree (segments_name b)) (sealed_id tree b) name file (sound.buckets b is there) part (unlisted there) folder (sym (ap files_of found))
+
+-- a part's file is put under an id whose segments no object lists
+pub part_changes : (tree : SwiftAccount) (b name content_type : List ℕ) (meta : List (List ℕ)) (body : List ℕ) (part : IsPart name (file_put content_type meta body))
+    → is_bucket b ≡ true → (IsThere tree b → (j : ℕ) → id_digits j ≡ id_digits part.id → HasList (files tree b) (files tree (segments_name b)) j → ⊥)
+    → IsStored name (file_put content_type meta body) → IsConsistent tree → IsUnsealed tree
+    → ChangesBy tree (PutObject (segments_name b) name content_type meta body) (adjust b (on_upload (id_digits part.id) (with_part part.number (part_in part))))
+part_changes tree b name content_type meta body part is unlisted stored sound unsealed =
+    let file : SwiftObject = file_put content_type meta body in
+    let new : SwiftAccount = put_file (segments_name b) name file tree in
+    let side = beside tree b name file is sound unsealed part unlisted stored in
+    let off = file_off tree b (segments_name b) (λ fs. insert fs name file) side in
+    changes_same tree new (PutObject (segments_name b) name content_type meta body) (adjust b (on_upload (id_digits part.id) (with_part part.number (part_in part)))) unsealed
+    (same_beside tree new b (segments_name b) side off)
+    (put_leaves (get tree (segments_name b)) (segments_name b) name file tree refl)
+    (part_sound tree b name file is sound unsealed part unlisted stored)
+    (plain_beside tree new b (segments_name b) side off (on_upload (id_digits part.id) (with_part part.number (part_in part))) (along tree b name file is sound unsealed part unlisted stored))
+
+-- no object lists the segments of an upload that is open
+open_unlisted : (tree : SwiftAccount) (b id : List ℕ) → is_bucket b ≡ true → IsOpen (record_at (files tree (uploads_name b)) id) → IsConsistent tree → IsUnsealed tree
+    → IsThere tree b → (j : ℕ) → id_digits j ≡ id → HasList (files tree b) (files tree (segments_name b)) j → ⊥
+open_unlisted tree b id is opens sound unsealed there j e lists =
+    let none : sealed_id tree b ≡ None = ap (λ s. sealed_in s b) (seal_none tree unsealed) in
+    none_found j (sym none ∙ (sound.buckets b is there).apart j lists (subst (λ t. IsOpen (record_at (files tree (uploads_name b)) t)) (sym e) opens))
 
 pub part_put : (tree : SwiftAccount) (b name content_type : List ℕ) (meta : List (List ℕ)) (body : List ℕ) (part : IsPart name (file_put content_type meta body))
     → is_bucket b ≡ true → IsOpen (record_at (files tree (uploads_name b)) (id_digits part.id)) → IsStored name (file_put content_type meta body) → IsConsistent tree → IsUnsealed tree
     → ChangesBy tree (PutObject (segments_name b) name content_type meta body) (adjust b (on_upload (id_digits part.id) (with_part part.number (part_in part))))
 part_put tree b name content_type meta body part is opens stored sound unsealed =
-    let file : SwiftObject = file_put content_type meta body in
-    let new : SwiftAccount = put_file (segments_name b) name file tree in
-    let side = beside tree b name file is sound unsealed part opens stored in
-    let off = file_off tree b (segments_name b) (λ fs. insert fs name file) side in
-    changes_same tree new (PutObject (segments_name b) name content_type meta body) (adjust b (on_upload (id_digits part.id) (with_part part.number (part_in part)))) unsealed
-    (same_beside tree new b (segments_name b) side off)
-    (put_leaves (get tree (segments_name b)) (segments_name b) name file tree refl)
-    (part_sound tree b name file is sound unsealed part opens stored)
-    (plain_beside tree new b (segments_name b) side off (on_upload (id_digits part.id) (with_part part.number (part_in part))) (along tree b name file is sound unsealed part opens stored))
+    part_changes tree b name content_type meta body part is (open_unlisted tree b (id_digits part.id) is opens sound unsealed) stored sound unsealed

@@ -20,8 +20,8 @@ use Rattle.upload_records.specs.Laws.{ChangesBy, IsAbandoned}
 use Rattle.upload_records.proofs.lemmas.Settled.{seal_none}
 use Rattle.upload_records.proofs.lemmas.Objects.{delete_leaves}
 use Rattle.upload_records.proofs.Carried.{none_found, bucket_as}
-use Rattle.upload_records.proofs.Sides.{segments_uploads}
-use Rattle.upload_records.proofs.Beside.{bucket_stays, id_beside, same_beside, plain_beside, records_there, file_off, files_new, sound_files}
+use Rattle.upload_records.proofs.lemmas.Sides.{segments_uploads}
+use Rattle.upload_records.proofs.lemmas.Beside.{bucket_stays, id_beside, same_beside, plain_beside, records_there, file_off, files_new, sound_files}
 use Rattle.upload_records.proofs.Leaves.{changes_same}
 
 -- ---- the bucket

@@ -22,8 +22,8 @@ use Rattle.upload_records.specs.Laws.{ChangesBy, file_put, IsUnused, IsOpenText,
 use Rattle.upload_records.proofs.lemmas.Objects.{put_leaves}
 use Rattle.upload_records.proofs.Carried.{bucket_as}
 use Rattle.upload_records.proofs.Parts.{unlisted}
-use Rattle.upload_records.proofs.Sides.{segments_uploads}
-use Rattle.upload_records.proofs.Beside.{bucket_stays, id_beside, same_beside, plain_beside, records_there, file_off, files_new, sound_files}
+use Rattle.upload_records.proofs.lemmas.Sides.{segments_uploads}
+use Rattle.upload_records.proofs.lemmas.Beside.{bucket_stays, id_beside, same_beside, plain_beside, records_there, file_off, files_new, sound_files}
 use Rattle.upload_records.proofs.Leaves.{changes_same}
 
 -- ---- no part

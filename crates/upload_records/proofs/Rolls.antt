@@ -33,10 +33,10 @@ use Rattle.upload_records.specs.Laws.{file_put, Rolls, IsRolled, Unseals}
 use Rattle.upload_records.proofs.lemmas.Settled.{OffSame, same_off, seal_holds, unsealed_by, s3_state_unsealed}
 use Rattle.upload_records.proofs.lemmas.Objects.{reads_as, put_leaves, delete_leaves}
 use Rattle.upload_records.proofs.Apart.{gateway_apart}
-use Rattle.upload_records.proofs.Sides.{gateway_side, segments_uploads}
+use Rattle.upload_records.proofs.lemmas.Sides.{gateway_side, segments_uploads}
 use Rattle.upload_records.proofs.Carried.{none_found, bucket_as, id_stays, containers_same, heads_stay, found_after, files_after, records_stay, segments_stay}
-use Rattle.upload_records.proofs.Plain.{get_plain, plain_put}
-use Rattle.upload_records.proofs.Beside.{bucket_stays, other_records, other_segments, id_beside, same_beside, plain_beside, records_there, file_off, files_new}
+use Rattle.upload_records.proofs.lemmas.Plain.{get_plain, plain_put}
+use Rattle.upload_records.proofs.lemmas.Beside.{bucket_stays, other_records, other_segments, id_beside, same_beside, plain_beside, records_there, file_off, files_new}
 use Rattle.upload_records.proofs.GatewayPut.{sealed_bucket, sealed_has, plain_stays, sound_gateway}
 
 -- ---- what is sealed

@@ -23,9 +23,9 @@ use Rattle.upload_records.proofs.lemmas.Settled.{OffSame}
 use Rattle.upload_records.proofs.lemmas.Objects.{delete_leaves}
 use Rattle.upload_records.proofs.lemmas.Off.{put_off}
 use Rattle.upload_records.proofs.Carried.{none_found, bucket_as, containers_beside}
-use Rattle.upload_records.proofs.Sides.{segment_id, uploads_segments}
+use Rattle.upload_records.proofs.lemmas.Sides.{segment_id, uploads_segments}
 use Rattle.upload_records.proofs.Segments.{objects_stay, objects_same, lists_as}
-use Rattle.upload_records.proofs.Beside.{bucket_stays, id_beside, same_beside, plain_same, segments_there, sound_beside, file_off, files_new, sound_files}
+use Rattle.upload_records.proofs.lemmas.Beside.{bucket_stays, id_beside, same_beside, plain_same, segments_there, sound_beside, file_off, files_new, sound_files}
 use Rattle.upload_records.proofs.Leaves.{changes_same}
 
 -- ---- the PUT of a container beside a bucket

@@ -1,9 +1,12 @@
+pub mod Beside
 pub mod Buckets
 pub mod Listing
 pub mod Objects
 pub mod Off
+pub mod Plain
 pub mod Readers
 pub mod Rolling
 pub mod Settled
 pub mod SideCalls
+pub mod Sides
 pub mod TextLengths

@@ -1,5 +1,6 @@
 -- What the laws of this crate say.
-use Rattle.std.specs.Prelude.{◌≡◌, ◌<◌, ◌≤◌, ◌^◌, ℕ, List, [], ◌∷◌, map, length, true, is_some, Option, None, Some}
+use Rattle.std.specs.Prelude.{◌≡◌, ◌<◌, ◌≤◌, ◌^◌, ℕ, List, [], ◌∷◌, map, length, sum_by, true, is_some, Option, None, Some}
+use Rattle.std.specs.List.{All}
 use Rattle.std.specs.Option.{option_map}
 use Rattle.std.specs.FinMap.{empty, get, insert, remove}
 use Rattle.gate_base.specs.Maps.{Names, adjust}
@@ -9,10 +10,12 @@ use Rattle.s3_names.specs.declared.acl.Acl.{Acl}
 use Rattle.s3_names.specs.Bucket.{is_bucket}
 use Rattle.s3_names.specs.Id.{id_digits}
 use Rattle.s3_names.specs.Key.{is_key}
+use Rattle.s3_names.specs.Meta.{names_ascend}
 use Rattle.s3_machine.specs.ETag.{body_etag}
-use Rattle.s3_machine.specs.Limits.{is_proper_meta}
+use Rattle.s3_machine.specs.Limits.{is_content_type, is_proper_meta, most_body_bytes}
 use Rattle.slo_manifest.specs.declared.manifest.TheConstants.{MOST_SEGMENTS}
-use Rattle.swift_marks.specs.Tag.{has_text}
+use Rattle.slo_manifest.specs.declared.Segment.{Segment}
+use Rattle.swift_marks.specs.Tag.{has_text, is_etag}
 use Rattle.swift_marks.specs.Pack.{has_pack}
 use Rattle.s3_machine.specs.State.{Object, Part, Upload, State}
 use Rattle.s3_machine.specs.Step.{new_bucket, with_acl, put_object, drop_object}
@@ -23,7 +26,7 @@ use Rattle.swift_calls.specs.Account.{SwiftObject, SwiftAccount, files, find_obj
 use Rattle.swift_calls.specs.Bodies.{outer_bytes, joined}
 use Rattle.swift_calls.specs.Step.{swift_step, only_reads}
 use Rattle.swift_calls.specs.Step as store
-use Rattle.swift_calls.specs.declared.account.Content.TheVariants.{Plain}
+use Rattle.swift_calls.specs.declared.account.Content.TheVariants.{Plain, Segments}
 use Rattle.swift_calls.specs.declared.account.ReadList.TheVariants.{Nobody}
 use Rattle.swift_calls.specs.declared.calls.SwiftRequest.{SwiftRequest}
 use Rattle.swift_calls.specs.declared.calls.SwiftRequest.TheVariants.{PutContainer, PostContainer, DeleteContainer, PutObject, DeleteObject}
@@ -199,6 +202,87 @@ abbrev pub OrphanGone : Type 0
 OrphanGone = (tree : SwiftAccount) (bucket id : List ℕ) (number : ℕ) → is_bucket bucket ≡ true → IsAbandoned tree bucket id → IsConsistent tree → IsUnsealed tree
     → IsQuiet tree (DeleteObject (segments_name bucket) (segment_name id number))
     × IsAbandoned (swift_step (DeleteObject (segments_name bucket) (segment_name id number)) tree).tree bucket id
+
+-- ---- copies
+
+-- a call that puts a segment under the text of an id that nothing names: it leaves the state, the bucket and its records, and the
+-- segments of the id as such
+pub record PutsOrphan (tree : SwiftAccount) (request : SwiftRequest) (bucket id name : List ℕ) (file : SwiftObject) : Type 0 where
+  pub quiet : IsQuiet tree request
+  pub abandoned : IsAbandoned (swift_step request tree).tree bucket id
+  pub there : IsThere (swift_step request tree).tree bucket
+  pub objects : files (swift_step request tree).tree bucket ≡ files tree bucket
+  pub records : files (swift_step request tree).tree (uploads_name bucket) ≡ files tree (uploads_name bucket)
+  pub holds : files (swift_step request tree).tree (segments_name bucket) ≡ insert (files tree (segments_name bucket)) name file
+
+-- the PUT of a part's file under an id that nothing names
+abbrev pub OrphanPut : Type 0
+OrphanPut = (tree : SwiftAccount) (bucket name content_type : List ℕ) (meta : List (List ℕ)) (body : List ℕ) (part : IsPart name (file_put content_type meta body))
+    → is_bucket bucket ≡ true → IsThere tree bucket → IsAbandoned tree bucket (id_digits part.id) → IsStored name (file_put content_type meta body)
+    → IsConsistent tree → IsUnsealed tree
+    → PutsOrphan tree (PutObject (segments_name bucket) name content_type meta body) bucket (id_digits part.id) name (file_put content_type meta body)
+
+-- nothing names the segments of an id under which nothing stands: those that an object lists are there
+abbrev pub UnusedAbandoned : Type 0
+UnusedAbandoned = (tree : SwiftAccount) (bucket id : List ℕ) → is_bucket bucket ≡ true → IsUnused tree bucket id → IsConsistent tree → IsAbandoned tree bucket id
+
+-- an account after which an object is put
+pub record PutsFile (tree : SwiftAccount) (bucket key : List ℕ) (o : Object) (new : SwiftAccount) : Type 0 where
+  pub sound : IsConsistent new
+  pub state : s3_state new ≡ adjust bucket (put_object key o) (s3_state tree)
+  pub gateway : SameGateway tree new
+
+-- the PUT of a file that is an object of a bucket, of whose list no upload is open, puts the object that it represents
+abbrev pub FilePut : Type 0
+FilePut = (tree : SwiftAccount) (bucket key : List ℕ) (file : SwiftObject) (o : Object) → is_bucket bucket ≡ true
+    → IsObject (files tree (segments_name bucket)) (segments_name bucket) key file → object_of (files tree (segments_name bucket)) key file ≡ Some o
+    → ((id : ℕ) → IsListOf file id → IsOpen (record_at (files tree (uploads_name bucket)) (id_digits id)) → ⊥)
+    → IsStored key file → IsConsistent tree → IsUnsealed tree → PutsFile tree bucket key o (put_file bucket key file tree)
+
+-- what an object has, so that it may be put again: its content type, its ETag, its moment and its metadata keep their limits, and
+-- one without an ETag of parts has the ETag and the size of a body
+pub record IsProperStored (o : Object) : Type 0 where
+  pub typed : is_content_type o.content_type ≡ true
+  pub etag : is_etag o.etag ≡ true
+  pub dated : o.modified < moment_limit
+  pub described : is_proper_meta o.meta ≡ true
+  pub ordered : names_ascend o.meta ≡ true
+  pub whole : length o.etag ≤ 32 → (o.etag ≡ body_etag o.bytes) × (length o.bytes ≤ most_body_bytes)
+
+-- over a consistent account each object may be put again
+abbrev pub ObjectProper : Type 0
+ObjectProper = (tree : SwiftAccount) (bucket key : List ℕ) (o : Object) → is_bucket bucket ≡ true → IsConsistent tree → IsUnsealed tree
+    → object_at (get (s3_state tree) bucket) key ≡ Some o → IsProperStored o
+
+-- segments that are parts of one id, with numbers that ascend, each of them with some bytes and no more than a body has; in a row
+-- they are the bytes of an object, whose ETag is one of parts
+pub record ListsParts (segments : Names SwiftObject) (folder : List ℕ) (listed : List Segment) (o : Object) : Type 0 where
+  pub id : ℕ
+  pub some : 0 < length listed
+  pub few : length listed ≤ MOST_SEGMENTS
+  pub parts : AreParts segments folder (id_digits id) 0 listed
+  pub sized : All (λ s. (0 < s.size) × (s.size ≤ most_body_bytes)) listed
+  pub of_upload : 32 < length o.etag
+  pub bytes : joined (outer_bytes (within segments)) listed ≡ Some o.bytes
+  pub whole : sum_by (λ s. s.size) listed ≡ length o.bytes
+
+-- what the segments are that the file of an object lists
+abbrev pub ObjectListed : Type 0
+ObjectListed = (tree : SwiftAccount) (bucket key : List ℕ) (file : SwiftObject) (listed : List Segment) (o : Object) → is_bucket bucket ≡ true → IsConsistent tree → IsUnsealed tree
+    → find_object tree bucket key ≡ Some file → file.content ≡ Segments listed → object_at (get (s3_state tree) bucket) key ≡ Some o
+    → ListsParts (files tree (segments_name bucket)) (segments_name bucket) listed o
+
+-- the file of an object lists segments
+pub record HasListing (tree : SwiftAccount) (bucket key : List ℕ) : Type 0 where
+  pub file : SwiftObject
+  pub listed : List Segment
+  pub there : find_object tree bucket key ≡ Some file
+  pub lists : file.content ≡ Segments listed
+
+-- the file of an object with an ETag of parts lists segments, unless the object is empty
+abbrev pub ListingFound : Type 0
+ListingFound = (tree : SwiftAccount) (bucket key : List ℕ) (o : Object) → is_bucket bucket ≡ true → IsConsistent tree → IsUnsealed tree
+    → object_at (get (s3_state tree) bucket) key ≡ Some o → 32 < length o.etag → 0 < length o.bytes → HasListing tree bucket key
 
 -- ---- the gateway's own container
 

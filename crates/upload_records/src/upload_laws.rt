@@ -1,5 +1,5 @@
 //! Laws on the records and the parts of uploads, each the contract of a function that does nothing.
-ghost use Rattle.upload_records.specs.Laws.{CompletedStands, CompletionSealed, GatewayMade, ListingStands, ObjectRolled, OrphanGone, PartPut, RecordRolled, SealGone, SideFileGone, SideMade, UploadAbandoned, UploadDropped, UploadOpened};
+ghost use Rattle.upload_records.specs.Laws.{CompletedStands, CompletionSealed, FilePut, GatewayMade, ListingFound, ListingStands, ObjectListed, ObjectProper, ObjectRolled, OrphanGone, OrphanPut, PartPut, RecordRolled, SealGone, SideFileGone, SideMade, UnusedAbandoned, UploadAbandoned, UploadDropped, UploadOpened};
 
 /// Where no completion is sealed, the PUT of a part's file under an upload that is open puts the part in place of the one
 /// of its number; it leaves the account consistent, and the gateway's own container as it was.
@@ -39,6 +39,38 @@ pub fn law_side_file_gone()
 /// segments of the upload as such.
 pub fn law_orphan_gone()
     ensures { OrphanGone }
+{}
+
+/// Where no completion is sealed, the PUT of a part's file under an id that nothing names leaves the state, and the segments of
+/// the id as such.
+pub fn law_orphan_put()
+    ensures { OrphanPut }
+{}
+
+/// Nothing names the segments of an id under which nothing stands.
+pub fn law_unused_abandoned()
+    ensures { UnusedAbandoned }
+{}
+
+/// Where no completion is sealed, the PUT of a file that is an object of a bucket, of whose list no upload is open, puts the object
+/// that it represents; it leaves the account consistent, and the gateway's own container as it was.
+pub fn law_file_put()
+    ensures { FilePut }
+{}
+
+/// Over a consistent account each object may be put again: it keeps the limits of what is put.
+pub fn law_object_proper()
+    ensures { ObjectProper }
+{}
+
+/// Over a consistent account the segments that the file of an object lists are parts of one id, and in a row its bytes.
+pub fn law_object_listed()
+    ensures { ObjectListed }
+{}
+
+/// Over a consistent account the file of an object with an ETag of parts lists segments, unless the object is empty.
+pub fn law_listing_found()
+    ensures { ListingFound }
 {}
 
 /// The PUT of the gateway's own container leaves the state, be the container there or not, and be a completion sealed or not.

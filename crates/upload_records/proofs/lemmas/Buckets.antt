@@ -22,7 +22,7 @@ use Rattle.upload_records.specs.Consistent.{HasBareSides, IsConsistent}
 use Rattle.upload_records.specs.Laws.{ChangesBy}
 use Rattle.upload_records.proofs.lemmas.Settled.{s3_state_unsealed}
 use Rattle.upload_records.proofs.lemmas.Readers.{acl_of_folder}
-use Rattle.upload_records.proofs.Plain.{get_plain, plain_there, plain_acl, plain_made, plain_dropped, plain_posted, bare_alike}
+use Rattle.upload_records.proofs.lemmas.Plain.{get_plain, plain_there, plain_acl, plain_made, plain_dropped, plain_posted, bare_alike}
 use Rattle.upload_records.proofs.Carried.{sound_made, sound_dropped, sound_posted}
 use Rattle.upload_records.proofs.Leaves.{changes_by}
 use Rattle.upload_records.proofs.lemmas.Objects.{object_reads}

@@ -11,7 +11,7 @@ use Rattle.swift_calls.specs.Account.{SwiftContainer, SwiftAccount, files, files
 use Rattle.upload_records.specs.Layout.{uploads_name, segments_name}
 use Rattle.upload_records.specs.Native.{object_of, bucket_of, bucket_from, IsUnsealed, s3_state}
 use Rattle.upload_records.proofs.lemmas.Settled.{s3_state_unsealed}
-use Rattle.upload_records.proofs.Plain.{get_plain}
+use Rattle.upload_records.proofs.lemmas.Plain.{get_plain}
 
 module _ (tree : SwiftAccount) (b : List ℕ) (is : is_bucket b ≡ true) where
   there_by : (o : Option SwiftContainer) (n : Bucket) → option_and_then (bucket_of tree b) o ≡ Some n → n.objects ≡ picked (object_of (files tree (segments_name b))) (files_of o)

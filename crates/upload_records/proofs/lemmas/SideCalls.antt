@@ -32,7 +32,7 @@ use Rattle.upload_records.proofs.lemmas.Off.{put_off}
 use Rattle.upload_records.proofs.Carried.{found_after}
 use Rattle.upload_records.proofs.GatewayPut as gateway
 use Rattle.upload_records.proofs.SideCalls as side
-use Rattle.upload_records.proofs.Sides.{gateway_side, segments_uploads}
+use Rattle.upload_records.proofs.lemmas.Sides.{gateway_side, segments_uploads}
 
 -- ---- the two containers
 

@@ -31,7 +31,7 @@ use Rattle.swift_marks.specs.Tag.{is_part_count, is_parts_suffix}
 use Rattle.swift_marks.specs.Tag as mark
 use Rattle.upload_texts.specs.Places.{array_of, listed_value, pair_value, is_part_number}
 use Rattle.upload_texts.specs.Places as places
-use Rattle.upload_texts.specs.Records.{has_record_text, is_dated, is_kept_content, is_kept_list, is_kept_part, record_text}
+use Rattle.upload_texts.specs.Records.{has_record_text, is_kept_content, is_kept_list, is_kept_part, record_text}
 use Rattle.upload_texts.specs.Sealed.{has_sealed_text, is_sealed_dated, is_sealed_list, is_sealed_part, is_sealed_place, part_value, sealed_text}
 use Rattle.upload_texts.specs.declared.record.Record.TheVariants.{Done}
 use Rattle.upload_texts.specs.declared.sealed.Sealed.{Sealed}

@@ -1,7 +1,7 @@
 use Rattle.std.specs.FinMap.{empty}
 use Rattle.std.proofs.Common.{◌∙◌}
 use Rattle.upload_records.proofs.Carried.{sound_empty}
-use Rattle.upload_records.proofs.Plain.{plain_empty}
+use Rattle.upload_records.proofs.lemmas.Plain.{plain_empty}
 use Rattle.upload_records.proofs.lemmas.Settled.{unsealed_empty, s3_state_unsealed}
 use Rattle.upload_records.proofs.laws.law_empty_consistent.Goals as goal
 

@@ -13,9 +13,9 @@ use Rattle.upload_records.specs.Layout.{uploads_name, segments_name}
 use Rattle.upload_records.specs.Native.{bucket_from, bucket_of, plain, SameGateway, IsUnsealed}
 use Rattle.upload_records.specs.Consistent.{heads, IsBeside, ConsistentContainers, sealed_id, bucket_sound, IsStored, IsThere, IsConsistent}
 use Rattle.upload_records.proofs.lemmas.Settled.{OffSame, same_apart}
-use Rattle.upload_records.proofs.Sides.{bucket_side, uploads_side, segments_side, gateway_side}
+use Rattle.upload_records.proofs.lemmas.Sides.{bucket_side, uploads_side, segments_side, gateway_side}
 use Rattle.upload_records.proofs.Carried.{bucket_as, id_stays, sound_by, containers_same, heads_stay, here_by, there_of, found_after, files_after}
-use Rattle.upload_records.proofs.Plain.{get_plain}
+use Rattle.upload_records.proofs.lemmas.Plain.{get_plain}
 
 none_of : (name : List ℕ) (tree : SwiftAccount) (o : Option SwiftContainer) → is_bucket name ≡ false → option_and_then (bucket_of tree name) o ≡ None
 none_of name tree None not = refl
