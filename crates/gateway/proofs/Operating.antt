@@ -20,7 +20,7 @@ use Rattle.recovery.specs.Answers.{most_calls, most_settling}
 use Rattle.recovery.specs.Calls.{Bound, always, by_account, amount, IsWithin, GoesOn, Met, Keeps, Any}
 use Rattle.recovery.specs.Fault.{CausesFault}
 use Rattle.recovery.specs.Stutters.{Stutters, LastFailed}
-use Rattle.recovery.specs.Settling.{IsKnown, settle_fault, as_plan, SettlesIt, Settles}
+use Rattle.recovery.specs.Settling.{IsKnown, Knows, settle_fault, as_plan, SettlesIt, Settles}
 use Rattle.recovery.proofs.lemmas.Idle.{none_made, goes_none, goes_trans}
 use Rattle.recovery.specs.Plan.{reply_of, Answered}
 use Rattle.gateway.specs.Exchange.{SettledBy, IsFault, unsettled, answered, Operated}
@@ -93,6 +93,10 @@ pub readied_by : {old middle middle' : History} {was : Known} → was ≡ known.
 readied_by {old = old} is same settles = subst {A = History × Known} (λ x. Readied old x.0 x.1) (λ i. (sym same i, sym is i)) (by_settling settles)
 
 -- ---- over a store that was settled
+
+-- it is, where it is observable now: so it was before, when what was known of it was so
+pub settled_now : {old middle : History} {was : Known} → Readied old middle was → Knows was old → IsTrue middle.observable → IsSettled (present middle)
+settled_now readied known observable = let before = readied.on.told observable in readied.settled before (known before)
 
 pub operated_by : {settings : Settings} {op : Op} {label : Label} {old middle new : History} {was now : Known} {reply : Reply} → Readied old middle was
     → Answered (most_calls op (present middle)) middle new settings op label now reply → Operated settings op label old new was now reply

@@ -14,7 +14,7 @@ use Rattle.recovery.specs.declared.state.Known.{Known}
 use Rattle.recovery.specs.declared.state.Known.TheVariants as known
 use Rattle.recovery.specs.Answers.{is_old_if_out_of_memory, OldIf, memory, beside_of}
 use Rattle.recovery.specs.Calls.{Met}
-use Rattle.recovery.specs.Settling.{IsKnown}
+use Rattle.recovery.specs.Settling.{IsKnown, Knows}
 use Rattle.recovery.proofs.lemmas.Agree.{passes_still, beside_memory}
 use Rattle.recovery.proofs.lemmas.Idle.{none_made}
 use Rattle.s3_requests.specs.declared.meant.Meant.{Meant}
@@ -46,6 +46,10 @@ operated_stands {settings = settings} {new = new} operated met =
       passes = all_pass_one settings new span (subst (SpanPasses settings new span) (sym is_span.asked) (performs_pass is_span told.2));
       known = operated.known met.observable met.has;
     }
+
+-- what is known of the store after an operation is so
+pub operated_knows : {settings : Settings} {op : Op} {label : Label} {old new : History} {was now : Known} {reply : Reply} → Operated settings op label old new was now reply → Knows was old → Knows now new
+operated_knows operated known observable = let before = operated.on.told observable in operated.known before (known before)
 
 -- no call was made
 pub stands_still : (settings : Settings) (was : Known) (h : History) → Stands settings was was h h

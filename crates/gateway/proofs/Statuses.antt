@@ -5,7 +5,7 @@ use Rattle.s3_machine.specs.declared.code.Code.TheVariants.{AccessDenied, Author
 use Rattle.s3_machine.specs.declared.operation.Label.{Label}
 use Rattle.s3_machine.specs.declared.operation.Reply.{Reply}
 use Rattle.s3_machine.specs.declared.operation.Reply.TheVariants.{Refused, Memory, Done, Gone, NotModified, Buckets, Made, Location, AclOf, Objects}
-use Rattle.s3_machine.specs.declared.operation.Reply.TheVariants.{Uploads, Stored, Object, Started, Parts, Completed, Deleted}
+use Rattle.s3_machine.specs.declared.operation.Reply.TheVariants.{Uploads, Stored, Object, Started, Parts, Completed, Deleted, Copied}
 use Rattle.http_wire.specs.Print.{IsReplyStatus}
 use Rattle.s3_pages.specs.Pages.{page_of, read_status}
 use Rattle.s3_pages.specs.Codes.{status_of}
@@ -69,3 +69,4 @@ reply_status (Started bucket key id) label resource = refl
 reply_status (Parts bucket key id marker max items truncated) label resource = refl
 reply_status (Completed bucket key etag) label resource = refl
 reply_status (Deleted keys quiet) label resource = refl
+reply_status (Copied part etag modified) label resource = refl

@@ -7,7 +7,7 @@ use Rattle.s3_machine.specs.declared.operation.Settings.{Settings}
 use Rattle.swift_calls.specs.History.{History}
 use Rattle.recovery.specs.declared.state.Known.{Known}
 use Rattle.recovery.specs.Calls.{GoesOn, Met}
-use Rattle.recovery.specs.Settling.{IsKnown}
+use Rattle.recovery.specs.Settling.{IsKnown, Knows}
 use Rattle.gateway.specs.Exchange.{ReplyRelation, store_cursor, RepliesBy, Where}
 use Rattle.gateway.specs.Connection.{Progress, ConnectionCursor, progress, cursor}
 use Rattle.gateway.specs.Stands.{Stands}
@@ -48,10 +48,12 @@ pub record Continues (old new : World) : Type 0 where
   pub clock : IsTrue old.clock.observable → IsTrue new.clock.observable
   pub draws : IsTrue old.draws.observable → IsTrue new.draws.observable
 
--- any number of requests were served, or none. `stands`: where the store was observable, its account consistent, and what was
+-- any number of requests were served, or none. `knows`: over every store, what is known of it after them is so, if what was
+-- known of it was. `stands`: where the store was observable, its account consistent, and what was
 -- known of it so, the account went through their steps, whatever the line tells. `effect`: where line, clock and draws were
 -- observable, T holds of both worlds: with `RepliesAny` over every store, and with `Replies` too over a store as in `stands`
 pub record ServesOver (settings : Settings) (T : ReplyRelation → World → World → Type 0) (old new : World) : Type 0 where
   pub on : Continues old new
+  pub knows : Knows old.known old.store → Knows new.known new.store
   pub stands : Stands settings old.known new.known old.store new.store
   pub effect : IsObservable old → (all : Bool) → Where all (Met (IsKnown old.known) old.store) → T (RepliesBy all settings new.store) old new

@@ -1,5 +1,6 @@
 ghost use Rattle.std.specs.Prelude.{IsTrue};
 ghost use Rattle.gate_base.specs.Line.{OnlyWrites};
+ghost use Rattle.recovery.specs.Settling.{Knows};
 ghost use Rattle.gateway.specs.Request.{asks_of, end_of};
 ghost use Rattle.gateway.specs.Handled.{HandledOnce, EndsWith, NotFailedIfServed, is_failed_reply};
 ghost use Rattle.gateway.specs.World.{world, progress_of, ServesOver};
@@ -38,7 +39,8 @@ pub fn handle_request<N: Line<W>, W: Swift, C: Clock, D: Draws>(
     draws: &mut D,
     mut received: Received,
 ) -> Handled
-    requires { IsTrue (N.model line.old).is_open }
+    requires open { IsTrue (N.model line.old).is_open }
+    requires knows { Knows known.old (W.history store.old) }
     ensures endings { EndsWith (end_of received) result }
     ensures served { NotFailedIfServed result }
     ensures writes { OnlyWrites (is_failed_reply result) (N.model line.old) (N.model line.new) }

@@ -1,4 +1,4 @@
-ghost use Rattle.std.specs.Prelude.{◌≡◌, ◌≢◌, ◌<◌, Bool, Err};
+ghost use Rattle.std.specs.Prelude.{◌≡◌, ◌≢◌, ◌<◌, Bool, Err, IsTrue};
 ghost use Rattle.gate_base.specs.Causes.{Rose};
 ghost use Rattle.gate_base.specs.Told.{moment_limit};
 ghost use Rattle.s3_machine.specs.declared.code.Code.TheVariants.{ServiceUnavailable};
@@ -6,9 +6,10 @@ ghost use Rattle.s3_machine.specs.declared.operation.Reply.TheVariants as answer
 ghost use Rattle.s3_machine.specs.Shown.{IsShowable};
 ghost use Rattle.s3_machine.specs.Step.{IsProper};
 ghost use Rattle.swift_calls.specs.History.{present};
+ghost use Rattle.upload_records.specs.Native.{IsSettled};
 ghost use Rattle.recovery.specs.Answers.{most_calls};
 ghost use Rattle.recovery.specs.Calls.{GoesOn, Met};
-ghost use Rattle.recovery.specs.Settling.{IsKnown, Settles, settle_fault};
+ghost use Rattle.recovery.specs.Settling.{IsKnown, Knows, Settles, settle_fault};
 ghost use Rattle.recovery.specs.Plan.{reply_of, Answered};
 ghost use Rattle.gateway.specs.Connection.{sent_by};
 ghost use Rattle.s3_requests.specs.declared.meant.Meant.TheVariants as variant;
@@ -37,9 +38,11 @@ pub fn reply_to<W: Swift>(
 ) -> Reply
     requires proper { IsProperMeant means }
     requires moment { label.now.moment < moment_limit }
+    requires knows { Knows known.old (W.history store.old) }
 
     ensures showable { IsShowable result }
     ensures goes_on { GoesOn (W.history store.old) (W.history store.new) }
+    ensures knows { Knows known.new (W.history store.new) }
     ensures unavailable { result ≡ answer.Refused ServiceUnavailable → Rose (W.history store.old).faults (W.history store.new).faults }
     ensures out_of_memory { means ≡ variant.Memory → result ≡ answer.Memory }
     ensures stands { Stands settings.now known.old known.new (W.history store.old) (W.history store.new) }
@@ -66,7 +69,8 @@ fn operate<W: Swift>(
     op: Op,
     label: &Label,
 ) -> Reply
-    requires { IsProper op label.now }
+    requires proper { IsProper op label.now }
+    requires knows { Knows known.old (W.history store.old) }
     ensures { Operated settings.now op label.now (W.history store.old) (W.history store.new) known.old known.new result }
 {
     match known {
@@ -95,7 +99,8 @@ fn perform<W: Swift>(
     op: Op,
     label: &Label,
 ) -> Replied
-    requires { IsProper op label.now }
+    requires proper { IsProper op label.now }
+    requires settled { IsTrue (W.history store.old).observable → IsSettled (present (W.history store.old)) }
     ensures { Answered (most_calls op (present (W.history store.old))) (W.history store.old) (W.history store.new) settings.now op label.now result.known result.reply }
 {
     let mut state = Settled::hold(store, settings);
@@ -103,7 +108,7 @@ fn perform<W: Swift>(
         return plan_uploads::answer(alloc, &mut state, op, label);
     }
     let reply = if is_many(&op) {
-        many_keys::answer(&mut state, op, label)
+        many_keys::answer(alloc, &mut state, op, label)
     } else {
         planner::answer(alloc, &mut state, op, label)
     };

@@ -1,6 +1,7 @@
 ghost use Rattle.std.specs.Prelude.{◌≡◌, ◌<◌, false, List, IsTrue, None};
 ghost use Rattle.gate_base.specs.Line.{LineServes, OnlyWrites};
 ghost use Rattle.http_wire.specs.Reading.{weight};
+ghost use Rattle.recovery.specs.Settling.{Knows};
 ghost use Rattle.gateway.specs.Exchange.{Span};
 ghost use Rattle.gateway.specs.Connection.{is_failed_end, ConnectionTrace};
 ghost use Rattle.gateway.specs.Request.{asks_of, end_of};
@@ -21,7 +22,8 @@ use swift_calls::Swift;
 /// Serves one open connection to its end: its requests are resolved and answered in order. After the first that ends the
 /// connection, and where the line fails or memory runs out while a request is read, no more is read of it.
 ///
-/// `known`, whether a completion may be sealed on the store, goes from one connection to the next.
+/// `known`, whether a completion may be sealed on the store, goes from one connection to the next. It is true of a store that
+/// is observable; `Unsure` is of each.
 pub fn serve_connection<N: Line<W>, W: Swift, C: Clock, D: Draws>(
     alloc: Global,
     store: &mut W,
@@ -31,7 +33,8 @@ pub fn serve_connection<N: Line<W>, W: Swift, C: Clock, D: Draws>(
     clock: &mut C,
     draws: &mut D,
 ) -> Ended
-    requires { IsTrue (N.model line.old).is_open }
+    requires open { IsTrue (N.model line.old).is_open }
+    requires knows { Knows known.old (W.history store.old) }
     ensures line { LineServes (is_failed_end result) (N.model line.old) (N.model line.new) }
 
     // Where line, clock and draws are observable, it is one connection.
@@ -73,6 +76,7 @@ fn serve_next<N: Line<W>, W: Swift, C: Clock, D: Draws>(
 ) -> Option<Ended>
     requires open { IsTrue (N.model line.old).is_open }
     requires goes { reader.old.ended ≡ false }
+    requires knows { Knows known.old (W.history store.old) }
     ensures goes { result ≡ None → reader.new.ended ≡ false }
     ensures falls { result ≡ None → weight (N.model line.new).spent reader.new.bytes < weight (N.model line.old).spent reader.old.bytes }
     ensures line { LineServes (is_failed_step result) (N.model line.old) (N.model line.new) }
@@ -119,7 +123,8 @@ fn answer<N: Line<W>, W: Swift, C: Clock, D: Draws>(
     draws: &mut D,
     received: Received,
 ) -> Option<Ended>
-    requires { IsTrue (N.model line.old).is_open }
+    requires open { IsTrue (N.model line.old).is_open }
+    requires knows { Knows known.old (W.history store.old) }
     ensures ends { result ≡ None → end_of received ≡ None }
     ensures writes { OnlyWrites (is_failed_step result) (N.model line.old) (N.model line.new) }
     ensures serves { ServesOver service.now.settings (λ R old new. HandledEnds R old.line.transcript.begun (progress_of old) (progress_of new) (asks_of service.now received) result)

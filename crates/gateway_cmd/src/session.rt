@@ -1,5 +1,6 @@
 //! The commands `session` and `serve`: the connections of the line, in turn.
 ghost use Rattle.std.specs.Prelude.{◌≡◌, ◌≢◌, ◌-◌, true, false, Some, option_map};
+ghost use Rattle.recovery.specs.Settling.{Knows};
 ghost use Rattle.gateway.specs.World.{world, ServesOver};
 ghost use Rattle.gateway_cmd.specs.Run.{RunTraces};
 ghost use Rattle.gateway_cmd.specs.Session.{LineServesAll, LineServesNext, NextCursor};
@@ -11,7 +12,8 @@ use recovery::Known;
 use std::alloc::Global;
 use swift_calls::Swift;
 
-/// Serves the connections of the line until there is none, or as many as `most` says were served.
+/// Serves the connections of the line until there is none, or as many as `most` says were served. `known` is true of the store,
+/// where that is observable.
 pub fn session<N: Line<W>, W: Swift, C: Clock, D: Draws>(
     alloc: Global,
     service: &Service,
@@ -22,6 +24,7 @@ pub fn session<N: Line<W>, W: Swift, C: Clock, D: Draws>(
     clock: &mut C,
     draws: &mut D,
 ) -> Status
+    requires { Knows known.old (W.history store.old) }
     ensures line { LineServesAll most result (N.model line.old) (N.model line.new) }
     ensures serves { ServesOver service.now.settings (RunTraces service.now)
         (world (N.model line.old) (W.history store.old) known.old (C.model clock.old) (D.model draws.old))
@@ -69,6 +72,7 @@ fn serve_another<N: Line<W>, W: Swift, C: Clock, D: Draws>(
     clock: &mut C,
     draws: &mut D,
 ) -> Option<Status>
+    requires { Knows known.old (W.history store.old) }
     ensures line { LineServesNext result (N.model line.old) (N.model line.new) }
     ensures serves { ServesOver service.now.settings (λ R. NextCursor service.now R result)
         (world (N.model line.old) (W.history store.old) known.old (C.model clock.old) (D.model draws.old))

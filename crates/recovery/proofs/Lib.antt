@@ -16,7 +16,6 @@ pub mod PurgePage
 pub mod PurgeWalk
 pub mod Put
 pub mod RollCalls
-pub mod SealStands
 pub mod SealedVersions
 pub mod Segments
 pub mod Settling

@@ -1,16 +1,13 @@
 -- The calls that finish a sealed completion: what each does to the account, and what it leaves.
-use Rattle.std.specs.Prelude.{◌≡◌, ◌⊎◌, ◌<◌, ℕ, Bool, true, false, cond, IsTrue, List, [], ◌∷◌, codes, length, Option, None, Some, Result, Ok, Err}
-use Rattle.std.specs.FinMap.{get, insert}
+use Rattle.std.specs.Prelude.{◌≡◌, ◌⊎◌, ℕ, Bool, true, false, cond, IsTrue, List, [], codes, Option, None, Some, Result, Ok, Err}
+use Rattle.std.specs.FinMap.{get}
 use Rattle.std.proofs.Common.{refl, sym, ap, subst, ◌∙◌, inl, inr, arith}
-use Rattle.gate_base.proofs.lemmas.Maps.{by_name, off_adjust, some_value}
+use Rattle.gate_base.proofs.lemmas.Maps.{some_value}
 use Rattle.s3_names.specs.Id.{id_digits}
 use Rattle.s3_machine.specs.ETag.{body_etag}
-use Rattle.slo_manifest.specs.declared.Segment.{Segment}
-use Rattle.swift_calls.specs.Account.{SwiftObject, SwiftContainer, SwiftAccount, files, find_object, on_files, put_file}
-use Rattle.swift_calls.specs.Bodies.{is_good_list}
+use Rattle.swift_calls.specs.Account.{SwiftObject, SwiftAccount, files, find_object, put_file}
 use Rattle.swift_calls.specs.History.{History, Calls, present}
-use Rattle.swift_calls.specs.Step.{Answer, delete_object, put_listed, put_manifest, put_object, swift_step}
-use Rattle.swift_calls.specs.declared.account.Content.TheVariants.{Segments}
+use Rattle.swift_calls.specs.Step.{Answer, delete_object, put_object, swift_step}
 use Rattle.swift_calls.specs.declared.calls.SwiftFault.{SwiftFault}
 use Rattle.swift_calls.specs.declared.calls.SwiftReply.{SwiftReply}
 use Rattle.swift_calls.specs.declared.calls.SwiftReply.TheVariants.{Made, There, Gone, Stored, NotFound, NotEmpty, BadManifest, Unsatisfiable, Containers, Readers, Names, Head, Bytes, Manifest}
@@ -24,18 +21,19 @@ use Rattle.upload_texts.specs.declared.sealed.Sealed.{Sealed}
 use Rattle.upload_records.specs.Consistent.{IsConsistent, IsStored}
 use Rattle.upload_records.specs.Laws.{IsRolled, Rolls, Stands, file_put}
 use Rattle.upload_records.specs.Layout.{uploads_name, segments_name, gateway_name, sealed_name}
-use Rattle.upload_records.specs.Native.{SameGateway, IsSettled, IsUnsealed, completed_file, content_by, object_of, seal_of, sealed_object, sealed_record, sealed_tag, s3_state}
-use Rattle.upload_records.proofs.Beside.{records_there, same_beside}
+use Rattle.upload_records.specs.Native.{SameGateway, IsSettled, IsUnsealed, completed_file, object_of, seal_of, sealed_object, sealed_record, sealed_tag, s3_state}
+use Rattle.upload_records.proofs.lemmas.Beside.{records_there, same_beside}
 use Rattle.upload_records.proofs.lemmas.Rolling as rolls
 use Rattle.upload_records.proofs.lemmas.Rolling.{TellsNone, TellsSeal, sealed_told}
-use Rattle.upload_records.proofs.lemmas.Settled.{OffSame, same_off, seal_same, settled_same, unsealed_by}
+use Rattle.upload_records.proofs.lemmas.Settled.{same_off, seal_same, settled_same, unsealed_by}
 use Rattle.upload_records.proofs.lemmas.SideCalls.{delete_settled, none_sealed}
 use Rattle.recovery.specs.declared.fault.PlanFault.{PlanFault}
 use Rattle.recovery.specs.declared.fault.PlanFault.TheVariants as fault
 use Rattle.recovery.specs.Interpret.{Gives, gone_due, known, stored_due}
-use Rattle.recovery.specs.Rolls.{HasGateway, HasObject, HasRecord, IsSealed, KeepsGateway, Leaves, LeavesClear, TellsSealed, kept_due, put_by, put_object_of, put_record_of, sealed_by, sealed_due, sealed_listing}
-use Rattle.recovery.proofs.SealStands.{limits, may_stand, object_stored, record_short, takes_list}
+use Rattle.recovery.specs.Rolls.{HasGateway, HasObject, HasRecord, IsSealed, KeepsGateway, Leaves, LeavesClear, TellsSealed, kept_due, put_object_of, put_record_of, sealed_by, sealed_due, sealed_listing}
+use Rattle.recovery.proofs.lemmas.SealStands.{limits, may_stand, object_stored, record_short, takes_list}
 use Rattle.recovery.proofs.lemmas.Etags.{etag_agrees}
+use Rattle.recovery.proofs.lemmas.ListPut.{by_stays, put_stays, put_step}
 use Rattle.recovery.proofs.lemmas.One.{found, stays_so}
 use Rattle.recovery.proofs.lemmas.Quiet.{IsQuietOf, QuietEffect}
 use Rattle.recovery.proofs.lemmas.SideNames.{file_name, id_fits}
@@ -114,36 +112,6 @@ pub found_none : (old new : SwiftAccount) (told : Option Sealed) → told ≡ No
 found_none old new told is has tells = record { none = unsealed_by new (ap seal_of tells.same ∙ sym tells.is ∙ is); gateway = subst HasGateway (sym tells.same) has }
 
 -- ---- the PUT of its object
-
--- the file of an object that lists these segments
-abbrev file_of : List ℕ → List (List ℕ) → List Segment → SwiftObject
-file_of content_type meta segments = record { content_type = content_type; meta = meta; content = content_by segments }
-
-module _ (tree : SwiftAccount) (bucket key content_type : List ℕ) (meta : List (List ℕ)) where
-  put_step : (segments : List Segment) (folder : SwiftContainer) → get tree bucket ≡ Some folder → (0 < length segments → is_good_list (find_object tree) segments ≡ true)
-      → swift_step (put_by bucket key content_type meta segments) tree ≡ put_object (Some folder) bucket key (file_of content_type meta segments) tree
-  put_step [] folder there good = ap (λ o. put_object o bucket key (file_of content_type meta []) tree) there
-  put_step (x ∷ rest) folder there good =
-      ap (λ o. put_manifest o bucket key content_type meta (x ∷ rest) tree) there
-      ∙ ap (λ t. put_listed t (Some folder) bucket key (file_of content_type meta (x ∷ rest)) tree) (good (omega arith))
-
-  put_stays : (o : Option SwiftContainer) (file : SwiftObject) → OffSame tree (put_object o bucket key file tree).tree bucket
-  put_stays None file = λ n apart. refl
-  put_stays (Some folder) file = off_adjust by_name bucket (on_files (λ fs. insert fs key file)) tree
-
-  listed_stays : (t : Bool) (o : Option SwiftContainer) (file : SwiftObject) → OffSame tree (put_listed t o bucket key file tree).tree bucket
-  listed_stays true o file = put_stays o file
-  listed_stays false o file = λ n apart. refl
-
-  manifest_stays : (o : Option SwiftContainer) (segments : List Segment) → OffSame tree (put_manifest o bucket key content_type meta segments tree).tree bucket
-  manifest_stays None segments = λ n apart. refl
-  manifest_stays (Some folder) segments =
-      listed_stays (is_good_list (find_object tree) segments) (Some folder) (record { content_type = content_type; meta = meta; content = Segments segments })
-
-  -- each other container stays
-  by_stays : (segments : List Segment) → OffSame tree (swift_step (put_by bucket key content_type meta segments) tree).tree bucket
-  by_stays [] = put_stays (get tree bucket) (file_of content_type meta [])
-  by_stays (x ∷ rest) = manifest_stays (get tree bucket) (x ∷ rest)
 
 module _ (tree : SwiftAccount) (s : Sealed) (has : has_sealed_text s ≡ true) (sound : IsConsistent tree) (given : IsSealed s tree) where
   abbrev after_object : SwiftAccount

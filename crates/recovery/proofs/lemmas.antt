@@ -9,6 +9,7 @@ pub mod FilePages
 pub mod Fits
 pub mod Forms
 pub mod Idle
+pub mod ListPut
 pub mod Markers
 pub mod Names
 pub mod One
@@ -16,6 +17,7 @@ pub mod Pages
 pub mod Quiet
 pub mod Removal
 pub mod Replies
+pub mod SealStands
 pub mod SideNames
 pub mod Sides
 pub mod Walk

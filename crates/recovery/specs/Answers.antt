@@ -3,6 +3,7 @@
 use Rattle.std.specs.Prelude.{◌≡◌, ◌<◌, ◌≤◌, ◌⊎◌, ℕ, suc, ◌+◌, ◌*◌, ◌/◌, ◌%◌, ◌^◌, Bool, true, false, List, [], ◌∷◌, ◌++◌, length, map, take, is_some, Option, None, Some}
 use Rattle.std.specs.FinMap.{entries, get, len}
 use Rattle.std.specs.List.{filter}
+use Rattle.std.specs.Option.{unwrap_or}
 use Rattle.s3_machine.specs.declared.code.Code.{Code}
 use Rattle.s3_machine.specs.declared.code.Code.TheVariants.{ServiceUnavailable, InconsistentStore}
 use Rattle.s3_machine.specs.declared.operation.Label.{Label}
@@ -29,13 +30,16 @@ use Rattle.s3_machine.specs.declared.operation.Op.TheVariants.{
   CompleteUpload,
   AbortUpload,
   DeleteObjects,
+  CopyObject,
+  CopyPart,
 }
 use Rattle.s3_machine.specs.declared.operation.Reply.{Reply}
 use Rattle.s3_machine.specs.declared.operation.Reply.TheVariants.{Refused, Memory, Gone, Completed}
 use Rattle.s3_machine.specs.Items.{begins}
 use Rattle.s3_machine.specs.State.{Bucket, Upload, State}
 use Rattle.s3_machine.specs.Step.{S3Step}
-use Rattle.swift_calls.specs.Account.{SwiftAccount, files}
+use Rattle.swift_calls.specs.Account.{SwiftAccount, SwiftObject, files, find_object}
+use Rattle.swift_calls.specs.Bodies as bodies
 use Rattle.swift_calls.specs.History.{History, budget, FaultFree}
 use Rattle.s3_names.specs.Id.{id_digits}
 use Rattle.upload_records.specs.Layout.{uploads_name, segments_name}
@@ -68,10 +72,14 @@ is_upload (ListParts bucket key id marker max) = true
 is_upload (CompleteUpload bucket key id list) = true
 is_upload (AbortUpload bucket key id) = true
 is_upload (DeleteObjects bucket keys quiet) = false
+is_upload (CopyObject bucket key acl from_bucket from_key replaced) = false
+is_upload (CopyPart bucket key id number from_bucket from_key range) = false
 
--- whether the operation is one on many keys at once
+-- whether the operation is one on many keys at once: of a bucket, or of what is copied and its copy
 abbrev pub is_many : Op → Bool
 is_many (DeleteObjects bucket keys quiet) = true
+is_many (CopyObject bucket key acl from_bucket from_key replaced) = true
+is_many (CopyPart bucket key id number from_bucket from_key range) = true
 is_many op = false
 
 -- ---- the steps of an operation
@@ -98,6 +106,8 @@ parts_of (ListParts bucket key id marker max) = []
 parts_of (CompleteUpload bucket key id list) = []
 parts_of (AbortUpload bucket key id) = []
 parts_of (DeleteObjects bucket keys quiet) = map (DeleteObject bucket) keys
+parts_of (CopyObject bucket key acl from_bucket from_key replaced) = []
+parts_of (CopyPart bucket key id number from_bucket from_key range) = []
 
 -- how many steps the account takes for an operation: one for each of its parts, and one for the whole
 abbrev pub steps_of : Op → ℕ
@@ -153,6 +163,8 @@ is_old_if_failed (ListParts bucket key id marker max) = true
 is_old_if_failed (CompleteUpload bucket key id list) = true
 is_old_if_failed (AbortUpload bucket key id) = true
 is_old_if_failed (DeleteObjects bucket keys quiet) = false
+is_old_if_failed (CopyObject bucket key acl from_bucket from_key replaced) = true
+is_old_if_failed (CopyPart bucket key id number from_bucket from_key range) = true
 
 -- whether it is the old one there, where memory ran out: of all but AbortUpload, which deletes the parts once the upload is gone
 abbrev pub is_old_if_out_of_memory : Op → Bool
@@ -176,6 +188,8 @@ is_old_if_out_of_memory (ListParts bucket key id marker max) = true
 is_old_if_out_of_memory (CompleteUpload bucket key id list) = true
 is_old_if_out_of_memory (AbortUpload bucket key id) = false
 is_old_if_out_of_memory (DeleteObjects bucket keys quiet) = false
+is_old_if_out_of_memory (CopyObject bucket key acl from_bucket from_key replaced) = true
+is_old_if_out_of_memory (CopyPart bucket key id number from_bucket from_key range) = true
 
 -- the state is the old one at each number before q, if that is asked for
 abbrev pub OldIf : Bool → History → ℕ → ℕ → Type 0
@@ -255,6 +269,8 @@ beside_of (ListParts bucket key id marker max) = nothing_beside
 beside_of (CompleteUpload bucket key id list) = nothing_beside
 beside_of (AbortUpload bucket key id) = clears bucket id
 beside_of (DeleteObjects bucket keys quiet) = nothing_beside
+beside_of (CopyObject bucket key acl from_bucket from_key replaced) = nothing_beside
+beside_of (CopyPart bucket key id number from_bucket from_key range) = nothing_beside
 
 -- the calls from p to q, by which an operation was answered, leave the account so
 abbrev pub SaysBeside : Beside → Label → History → ℕ → ℕ → Reply → Type 0
@@ -294,6 +310,14 @@ segments_of tree bucket = len (files tree (segments_name bucket))
 abbrev pub named_by : SwiftAccount → List ℕ → List ℕ → ℕ
 named_by tree bucket id = length (filter (λ entry. begins (id ++ (47 ∷ [])) entry.0) (entries (files tree (segments_name bucket))))
 
+abbrev pub listed_in : Option SwiftObject → ℕ
+listed_in None = 0
+listed_in (Some file) = length (unwrap_or (bodies.listed_in file.content) [])
+
+-- how many segments the file of a key lists: none, where it has bytes of its own
+abbrev pub listed_by : SwiftAccount → List ℕ → List ℕ → ℕ
+listed_by tree bucket key = listed_in (find_object tree bucket key)
+
 -- the greatest number of calls of an operation, by the account as it began
 abbrev pub most_calls : Op → SwiftAccount → Bound
 most_calls ListBuckets tree = by_account (pages (len tree) + len (s3_state tree))
@@ -316,6 +340,9 @@ most_calls (ListParts bucket key id marker max) tree = by_account (2 + pages (na
 most_calls (CompleteUpload bucket key id list) tree = by_account (6 + pages (named_by tree bucket id))
 most_calls (AbortUpload bucket key id) tree = by_account (3 + pages (named_by tree bucket id) + named_by tree bucket id)
 most_calls (DeleteObjects bucket keys quiet) tree = always (1 + length keys)
+most_calls (CopyObject bucket key acl from_bucket from_key replaced) tree =
+    by_account (7 + 2 * (records_of tree bucket + segments_of tree bucket) + 2 * listed_by tree from_bucket from_key)
+most_calls (CopyPart bucket key id number from_bucket from_key range) tree = always 6
 
 -- whether no call failed under a reply of the service: of all but a completion and an abort that are done, whose commit other calls
 -- follow
@@ -342,6 +369,8 @@ ends_by_commit (CompleteUpload bucket key id list) reply = true
 ends_by_commit (AbortUpload bucket key id) Gone = false
 ends_by_commit (AbortUpload bucket key id) reply = true
 ends_by_commit (DeleteObjects bucket keys quiet) reply = true
+ends_by_commit (CopyObject bucket key acl from_bucket from_key replaced) reply = true
+ends_by_commit (CopyPart bucket key id number from_bucket from_key range) reply = true
 
 -- a code that speaks of the store below
 abbrev pub is_of_store : Code → Bool
@@ -378,6 +407,8 @@ may_leave_unsure (ListParts bucket key id marker max) reply = false
 may_leave_unsure (CompleteUpload bucket key id list) reply = may_be_sealed reply
 may_leave_unsure (AbortUpload bucket key id) reply = false
 may_leave_unsure (DeleteObjects bucket keys quiet) reply = false
+may_leave_unsure (CopyObject bucket key acl from_bucket from_key replaced) reply = false
+may_leave_unsure (CopyPart bucket key id number from_bucket from_key range) reply = false
 
 -- the greatest number of calls by which a store is settled, by the account as it began
 abbrev pub most_settling : SwiftAccount → Bound

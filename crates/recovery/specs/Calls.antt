@@ -32,6 +32,7 @@ pub record GoesOn (old new : History) : Type 0 where
   pub ordered : old.called ≤ new.called
   pub faults : old.faults ≤ new.faults
   pub observable : IsTrue old.observable → IsTrue new.observable
+  pub told : IsTrue new.observable → IsTrue old.observable
   pub sure : IsTrue old.sure → IsTrue new.sure
   pub never : IsTrue old.observable → IsTrue old.sure → (k : ℕ) → old.called ≤ k → k ≤ new.called
       → new.faults_at k ≡ old.faults_at old.called

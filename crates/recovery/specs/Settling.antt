@@ -17,6 +17,10 @@ use Rattle.recovery.specs.Calls.{Any, Asks}
 abbrev pub IsKnown : Known → SwiftAccount → Type 0
 IsKnown known tree = known ≡ Settled → IsSettled tree
 
+-- and of a store, where it is observable
+abbrev pub Knows : Known → History → Type 0
+Knows known h = IsTrue h.observable → IsKnown known (present h)
+
 -- the fault of a plan whose store could not be settled; what it names is dropped
 abbrev pub settle_fault : SettleFault → PlanFault
 settle_fault Failed = plan.Failed

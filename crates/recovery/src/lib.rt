@@ -26,4 +26,5 @@ pub use listing::list_buckets;
 pub use object::{delete_object, get_object, head_object, put_object};
 pub use plans::{is_many, is_upload};
 pub use rolling::roll_forward;
+pub use sealed::{kept_in, object_request};
 pub use state::{Known, SettleFault, Settled, Unsure};

@@ -21,7 +21,9 @@ pub fn is_upload(op: &Op) -> bool
         | Op::HeadObject { .. }
         | Op::DeleteObject { .. }
         | Op::GetObjectAcl { .. }
-        | Op::DeleteObjects { .. } => false,
+        | Op::DeleteObjects { .. }
+        | Op::CopyObject { .. }
+        | Op::CopyPart { .. } => false,
         Op::ListUploads { .. }
         | Op::CreateUpload { .. }
         | Op::UploadPart { .. }
@@ -31,9 +33,12 @@ pub fn is_upload(op: &Op) -> bool
     }
 }
 
-/// The operation is one on many keys at once, which has a plan of its own.
+/// The operation is one on many keys at once, or on an object and a copy of it, which has a plan of its own.
 pub fn is_many(op: &Op) -> bool
     ensures { result ≡ is_many op.now }
 {
-    matches!(op, Op::DeleteObjects { .. })
+    matches!(
+        op,
+        Op::DeleteObjects { .. } | Op::CopyObject { .. } | Op::CopyPart { .. }
+    )
 }

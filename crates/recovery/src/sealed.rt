@@ -50,7 +50,7 @@ fn read_sealed(alloc: Global, text: &[u8]) -> Result<Option<Sealed>, PlanFault>
 }
 
 /// The answer to PUT of a file, whatever ETag the store has of it.
-pub(crate) fn kept_in(reply: &SwiftReply) -> Result<(), PlanFault>
+pub fn kept_in(reply: &SwiftReply) -> Result<(), PlanFault>
     ensures due { result ≡ kept_due reply.now }
     ensures own { result ≢ Err fault.Failed }
 {
@@ -62,7 +62,7 @@ pub(crate) fn kept_in(reply: &SwiftReply) -> Result<(), PlanFault>
 
 /// The PUT of the object of a sealed completion: a static large object of its parts that aren't empty, or an object without a
 /// byte where all are.
-pub(crate) fn object_request(alloc: Global, sealed: &Sealed) -> Result<SwiftRequest, Memory>
+pub fn object_request(alloc: Global, sealed: &Sealed) -> Result<SwiftRequest, Memory>
     requires { has_sealed_text sealed.now ≡ true }
     ensures request { IfOk result (λ request. request ≡ put_object_of sealed.now) }
     ensures fits { IfOk result Fit }

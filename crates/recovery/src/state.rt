@@ -1,7 +1,7 @@
 //! The store as an operation finds it: a completion may be sealed on it, or none is.
-ghost use Rattle.std.specs.Prelude.{◌≡◌, map, true, IfOk};
+ghost use Rattle.std.specs.Prelude.{◌≡◌, map, true, IfOk, IsTrue};
 ghost use Rattle.list_pages.specs.Listing.{name_in, page_request, AsksPage, IsPageOf};
-ghost use Rattle.swift_calls.specs.History.{Calls};
+ghost use Rattle.swift_calls.specs.History.{Calls, present};
 ghost use Rattle.swift_calls.specs.Step.{Fit};
 ghost use Rattle.upload_texts.specs.Sealed.{has_sealed_text};
 ghost use Rattle.upload_records.specs.Native.{IsSettled};
@@ -114,6 +114,7 @@ impl<'a, W: Swift> Unsure<'a, W> {
 impl<'a, W: Swift> Settled<'a, W> {
     /// A store that is known to be settled ([`Known::Settled`]). It takes no memory.
     pub fn hold(store: &'a mut W, settings: &'a Settings) -> Settled<'a, W>
+        requires { IsTrue (W.history store.old).observable → IsSettled (present (W.history store.old)) }
         ensures same { result.store.ghost_name ≡ store.entry.ghost_name }
         ensures store { result.store.now ≡ store.old }
         ensures settings { result.settings.now ≡ settings.now }

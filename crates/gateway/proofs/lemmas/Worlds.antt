@@ -24,6 +24,7 @@ module _ {settings : Settings} {T : ReplyRelation → World → World → Type 0
       → ServesOver settings T (world line store known clock draws) (world line' store known clock draws)
   serves_none observable told = record {
     on = record { line = observable; store = goes_none store; clock = λ observable. observable; draws = λ observable. observable };
+    knows = λ known. known;
     stands = stands_still settings known store;
     effect = λ known all met. told known _;
   }
@@ -34,6 +35,7 @@ module _ {settings : Settings} {T : ReplyRelation → World → World → Type 0
       → ServesOver settings T (world line store known clock draws) new
   serves_after observable serves told = record {
     on = record { line = λ t. serves.on.line (observable t); store = serves.on.store; clock = serves.on.clock; draws = serves.on.draws };
+    knows = serves.knows;
     stands = serves.stands;
     effect = λ t all met. told t _ (serves.effect (record { line = observable t.line; clock = t.clock; draws = t.draws }) all met);
   }
@@ -49,6 +51,7 @@ serves_trans {middle = middle} first then joined = record {
     clock = λ t. then.on.clock (first.on.clock t);
     draws = λ t. then.on.draws (first.on.draws t);
   };
+  knows = λ known. then.knows (first.knows known);
   stands = stands_trans first.on.store then.on.store first.stands then.stands;
   effect = λ t all met.
       let given = where_map all (met_now first.on.store first.stands) met in

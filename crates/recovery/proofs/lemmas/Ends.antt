@@ -381,3 +381,5 @@ none_beside (op.ListParts bucket key id marker max) other = cc
 none_beside (op.CompleteUpload bucket key id list) other = cc
 none_beside (op.AbortUpload bucket key id) other = cc
 none_beside (op.DeleteObjects bucket keys quiet) other = refl
+none_beside (op.CopyObject bucket key acl from_bucket from_key replaced) other = refl
+none_beside (op.CopyPart bucket key id number from_bucket from_key range) other = refl

@@ -35,6 +35,7 @@ goes_none h = record {
   ordered = omega arith;
   faults = omega arith;
   observable = λ observable. observable;
+  told = λ told. told;
   sure = λ sure. sure;
   never = λ observable sure k from to. ap h.faults_at (omega arith);
   kept = λ observable. extends_refl h.called h;
@@ -51,6 +52,7 @@ goes_trans {a = a} {b = b} {c = c} first then =
       ordered = omega arith;
       faults = omega arith;
       observable = λ observable. then.observable (first.observable observable);
+      told = λ told. first.told (then.told told);
       sure = λ sure. then.sure (first.sure sure);
       never = λ observable sure k from to. at observable sure k from to (cases_lt b.called k);
       kept = λ observable. extends_trans first_ordered (first.kept observable) (then.kept (first.observable observable));

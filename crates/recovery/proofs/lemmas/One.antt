@@ -69,6 +69,7 @@ goes_one {old = old} {new = new} {result = result} calls = record {
   ordered = (counts_near old.called new.called result calls.counts).0;
   faults = faults_near old.faults new.faults result calls.faults;
   observable = calls.observable;
+  told = calls.told;
   sure = calls.sure;
   never = never_failed result calls;
   kept = calls.kept;

@@ -2,8 +2,11 @@ use Rattle.std.proofs.Common.{◌≡◌, subst}
 use Rattle.s3_machine.specs.declared.code.Code.TheVariants.{ServiceUnavailable}
 use Rattle.gateway.specs.ResolvedRequest.{Understands}
 use Rattle.s3_requests.specs.Proper.{IsProperMeant}
-use Rattle.gateway.proofs.Replying.{operated_stands, code_meant, stands_still, replied_op, replied_refused, replied_memory}
+use Rattle.gateway.proofs.Replying.{operated_knows, operated_stands, code_meant, stands_still, replied_op, replied_refused, replied_memory}
 use Rattle.gateway.proofs.reply.reply_to.Goals as goal
+
+pub returns-in-Op-clause-knows : goal.returns-in-Op-clause-knows
+returns-in-Op-clause-knows g c = operated_knows c.operate.ensures c.requires.knows
 
 pub returns-in-Op-clause-stands : goal.returns-in-Op-clause-stands
 returns-in-Op-clause-stands g c = operated_stands c.operate.ensures

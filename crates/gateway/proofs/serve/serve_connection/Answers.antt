@@ -14,7 +14,7 @@ returns-in-Err-clause-serves g c =
 pub requests-init : goal.requests-init
 requests-init g c = record {
   goes = ap (λ (r : Pending). r.ended) c.in-Ok.ensures;
-  line = record { is_open = c.requires; faults = refl; next_faults = refl; spent = omega arith; observable = λ t. t; transcript = λ t. record { waiting = refl; begun = refl; faulty = refl } };
+  line = record { is_open = c.requires.open; faults = refl; next_faults = refl; spent = omega arith; observable = λ t. t; transcript = λ t. record { waiting = refl; begun = refl; faulty = refl } };
   serves = serves_none (λ t. t) (λ told R. answered_none _ _ _ _ _ _ c.in-Ok.ensures);
 }
 
@@ -46,3 +46,6 @@ requests-preserved g c =
           let before = answered_agree c.args.service.now.settings present.store next.store all begin.line.transcript.begun (start_of begin) (cursor_of c.requests.reader present) kept answered in
           answered_more begin.line.transcript.begun (start_of begin) (cursor_of c.requests.reader present) (cursor_of c.serve_next.new.reader next) before (subst P (i.line.transcript told.line).begun one));
     }
+
+pub serve_next-requires-clause-knows : goal.serve_next-requires-clause-knows
+serve_next-requires-clause-knows g c = c.requests.invariant.serves.knows c.requires.knows

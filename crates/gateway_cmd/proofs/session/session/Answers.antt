@@ -71,3 +71,6 @@ connections-preserved g c =
           (counts_next c.args.most c.connections.left _ (g.N.Line.model c.connections.line).transcript.begun _ (c.is_reached.ensures.some c.if-is_reached.false) (i.counts observable) (s.begun (i.serves.on.line observable)));
       serves = serves_trans {old = begin} {middle = present} {new = next} i.serves c.in-None.ensures.serves (λ told all kept traces one. run_traces_more all c.args.service.now begin present next kept traces one);
     }
+
+pub serve_another-requires : goal.serve_another-requires
+serve_another-requires g c = c.connections.invariant.serves.knows c.requires

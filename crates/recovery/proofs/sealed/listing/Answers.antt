@@ -1,7 +1,7 @@
 use Rattle.std.proofs.Common.{ap, ◌∙◌}
 use Rattle.std.specs.List.{list_all}
 use Rattle.upload_texts.specs.Sealed.{is_sealed_part}
-use Rattle.recovery.proofs.SealStands.{limits}
+use Rattle.recovery.proofs.lemmas.SealStands.{limits}
 use Rattle.recovery.proofs.sealed.listing.Goals as goal
 
 pub segments_in-requires : goal.segments_in-requires

@@ -1,7 +1,7 @@
 use Rattle.std.proofs.Common.{sym, subst, ◌∙◌}
 use Rattle.swift_calls.specs.Step.{Fit}
 use Rattle.recovery.specs.Rolls.{put_by}
-use Rattle.recovery.proofs.SealStands.{object_fits}
+use Rattle.recovery.proofs.lemmas.SealStands.{object_fits}
 use Rattle.recovery.proofs.sealed.object_request.Goals as goal
 
 pub returns-clause-request : goal.returns-clause-request

@@ -2,7 +2,7 @@ use Rattle.std.proofs.Common.{◌≡◌, ℕ, List, Some, subst, ◌∙◌}
 use Rattle.std.specs.Prelude.{IfOk}
 use Rattle.swift_marks.specs.Tag.{has_text, tag_text}
 use Rattle.swift_marks.specs.declared.tag.Tag.{Tag}
-use Rattle.recovery.proofs.SealStands.{sealed_tag_has_text}
+use Rattle.recovery.proofs.lemmas.SealStands.{sealed_tag_has_text}
 use Rattle.recovery.proofs.sealed.object_type.Goals as goal
 
 abbrev made : List ℕ → List ℕ → ℕ → ℕ → Tag

@@ -176,7 +176,7 @@ few_listed folder id [] = omega (arith)
 few_listed folder id (p ∷ list) = let few = few_by folder id p (filled_parts list) (length list) (nat_lt 0 p.size) (few_listed folder id list) in omega (arith, few)
 
 -- how many bytes its segments have
-abbrev sum_of : List Segment → ℕ
+abbrev pub sum_of : List Segment → ℕ
 sum_of segments = sum_by (λ (x : Segment). x.size) segments
 
 sum_more : (folder id : List ℕ) (p : SealedPart) (rest : List SealedPart) (most : ℕ) (t : Bool) → p.size ≤ most_body_bytes → sum_of (map (part_segment folder id) rest) ≤ most
@@ -208,7 +208,7 @@ lists_few s has =
 
 -- ---- what a store takes
 
-pack_fits : (meta : List Pair) → is_proper_meta meta ≡ true → IsTrue (store.is_meta (pack_of meta))
+pub pack_fits : (meta : List Pair) → is_proper_meta meta ≡ true → IsTrue (store.is_meta (pack_of meta))
 pack_fits meta is = let small = pack_is_small meta (described meta is) in and_from _ _ (le-leb (length (pack_of meta)) 11 small.0) small.1
 
 fits_by : (bucket key content_type : List ℕ) (meta : List (List ℕ)) (segments : List Segment) → is_bucket bucket ≡ true → is_key key ≡ true → IsTrue (store.is_content_type content_type) → IsTrue (store.is_meta meta)
@@ -255,7 +255,7 @@ rises_up (p ∷ list) all up =
     let counted = (part_of p (and_parts (is_sealed_part p) (list_all is_sealed_part list) all).0).0.counted in
     and_from _ _ (lt-ltb 0 p.number (omega (arith, counted))) up
 
-all_counted : (list : List SealedPart) → list_all is_sealed_part list ≡ true → AreCounted list
+pub all_counted : (list : List SealedPart) → list_all is_sealed_part list ≡ true → AreCounted list
 all_counted [] e = tt
 all_counted (p ∷ list) e = let parts = and_parts (is_sealed_part p) (list_all is_sealed_part list) e in ((part_of p parts.0).0.within, all_counted list parts.1)
 
@@ -295,12 +295,16 @@ all_listed : (tree : SwiftAccount) (folder id : List ℕ) (above : ℕ) (list : 
 all_listed tree folder id above [] parts = refl
 all_listed tree folder id above (x ∷ list) (number, low, high, listed, rest) = and_from _ _ (one_listed tree folder id number x listed) (all_listed tree folder id number list rest)
 
-pub takes_list : (tree : SwiftAccount) (s : Sealed) → IsConsistent tree → seal_of tree ≡ Some s → 0 < length (sealed_listing s) → is_good_list (find_object tree) (sealed_listing s) ≡ true
+-- it takes parts of one id that stand there, one or more
+pub takes_parts : (tree : SwiftAccount) (folder id : List ℕ) (list : List Segment) → length list ≤ 1000 → sum_of list < 2 ^ 63 → AreParts (files tree folder) folder id 0 list → 0 < length list
+    → is_good_list (find_object tree) list ≡ true
 unfolding is_good_list
+takes_parts tree folder id list few sum parts some =
+    and_from _ _ (and_from _ _ (and_from _ _ (lt-ltb 0 (length list) some) (le-leb (length list) most_segments few)) (all_listed tree folder id 0 list parts)) (lt-ltb (sum_of list) (2 ^ 63) sum)
+
+pub takes_list : (tree : SwiftAccount) (s : Sealed) → IsConsistent tree → seal_of tree ≡ Some s → 0 < length (sealed_listing s) → is_good_list (find_object tree) (sealed_listing s) ≡ true
 takes_list tree s sound seals some =
     let may = may_stand tree s sound seals in
     let lists = lists_few s (seal_has_text tree s seals) in
-    let few = lists.few in
-    let parts = (listing_stands (files tree (segments_name s.bucket)) (segments_name s.bucket) (id_digits s.id) 0 s.list may.ascends may.counted may.filed may.parts).0 in
-    and_from _ _ (and_from _ _ (and_from _ _ (lt-ltb 0 (length (sealed_listing s)) some) (le-leb (length (sealed_listing s)) most_segments few))
-    (all_listed tree (segments_name s.bucket) (id_digits s.id) 0 (sealed_listing s) parts)) (lt-ltb (sum_of (sealed_listing s)) (2 ^ 63) lists.sum)
+    takes_parts tree (segments_name s.bucket) (id_digits s.id) (sealed_listing s) lists.few lists.sum
+    (listing_stands (files tree (segments_name s.bucket)) (segments_name s.bucket) (id_digits s.id) 0 s.list may.ascends may.counted may.filed may.parts).0 some
