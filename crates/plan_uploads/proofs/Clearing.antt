@@ -14,7 +14,7 @@ use Rattle.swift_calls.specs.declared.calls.SwiftRequest.TheVariants.{DeleteObje
 use Rattle.swift_calls.specs.declared.calls.SwiftReply.{SwiftReply}
 use Rattle.upload_records.specs.Layout.{segments_name, uploads_name}
 use Rattle.upload_records.specs.Laws.{UploadAbandoned}
-use Rattle.upload_records.proofs.Sides.{segments_uploads}
+use Rattle.upload_records.proofs.lemmas.Sides.{segments_uploads}
 use Rattle.recovery.specs.Calls.{GivenOf, Met}
 use Rattle.recovery.proofs.lemmas.One.{found}
 use Rattle.plan_uploads.specs.Records.{HasOpen, MayClear}

@@ -15,14 +15,13 @@ use Rattle.s3_machine.specs.Step.{IsNewId}
 use Rattle.s3_machine.specs.Uploads.{new_upload, open_upload}
 use Rattle.s3_machine.specs.declared.operation.Label.{Label}
 use Rattle.s3_machine.specs.declared.operation.Reply.{Reply}
-use Rattle.swift_calls.specs.Account.{SwiftAccount, SwiftObject, files}
+use Rattle.swift_calls.specs.Account.{SwiftAccount, files}
 use Rattle.swift_calls.specs.History.{History, present}
-use Rattle.upload_records.specs.Layout.{five_digits, segment_name, segments_name, uploads_name}
-use Rattle.upload_records.specs.Laws.{IsUnused}
+use Rattle.upload_records.specs.Layout.{segments_name, uploads_name}
 use Rattle.upload_records.specs.Native.{bucket_from, kept_by, record_of, s3_state, upload_by}
 use Rattle.recovery.specs.declared.fault.PlanFault.{PlanFault}
 use Rattle.recovery.specs.declared.fault.PlanFault.TheVariants.{Failed, Memory, Inconsistent}
-use Rattle.recovery.specs.Answers.{IsFirstFree, IsNamedBy, IsTaken, SaysBeside, opens_in, upload_at}
+use Rattle.recovery.specs.Answers.{IsFirstFree, SaysBeside, opens_in, upload_at}
 use Rattle.recovery.specs.Calls.{Bound, always, Asks, Becomes, Changes, Commits, Given, GivenOf, TellsBucket, Writes}
 use Rattle.recovery.specs.Listing.{TellsOf}
 use Rattle.recovery.specs.Plan.{reply_of}
@@ -31,23 +30,10 @@ use Rattle.plan_uploads.specs.Plans.{LeavesBeside, MayStart}
 use Rattle.recovery.proofs.lemmas.Ask.{asks_told}
 use Rattle.plan_uploads.specs.Records.{InBucket, MayOpen, TellsFree, opens_upload}
 use Rattle.plan_uploads.proofs.Beside.{opens_nothing}
+use Rattle.plan_uploads.proofs.lemmas.Free.{unused}
 use Rattle.plan_uploads.proofs.Finding.{bucket_there, in_bucket_of, kept_is, there_of, upload_is}
 
--- ---- nothing stands under the id
-
-not_taken : (o : Option SwiftObject) → (is_some o ≡ true → ⊥) → o ≡ None
-not_taken None free = refl
-not_taken (Some file) free = absurd (free refl)
-
-named_segment : (id : List ℕ) (number : ℕ) → IsNamedBy id (segment_name id number)
-unfolding segment_name
-named_segment id number = (five_digits number, refl)
-
-pub unused : (tree : SwiftAccount) (bucket id : List ℕ) → (IsTaken tree bucket id → ⊥) → IsUnused tree bucket id
-unused tree bucket id free = record {
-  unrecorded = not_taken (get (files tree (uploads_name bucket)) id) (λ some. free (inl some));
-  bare = λ number. not_taken (get (files tree (segments_name bucket)) (segment_name id number)) (λ some. free (inr (segment_name id number, named_segment id number, some)));
-}
+-- ---- an upload that may be opened
 
 module _ {bucket : List ℕ} {acl : Acl} {draw id : ℕ} {tree : SwiftAccount} (may : MayStart bucket acl draw id tree) where
   pub may_open : MayOpen bucket id tree

@@ -23,7 +23,7 @@ use Rattle.upload_records.specs.Layout.{segments_name, segments_prefix, uploads_
 use Rattle.upload_records.specs.Native.{IsSettled, SameGateway, s3_state}
 use Rattle.upload_records.specs.Consistent.{IsConsistent, IsThere}
 use Rattle.upload_records.specs.Laws.{IsAbandoned, UploadAbandoned, UploadDropped}
-use Rattle.upload_records.proofs.Beside.{segments_there}
+use Rattle.upload_records.proofs.lemmas.Beside.{segments_there}
 use Rattle.upload_records.proofs.lemmas.Settled.{settled_same, unsealed_of}
 use Rattle.recovery.specs.Calls.{Becomes, Bound, Changes, ChangesTo, GivenOf, Met}
 use Rattle.recovery.specs.Interpret.{gone_due}

@@ -9,6 +9,7 @@ pub mod CompletionCalls
 pub mod CompletionEnds
 pub mod CompletionSteps
 pub mod Completions
+pub mod Copying
 pub mod Creating
 pub mod Dated
 pub mod Digits
@@ -43,3 +44,4 @@ pub mod Turned
 pub mod UploadRows
 pub mod UploadsListed
 pub mod Versions
+pub mod lemmas

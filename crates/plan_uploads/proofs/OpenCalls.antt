@@ -15,7 +15,7 @@ use Rattle.upload_records.specs.Layout.{uploads_name}
 use Rattle.upload_records.specs.Native.{IsSettled, SameGateway, s3_state}
 use Rattle.upload_records.specs.Consistent.{IsConsistent, IsStored}
 use Rattle.upload_records.specs.Laws.{ChangesBy, IsOpenText, UploadOpened, file_put}
-use Rattle.upload_records.proofs.Beside.{records_there}
+use Rattle.upload_records.proofs.lemmas.Beside.{records_there}
 use Rattle.upload_records.proofs.lemmas.Settled.{settled_same, unsealed_of}
 use Rattle.recovery.specs.Calls.{Becomes}
 use Rattle.recovery.specs.Interpret.{stored_due}

@@ -19,7 +19,7 @@ use Rattle.upload_records.specs.Layout.{segment_name, segments_name}
 use Rattle.upload_records.specs.Native.{IsSettled, SameGateway, s3_state}
 use Rattle.upload_records.specs.Consistent.{IsConsistent, IsPart, IsStored}
 use Rattle.upload_records.specs.Laws.{ChangesBy, PartPut, file_put}
-use Rattle.upload_records.proofs.Beside.{segments_there}
+use Rattle.upload_records.proofs.lemmas.Beside.{segments_there}
 use Rattle.upload_records.proofs.lemmas.Settled.{settled_same, unsealed_of}
 use Rattle.recovery.specs.Calls.{Becomes}
 use Rattle.recovery.specs.Interpret.{stored_due}

@@ -11,7 +11,7 @@ use Rattle.swift_calls.specs.declared.calls.SwiftRequest.TheVariants.{DeleteObje
 use Rattle.upload_records.specs.Native.{SameGateway}
 use Rattle.upload_records.specs.Consistent.{IsBeside}
 use Rattle.upload_records.specs.Laws.{file_put}
-use Rattle.upload_records.proofs.Beside.{same_beside}
+use Rattle.upload_records.proofs.lemmas.Beside.{same_beside}
 
 -- what stands in each other container stays
 abbrev OthersStay : SwiftAccount → SwiftAccount → List ℕ → Type 0

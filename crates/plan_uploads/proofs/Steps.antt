@@ -40,7 +40,7 @@ none_of (Some b) e = cc
 pub lacks_of : (bucket : List ℕ) (state : State) → TellsBucket bucket state None → LacksBucket bucket state
 lacks_of bucket state told = none_of (get state bucket) told
 
-bucket_by : (o : Option Bucket) (acl : Acl) → option_map acl_of_bucket o ≡ Some acl → (b : Bucket) × (o ≡ Some b) × (b.acl ≡ acl)
+pub bucket_by : (o : Option Bucket) (acl : Acl) → option_map acl_of_bucket o ≡ Some acl → (b : Bucket) × (o ≡ Some b) × (b.acl ≡ acl)
 bucket_by None acl e = cc
 bucket_by (Some b) acl e = (b, refl, cc)
 

@@ -16,7 +16,7 @@ use Rattle.swift_calls.specs.declared.heads.NameItem.{NameItem}
 use Rattle.list_pages.proofs.lemmas.Rising.{begins_cut}
 use Rattle.list_pages.proofs.lemmas.Starts.{starts_begins}
 use Rattle.upload_records.specs.Layout.{segments_name, segments_prefix, uploads_name}
-use Rattle.upload_records.proofs.Beside.{segments_there}
+use Rattle.upload_records.proofs.lemmas.Beside.{segments_there}
 use Rattle.recovery.specs.Answers.{IsNamedBy}
 use Rattle.recovery.specs.Calls.{GivenOf}
 use Rattle.recovery.proofs.lemmas.One.{IsReadingOf}

@@ -23,7 +23,7 @@ use Rattle.upload_texts.specs.declared.record.Record.TheVariants.{Open, Done}
 use Rattle.upload_records.specs.Layout.{uploads_name, segments_name}
 use Rattle.upload_records.specs.Native.{bucket_of, bucket_from, record_of, record_at, upload_by, upload_of, IsSettled, s3_state}
 use Rattle.upload_records.specs.Consistent.{IsConsistent, IsThere}
-use Rattle.upload_records.proofs.Plain.{get_plain}
+use Rattle.upload_records.proofs.lemmas.Plain.{get_plain}
 use Rattle.upload_records.proofs.lemmas.Settled.{unsealed_of, s3_state_unsealed}
 use Rattle.list_pages.proofs.lemmas.PickedEntries.{entries_picked}
 use Rattle.recovery.specs.declared.fault.PlanFault.{PlanFault}

@@ -1,4 +1,5 @@
 pub mod Completing
+pub mod Copying
 pub mod Interpret
 pub mod Listing
 pub mod Plans

@@ -121,7 +121,7 @@ fn any_in(reply: &SwiftReply) -> Result<bool, PlanFault>
 /// The first id that isn't taken, from a word of chance on, by a try for each. At most two calls for each record and each segment
 /// of the bucket, and two more, where the store is observable and its account consistent; and the S3 state stays. The faults are
 /// those of [`is_taken`]; Memory also where all ids that are tried are taken.
-pub(crate) fn free_id<W: Swift>(
+pub fn free_id<W: Swift>(
     alloc: Global,
     state: &mut Settled<'_, W>,
     bucket: &Bytes,

@@ -5,6 +5,7 @@ mod abort;
 mod chosen;
 mod complete;
 mod completed;
+mod copied_part;
 mod create;
 mod found;
 mod ids;
@@ -18,4 +19,7 @@ mod records;
 mod seal;
 mod uploads;
 
+pub use copied_part::copy_part;
+pub use ids::free_id;
 pub use operation::{Replied, answer};
+pub use parts::part_request;

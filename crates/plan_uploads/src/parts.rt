@@ -51,7 +51,7 @@ pub(crate) fn put_part<W: Swift>(
 }
 
 /// The PUT of a part's file, whose body has this ETag.
-fn part_request(
+pub fn part_request(
     alloc: Global,
     bucket: &Bytes,
     id: u128,
