@@ -12,7 +12,7 @@ use Rattle.s3_names.specs.declared.acl.Acl.{Acl}
 use Rattle.s3_machine.specs.declared.code.Code.TheVariants.{NoSuchBucket}
 use Rattle.s3_machine.specs.declared.operation.Label.{Label}
 use Rattle.s3_machine.specs.declared.operation.Op.{Op}
-use Rattle.s3_machine.specs.declared.operation.Op.TheVariants.{DeleteObject, DeleteObjects}
+use Rattle.s3_machine.specs.declared.operation.Op.TheVariants.{CopyObject, CopyPart, DeleteObject, DeleteObjects}
 use Rattle.s3_machine.specs.declared.operation.Reply.TheVariants.{Deleted, Gone, Refused}
 use Rattle.s3_machine.specs.declared.operation.Settings.{Settings}
 use Rattle.s3_machine.specs.State.{Bucket, State}
@@ -331,4 +331,6 @@ deletes_rest {bucket = bucket} {b = b} {c = c} {settings = settings} {end = end}
 -- nothing is asked of the account beside the state
 pub none_beside_many : (op : Op) → is_many op ≡ true → beside_of op ≡ nothing_beside
 none_beside_many (DeleteObjects bucket keys quiet) is = refl
+none_beside_many (CopyObject bucket key acl from_bucket from_key replaced) is = refl
+none_beside_many (CopyPart bucket key id number from_bucket from_key range) is = refl
 none_beside_many other is = cc

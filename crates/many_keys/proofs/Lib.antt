@@ -1,2 +1,12 @@
+pub mod CopyPlans
+pub mod CopySteps
+pub mod Copying
+pub mod CutCalls
+pub mod Cuts
 pub mod Deleting
+pub mod PieceCalls
+pub mod PutsCopy
+pub mod PutsFile
+pub mod SideFiles
+pub mod Sources
 pub mod Stages

@@ -1,1 +1,3 @@
+pub mod CopiedLists
+pub mod Copies
 pub mod Deletions

@@ -1,7 +1,12 @@
-//! The plan of an operation on many keys at once: which calls of the store answer it, and in which order.
+//! The plans of operations on many keys at once: which calls of the store answer each, and in which order.
 #![tactic(auto)]
 
+mod copies;
+mod cut;
 mod deletions;
+mod listed;
 mod operation;
+mod segments;
+mod source;
 
 pub use operation::answer;

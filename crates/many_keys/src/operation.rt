@@ -8,42 +8,92 @@ ghost use Rattle.recovery.specs.Calls.{Any, Given};
 ghost use Rattle.recovery.specs.Lent.{Stays};
 ghost use Rattle.recovery.specs.Plan.{reply_of, Plans, Answered};
 
+use crate::copies::copy_object;
 use crate::deletions::delete_objects;
+use gate_base::{Bytes, List};
+use plan_uploads::copy_part;
 use recovery::{PlanFault, Settled};
 use s3_machine::{Code, Label, Op, Reply};
+use std::alloc::Global;
+use std::mem::replace;
 use swift_calls::Swift;
 
-/// Answers DeleteObjects, which deletes up to 1000 keys of a bucket, one after another. The reply is the service's own, and then
-/// none of the keys is left. Or it is ServiceUnavailable, only where the store's count of faults rose in this call: the last
-/// call failed and no earlier one did, and the first of the keys are gone, or none. Or it is `Memory`, where memory ran out, with
-/// the same states. Or it is InconsistentStore, never over an observable consistent account. No call follows one that failed,
-/// and there are at most one for the bucket and one for each key. `Memory` is also the answer to any other operation, which
-/// nobody asks for here.
-pub fn answer<W: Swift>(state: &mut Settled<'_, W>, op: Op, label: &Label) -> Reply
+/// Answers DeleteObjects, which deletes up to 1000 keys of a bucket, one after another, and the two copies, CopyObject and
+/// CopyPart. The reply is the service's own, and then the state is as its step leaves it. Or it is ServiceUnavailable, only where
+/// the store's count of faults rose in this call: the last call failed and no earlier one did; of a deletion the first of the keys
+/// are gone, or none, and of a copy the state is the old one or the step's. Or it is `Memory`, where memory ran out, with the same
+/// states. Or it is InconsistentStore, never over an observable consistent account. No call follows one that failed, and how many
+/// there are is bounded by the operation. `Memory` is also the answer to any other operation, which nobody asks for here.
+pub fn answer<W: Swift>(alloc: Global, state: &mut Settled<'_, W>, op: Op, label: &Label) -> Reply
     requires proper { IsProper op label.now }
     requires own { is_many op ≡ true }
     ensures stays { Stays state.old state.new }
 
-    // The calls amount to the operation, step by step of its keys.
+    // The calls amount to the operation; those of a deletion step by step of its keys, and those of a copy with at most one commit.
     ensures answered { Answered (most_calls op (present (W.history state.old.store.now))) (W.history state.old.store.now) (W.history state.new.store.now)
         state.old.settings.now op label.now known.Settled result }
 {
-    reply_to(plan(state, op, label))
+    let mut op = op;
+    reply_to(plan(alloc, state, &mut op, label))
 }
 
-/// Makes the calls of an operation's plan. Any other operation ends as where memory ran out, without a call.
-fn plan<W: Swift>(state: &mut Settled<'_, W>, op: Op, label: &Label) -> Result<Reply, PlanFault>
-    requires { IsProper op label.now }
+/// Makes the calls of an operation's plan, which takes of it what it needs; the operation is dropped by its owner alone. Any other
+/// operation ends as where memory ran out, without a call.
+fn plan<W: Swift>(
+    alloc: Global,
+    state: &mut Settled<'_, W>,
+    op: &mut Op,
+    label: &Label,
+) -> Result<Reply, PlanFault>
+    requires { IsProper op.old label.now }
     ensures stays { Stays state.old state.new }
-    ensures plans { Plans (most_calls op (present (W.history state.old.store.now))) (W.history state.old.store.now) (W.history state.new.store.now) state.old.settings.now
-        (Given Any) op label.now known.Settled result }
+    ensures plans { Plans (most_calls op.old (present (W.history state.old.store.now))) (W.history state.old.store.now) (W.history state.new.store.now) state.old.settings.now
+        (Given Any) op.old label.now known.Settled result }
 {
     match op {
         Op::DeleteObjects {
             bucket,
             keys,
             quiet,
-        } => delete_objects(state, &bucket, keys, quiet),
+        } => delete_objects(state, bucket, replace(keys, List::new(alloc)), *quiet),
+        Op::CopyObject {
+            bucket,
+            key,
+            acl,
+            from_bucket,
+            from_key,
+            replaced,
+        } => copy_object(
+            alloc,
+            state,
+            replace(bucket, Bytes::new(alloc)),
+            replace(key, Bytes::new(alloc)),
+            *acl,
+            replace(from_bucket, Bytes::new(alloc)),
+            replace(from_key, Bytes::new(alloc)),
+            replaced.take(),
+            label,
+        ),
+        Op::CopyPart {
+            bucket,
+            key,
+            id,
+            number,
+            from_bucket,
+            from_key,
+            range,
+        } => copy_part(
+            alloc,
+            state,
+            bucket,
+            key,
+            id,
+            *number,
+            replace(from_bucket, Bytes::new(alloc)),
+            replace(from_key, Bytes::new(alloc)),
+            *range,
+            label,
+        ),
         _ => Err(PlanFault::Memory),
     }
 }

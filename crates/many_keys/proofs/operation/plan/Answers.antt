@@ -5,7 +5,7 @@ use Rattle.recovery.proofs.lemmas.Ends.{out_of_memory}
 use Rattle.many_keys.proofs.operation.plan.Goals as goal
 
 pub returns-in-DeleteObjects-clause-plans : goal.returns-in-DeleteObjects-clause-plans
-returns-in-DeleteObjects-clause-plans g c = rw c.in-DeleteObjects.is (c.delete_objects.ensures.plans c.args.label.now)
+returns-in-DeleteObjects-clause-plans g c = rw c.in-DeleteObjects.is (rw c.replace.ensures.value at (c.delete_objects.ensures.plans c.args.label.now))
 
-pub returns : goal.returns
-returns g c = record { stays = record { store = refl; settings = refl }; plans = out_of_memory _ (Err Memory) refl }
+pub returns-in_default : goal.returns-in_default
+returns-in_default g c = record { stays = record { store = refl; settings = refl }; plans = out_of_memory _ (Err Memory) refl }

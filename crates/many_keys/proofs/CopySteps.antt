@@ -1,0 +1,135 @@
+-- The copy of an object: its steps by what its calls told, and the bound of its plan.
+use Rattle.std.specs.Prelude.{◌≡◌, ◌≤◌, ℕ, Bool, true, false, List, Option, None, Some, Result}
+use Rattle.std.specs.Option.{option_map}
+use Rattle.std.specs.FinMap.{get}
+use Rattle.std.proofs.Common.{refl, sym, ap, subst, ◌∙◌, arith}
+use Rattle.gate_base.specs.Maps.{adjust}
+use Rattle.s3_names.specs.declared.acl.Acl.{Acl}
+use Rattle.s3_machine.specs.declared.code.Code.TheVariants.{InvalidRequest, NoSuchBucket, NoSuchKey, NotImplemented}
+use Rattle.s3_machine.specs.declared.operation.Label.{Label}
+use Rattle.s3_machine.specs.declared.operation.ObjectHead.{ObjectHead}
+use Rattle.s3_machine.specs.declared.operation.Op.TheVariants.{CopyObject}
+use Rattle.s3_machine.specs.declared.operation.Replaced.{Replaced}
+use Rattle.s3_machine.specs.declared.operation.Reply.{Reply}
+use Rattle.s3_machine.specs.declared.operation.Reply.TheVariants.{Copied, Refused}
+use Rattle.s3_machine.specs.declared.operation.Settings.{Settings}
+use Rattle.s3_machine.specs.Copies.{copied, is_onto_itself}
+use Rattle.s3_machine.specs.ETag.{body_etag}
+use Rattle.s3_machine.specs.State.{Bucket, Object, State}
+use Rattle.s3_machine.specs.Step.{S3Step, head_of, is_other_acl, new_object, put_object}
+use Rattle.s3_machine.proofs.lemmas.StepLemmas.{HasSource, copy_onto_itself, copy_with_another_acl, copy_without_bucket, copy_without_source, copy_without_source_bucket, step_copied}
+use Rattle.swift_calls.specs.Account.{SwiftAccount}
+use Rattle.swift_calls.specs.History.{History}
+use Rattle.upload_records.specs.Native.{object_at}
+use Rattle.recovery.specs.Calls.{acl_of_bucket, always, by_account, puts_object, TellsBucket, TellsObject}
+use Rattle.recovery.specs.declared.fault.PlanFault.{PlanFault}
+use Rattle.recovery.specs.declared.state.Known.TheVariants.{Settled}
+use Rattle.recovery.specs.Plan.{Plans}
+use Rattle.many_keys.specs.Copies.{IsFoundBucket, IsFoundSource, IsReadSource, content_of}
+use Rattle.many_keys.proofs.Sources.{object_by_head, object_read}
+
+-- ---- what is looked up
+
+bucket_by : (o : Option Bucket) (acl : Acl) → option_map acl_of_bucket o ≡ Some acl → (b : Bucket) × (o ≡ Some b) × (b.acl ≡ acl)
+bucket_by None acl e = cc
+bucket_by (Some b) acl e = (b, refl, cc)
+
+none_by : (o : Option Bucket) → option_map acl_of_bucket o ≡ None → o ≡ None
+none_by None e = refl
+none_by (Some b) e = cc
+
+no_object : (o : Option Object) → option_map head_of o ≡ None → o ≡ None
+no_object None e = refl
+no_object (Some x) e = cc
+
+source_by : (v : Option Bucket) (key : List ℕ) (o : Object) → object_at v key ≡ Some o → (b : Bucket) × (v ≡ Some b) × (get b.objects key ≡ Some o)
+source_by None key o e = cc
+source_by (Some b) key o e = (b, refl, e)
+
+source_of : (state : State) (from_bucket from_key : List ℕ) (o : Object) → object_at (get state from_bucket) from_key ≡ Some o → HasSource state from_bucket from_key
+source_of state from_bucket from_key o e =
+    let it = source_by (get state from_bucket) from_key o e in
+    record { b = it.0; o = o; in_bucket = it.1; in_objects = it.2 }
+
+-- ---- the copy
+
+-- the copy of an object that was put in one piece is what is put with its bytes
+copied_is : (replaced : Option Replaced) (moment : ℕ) (o : Object) → o.etag ≡ body_etag o.bytes
+    → copied replaced moment o ≡ new_object moment (content_of replaced o.content_type o.meta).content_type (content_of replaced o.content_type o.meta).meta o.bytes
+copied_is None moment o is = ap (λ etag. record { bytes = o.bytes; etag = etag; content_type = o.content_type; meta = o.meta; modified = moment }) is
+copied_is (Some r) moment o is = ap (λ etag. record { bytes = o.bytes; etag = etag; content_type = r.content_type; meta = r.meta; modified = moment }) is
+
+-- ---- the steps
+
+module _ (settings : Settings) (state : State) (bucket key : List ℕ) (acl : Option Acl) (from_bucket from_key : List ℕ) (replaced : Option Replaced) (label : Label) where
+  abbrev Copies : Reply → State → Type 0
+  Copies reply new = S3Step settings state (CopyObject bucket key acl from_bucket from_key replaced) label reply new
+
+  pub copy_missing : TellsBucket bucket state None → Copies (Refused NoSuchBucket) state
+  copy_missing told = copy_without_bucket settings state bucket key acl from_bucket from_key replaced label (none_by (get state bucket) told)
+
+  module _ (list : Acl) (told : TellsBucket bucket state (Some list)) where
+    it : (b : Bucket) × (get state bucket ≡ Some b) × (b.acl ≡ list)
+    it = bucket_by (get state bucket) list told
+
+    other_by : (t : Bool) → is_other_acl acl list ≡ t → is_other_acl acl it.0.acl ≡ t
+    other_by t e = ap (is_other_acl acl) it.2 ∙ e
+
+    pub copy_other : is_other_acl acl list ≡ true → Copies (Refused NotImplemented) state
+    copy_other e = copy_with_another_acl settings state bucket key acl from_bucket from_key replaced label it.0 it.1 (other_by true e)
+
+    module _ (same : is_other_acl acl list ≡ false) where
+      pub copy_from_missing : TellsBucket from_bucket state None → Copies (Refused NoSuchBucket) state
+      copy_from_missing none = copy_without_source_bucket settings state bucket key acl from_bucket from_key replaced label it.0 it.1 (other_by false same) (none_by (get state from_bucket) none)
+
+      pub of_source : (o : Object) → object_at (get state from_bucket) from_key ≡ Some o → is_onto_itself bucket key from_bucket from_key replaced ≡ false
+          → Copies (Copied false o.etag label.moment) (adjust bucket (put_object key (copied replaced label.moment o)) state)
+      unfolding source_of
+      of_source o e other = step_copied settings state bucket key acl from_bucket from_key replaced label it.0 it.1 (other_by false same) (source_of state from_bucket from_key o e) other
+
+      itself : (o : Object) → object_at (get state from_bucket) from_key ≡ Some o → is_onto_itself bucket key from_bucket from_key replaced ≡ true → Copies (Refused InvalidRequest) state
+      itself o e onto = copy_onto_itself settings state bucket key acl from_bucket from_key replaced label it.0 it.1 (other_by false same) (source_of state from_bucket from_key o e) onto
+
+  module _ (list : Acl) (same : is_other_acl acl list ≡ false) where
+    pub copy_source_missing : IsFoundBucket bucket list from_bucket state → TellsObject from_bucket from_key state None → Copies (Refused NoSuchKey) state
+    copy_source_missing found none =
+        let b = bucket_by (get state bucket) list found.listed in
+        let from = bucket_by (get state from_bucket) found.from.0 found.from.1 in
+        copy_without_source settings state bucket key acl from_bucket from_key replaced label b.0 b.1 (ap (is_other_acl acl) b.2 ∙ same) from.0 from.1
+        (sym (ap (λ v. object_at v from_key) from.1) ∙ no_object (object_at (get state from_bucket) from_key) none)
+
+    pub copy_itself : {head : ObjectHead} → IsFoundSource bucket list from_bucket from_key head state → is_onto_itself bucket key from_bucket from_key replaced ≡ true
+        → Copies (Refused InvalidRequest) state
+    copy_itself {head = head} found onto =
+        let x = object_by_head (object_at (get state from_bucket) from_key) head found.source in
+        itself list found.listed same x.0 x.1 onto
+
+    -- the bytes that were read are put
+    pub copy_put : {head : ObjectHead} {body : List ℕ} → IsReadSource bucket list from_bucket from_key head body state → is_onto_itself bucket key from_bucket from_key replaced ≡ false
+        → head.etag ≡ body_etag body → (content : Replaced) → content ≡ content_of replaced head.content_type head.meta
+        → Copies (Copied false head.etag label.moment) (puts_object bucket key content.content_type content.meta body label.moment state)
+    copy_put {head = head} {body = body} read other etag content is =
+        let it = object_read from_bucket from_key head state read.source body read.read in
+        let o = it.object in
+        let own : o.etag ≡ body_etag o.bytes = ap (λ (h : ObjectHead). h.etag) it.has_head ∙ etag ∙ ap body_etag (sym it.has_bytes) in
+        let put : Copies (Copied false o.etag label.moment) (puts_object bucket key (content_of replaced o.content_type o.meta).content_type (content_of replaced o.content_type o.meta).meta o.bytes label.moment state) =
+        subst (λ x. Copies (Copied false o.etag label.moment) (adjust bucket (put_object key x) state)) (copied_is replaced label.moment o own) (of_source list read.listed same o it.there other) in
+        let with_body : Copies (Copied false o.etag label.moment) (puts_object bucket key (content_of replaced o.content_type o.meta).content_type (content_of replaced o.content_type o.meta).meta body label.moment state) =
+        subst (λ bytes. Copies (Copied false o.etag label.moment) (puts_object bucket key (content_of replaced o.content_type o.meta).content_type (content_of replaced o.content_type o.meta).meta bytes label.moment state)) it.has_bytes put in
+        let with_head : Copies (Copied false head.etag label.moment) (puts_object bucket key (content_of replaced head.content_type head.meta).content_type (content_of replaced head.content_type head.meta).meta body label.moment state) =
+        subst (λ (h : ObjectHead). Copies (Copied false h.etag label.moment) (puts_object bucket key (content_of replaced h.content_type h.meta).content_type (content_of replaced h.content_type h.meta).meta body label.moment state)) it.has_head with_body in
+        subst (λ (c : Replaced). Copies (Copied false head.etag label.moment) (puts_object bucket key c.content_type c.meta body label.moment state)) (sym is) with_head
+
+-- ---- the bound of its plan
+
+module _ {settings : Settings} {given : SwiftAccount → Type 0} {bucket key : List ℕ} {acl : Option Acl} {from_bucket from_key : List ℕ} {replaced : Option Replaced} {label : Label} where
+  -- more calls are allowed than are made
+  pub plans_wider : (n most : ℕ) {a b : History} {end : Result Reply PlanFault} → n ≤ most → Plans (always n) a b settings given (CopyObject bucket key acl from_bucket from_key replaced) label Settled end
+      → Plans (by_account most) a b settings given (CopyObject bucket key acl from_bucket from_key replaced) label Settled end
+  plans_wider n most within plans = record {
+    grows = record { on = plans.grows.on; calls = λ met. let near = plans.grows.calls in omega (arith, near) };
+    cause = plans.cause;
+    own = plans.own;
+    effect = plans.effect;
+    knows = plans.knows;
+  }

@@ -1,0 +1,15 @@
+use Rattle.std.proofs.Common.{sym, subst, ◌∙◌, lit≤, rules}
+use Rattle.recovery.specs.Plan.{Plans}
+use Rattle.recovery.proofs.lemmas.Ends.{commits, becomes}
+use Rattle.many_keys.proofs.CopySteps.{copy_put}
+use Rattle.many_keys.proofs.Sources.{source_body}
+use Rattle.many_keys.proofs.copies.put_copy.Goals as goal
+
+pub put_object-requires-clause-etag : goal.put_object-requires-clause-etag
+put_object-requires-clause-etag g c = c.as_slice.ensures ∙ (source_body c.args.head c.args.body c.requires.source).same
+
+pub returns-clause-plans : goal.returns-clause-plans
+returns-clause-plans g c = λ acl list from_bucket from_key same other.
+    subst (Plans _ _ _ _ _ _ _ _) (sym c.copied_end.ensures)
+    (commits _ (lit≤ tt) c.put_object.ensures.changes (λ done. search rules) (λ tree read. (list, read.listed))
+    (λ tree done new read is. becomes (copy_put _ _ _ _ _ _ _ _ _ list same read other (source_body c.args.head c.args.body c.requires.source).same _ c.content_of-content.ensures.content) is))

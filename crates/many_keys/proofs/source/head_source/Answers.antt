@@ -1,0 +1,11 @@
+use Rattle.std.proofs.Common.{sym, subst}
+use Rattle.recovery.specs.Calls.{Asks}
+use Rattle.recovery.proofs.lemmas.Faults.{err_is}
+use Rattle.many_keys.proofs.Sources.{asks_proper}
+use Rattle.many_keys.proofs.source.head_source.Goals as goal
+
+pub returns-in_err-told-clause-asks : goal.returns-in_err-told-clause-asks
+returns-in_err-told-clause-asks g c = subst (Asks _ _ _ _ _) (sym (err_is _ _ c.from_residual.ensures.1)) c.in_err-told.ensures.asks
+
+pub returns-clause-asks : goal.returns-clause-asks
+returns-clause-asks g c = asks_proper c.law_object_proper.ensures _ _ c.requires.place.named c.in_ok-told.ensures.asks c.proper.ensures.due

@@ -1,0 +1,328 @@
+//! The plan of the copy of an object that was completed from parts.
+ghost use Rattle.std.specs.Prelude.{◌≡◌, ◌<◌, ◌+◌, ◌*◌, ◌^◌, [], ℕ, List, Option, false, true, length, IfOk, IfSome};
+ghost use Rattle.gate_base.specs.Told.{moment_limit};
+ghost use Rattle.s3_names.specs.declared.acl.Acl.{Acl};
+ghost use Rattle.s3_names.specs.Meta.{names_ascend};
+ghost use Rattle.s3_machine.specs.Copies.{is_onto_itself};
+ghost use Rattle.s3_machine.specs.Step.{IsPlace, IsProperReplaced, is_other_acl};
+ghost use Rattle.s3_machine.specs.declared.operation.Label.{Label};
+ghost use Rattle.s3_machine.specs.declared.operation.Op.TheVariants.{CopyObject};
+ghost use Rattle.s3_machine.specs.declared.operation.Replaced.{Replaced};
+ghost use Rattle.swift_calls.specs.History.{present};
+ghost use Rattle.swift_calls.specs.Step.{Fit};
+ghost use Rattle.swift_marks.specs.Tag.{tag_text};
+ghost use Rattle.upload_records.specs.Native.{sealed_tag};
+ghost use Rattle.recovery.specs.Answers.{listed_by, records_of, segments_of};
+ghost use Rattle.recovery.specs.Calls.{always, by_account, Changes, Given, GivenOf};
+ghost use Rattle.recovery.specs.Lent.{Stays};
+ghost use Rattle.recovery.specs.Plan.{Plans};
+ghost use Rattle.recovery.specs.Rolls.{put_object_of};
+ghost use Rattle.recovery.specs.declared.state.Known.TheVariants as known;
+ghost use Rattle.many_keys.specs.Copies.{IsFoundSource, IsProperHead};
+ghost use Rattle.many_keys.specs.CopiedLists.{CopiesObject, HasCopy, IsCopy, MayFill, MayPut, copy_as, is_cut};
+
+use crate::copies::copied_end;
+use crate::cut::{Piece, get_cut};
+use crate::segments::copy_segments;
+use crate::source::content_of;
+use gate_base::{Bytes, Copying, List, Memory};
+use plan_uploads::free_id;
+use recovery::{PlanFault, Settled, kept_in, object_request};
+use s3_machine::{Label, ObjectHead, Replaced, Reply};
+use s3_names::Acl;
+use std::alloc::Global;
+use swift_calls::{Swift, SwiftRequest};
+use swift_marks::{Tag, pack};
+use upload_records::law_unused_abandoned;
+use upload_texts::{Sealed, SealedPart};
+
+/// The rest of CopyObject, of a source that was completed from parts: GET of the list of its segments, the search of an id that is
+/// free, for each segment GET of that range of the source and PUT of it under the id, and then PUT of the copy's file, which lists
+/// what was put and commits. Over an observable consistent account at most four calls, two for each record and each segment beside
+/// the bucket, and two for each segment of the source. An empty source is put under a new id without the calls on its segments. The
+/// reply is made before the last call, so that no memory is needed after it. After a fault some segments may be left that nothing
+/// names.
+pub(crate) fn copy_listed<W: Swift>(
+    alloc: Global,
+    state: &mut Settled<'_, W>,
+    bucket: Bytes,
+    key: Bytes,
+    acl: Option<Acl>,
+    list: Acl,
+    from_bucket: Bytes,
+    from_key: Bytes,
+    replaced: Option<Replaced>,
+    head: ObjectHead,
+    label: &Label,
+) -> Result<Reply, PlanFault>
+    requires place { IsPlace bucket key }
+    requires source { IsPlace from_bucket from_key }
+    requires replaced { IfSome replaced IsProperReplaced }
+    requires moment { label.now.moment < moment_limit }
+    requires acl { is_other_acl acl list ≡ false }
+    requires other { is_onto_itself bucket key from_bucket from_key replaced ≡ false }
+    requires head { IsProperHead head }
+    requires of_parts { 32 < length head.etag }
+    ensures stays { Stays state.old state.new }
+    ensures plans { Plans (by_account (4 + 2 * (records_of (present (W.history state.old.store.now)) bucket
+        + segments_of (present (W.history state.old.store.now)) bucket)
+        + 2 * listed_by (present (W.history state.old.store.now)) from_bucket from_key))
+        (W.history state.old.store.now) (W.history state.new.store.now) state.old.settings.now
+        (Given (IsFoundSource bucket list from_bucket from_key head))
+        (CopyObject bucket key acl from_bucket from_key replaced) label.now known.Settled result }
+{
+    if head.size == 0 {
+        return copy_empty(alloc, state, bucket, key, replaced, head, label);
+    }
+    let cut = get_cut(alloc, state, &from_bucket, &from_key, &head)?;
+    copy_cut(
+        alloc,
+        state,
+        bucket,
+        key,
+        from_bucket,
+        from_key,
+        replaced,
+        head,
+        cut,
+        label,
+    )
+}
+
+/// The same of a source without a byte, whose file lists no segments.
+fn copy_empty<W: Swift>(
+    alloc: Global,
+    state: &mut Settled<'_, W>,
+    bucket: Bytes,
+    key: Bytes,
+    replaced: Option<Replaced>,
+    head: ObjectHead,
+    label: &Label,
+) -> Result<Reply, PlanFault>
+    requires place { IsPlace bucket key }
+    requires replaced { IfSome replaced IsProperReplaced }
+    requires moment { label.now.moment < moment_limit }
+    requires head { IsProperHead head }
+    requires of_parts { 32 < length head.etag }
+    requires empty { head.size ≡ 0 }
+    ensures stays { Stays state.old state.new }
+    ensures plans { (acl : Option Acl) (list : Acl) (from_bucket from_key : List ℕ) → is_other_acl acl list ≡ false
+        → is_onto_itself bucket key from_bucket from_key replaced ≡ false
+        → Plans (by_account (2 * (records_of (present (W.history state.old.store.now)) bucket
+        + segments_of (present (W.history state.old.store.now)) bucket + 1) + 1))
+        (W.history state.old.store.now) (W.history state.new.store.now) state.old.settings.now
+        (Given (IsFoundSource bucket list from_bucket from_key head))
+        (CopyObject bucket key acl from_bucket from_key replaced) label.now known.Settled result }
+{
+    law_unused_abandoned();
+    let id = free_id(alloc, state, &bucket, label.draw)?;
+    let parts = List::new(alloc);
+    let sealed = copy_as(bucket, key, id, replaced, head, parts, label.moment);
+    put_listed(alloc, state, &sealed)
+}
+
+/// The rest of the copy, of a source whose bytes are cut so.
+fn copy_cut<W: Swift>(
+    alloc: Global,
+    state: &mut Settled<'_, W>,
+    bucket: Bytes,
+    key: Bytes,
+    from_bucket: Bytes,
+    from_key: Bytes,
+    replaced: Option<Replaced>,
+    head: ObjectHead,
+    cut: List<Piece>,
+    label: &Label,
+) -> Result<Reply, PlanFault>
+    requires place { IsPlace bucket key }
+    requires source { IsPlace from_bucket from_key }
+    requires replaced { IfSome replaced IsProperReplaced }
+    requires moment { label.now.moment < moment_limit }
+    requires head { IsProperHead head }
+    requires of_parts { 32 < length head.etag }
+    requires cut { is_cut head.size cut ≡ true }
+    ensures stays { Stays state.old state.new }
+    ensures plans { (acl : Option Acl) (list : Acl) → is_other_acl acl list ≡ false
+        → is_onto_itself bucket key from_bucket from_key replaced ≡ false
+        → Plans (by_account (2 * (records_of (present (W.history state.old.store.now)) bucket
+        + segments_of (present (W.history state.old.store.now)) bucket + 1) + (2 * length cut + 1)))
+        (W.history state.old.store.now) (W.history state.new.store.now) state.old.settings.now
+        (Given (IsFoundSource bucket list from_bucket from_key head))
+        (CopyObject bucket key acl from_bucket from_key replaced) label.now known.Settled result }
+{
+    law_unused_abandoned();
+    let id = free_id(alloc, state, &bucket, label.draw)?;
+    copy_under(
+        alloc,
+        state,
+        bucket,
+        key,
+        from_bucket,
+        from_key,
+        replaced,
+        head,
+        cut,
+        id,
+        label,
+    )
+}
+
+/// The rest of it, under an id that is free.
+fn copy_under<W: Swift>(
+    alloc: Global,
+    state: &mut Settled<'_, W>,
+    bucket: Bytes,
+    key: Bytes,
+    from_bucket: Bytes,
+    from_key: Bytes,
+    replaced: Option<Replaced>,
+    head: ObjectHead,
+    cut: List<Piece>,
+    id: u128,
+    label: &Label,
+) -> Result<Reply, PlanFault>
+    requires place { IsPlace bucket key }
+    requires source { IsPlace from_bucket from_key }
+    requires replaced { IfSome replaced IsProperReplaced }
+    requires moment { label.now.moment < moment_limit }
+    requires head { IsProperHead head }
+    requires of_parts { 32 < length head.etag }
+    requires cut { is_cut head.size cut ≡ true }
+    ensures stays { Stays state.old state.new }
+    ensures plans { (acl : Option Acl) (list : Acl) → is_other_acl acl list ≡ false
+        → is_onto_itself bucket key from_bucket from_key replaced ≡ false
+        → Plans (always (2 * length cut + 1)) (W.history state.old.store.now) (W.history state.new.store.now) state.old.settings.now
+        (GivenOf (MayFill bucket list id from_bucket from_key head))
+        (CopyObject bucket key acl from_bucket from_key replaced) label.now known.Settled result }
+{
+    let parts = copy_segments(
+        alloc,
+        state,
+        &bucket,
+        id,
+        &from_bucket,
+        &from_key,
+        &head,
+        cut.as_slice(),
+        label.moment,
+    )?;
+    let sealed = copy_as(bucket, key, id, replaced, head, parts, label.moment);
+    put_listed(alloc, state, &sealed)
+}
+
+/// What is put as the copy, by the source's head. All is moved.
+fn copy_as(
+    bucket: Bytes,
+    key: Bytes,
+    id: u128,
+    replaced: Option<Replaced>,
+    head: ObjectHead,
+    list: List<SealedPart>,
+    moment: u64,
+) -> Sealed
+    requires replaced { IfSome replaced IsProperReplaced }
+    requires head { IsProperHead head }
+    ensures copy { result ≡ copy_as bucket key id replaced head list moment }
+    ensures content { IsProperReplaced (record { content_type = result.content_type; meta = result.meta }) }
+    ensures ordered { names_ascend result.meta ≡ true }
+    ensures fits { result.id < 2 ^ 128 }
+{
+    let content = content_of(replaced, head.content_type, head.meta);
+    Sealed {
+        bucket,
+        key,
+        id,
+        content_type: content.content_type,
+        meta: content.meta,
+        list,
+        etag: head.etag,
+        started: moment,
+        moment,
+    }
+}
+
+/// The last call of the copy, and the reply, which is made before it.
+fn put_listed<W: Swift>(
+    alloc: Global,
+    state: &mut Settled<'_, W>,
+    sealed: &Sealed,
+) -> Result<Reply, PlanFault>
+    requires copy { IsCopy sealed.now }
+    ensures stays { Stays state.old state.new }
+    ensures plans { (acl : Option Acl) (list : Acl) (from_bucket from_key : List ℕ) (replaced : Option Replaced) (label : Label) → is_other_acl acl list ≡ false
+        → is_onto_itself sealed.now.bucket sealed.now.key from_bucket from_key replaced ≡ false → sealed.now.moment ≡ label.moment
+        → Plans (always 1) (W.history state.old.store.now) (W.history state.new.store.now) state.old.settings.now
+        (GivenOf (MayPut list from_bucket from_key replaced sealed.now))
+        (CopyObject sealed.now.bucket sealed.now.key acl from_bucket from_key replaced) label known.Settled result }
+{
+    let etag = sealed.etag.copy()?;
+    copied_end(put_sealed(alloc, state, sealed), etag, sealed.moment)
+}
+
+/// Puts the copy, whose parts stand beside the bucket, by PUT of its file (Object Storage API v1, "Static large objects"): the one
+/// call that commits. At most one call. After Ok the S3 state has the copy in place of what stood under the key. After Failed, which
+/// comes only where the store's count of faults rose, and after Memory the state is the old one or that. Inconsistent never comes
+/// over an observable consistent account of which this is so.
+fn put_sealed<W: Swift>(
+    alloc: Global,
+    state: &mut Settled<'_, W>,
+    sealed: &Sealed,
+) -> Result<(), PlanFault>
+    requires copy { IsCopy sealed.now }
+    ensures stays { Stays state.old state.new }
+    ensures changes { (from_bucket from_key : List ℕ) (replaced : Option Replaced) → Changes (always 1) (W.history state.old.store.now) (W.history state.new.store.now)
+        (GivenOf (HasCopy from_bucket from_key replaced sealed.now))
+        (CopiesObject sealed.now.bucket sealed.now.key from_bucket from_key replaced sealed.now.moment) result }
+{
+    let request = copy_request(alloc, sealed)?;
+    let reply = state.call(request)?;
+    kept_in(&reply)
+}
+
+/// The PUT of the copy's file.
+fn copy_request(alloc: Global, sealed: &Sealed) -> Result<SwiftRequest, Memory>
+    requires copy { IsCopy sealed.now }
+    ensures request { IfOk result (λ request. request ≡ put_object_of sealed.now) }
+    ensures fits { IfOk result Fit }
+{
+    if sealed.list.is_empty() {
+        return empty_request(alloc, sealed);
+    }
+    object_request(alloc, sealed)
+}
+
+/// The PUT of a copy without a byte.
+fn empty_request(alloc: Global, sealed: &Sealed) -> Result<SwiftRequest, Memory>
+    requires copy { IsCopy sealed.now }
+    requires none { sealed.now.list ≡ [] }
+    ensures request { IfOk result (λ request. request ≡ put_object_of sealed.now) }
+    ensures fits { IfOk result Fit }
+{
+    let content_type = copy_type(alloc, sealed)?;
+    let meta = pack(alloc, &sealed.meta)?;
+    let container = sealed.bucket.copy()?;
+    let name = sealed.key.copy()?;
+    Ok(SwiftRequest::PutObject {
+        container,
+        name,
+        content_type,
+        meta,
+        body: Bytes::new(alloc),
+    })
+}
+
+/// The tag of the copy, as its file has it.
+fn copy_type(alloc: Global, sealed: &Sealed) -> Result<Bytes, Memory>
+    requires { IsCopy sealed.now }
+    ensures { IfOk result (λ text. text ≡ tag_text (sealed_tag sealed.now)) }
+{
+    let content_type = sealed.content_type.copy()?;
+    let etag = sealed.etag.copy()?;
+    let tag = Tag {
+        content_type,
+        etag,
+        moment: sealed.moment,
+        id: Some(sealed.id),
+    };
+    tag.write(alloc)
+}

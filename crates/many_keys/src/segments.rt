@@ -1,0 +1,201 @@
+//! The copy of the segments of an object, one after another.
+ghost use Rattle.std.specs.Prelude.{◌≡◌, ◌≢◌, ◌≤◌, ◌<◌, ◌+◌, ◌*◌, true, length, take, IfOk, Err};
+ghost use Rattle.gate_base.specs.Told.{moment_limit};
+ghost use Rattle.s3_names.specs.Bucket.{is_bucket};
+ghost use Rattle.s3_machine.specs.Limits.{most_body_bytes};
+ghost use Rattle.s3_machine.specs.Step.{IsPlace};
+ghost use Rattle.s3_machine.specs.Uploads.{IsPartNumber};
+ghost use Rattle.upload_texts.specs.Sealed.{is_sealed_part};
+ghost use Rattle.recovery.specs.Calls.{always, Asks, Given, GivenOf, HasObject, Tells};
+ghost use Rattle.recovery.specs.Interpret.{stored_due};
+ghost use Rattle.recovery.specs.Lent.{Stays};
+ghost use Rattle.recovery.specs.declared.fault.PlanFault.TheVariants as fault;
+ghost use Rattle.many_keys.specs.CopiedLists.{AreOfCut, CopiesFirst, CopiesPiece, IsUnnamed, MayCopy, PutsSegment, TellsPiece, is_cut, is_piece, piece_in, sized_due};
+
+use crate::cut::Piece;
+use gate_base::{Bytes, Copying, List};
+use plan_uploads::part_request;
+use recovery::{PlanFault, Settled, get_object};
+use s3_machine::{ObjectHead, body_etag};
+use std::alloc::Global;
+use swift_calls::{Swift, SwiftReply};
+use upload_records::law_orphan_put;
+use upload_texts::SealedPart;
+
+/// Copies the segments of an object, of which HEAD told this, under an id that nothing names, each by GET of that range of the
+/// object and PUT of it as the part of the same number (Object Storage API v1, "Get object content and metadata" and "Create or
+/// replace object"). At most two calls for each, and the S3 state stays. What is told are the parts that were put. The faults are
+/// those of the calls; Inconsistent also where a range has another size, and never over an observable consistent account whose
+/// object has this head.
+pub(crate) fn copy_segments<W: Swift>(
+    alloc: Global,
+    state: &mut Settled<'_, W>,
+    bucket: &Bytes,
+    id: u128,
+    from_bucket: &Bytes,
+    from_key: &Bytes,
+    head: &ObjectHead,
+    cut: &[Piece],
+    moment: u64,
+) -> Result<List<SealedPart>, PlanFault>
+    requires named { is_bucket bucket.now ≡ true }
+    requires source { IsPlace from_bucket.now from_key.now }
+    requires cut { is_cut head.now.size cut.now ≡ true }
+    requires near { head.now.size < 9223372036854775808 }
+    requires moment { moment < moment_limit }
+    ensures stays { Stays state.old state.new }
+    ensures listed { IfOk result (AreOfCut cut.now) }
+    ensures asks { Asks (always (2 * length cut.now)) (W.history state.old.store.now) (W.history state.new.store.now)
+        (GivenOf (MayCopy bucket.now id from_bucket.now from_key.now head.now))
+        (CopiesFirst bucket.now id from_bucket.now from_key.now head.now.size) result }
+{
+    let mut list = List::new(alloc);
+    let mut at = 0;
+    for piece in cut {
+        let part = copy_piece(
+            alloc,
+            state,
+            bucket,
+            id,
+            from_bucket,
+            from_key,
+            head,
+            at,
+            *piece,
+            moment,
+        )?;
+        list.push(part)?;
+        at = at + piece.size;
+    }
+    Ok(list)
+}
+
+/// Copies the segment whose first byte is at this place of the object.
+fn copy_piece<W: Swift>(
+    alloc: Global,
+    state: &mut Settled<'_, W>,
+    bucket: &Bytes,
+    id: u128,
+    from_bucket: &Bytes,
+    from_key: &Bytes,
+    head: &ObjectHead,
+    at: u64,
+    piece: Piece,
+    moment: u64,
+) -> Result<SealedPart, PlanFault>
+    requires named { is_bucket bucket.now ≡ true }
+    requires source { IsPlace from_bucket.now from_key.now }
+    requires number { IsPartNumber piece.number }
+    requires filled { 1 ≤ piece.size }
+    requires small { piece.size ≤ most_body_bytes }
+    requires within { at + piece.size ≤ head.now.size }
+    requires near { head.now.size < 9223372036854775808 }
+    requires moment { moment < moment_limit }
+    ensures stays { Stays state.old state.new }
+    ensures part { IfOk result (λ part. piece_in part ≡ piece) }
+    ensures proper { IfOk result (λ part. is_sealed_part part ≡ true) }
+    ensures asks { Asks (always 2) (W.history state.old.store.now) (W.history state.new.store.now)
+        (GivenOf (MayCopy bucket.now id from_bucket.now from_key.now head.now))
+        (CopiesPiece bucket.now id from_bucket.now from_key.now at piece) result }
+{
+    let bytes = get_piece(alloc, state, from_bucket, from_key, head, at, piece.size)?;
+    put_segment(alloc, state, bucket, id, piece.number, bytes, moment)
+}
+
+/// So many bytes of an object from this place on, by GET of the range.
+fn get_piece<W: Swift>(
+    alloc: Global,
+    state: &mut Settled<'_, W>,
+    bucket: &Bytes,
+    key: &Bytes,
+    head: &ObjectHead,
+    at: u64,
+    size: u64,
+) -> Result<Bytes, PlanFault>
+    requires place { IsPlace bucket.now key.now }
+    requires filled { 1 ≤ size }
+    requires within { at + size ≤ head.now.size }
+    requires near { head.now.size < 9223372036854775808 }
+    ensures stays { Stays state.old state.new }
+    ensures sized { IfOk result (λ bytes. length bytes ≡ size) }
+    ensures asks { Asks (always 1) (W.history state.old.store.now) (W.history state.new.store.now)
+        (Given (HasObject bucket.now key.now head.now.etag head.now.size)) (Tells (TellsPiece bucket.now key.now at size)) result }
+{
+    let container = bucket.copy()?;
+    let name = key.copy()?;
+    let told = get_object(
+        alloc,
+        state,
+        container,
+        name,
+        head.etag.as_slice(),
+        head.size,
+        Some((at, at + size - 1)),
+    )?;
+    sized(told, size)
+}
+
+fn sized(told: Option<Bytes>, size: u64) -> Result<Bytes, PlanFault>
+    ensures due { result ≡ sized_due size told }
+    ensures own { result ≢ Err fault.Failed }
+    ensures sized { IfOk result (λ bytes. length bytes ≡ size) }
+{
+    match told {
+        Some(bytes) => {
+            if bytes.len() as u64 == size {
+                Ok(bytes)
+            } else {
+                Err(PlanFault::Inconsistent)
+            }
+        }
+        None => Err(PlanFault::Inconsistent),
+    }
+}
+
+/// Puts a segment under an id that nothing names, by PUT of the file of the part of this number (Object Storage API v1, "Create or
+/// replace object"). At most one call, and the S3 state stays. The moment is in seconds since the beginning of 1970, before the
+/// year 10000. Inconsistent never comes over an observable consistent account on which the bucket is there and nothing names the
+/// id.
+fn put_segment<W: Swift>(
+    alloc: Global,
+    state: &mut Settled<'_, W>,
+    bucket: &Bytes,
+    id: u128,
+    number: u32,
+    body: Bytes,
+    moment: u64,
+) -> Result<SealedPart, PlanFault>
+    requires named { is_bucket bucket.now ≡ true }
+    requires number { IsPartNumber number }
+    requires sized { length body ≤ most_body_bytes }
+    requires moment { moment < moment_limit }
+    ensures stays { Stays state.old state.new }
+    ensures number { IfOk result (λ part. part.number ≡ number) }
+    ensures size { IfOk result (λ part. part.size ≡ length body) }
+    ensures proper { IfOk result (λ part. is_sealed_part part ≡ true) }
+    ensures asks { Asks (always 1) (W.history state.old.store.now) (W.history state.new.store.now)
+        (GivenOf (IsUnnamed bucket.now id)) (PutsSegment bucket.now id number body) result }
+{
+    law_orphan_put();
+    let etag = body_etag(body.as_slice());
+    let part = SealedPart {
+        number,
+        etag: Bytes::from_slice(alloc, &etag)?,
+        size: body.len() as u64,
+    };
+    let request = part_request(alloc, bucket, id, number, body, &etag, moment)?;
+    let reply = state.call(request)?;
+    stored_in(&reply, &etag)?;
+    Ok(part)
+}
+
+/// The answer to PUT of a file whose bytes have this ETag: the store has them with the same.
+fn stored_in(reply: &SwiftReply, etag: &[u8]) -> Result<(), PlanFault>
+    ensures due { result ≡ stored_due etag.now reply.now }
+    ensures own { result ≢ Err fault.Failed }
+{
+    match reply {
+        SwiftReply::Stored { etag: stored } if stored.as_slice() == etag => Ok(()),
+        _ => Err(PlanFault::Inconsistent),
+    }
+}

@@ -1,0 +1,148 @@
+//! The source of a copy, and what the copy is put with.
+ghost use Rattle.std.specs.Prelude.{◌≡◌, ◌≤◌, true, length, None, Some, IfOk, IfSome};
+ghost use Rattle.s3_machine.specs.Copies.{is_onto_itself};
+ghost use Rattle.s3_machine.specs.Step.{IsPlace, IsProperReplaced};
+ghost use Rattle.upload_records.specs.Native.{IsSettled};
+ghost use Rattle.recovery.specs.Calls.{always, Asks, Given, Tells, TellsBytes, TellsObject};
+ghost use Rattle.recovery.specs.Interpret.{IsShownHead};
+ghost use Rattle.recovery.specs.Lent.{Stays};
+ghost use Rattle.s3_machine.specs.Limits.{is_content_type, is_proper_meta};
+ghost use Rattle.many_keys.specs.Copies.{IsProperHead, body_due, content_of, is_proper_head, is_source_body, proper_due};
+
+use gate_base::Bytes;
+use recovery::{PlanFault, Settled, get_object, head_object};
+use s3_machine::{Body, MOST_BODY_BYTES, ObjectHead, Replaced, is_content_type, is_proper_meta};
+use s3_names::Meta;
+use std::alloc::Global;
+use swift_calls::Swift;
+use swift_marks::is_etag;
+use upload_records::law_object_proper;
+
+/// The head of an object that is to be copied ([`recovery::head_object`]), by one call. A head with which no object can be put is
+/// Inconsistent; the other faults are those of the call.
+pub(crate) fn head_source<W: Swift>(
+    alloc: Global,
+    state: &mut Settled<'_, W>,
+    bucket: &Bytes,
+    key: &Bytes,
+) -> Result<Option<ObjectHead>, PlanFault>
+    requires place { IsPlace bucket.now key.now }
+    ensures stays { Stays state.old state.new }
+    ensures asks { Asks (always 1) (W.history state.old.store.now) (W.history state.new.store.now) IsSettled (Tells (TellsObject bucket.now key.now)) result }
+    ensures proper { IfOk result (λ told. IfSome told IsProperHead) }
+{
+    law_object_proper();
+    let told = head_object(alloc, state, bucket, key)?;
+    proper(told)
+}
+
+/// What HEAD of a source comes to, by what it told.
+fn proper(told: Option<ObjectHead>) -> Result<Option<ObjectHead>, PlanFault>
+    requires shown { IsShownHead told }
+    ensures due { result ≡ proper_due told }
+    ensures proper { IfOk result (λ told. IfSome told IsProperHead) }
+{
+    match told {
+        Some(head) => {
+            if is_proper_head(&head) {
+                Ok(Some(head))
+            } else {
+                Err(PlanFault::Inconsistent)
+            }
+        }
+        None => Ok(None),
+    }
+}
+
+fn is_proper_head(head: &ObjectHead) -> bool
+    ensures { result ≡ is_proper_head head.now }
+{
+    is_content_type(head.content_type.as_slice())
+        && is_proper_meta(&head.meta)
+        && is_etag(head.etag.as_slice())
+}
+
+/// The bytes of an object with this head, which was put in one piece ([`recovery::get_object`]), by one call. They are hashed:
+/// bytes of another size or with another ETag than the head has are Inconsistent, and so is an object that is gone. The other
+/// faults are those of the call.
+pub(crate) fn read_source<W: Swift>(
+    alloc: Global,
+    state: &mut Settled<'_, W>,
+    bucket: Bytes,
+    key: Bytes,
+    head: &ObjectHead,
+) -> Result<Bytes, PlanFault>
+    requires place { IsPlace bucket key }
+    requires plain { length head.now.etag ≤ 32 }
+    ensures stays { Stays state.old state.new }
+    ensures asks { Asks (always 1) (W.history state.old.store.now) (W.history state.new.store.now)
+        (Given (λ s. TellsObject bucket key s (Some head.now))) (Tells (λ s body. TellsBytes bucket key None s (Some body))) result }
+    ensures body { IfOk result (λ body. is_source_body head.now body ≡ true) }
+{
+    law_object_proper();
+    let told = get_object(
+        alloc,
+        state,
+        bucket,
+        key,
+        head.etag.as_slice(),
+        head.size,
+        None,
+    )?;
+    body_of(head, told)
+}
+
+/// What GET of a source with this head comes to, by what it told.
+fn body_of(head: &ObjectHead, told: Option<Bytes>) -> Result<Bytes, PlanFault>
+    ensures due { result ≡ body_due head.now told }
+    ensures body { IfOk result (λ body. is_source_body head.now body ≡ true) }
+{
+    let Some(bytes) = told else {
+        return Err(PlanFault::Inconsistent);
+    };
+    let body = Body::new(bytes);
+    if !is_source_body(head, &body) {
+        return Err(PlanFault::Inconsistent);
+    }
+    Ok(body.into_bytes())
+}
+
+fn is_source_body(head: &ObjectHead, body: &Body) -> bool
+    ensures { result ≡ is_source_body head.now body.now }
+{
+    let size = body.as_slice().len() as u64;
+    size == head.size && size <= MOST_BODY_BYTES && head.etag.as_slice() == body.etag().as_slice()
+}
+
+/// Whether an object would be copied onto itself, and nothing of it replaced.
+pub(crate) fn is_onto_itself(
+    bucket: &Bytes,
+    key: &Bytes,
+    from_bucket: &Bytes,
+    from_key: &Bytes,
+    replaced: &Option<Replaced>,
+) -> bool
+    ensures { result ≡ is_onto_itself bucket.now key.now from_bucket.now from_key.now replaced.now }
+{
+    match replaced {
+        Some(_) => false,
+        None => {
+            bucket.as_slice() == from_bucket.as_slice() && key.as_slice() == from_key.as_slice()
+        }
+    }
+}
+
+/// What a copy is put with: what is given in place of the source's content type and metadata, or these. They are moved, and nothing
+/// is copied.
+pub(crate) fn content_of(replaced: Option<Replaced>, content_type: Bytes, meta: Meta) -> Replaced
+    requires replaced { IfSome replaced IsProperReplaced }
+    requires typed { is_content_type content_type ≡ true }
+    requires described { is_proper_meta meta ≡ true }
+    ensures content { result ≡ content_of replaced content_type meta }
+    ensures proper { IsProperReplaced result }
+{
+    match replaced {
+        Some(replaced) => replaced,
+        None => Replaced { content_type, meta },
+    }
+}
