@@ -1,8 +1,9 @@
 -- The copy of an object: its steps by what its calls told, and the bound of its plan.
-use Rattle.std.specs.Prelude.{◌≡◌, ◌≤◌, ℕ, Bool, true, false, List, Option, None, Some, Result}
+use Rattle.std.specs.Prelude.{◌≡◌, ◌<◌, ◌≤◌, ◌+◌, ◌*◌, ℕ, Bool, true, false, cond, List, length, Option, None, Some, Result}
 use Rattle.std.specs.Option.{option_map}
 use Rattle.std.specs.FinMap.{get}
 use Rattle.std.proofs.Common.{refl, sym, ap, subst, ◌∙◌, arith}
+use Rattle.std.proofs.lemmas.Bool.{lt-ltb}
 use Rattle.gate_base.specs.Maps.{adjust}
 use Rattle.s3_names.specs.declared.acl.Acl.{Acl}
 use Rattle.s3_machine.specs.declared.code.Code.TheVariants.{InvalidRequest, NoSuchBucket, NoSuchKey, NotImplemented}
@@ -19,9 +20,10 @@ use Rattle.s3_machine.specs.State.{Bucket, Object, State}
 use Rattle.s3_machine.specs.Step.{S3Step, head_of, is_other_acl, new_object, put_object}
 use Rattle.s3_machine.proofs.lemmas.StepLemmas.{HasSource, copy_onto_itself, copy_with_another_acl, copy_without_bucket, copy_without_source, copy_without_source_bucket, step_copied}
 use Rattle.swift_calls.specs.Account.{SwiftAccount}
-use Rattle.swift_calls.specs.History.{History}
-use Rattle.upload_records.specs.Native.{object_at}
-use Rattle.recovery.specs.Calls.{acl_of_bucket, always, by_account, puts_object, TellsBucket, TellsObject}
+use Rattle.swift_calls.specs.History.{History, present}
+use Rattle.upload_records.specs.Native.{object_at, s3_state}
+use Rattle.recovery.specs.Answers.{copy_calls, is_of_parts, listed_by, records_of, segments_of}
+use Rattle.recovery.specs.Calls.{acl_of_bucket, always, by_account, Given, puts_object, TellsBucket, TellsObject}
 use Rattle.recovery.specs.declared.fault.PlanFault.{PlanFault}
 use Rattle.recovery.specs.declared.state.Known.TheVariants.{Settled}
 use Rattle.recovery.specs.Plan.{Plans}
@@ -122,12 +124,60 @@ module _ (settings : Settings) (state : State) (bucket key : List ℕ) (acl : Op
 
 -- ---- the bound of its plan
 
-module _ {settings : Settings} {given : SwiftAccount → Type 0} {bucket key : List ℕ} {acl : Option Acl} {from_bucket from_key : List ℕ} {replaced : Option Replaced} {label : Label} where
+wide_by : (t : Bool) (k n x y : ℕ) → k ≤ n → k ≤ cond t (n + 2 + 2 * x + 2 * y) n
+wide_by true k n x y near = omega (arith, near)
+wide_by false k n x y near = near
+
+next_by : (t : Bool) (n x y : ℕ) → 1 + cond t (n + 2 + 2 * x + 2 * y) n ≤ cond t (n + 1 + 2 + 2 * x + 2 * y) (n + 1)
+next_by true n x y = omega arith
+next_by false n x y = omega arith
+
+parts_by : (o : Option Object) (head : ObjectHead) → option_map head_of o ≡ Some head → 32 < length head.etag → is_of_parts o ≡ true
+parts_by None head told long = cc
+parts_by (Some x) head told long = let same : head_of x ≡ head = cc in lt-ltb 32 (length x.etag) (subst (λ (h : ObjectHead). 32 < length h.etag) (sym same) long)
+
+module _ (bucket from_bucket from_key : List ℕ) where
+  -- so many calls may be made of each source
+  pub as_few : (k n : ℕ) (tree : SwiftAccount) → k ≤ n → k ≤ copy_calls n tree bucket from_bucket from_key
+  as_few k n tree near =
+      wide_by (is_of_parts (object_at (get (s3_state tree) from_bucket) from_key)) k n (records_of tree bucket + segments_of tree bucket) (listed_by tree from_bucket from_key) near
+
+  -- and one more, where the account stayed
+  pub one_more : (n : ℕ) {old new : SwiftAccount} → new ≡ old → 1 + copy_calls n new bucket from_bucket from_key ≤ copy_calls (n + 1) old bucket from_bucket from_key
+  one_more n {old = old} same =
+      subst (λ tree. 1 + copy_calls n tree bucket from_bucket from_key ≤ copy_calls (n + 1) old bucket from_bucket from_key) (sym same)
+      (next_by (is_of_parts (object_at (get (s3_state old) from_bucket) from_key)) n (records_of old bucket + segments_of old bucket) (listed_by old from_bucket from_key))
+
+  -- of a source with an ETag of parts
+  pub calls_of_parts : (n : ℕ) (tree : SwiftAccount) {head : ObjectHead} → TellsObject from_bucket from_key (s3_state tree) (Some head) → 32 < length head.etag
+      → copy_calls n tree bucket from_bucket from_key ≡ n + 2 + 2 * (records_of tree bucket + segments_of tree bucket) + 2 * listed_by tree from_bucket from_key
+  calls_of_parts n tree {head = head} told long =
+      ap (λ t. cond t (n + 2 + 2 * (records_of tree bucket + segments_of tree bucket) + 2 * listed_by tree from_bucket from_key) n)
+      (parts_by (object_at (get (s3_state tree) from_bucket) from_key) head told long)
+
+module _ {settings : Settings} {bucket key : List ℕ} {acl : Option Acl} {from_bucket from_key : List ℕ} {replaced : Option Replaced} {label : Label} where
   -- more calls are allowed than are made
-  pub plans_wider : (n most : ℕ) {a b : History} {end : Result Reply PlanFault} → n ≤ most → Plans (always n) a b settings given (CopyObject bucket key acl from_bucket from_key replaced) label Settled end
+  pub plans_wider : {given : SwiftAccount → Type 0} (n most : ℕ) {a b : History} {end : Result Reply PlanFault} → n ≤ most → Plans (always n) a b settings given (CopyObject bucket key acl from_bucket from_key replaced) label Settled end
       → Plans (by_account most) a b settings given (CopyObject bucket key acl from_bucket from_key replaced) label Settled end
   plans_wider n most within plans = record {
     grows = record { on = plans.grows.on; calls = λ met. let near = plans.grows.calls in omega (arith, near) };
+    cause = plans.cause;
+    own = plans.own;
+    effect = plans.effect;
+    knows = plans.knows;
+  }
+
+  -- of a source whose head has an ETag of parts
+  pub plans_of_parts : {list : Acl} {head : ObjectHead} {a b : History} {end : Result Reply PlanFault} → 32 < length head.etag
+      → Plans (by_account (4 + 2 * (records_of (present a) bucket + segments_of (present a) bucket) + 2 * listed_by (present a) from_bucket from_key)) a b settings
+      (Given (IsFoundSource bucket list from_bucket from_key head)) (CopyObject bucket key acl from_bucket from_key replaced) label Settled end
+      → Plans (by_account (copy_calls 2 (present a) bucket from_bucket from_key)) a b settings
+      (Given (IsFoundSource bucket list from_bucket from_key head)) (CopyObject bucket key acl from_bucket from_key replaced) label Settled end
+  plans_of_parts {a = a} {b = b} long plans = record {
+    grows = record {
+      on = plans.grows.on;
+      calls = λ met. subst (λ n. b.called ≤ a.called + n) (sym (calls_of_parts bucket from_bucket from_key 2 (present a) met.has.is.source long)) (plans.grows.calls met);
+    };
     cause = plans.cause;
     own = plans.own;
     effect = plans.effect;

@@ -7,7 +7,7 @@ ghost use Rattle.s3_machine.specs.Step.{IsPlace, IsProperReplaced, is_other_acl}
 ghost use Rattle.s3_machine.specs.declared.operation.Op.TheVariants.{CopyObject};
 ghost use Rattle.s3_machine.specs.declared.operation.Reply.TheVariants.{Copied};
 ghost use Rattle.swift_calls.specs.History.{present};
-ghost use Rattle.recovery.specs.Answers.{listed_by, records_of, segments_of};
+ghost use Rattle.recovery.specs.Answers.{copy_calls};
 ghost use Rattle.recovery.specs.Calls.{always, by_account, Any, Given, TellsBucket};
 ghost use Rattle.recovery.specs.Lent.{Stays};
 ghost use Rattle.recovery.specs.Plan.{ended, Plans};
@@ -42,9 +42,7 @@ pub(crate) fn copy_object<W: Swift>(
     requires replaced { IfSome replaced IsProperReplaced }
     requires moment { label.now.moment < moment_limit }
     ensures stays { Stays state.old state.new }
-    ensures plans { Plans (by_account (7 + 2 * (records_of (present (W.history state.old.store.now)) bucket
-        + segments_of (present (W.history state.old.store.now)) bucket)
-        + 2 * listed_by (present (W.history state.old.store.now)) from_bucket from_key))
+    ensures plans { Plans (by_account (copy_calls 5 (present (W.history state.old.store.now)) bucket from_bucket from_key))
         (W.history state.old.store.now) (W.history state.new.store.now) state.old.settings.now
         (Given Any) (CopyObject bucket key acl from_bucket from_key replaced) label.now known.Settled result }
 {
@@ -83,9 +81,7 @@ fn copy_within<W: Swift>(
     requires replaced { IfSome replaced IsProperReplaced }
     requires moment { label.now.moment < moment_limit }
     ensures stays { Stays state.old state.new }
-    ensures plans { Plans (by_account (6 + 2 * (records_of (present (W.history state.old.store.now)) bucket
-        + segments_of (present (W.history state.old.store.now)) bucket)
-        + 2 * listed_by (present (W.history state.old.store.now)) from_bucket from_key))
+    ensures plans { Plans (by_account (copy_calls 4 (present (W.history state.old.store.now)) bucket from_bucket from_key))
         (W.history state.old.store.now) (W.history state.new.store.now) state.old.settings.now
         (Given (λ s. TellsBucket bucket s (Some list)))
         (CopyObject bucket key acl from_bucket from_key replaced) label.now known.Settled result }
@@ -129,9 +125,7 @@ fn copy_from<W: Swift>(
     requires moment { label.now.moment < moment_limit }
     requires acl { is_other_acl acl list ≡ false }
     ensures stays { Stays state.old state.new }
-    ensures plans { Plans (by_account (5 + 2 * (records_of (present (W.history state.old.store.now)) bucket
-        + segments_of (present (W.history state.old.store.now)) bucket)
-        + 2 * listed_by (present (W.history state.old.store.now)) from_bucket from_key))
+    ensures plans { Plans (by_account (copy_calls 3 (present (W.history state.old.store.now)) bucket from_bucket from_key))
         (W.history state.old.store.now) (W.history state.new.store.now) state.old.settings.now
         (Given (IsFoundBucket bucket list from_bucket))
         (CopyObject bucket key acl from_bucket from_key replaced) label.now known.Settled result }
@@ -175,9 +169,7 @@ fn copy_found<W: Swift>(
     requires acl { is_other_acl acl list ≡ false }
     requires head { IsProperHead head }
     ensures stays { Stays state.old state.new }
-    ensures plans { Plans (by_account (4 + 2 * (records_of (present (W.history state.old.store.now)) bucket
-        + segments_of (present (W.history state.old.store.now)) bucket)
-        + 2 * listed_by (present (W.history state.old.store.now)) from_bucket from_key))
+    ensures plans { Plans (by_account (copy_calls 2 (present (W.history state.old.store.now)) bucket from_bucket from_key))
         (W.history state.old.store.now) (W.history state.new.store.now) state.old.settings.now
         (Given (IsFoundSource bucket list from_bucket from_key head))
         (CopyObject bucket key acl from_bucket from_key replaced) label.now known.Settled result }

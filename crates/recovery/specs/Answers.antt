@@ -1,6 +1,6 @@
 -- What the calls of one operation may amount to. It stands between two numbers of calls, over an account that is
 -- consistent at the first. Source: this profile.
-use Rattle.std.specs.Prelude.{◌≡◌, ◌<◌, ◌≤◌, ◌⊎◌, ℕ, suc, ◌+◌, ◌*◌, ◌/◌, ◌%◌, ◌^◌, Bool, true, false, List, [], ◌∷◌, ◌++◌, length, map, take, is_some, Option, None, Some}
+use Rattle.std.specs.Prelude.{◌≡◌, ◌<◌, ◌≤◌, ◌⊎◌, ℕ, suc, ◌+◌, ◌*◌, ◌/◌, ◌%◌, ◌^◌, nat_lt, Bool, true, false, cond, List, [], ◌∷◌, ◌++◌, length, map, take, is_some, Option, None, Some}
 use Rattle.std.specs.FinMap.{entries, get, len}
 use Rattle.std.specs.List.{filter}
 use Rattle.std.specs.Option.{unwrap_or}
@@ -36,14 +36,14 @@ use Rattle.s3_machine.specs.declared.operation.Op.TheVariants.{
 use Rattle.s3_machine.specs.declared.operation.Reply.{Reply}
 use Rattle.s3_machine.specs.declared.operation.Reply.TheVariants.{Refused, Memory, Gone, Completed}
 use Rattle.s3_machine.specs.Items.{begins}
-use Rattle.s3_machine.specs.State.{Bucket, Upload, State}
+use Rattle.s3_machine.specs.State.{Object, Bucket, Upload, State}
 use Rattle.s3_machine.specs.Step.{S3Step}
 use Rattle.swift_calls.specs.Account.{SwiftAccount, SwiftObject, files, find_object}
 use Rattle.swift_calls.specs.Bodies as bodies
 use Rattle.swift_calls.specs.History.{History, budget, FaultFree}
 use Rattle.s3_names.specs.Id.{id_digits}
 use Rattle.upload_records.specs.Layout.{uploads_name, segments_name}
-use Rattle.upload_records.specs.Native.{s3_state}
+use Rattle.upload_records.specs.Native.{object_at, s3_state}
 use Rattle.upload_records.specs.Consistent.{IsConsistent}
 use Rattle.recovery.specs.Calls.{Bound, always, by_account}
 use Rattle.recovery.specs.Stutters.{OldBefore, calm, LastFailed}
@@ -75,7 +75,7 @@ is_upload (DeleteObjects bucket keys quiet) = false
 is_upload (CopyObject bucket key acl from_bucket from_key replaced) = false
 is_upload (CopyPart bucket key id number from_bucket from_key range) = false
 
--- whether the operation is one on many keys at once: of a bucket, or of what is copied and its copy
+-- whether the operation is one on several keys: on many keys of a bucket, or on a source and its copy
 abbrev pub is_many : Op → Bool
 is_many (DeleteObjects bucket keys quiet) = true
 is_many (CopyObject bucket key acl from_bucket from_key replaced) = true
@@ -318,6 +318,18 @@ listed_in (Some file) = length (unwrap_or (bodies.listed_in file.content) [])
 abbrev pub listed_by : SwiftAccount → List ℕ → List ℕ → ℕ
 listed_by tree bucket key = listed_in (find_object tree bucket key)
 
+-- an object that has an ETag of parts
+abbrev pub is_of_parts : Option Object → Bool
+is_of_parts None = false
+is_of_parts (Some o) = nat_lt 32 (length o.etag)
+
+-- the calls of a copy: n where its source was put in one piece; of one that has an ETag of parts two more, two for each record and
+-- each segment beside the bucket, and two for each segment that the source lists
+abbrev pub copy_calls : ℕ → SwiftAccount → List ℕ → List ℕ → List ℕ → ℕ
+copy_calls n tree bucket from_bucket from_key =
+    cond (is_of_parts (object_at (get (s3_state tree) from_bucket) from_key))
+    (n + 2 + 2 * (records_of tree bucket + segments_of tree bucket) + 2 * listed_by tree from_bucket from_key) n
+
 -- the greatest number of calls of an operation, by the account as it began
 abbrev pub most_calls : Op → SwiftAccount → Bound
 most_calls ListBuckets tree = by_account (pages (len tree) + len (s3_state tree))
@@ -340,8 +352,7 @@ most_calls (ListParts bucket key id marker max) tree = by_account (2 + pages (na
 most_calls (CompleteUpload bucket key id list) tree = by_account (6 + pages (named_by tree bucket id))
 most_calls (AbortUpload bucket key id) tree = by_account (3 + pages (named_by tree bucket id) + named_by tree bucket id)
 most_calls (DeleteObjects bucket keys quiet) tree = always (1 + length keys)
-most_calls (CopyObject bucket key acl from_bucket from_key replaced) tree =
-    by_account (7 + 2 * (records_of tree bucket + segments_of tree bucket) + 2 * listed_by tree from_bucket from_key)
+most_calls (CopyObject bucket key acl from_bucket from_key replaced) tree = by_account (copy_calls 5 tree bucket from_bucket from_key)
 most_calls (CopyPart bucket key id number from_bucket from_key range) tree = always 6
 
 -- whether no call failed under a reply of the service: of all but a completion and an abort that are done, whose commit other calls

@@ -33,7 +33,7 @@ pub fn is_upload(op: &Op) -> bool
     }
 }
 
-/// The operation is one on many keys at once, or on an object and a copy of it, which has a plan of its own.
+/// The operation is one on several keys, many keys of a bucket or a source and its copy, which has a plan of its own.
 pub fn is_many(op: &Op) -> bool
     ensures { result ≡ is_many op.now }
 {

@@ -45,6 +45,7 @@ abbrev pub takes_content : Row → List Pair → Bool
 takes_content CopyObject headers = replaces headers
 takes_content row headers = (shape_of row).has_content
 
+-- the content type that a row takes
 abbrev pub taken_type : Row → List Pair → List ℕ
 taken_type row headers = if takes_content row headers then given_type headers else codes "binary/octet-stream"
 
