@@ -33,7 +33,7 @@ import time
 from urllib.parse import quote
 
 sys.dont_write_bytecode = True
-from scripted_swift import ACCOUNT, TOKEN, Store, answer, cut_answer, http, lose_answer, lose_request, ordinary_and_closed, plain, raw, silent, unasked
+from scripted_swift import ACCOUNT, TOKEN, Segments, Store, answer, cut_answer, http, lose_answer, lose_request, ordinary_and_closed, plain, raw, silent, unasked
 
 # How the line serves its clients: "in turn", one connection at a time, or "side by side". A group that is marked with one of them
 # is left out under the other; a group without a mark holds for both.
@@ -1812,6 +1812,304 @@ def each_call_of_a_deletion_is_lost(check):
                 check(f"a deletion whose call {number} loses {title}", ((503, "ServiceUnavailable"), number, left), (reply, made, sorted(store.account["photos"][1])))
                 store.begin({})
                 check("and again", (200, []), (gate.ask("POST", "/photos?delete", [], deletion(*keys)).status, sorted(store.account["photos"][1])))
+
+
+# Copies.
+
+COPY_TAG = f"text/plain;s3={joined_etag(b'hello', b'world')}.{MADE}.{UPLOAD}"
+
+
+def copy_account(objects=None):
+    """An account whose bucket has `v`, an object of the parts 1 and 3, beside these objects, and an open upload of `u`."""
+    made = account(objects, uploads={**JOINED, OTHER_UPLOAD: ("u", {2: b"old"})})
+    kept = {"at": MADE, "done": MADE, "etag": joined_etag(b"hello", b"world"), "key": "v", "list": [[1, md5_of(b"hello")], [3, md5_of(b"world")]], "state": "done", "v": 2}
+    made["photos+uploads"][1][UPLOAD.encode()] = stored(json.dumps(kept, separators=(",", ":")).encode(), "application/json", tagged=False)
+    places = [("photos+segments", f"{UPLOAD}/{number:05}".encode()) for number in (1, 3)]
+    store_etag = hashlib.md5("".join(map(md5_of, (b"hello", b"world"))).encode()).hexdigest()
+    headers = [("Content-Type", COPY_TAG), ("Etag", f'"{store_etag}"'), ("X-Static-Large-Object", "True"), ("X-Object-Meta-S3-0", "[7.3.-colourred]")]
+    made["photos"][1][b"v"] = (headers, Segments(places, 10))
+    return {**made, **bucket_beside("music"), "+gateway": ([], {})}
+
+
+def bucket_beside(name):
+    """A bucket without objects, and the containers beside it."""
+    return {name: ([("X-Container-Read", ""), CREATED], {}), **beside(name, {})}
+
+
+def md5_of(body):
+    return hashlib.md5(body).hexdigest()
+
+
+OTHER_UPLOAD = "0000000000000000000000000000000b"
+U = f"/photos/u?uploadId={OTHER_UPLOAD}"
+
+
+def copy_of(source, target, *headers):
+    return "PUT", target, [("x-amz-copy-source", source), *headers]
+
+
+def copied(reply):
+    """The root and the ETag of what was copied, and otherwise as `brief`."""
+    root = re.search(rb"<Copy(Object|Part)Result ", reply.body)
+    return (reply.status, root[1].decode(), html.unescape(text_of(b"ETag", reply.body)[0]).strip('"')) if root else brief(reply)
+
+
+@group()
+def calls_of_copies_are_spelled(check):
+    root, etag = f"/v1/{ACCOUNT}", joined_etag(b"hello", b"world")
+    photos, music = f"{root}/photos", f"{root}/music"
+    with Store(account=copy_account()) as store, Gate(store.text).settled(store) as gate:
+
+        def call(line, *headers, body=""):
+            return spelled(store, line, *headers, body=body)
+
+        reply = gate.ask(*copy_of("/photos/a", "/music/c%20d"))
+        check("an object is copied", (200, "Object", ABC), copied(reply))
+        put = call(f"PUT {music}/c%20d", f"Content-Type: text/plain;s3={ABC}.{moment_of(reply)}.-", body="abc")
+        check("its calls", [call(f"HEAD {music}"), call(f"HEAD {photos}"), call(f"HEAD {photos}/a"), call(f"GET {photos}/a"), put], heard(store))
+        reply = gate.ask(*copy_of("music%2Fc%20d", "/music/e", ("x-amz-metadata-directive", "REPLACE"), ("Content-Type", "image/png"), ("x-amz-meta-b", "c")))
+        put = call(f"PUT {music}/e", f"Content-Type: image/png;s3={ABC}.{moment_of(reply)}.-", "X-Object-Meta-S3-0: [2.1.-bc]", body="abc")
+        check("and where type and metadata are replaced", [*[call(f"HEAD {music}")] * 2, call(f"HEAD {music}/c%20d"), call(f"GET {music}/c%20d"), put], heard(store))
+
+        reply = gate.ask(*copy_of("/photos/v", "/music/w"))
+        moment, came = moment_of(reply), heard(store)
+        check("an object of parts is copied, with its ETag", (200, "Object", etag), copied(reply))
+        id_ = re.search(r"%2Buploads/([0-9a-f]{32}) ", came[4])[1] if len(came) == 11 else "none"
+        segments, md5s = f"{music}%2Bsegments", [md5_of(it) for it in (b"hello", b"world")]
+        manifest = "[%s]" % ",".join(f'{{"etag":"{it}","path":"/music+segments/{id_}/{number:05}","size_bytes":5}}' for number, it in ((1, md5s[0]), (3, md5s[1])))
+        wanted = [call(f"HEAD {music}"), call(f"HEAD {photos}"), call(f"HEAD {photos}/v"), call(f"GET {photos}/v?multipart-manifest=get")]
+        wanted += [call(f"HEAD {music}%2Buploads/{id_}"), call(f"GET {segments}?format=json&limit=1&marker=&prefix={id_}%2F")]
+        for number, range_, body, it in ((1, "0-4", "hello", md5s[0]), (3, "5-9", "world", md5s[1])):
+            wanted.append(call(f"GET {photos}/v", f"Range: bytes={range_}"))
+            wanted.append(call(f"PUT {segments}/{id_}/{number:05}", f"Content-Type: application/octet-stream;s3={it}.{moment}.{id_}", body=body))
+        wanted.append(call(f"PUT {music}/w?multipart-manifest=put", f"Content-Type: text/plain;s3={etag}.{moment}.{id_}", "X-Object-Meta-S3-0: [7.3.-colourred]", body=manifest))
+        check("its calls", wanted, came)
+        gate.ask("DELETE", "/photos/v")
+        check("and is there without its source", (200, b"helloworld"), both(gate.ask("GET", "/music/w")))
+        store.begin({})
+
+        reply = gate.ask(*copy_of("/music/w", U + "&partNumber=2", ("x-amz-copy-source-range", "bytes=3-6")))
+        put = call(f"PUT {photos}%2Bsegments/{OTHER_UPLOAD}/00002", f"Content-Type: application/octet-stream;s3={md5_of(b'lowo')}.{moment_of(reply)}.{OTHER_UPLOAD}", body="lowo")
+        first = [call(f"HEAD {photos}"), call(f"GET {photos}%2Buploads/{OTHER_UPLOAD}"), call(f"HEAD {music}"), call(f"HEAD {music}/w")]
+        check("a part is copied", (200, "Part", md5_of(b"lowo")), copied(reply))
+        check("its calls", [*first, call(f"GET {music}/w", "Range: bytes=3-6"), put], heard(store))
+        check("and past the end it isn't", ((416, "InvalidRange"), first), (brief(gate.ask(*copy_of("/music/w", U + "&partNumber=2", ("x-amz-copy-source-range", "bytes=3-10")))), heard(store)))
+        for title, words in (("an object", copy_of("/photos/a", "/photos/c")), ("a part", copy_of("/photos/a", U + "&partNumber=1"))):
+            check(f"nobody copies {title}", ((403, "AccessDenied"), []), (brief(gate.ask(*words, owner=False)), heard(store)))
+
+
+# How a call is lost, what is done to it, and whether it takes effect.
+LOSSES = (("its request", lose_request, False), ("its answer", lose_answer, True), ("a byte of its answer", cut_answer(1), True), ("all by 500", answer(500), False))
+
+
+@group(first=True)
+def each_call_of_a_copy_is_lost(check):
+    """The target is as it was, or the copy; made again, it is the copy."""
+    whole, etag = b"helloworld", joined_etag(b"hello", b"world")
+    parts = "PUT", U + "&partNumber=2", [("x-amz-copy-source", "/photos/v"), ("x-amz-copy-source-range", "bytes=3-6")]
+    read = lambda key: (lambda gate: (lambda reply: both(reply) if reply.status == 200 else brief(reply))(gate.ask("GET", key)))
+    listed_parts = lambda gate: text_of(b"ETag", gate.ask("GET", U).body)
+    none, quoted = (404, "NoSuchKey"), lambda it: [f"&quot;{md5_of(it)}&quot;"]
+    for title, words, calls, done_, probe, (before, after) in (
+        ("an object", copy_of("/photos/a", "/music/c"), 5, (200, "Object", ABC), read("/music/c"), (none, (200, b"abc"))),
+        ("an object onto another", copy_of("/photos/a", "/photos/b"), 5, (200, "Object", ABC), read("/photos/b"), ((200, b"other"), (200, b"abc"))),
+        ("an object of parts", copy_of("/photos/v", "/music/c"), 11, (200, "Object", etag), read("/music/c"), (none, (200, whole))),
+        ("an object of parts onto another", copy_of("/photos/v", "/photos/b"), 11, (200, "Object", etag), read("/photos/b"), ((200, b"other"), (200, whole))),
+        ("a part", parts, 6, (200, "Part", md5_of(b"lowo")), listed_parts, (quoted(b"old"), quoted(b"lowo"))),
+    ):
+        with Store() as store, Gate(store.text).settled(store) as gate:
+            for number in range(1, calls + 1):
+                for how, act, is_applied in LOSSES:
+                    store.account = copy_account({b"a": b"abc", b"b": b"other"})
+                    store.begin({number: act})
+                    reply, made, is_done = copied(gate.ask(*words)), len(store.calls), is_applied and number == calls
+                    store.begin({})
+                    found = [reply, made, probe(gate), copied(gate.ask(*words)), probe(gate), both(gate.ask("GET", "/photos/v"))]
+                    wanted = [(503, "ServiceUnavailable"), number, after if is_done else before, done_, after, (200, whole)]
+                    check(f"a copy of {title} whose call {number} loses {how}", wanted, found)
+
+
+@group()
+def a_copy_is_cut_off_and_another_gateway_sees_none(check):
+    """The store is gone behind each call, and so is the gateway. Another one sees no copy, and makes it."""
+    etag = joined_etag(b"hello", b"world")
+    for number in range(1, 12):
+        with Store() as store:
+            store.account = copy_account()
+            with Gate(store.text).settled(store) as gate:
+                store.begin({it: lose_request for it in range(number, 100)})
+                check(f"the store is gone from call {number} on", (503, "ServiceUnavailable"), copied(gate.ask(*copy_of("/photos/v", "/photos/w"))))
+                gate.signal(signal.SIGKILL)
+            store.begin({})
+            with Gate(store.text) as gate:
+                check("nothing is seen of it", [(404, "NoSuchKey"), 2], [brief(gate.ask("GET", "/photos/w")), len(text_of(b"Key", gate.ask("GET", "/photos").body))])
+                check("and it is made", (200, "Object", etag), copied(gate.ask(*copy_of("/photos/v", "/photos/w"))))
+                check("and read", (200, b"helloworld"), both(gate.ask("GET", "/photos/w")))
+
+
+@group()
+def copies(check):
+    for title, store in (("a scripted store", Store()), ("swiftd", Swiftd())):
+        with store, Gate(store.text, words=LEAST) as gate, gate.client(request("PUT", "/photos"), request("PUT", "/music")) as client:
+            client.replies(2)
+
+            def ask(*words):
+                client.send(request(*words))
+                return client.reply()
+
+            def shown(key):
+                reply = ask("GET", key)
+                return (both(reply), *(reply.headers.get(it) for it in ("etag", "content-type", "x-amz-meta-colour"))) if reply.status == 200 else brief(reply)
+
+            ask("PUT", "/photos/a%20b%2B", [("Content-Type", "text/plain"), ("x-amz-meta-colour", "red")], b"abc")
+            check(f"{title}: an object is copied", (200, "Object", ABC), copied(ask(*copy_of("/photos/a%20b%2B", "/music/c"))))
+            check("with its type and metadata", ((200, b"abc"), f'"{ABC}"', "text/plain", "red"), shown("/music/c"))
+            check("or with others", (200, "Object", ABC), copied(ask(*copy_of("music/c", "/music/c", ("x-amz-metadata-directive", "REPLACE"), ("x-amz-meta-colour", "blue")))))
+            check("which it has then", ((200, b"abc"), f'"{ABC}"', "binary/octet-stream", "blue"), shown("/music/c"))
+            for source, target, wanted in (
+                ("/music/c", "/music/c", (400, "InvalidRequest")), ("/music/d", "/music/e", (404, "NoSuchKey")), ("/nothing/c", "/music/e", (404, "NoSuchBucket")),
+                ("/music/c", "/nothing/e", (404, "NoSuchBucket")), ("/music/", "/music/e", (400, "InvalidArgument")), ("/music/c?versionId=1", "/music/e", (501, "NotImplemented")),
+            ):
+                check(f"{source} to {target}", wanted, brief(ask(*copy_of(source, target))))
+            bodies = {1: b"hello", 2: b"-", 7: bytes(range(256)) * 16, 1000: b""}
+            id_ = (text_of(b"UploadId", ask("POST", "/photos/v?uploads", [("Content-Type", "text/plain"), ("x-amz-meta-colour", "red")]).body) or ["none"])[0]
+            for number, body in bodies.items():
+                ask("PUT", f"/photos/v?uploadId={id_}&partNumber={number}", [], body)
+            ask("POST", f"/photos/v?uploadId={id_}", [], completion(*bodies.items()))
+            whole, etag = b"".join(bodies.values()), joined_etag(*bodies.values())
+            check("an object of parts is copied", (200, "Object", etag), copied(ask(*copy_of("/photos/v", "/music/w"))))
+            check("and copied again", (200, "Object", etag), copied(ask(*copy_of("/music/w", "/photos/x", ("x-amz-metadata-directive", "REPLACE")))))
+            check("and its sources go", [204, 204], [brief(ask("DELETE", it)) for it in ("/photos/v", "/music/w")])
+            check("and it is whole", ((200, whole), f'"{etag}"', "binary/octet-stream", None), shown("/photos/x"))
+            u = text_of(b"UploadId", ask("POST", "/music/u?uploads").body)[0]
+            taken = {1: whole[3:4000], 2: whole, 3: b"abc"}
+            for number, range_, source in ((1, "bytes=3-3999", "/photos/x"), (2, None, "/photos/x"), (3, None, "/music/c")):
+                headers = [("x-amz-copy-source-range", range_)] if range_ else []
+                check(f"part {number} is copied", (200, "Part", md5_of(taken[number])), copied(ask(*copy_of(source, f"/music/u?uploadId={u}&partNumber={number}", *headers))))
+            check("past the end it isn't", (416, "InvalidRange"), brief(ask(*copy_of("/photos/x", f"/music/u?uploadId={u}&partNumber=4", ("x-amz-copy-source-range", f"bytes=0-{len(whole)}")))))
+            check("and the upload is completed", 200, brief(ask("POST", f"/music/u?uploadId={u}", [], completion(*taken.items()))))
+            check("by these bytes", (200, b"".join(taken.values())), both(ask("GET", "/music/u")))
+
+
+# Answers to the calls of a copy that no consistent account gives: of an object of three bytes, of one of the parts 1 and 3, of a part.
+HELLO, WORLD = md5_of(b"hello"), md5_of(b"world")
+
+
+def head_of_parts():
+    """The answer to HEAD of the object of parts."""
+    return answer(200, [("Content-Type", COPY_TAG), ("Etag", '"%s"' % ("0" * 32)), ("X-Static-Large-Object", "True")], length=10)
+
+
+def list_of(*segments, told=True):
+    """The answer to GET of its list: the number, the size and the MD5 of each segment."""
+    items = [{"hash": etag, "bytes": size, "name": f"/photos+segments/{UPLOAD}/{number}", "content_type": "a/b", "last_modified": "x"} for number, size, etag in segments]
+    return answer(200, [("Content-Type", "application/json")] + ([("X-Static-Large-Object", "True")] if told else []), json.dumps(items).encode())
+
+
+def bytes_of(first, body, size=10, tag=COPY_TAG):
+    """The answer to GET of a range of it."""
+    headers = [("Content-Type", tag), ("Etag", '"%s"' % ("0" * 32)), ("X-Static-Large-Object", "True"), ("Content-Range", f"bytes {first}-{first + len(body) - 1}/{size}")]
+    return answer(206, headers, body)
+
+
+COPY_A, COPY_V = copy_of("/photos/a", "/photos/c"), copy_of("/photos/v", "/photos/c")
+COPY_PART = copy_of("/photos/a", V + "&partNumber=1", ("x-amz-copy-source-range", "bytes=1-2"))
+TO_A, TO_V, TO_PART = [OPEN, OPEN, file()], [OPEN, OPEN, head_of_parts()], [OPEN, RECORD, OPEN, file(size=5)]
+WHOLE_A = answer(200, LIKE, b"abc")
+LIST_V = list_of(("00001", 5, HELLO), ("00003", 5, WORLD))
+FREE = [*TO_V, LIST_V, MISSING, files_named()]
+PUT_HELLO = answer(201, [("Etag", HELLO)])
+FILLED = [*FREE, bytes_of(0, b"hello"), PUT_HELLO, bytes_of(5, b"world"), answer(201, [("Etag", WORLD)])]
+ODD_COPIES = [
+    ("a source whose tag doesn't read", COPY_A, [OPEN, OPEN, answer(200, [("Content-Type", "text/plain"), ("Etag", ABC)], length=3)]),
+    ("a source that goes", COPY_A, [*TO_A, MISSING]),
+    ("a source that comes with another ETag", COPY_A, [*TO_A, answer(200, [("Content-Type", TAG), ("Etag", ABD)], b"abc")]),
+    ("a source that comes shorter", COPY_A, [*TO_A, answer(200, LIKE, b"ab")]),
+    ("a source that comes with other bytes", COPY_A, [*TO_A, answer(200, LIKE, b"abd")]),
+    ("a copy stored with another ETag", COPY_A, [*TO_A, WHOLE_A, answer(201, [("Etag", ABD)])]),
+    ("a copy that can't be stored", COPY_A, [*TO_A, WHOLE_A, MISSING]),
+    ("a source of parts without a list", COPY_V, [*TO_V, MISSING]),
+    ("a list that isn't one", COPY_V, [*TO_V, list_of(("00001", 5, HELLO), ("00003", 5, WORLD), told=False)]),
+    ("an empty list", COPY_V, [*TO_V, list_of()]),
+    ("a list of fewer bytes", COPY_V, [*TO_V, list_of(("00001", 5, HELLO), ("00003", 4, WORLD))]),
+    ("a list of more bytes", COPY_V, [*TO_V, list_of(("00001", 5, HELLO), ("00002", 1, ABC), ("00003", 5, WORLD))]),
+    ("a list out of order", COPY_V, [*TO_V, list_of(("00003", 5, WORLD), ("00001", 5, HELLO))]),
+    ("a list with a number twice", COPY_V, [*TO_V, list_of(("00001", 5, HELLO), ("00001", 5, HELLO))]),
+    ("a list with a number that is none", COPY_V, [*TO_V, list_of(("00000", 5, HELLO), ("00003", 5, WORLD))]),
+    ("a list without five digits", COPY_V, [*TO_V, list_of(("1", 5, HELLO), ("00003", 5, WORLD))]),
+    ("a segment that goes", COPY_V, [*FREE, MISSING]),
+    ("a segment of a source with another size", COPY_V, [*FREE, bytes_of(0, b"hello", size=11)]),
+    ("a segment of a source with another ETag", COPY_V, [*FREE, bytes_of(0, b"hello", tag=COPY_TAG.replace("-2.", "-3."))]),
+    ("a segment stored with another ETag", COPY_V, [*FREE, bytes_of(0, b"hello"), answer(201, [("Etag", ABD)])]),
+    ("a segment that can't be stored", COPY_V, [*FREE, bytes_of(0, b"hello"), MISSING]),
+    ("a copy whose list is refused", COPY_V, [*FILLED, answer(400)]),
+    ("a copy whose list can't be stored", COPY_V, [*FILLED, MISSING]),
+    ("a source of a part that goes", COPY_PART, [*TO_PART, MISSING]),
+    ("a source of a part that comes with another ETag", COPY_PART, [*TO_PART, part(5, ABD)]),
+    ("a source of a part that comes with another size", COPY_PART, [*TO_PART, part(6)]),
+    ("a copied part stored with another ETag", COPY_PART, [*TO_PART, part(5), answer(201, [("Etag", ABD)])]),
+    ("a copied part that can't be stored", COPY_PART, [*TO_PART, part(5), MISSING]),
+]
+FAILED_COPIES = [
+    ("202 to HEAD of the source's container", COPY_A, [OPEN, THERE]),
+    ("201 to HEAD of the source", COPY_A, [OPEN, OPEN, answer(201)]),
+    ("204 to GET of a list", COPY_V, [*TO_V, answer(204)]),
+    ("200 to PUT of a list", COPY_V, [*FILLED, answer(200, [("Etag", ABC)])]),
+    ("a segment that comes shorter", COPY_V, [*FREE, bytes_of(0, b"hell")]),
+    ("a second segment that comes shorter", COPY_V, [*FREE, bytes_of(0, b"hello"), PUT_HELLO, bytes_of(5, b"wor")]),
+    ("a source of a part that comes shorter", COPY_PART, [*TO_PART, answer(206, [*LIKE, ("Content-Range", "bytes 1-1/5")], b"b")]),
+    ("201 without an ETag to PUT of a segment", COPY_V, [*FREE, bytes_of(0, b"hello"), answer(201)]),
+    ("200 to PUT of a copied part", COPY_PART, [*TO_PART, part(5), answer(200, [("Etag", ABC)])]),
+]
+
+
+@group()
+def odd_answers_to_copies(check):
+    with Store() as store, Gate(store.text).settled(store) as gate:
+        for rows, wanted in ((ODD_COPIES, (500, "InconsistentStore")), (FAILED_COPIES, (503, "ServiceUnavailable"))):
+            for title, words, answers in rows:
+                store.begin(answers)
+                check(title, (wanted, len(answers)), (copied(gate.ask(*words)), len(store.calls)))
+        etag = joined_etag(b"hello", b"world")
+        for title, words, wanted, answers in (
+            ("an object", COPY_A, (200, "Object", ABC), [*TO_A, WHOLE_A, answer(201, [("Etag", f'"{ABC}"')])]),
+            ("an object of parts", COPY_V, (200, "Object", etag), [*FILLED, answer(201, [("Etag", '"%s"' % ("0" * 32))])]),
+            ("a part", COPY_PART, (200, "Part", md5_of(b"bc")), [*TO_PART, part(5), answer(201, [("Etag", md5_of(b"bc"))])]),
+        ):
+            store.begin(answers)
+            check(f"and {title} is copied by the ordinary ones", (wanted, len(answers)), (copied(gate.ask(*words)), len(store.calls)))
+
+
+@group(first=True)
+def large_copies(check):
+    """An object of 16 MiB is copied whole, also as a part; one byte more is too much for a part, but not for a range or an object."""
+    large = random.Random(3).randbytes(LARGEST)
+    for title, store in (("a scripted store", Store()), ("swiftd", Swiftd())):
+        with store, Gate(store.text, words=LEAST) as gate, gate.client(request("PUT", "/photos")) as client:
+            client.reply()
+
+            def ask(*words):
+                client.send(request(*words))
+                return client.reply()
+
+            def part_of(source, number, range_=None):
+                headers = [("x-amz-copy-source-range", range_)] if range_ else []
+                return copied(ask(*copy_of(source, f"/photos/u?uploadId={u}&partNumber={number}", *headers)))
+
+            ask("PUT", "/photos/a", [], large)
+            check(f"{title}: an object of 16 MiB is copied", (200, "Object", md5_of(large)), copied(ask(*copy_of("/photos/a", "/photos/b"))))
+            check("and is whole", large, ask("GET", "/photos/b").body)
+            u = text_of(b"UploadId", ask("POST", "/photos/u?uploads").body)[0]
+            check("it is copied as a part", (200, "Part", md5_of(large)), part_of("/photos/b", 1))
+            ask("PUT", f"/photos/u?uploadId={u}&partNumber=2", [], b".")
+            ask("POST", f"/photos/u?uploadId={u}", [], completion((1, large), (2, b".")))
+            u = text_of(b"UploadId", ask("POST", "/photos/u?uploads").body)[0]
+            check("one byte more is too much for a part", (400, "EntityTooLarge"), part_of("/photos/u", 1))
+            check("and by its range too", (400, "EntityTooLarge"), part_of("/photos/u", 1, f"bytes=0-{LARGEST}"))
+            check("but not 16 MiB of it", (200, "Part", md5_of(large[1:] + b".")), part_of("/photos/u", 1, f"bytes=1-{LARGEST}"))
+            check("nor the object of parts", (200, "Object", joined_etag(large, b".")), copied(ask(*copy_of("/photos/u", "/photos/w"))))
+            reply = ask("GET", "/photos/w", [("Range", f"bytes={LARGEST - 10}-")])
+            check("which ends as its source does", (206, large[-10:] + b"."), both(reply))
 
 
 @group()

@@ -261,6 +261,8 @@ class Store:
             del objects[call.name]
             return 204, [], b""
         headers, body = objects[call.name]
+        if isinstance(body, Segments) and call.query.get("multipart-manifest") == "get":
+            return self.get_manifest(body)
         if isinstance(body, Segments):
             body = b"".join(self.account[container][1].get(name, (None, b""))[1] for container, name in body.places)
         if "range" not in call.headers:
@@ -269,6 +271,12 @@ class Store:
         part = body[int(first) : int(last) + 1]
         return 206, headers + [("Content-Range", f"bytes {first}-{int(first) + len(part) - 1}/{len(body)}")], part
 
+    def get_manifest(self, segments):
+        """The list of a static large object, by what its segments are now."""
+        found = [(container, name, *self.account[container][1][name]) for container, name in segments.places]
+        items = [{**named(name, headers, body), "name": f"/{container}/{name.decode()}"} for container, name, headers, body in found]
+        text = json.dumps(items).encode()
+        return 200, [("Content-Type", "application/json; charset=utf-8"), ("Etag", hashlib.md5(text).hexdigest()), ("X-Static-Large-Object", "True")], text
 
     def put_manifest(self, call, objects):
         """A static large object, of segments that are there as they are listed."""

@@ -4,8 +4,8 @@ that a small model of its own allows.
 
     bench/upload-faults.py S3GATE [REQUESTS [SEED]]
 
-Two buckets, a few keys; uploads are begun, get parts, are listed, completed, completed again and aborted; objects are put, read and
-deleted. In about every third request one call of the store is lost: its request, its answer, or all from it on until the request
+Two buckets, a few keys; uploads are begun, get parts, are listed, completed, completed again and aborted; objects are put, read,
+copied and deleted, and parts are copied of them. In about every third request one call of the store is lost: its request, its answer, or all from it on until the request
 ends. Then the reply is ServiceUnavailable, and the request is done or not; or it is the ordinary one, and the request is done. What
 follows has to fit one of the two. The model knows only what docs/PROFILE.md says. It takes a minute for 10,000 requests.
 """
@@ -80,6 +80,35 @@ class Service:
         bucket.objects.pop(asked["key"], None)
         return (204,)
 
+    def source(self, asked):
+        """The object that is copied: its ETag and its bytes; or the refusal."""
+        bucket = self.buckets.get(asked["from_bucket"])
+        if not bucket:
+            return None, (404, "NoSuchBucket")
+        return bucket.objects.get(asked["from_key"]), (404, "NoSuchKey")
+
+    def copy(self, bucket, asked):
+        found, refusal = self.source(asked)
+        if not found:
+            return refusal
+        if not asked["replace"] and (asked["bucket"], asked["key"]) == (asked["from_bucket"], asked["from_key"]):
+            return 400, "InvalidRequest"
+        bucket.objects[asked["key"]] = found
+        return 200, found[0]
+
+    def copy_part(self, bucket, asked):
+        upload = self.found(bucket, asked)
+        if not upload:
+            return 404, "NoSuchUpload"
+        found, refusal = self.source(asked)
+        if not found:
+            return refusal
+        first, last = asked["range"] or (0, len(found[1]) - 1)
+        if asked["range"] and last >= len(found[1]):
+            return 416, "InvalidRange"
+        upload[1][asked["number"]] = found[1][first : last + 1]
+        return 200, md5(upload[1][asked["number"]])
+
     def begin(self, bucket, asked):
         bucket.uploads[asked["new"]] = (asked["key"], {})
         return (200,)
@@ -140,7 +169,7 @@ BUCKETS = ["music", "photos", "photos"]
 KEYS = ["k", "a b", "x&y"]
 ACTS = (
     ["MAKE"] * 3 + ["DROP"] * 2 + ["PUT"] * 5 + ["GET"] * 12 + ["DELETE"] * 4 + ["BEGIN"] * 10 + ["PART"] * 24 + ["PARTS"] * 8
-    + ["UPLOADS"] * 6 + ["OBJECTS"] * 6 + ["ABORT"] * 4 + ["COMPLETE"] * 24
+    + ["UPLOADS"] * 6 + ["OBJECTS"] * 6 + ["ABORT"] * 4 + ["COMPLETE"] * 24 + ["COPY"] * 16 + ["COPY_PART"] * 10
 )
 
 
@@ -163,7 +192,17 @@ class Chance:
         if known and self.random.random() < 0.9:
             asked["key"] = known[0]
         asked["list"] = self.list_of(bucket, asked["id"])
+        self.add_source(service, asked)
         return asked
+
+    def add_source(self, service, asked):
+        """Of what is copied: most often an object that is there, and all of it or a range."""
+        pick, there = self.random.choice, [(name, key) for name, it in service.buckets.items() for key in it.objects]
+        wanted = pick(there) if there and self.random.random() < 0.85 else (pick(BUCKETS), pick(KEYS))
+        asked["from_bucket"], asked["from_key"] = wanted
+        asked["replace"] = self.random.random() < 0.3
+        first = self.random.choice([0, 0, 1, 2, 5])
+        asked["range"] = (first, first + self.random.choice([0, 1, 2, 5])) if self.random.random() < 0.6 else None
 
     def list_of(self, bucket, id_):
         if bucket and id_ in bucket.kept and self.random.random() < 0.8:
@@ -175,9 +214,16 @@ class Chance:
         return [(number, md5(parts.get(number, b"")) if self.random.random() < 0.95 else md5(b"other")) for number in numbers]
 
 
+def path_of(bucket, key):
+    return f"/{bucket}/" + "".join(c if c.isalnum() else f"%{ord(c):02X}" for c in key)
+
+
 def target(asked):
     place = f"/{asked['bucket']}"
-    key = "/" + "".join(c if c.isalnum() else f"%{ord(c):02X}" for c in asked["key"])
+    key = path_of(asked["bucket"], asked["key"]).removeprefix(place)
+    source = [("x-amz-copy-source", path_of(asked["from_bucket"], asked["from_key"]))]
+    replace = [("x-amz-metadata-directive", "REPLACE")] if asked["replace"] else []
+    span = [("x-amz-copy-source-range", "bytes=%d-%d" % asked["range"])] if asked["range"] else []
     query = f"uploadId={asked['id']}"
     items = "".join(f"<Part><PartNumber>{n}</PartNumber><ETag>{e}</ETag></Part>" for n, e in asked["list"])
     return {
@@ -185,6 +231,7 @@ def target(asked):
         "DELETE": ("DELETE", place + key), "BEGIN": ("POST", f"{place}{key}?uploads"),
         "PART": ("PUT", f"{place}{key}?partNumber={asked['number']}&{query}", [], asked["body"]), "PARTS": ("GET", f"{place}{key}?{query}"),
         "UPLOADS": ("GET", f"{place}?uploads"), "OBJECTS": ("GET", f"{place}?list-type=2"), "ABORT": ("DELETE", f"{place}{key}?{query}"),
+        "COPY": ("PUT", place + key, source + replace), "COPY_PART": ("PUT", f"{place}{key}?partNumber={asked['number']}&{query}", source + span),
         "COMPLETE": ("POST", f"{place}{key}?{query}", [], f"<CompleteMultipartUpload>{items}</CompleteMultipartUpload>".encode()),
     }[asked["act"]]
 
@@ -202,7 +249,7 @@ def told(box, asked, reply):
         return (reply.status, reply.headers["etag"].strip('"')), None
     if act == "GET":
         return (reply.status, reply.headers["etag"].strip('"'), reply.body), None
-    if act == "COMPLETE":
+    if act in ("COMPLETE", "COPY", "COPY_PART"):
         return (reply.status, texts(b"ETag")[0]), None
     if act == "PARTS":
         return (reply.status, [(int(n), e, int(s)) for n, e, s in zip(texts(b"PartNumber"), texts(b"ETag"), texts(b"Size"))]), None
@@ -218,7 +265,7 @@ def main():
     requests, seed = int(requests), int(seed)
     box = load("black-box")
     box.S3GATE = os.path.abspath(gate)
-    chance, differ, lost, done, unavailable = Chance(seed), 0, 0, 0, 0
+    chance, differ, lost, done, copied, unavailable = Chance(seed), 0, 0, 0, 0, 0
     with box.Store() as store, box.Gate(store.text, words=("--least-part", str(LEAST))) as program, program.client() as client:
         may = [Service()]
         for turn in range(requests):
@@ -226,7 +273,7 @@ def main():
             fault = chance.random.random() < 0.33
             script = {}
             if fault:
-                at, how = chance.random.randint(1, 10), chance.random.choice(["request", "answer", "gone"])
+                at, how = chance.random.randint(1, 16 if asked["act"] == "COPY" else 10), chance.random.choice(["request", "answer", "gone"])
                 script = {at: box.lose_request if how != "answer" else box.lose_answer}
                 if how == "gone":
                     script = {it: box.lose_request for it in range(at, at + 400)}
@@ -250,6 +297,7 @@ def main():
                     after.append(other)
             unavailable += came == (503, "ServiceUnavailable")
             done += came[0] == 200 and asked["act"] == "COMPLETE"
+            copied += came[0] == 200 and asked["act"] in ("COPY", "COPY_PART")
             if not after:
                 differ += 1
                 print(f"request {turn} {target(asked)[:2]} with {sorted(script)[:1]} lost: {came}, but {[copy.deepcopy(it).answer(asked) for it in may]}")
@@ -263,7 +311,7 @@ def main():
                 if may[0] is None:
                     print(f"request {turn} {target(asked)[:2]} with {sorted(script)[:1]} lost: {came}, and what is seen then fits neither")
                     return 1
-    print(f"{requests} requests, {lost} of them with a lost call, {unavailable} ServiceUnavailable, {done} completions: no difference")
+    print(f"{requests} requests, {lost} of them with a lost call, {unavailable} ServiceUnavailable, {done} completions, {copied} copies: no difference")
     return 0
 
 

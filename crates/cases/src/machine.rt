@@ -370,6 +370,7 @@ pub(crate) fn is_shown(reply: &Reply) -> bool
             ..
         } => shows(head, *from, *length, *partial),
         Reply::Parts { items, .. } => are_shown_parts(items.as_slice()),
+        Reply::Copied { modified, .. } => *modified < MOMENT_LIMIT,
     }
 }
 

@@ -133,6 +133,11 @@ fn small_reply_of(alloc: Global, name: &str, fields: &[Pair], told: &mut Told) -
             key: bytes_in(alloc, fields, b"key", told),
             etag: bytes_in(alloc, fields, b"etag", told),
         },
+        "copied" => Reply::Copied {
+            part: is_said(fields, b"part"),
+            etag: bytes_in(alloc, fields, b"etag", told),
+            modified: number_in(fields, b"modified", told),
+        },
         _ => Reply::Memory,
     }
 }
