@@ -108,7 +108,7 @@ module _ (bucket key : List ℕ) (acl : Acl) (id : ℕ) (from_bucket from_key : 
   as_put = copy_as bucket key id replaced head list moment
 
   -- all bytes of the source stand beside the bucket
-  filled_may_put : (old new : SwiftAccount) → s3_state new ≡ s3_state old → MayFill bucket acl id from_bucket from_key head old → CopiesFirst bucket id from_bucket from_key head.size old new list
+  filled_may_put : (old new : SwiftAccount) → s3_state new ≡ s3_state old → MayFill bucket acl id from_bucket from_key head old → CopiesFirst bucket id from_bucket from_key head.size moment old new list
       → MayPut acl from_bucket from_key replaced as_put new
   filled_may_put old new same has told =
       let object = object_of_head (object_at (get (s3_state old) from_bucket) from_key) head has.found.source in
@@ -202,8 +202,8 @@ plans_wider wider plans = record {
 
 module _ {bucket from_bucket from_key : List ℕ} {list : Acl} {head : ObjectHead} {op : Op} {label : Label} {settings : Settings} where
   -- the segments weren't copied
-  pub copy_in_vain : {id size : ℕ} {walked : List Piece} (cut : List Piece) {a b : History} {f : PlanFault} → walked ≡ cut
-      → Asks (always (2 * length walked)) a b (GivenOf (MayCopy bucket id from_bucket from_key head)) (CopiesFirst bucket id from_bucket from_key size) (Err f) → (end : Result Reply PlanFault) → IsErrAnd end (λ e. e ≡ f)
+  pub copy_in_vain : {id size moment : ℕ} {walked : List Piece} (cut : List Piece) {a b : History} {f : PlanFault} → walked ≡ cut
+      → Asks (always (2 * length walked)) a b (GivenOf (MayCopy bucket id from_bucket from_key head)) (CopiesFirst bucket id from_bucket from_key size moment) (Err f) → (end : Result Reply PlanFault) → IsErrAnd end (λ e. e ≡ f)
       → Plans (always (2 * length cut + 1)) a b settings (GivenOf (MayFill bucket list id from_bucket from_key head)) op label Settled end
   copy_in_vain {walked = walked} cut same asks end is = asked_in_vain (always (2 * length walked)) (omega (arith, ap length same)) (met_within may_copy) asks end is
 
@@ -241,7 +241,7 @@ module _ (bucket key from_bucket from_key : List ℕ) (acl : Option Acl) (list :
     (onto : is_onto_itself bucket key from_bucket from_key replaced ≡ false) {settings : Settings} where
   -- the segments were copied, and the copy is put
   pub copy_goes_on : {id : ℕ} {walked : List Piece} (cut : List Piece) {a b c : History} {now : Settings} {s : Sealed} (parts : List SealedPart) {end : Result Reply PlanFault} → walked ≡ cut → now ≡ settings
-      → Asks (always (2 * length walked)) a b (GivenOf (MayCopy bucket id from_bucket from_key head)) (CopiesFirst bucket id from_bucket from_key head.size) (Ok parts)
+      → Asks (always (2 * length walked)) a b (GivenOf (MayCopy bucket id from_bucket from_key head)) (CopiesFirst bucket id from_bucket from_key head.size label.moment) (Ok parts)
       → s ≡ copy_as bucket key id replaced head parts label.moment → PutsListed b c now end s
       → Plans (always (2 * length cut + 1)) a c settings (GivenOf (MayFill bucket list id from_bucket from_key head)) (CopyObject bucket key acl from_bucket from_key replaced) label Settled end
   copy_goes_on {id = id} {walked = walked} cut {b = b} {c = c} {now = now} parts {end = end} same kept asks e puts =

@@ -2,7 +2,7 @@
 use Rattle.std.specs.Prelude.{◌≡◌, ◌<◌, ◌≤◌, ◌+◌, ◌*◌, ◌&&◌, ℕ, zero, suc, true, nat_le, nat_lt, get_or, List, [], ◌∷◌, ◌++◌, length, map, take, drop, Option, None, Some, Result, Ok, Err}
 use Rattle.std.specs.Result.{IsErrAnd}
 use Rattle.std.specs.List.{list_all}
-use Rattle.std.specs.Option.{option_and_then}
+use Rattle.std.specs.Option.{option_and_then, option_map}
 use Rattle.std.specs.FinMap.{get, insert}
 use Rattle.std.proofs.Common.{refl, sym, ap, subst, ◌∙◌, arith}
 use Rattle.std.proofs.Math.Seq.{take-add}
@@ -30,7 +30,7 @@ use Rattle.recovery.specs.declared.fault.PlanFault.{PlanFault}
 use Rattle.recovery.specs.declared.fault.PlanFault.TheVariants as fault
 use Rattle.recovery.proofs.lemmas.Idle.{grows_none, none_made}
 use Rattle.recovery.proofs.lemmas.Quiet.{asks_failed, asks_left, asks_no_memory, asks_same_state, asks_then, asks_under}
-use Rattle.many_keys.specs.CopiedLists.{AreOfCut, CopiesFirst, CopiesPiece, IsUnnamed, MayCopy, PutsSegment, TellsPiece, ascends_from, is_cut, is_piece, piece_in, size_of_cut}
+use Rattle.many_keys.specs.CopiedLists.{AreDated, AreOfCut, CopiesFirst, CopiesPiece, modified_in, IsUnnamed, MayCopy, PutsSegment, TellsPiece, ascends_from, is_cut, is_piece, piece_in, size_of_cut}
 use Rattle.many_keys.specs.declared.cut.Piece.{Piece}
 use Rattle.many_keys.proofs.CutCalls.{segment_number}
 
@@ -39,20 +39,20 @@ use Rattle.many_keys.proofs.CutCalls.{segment_number}
 has_object : {bucket : List ℕ} {id : ℕ} {from_bucket from_key : List ℕ} {head : ObjectHead} (tree : SwiftAccount) → GivenOf (MayCopy bucket id from_bucket from_key head) tree → Given (HasObject from_bucket from_key head.etag head.size) tree
 has_object {head = head} tree may = record { settled = may.settled; is = (head, may.is.source, refl, refl) }
 
-module _ {bucket : List ℕ} {id : ℕ} {from_bucket from_key : List ℕ} {head : ObjectHead} {at : ℕ} {piece : Piece} {a b : History} where
+module _ {bucket : List ℕ} {id : ℕ} {from_bucket from_key : List ℕ} {head : ObjectHead} {at moment : ℕ} {piece : Piece} {a b : History} where
   -- its bytes were read, and put
   pub piece_copied : {c : History} {bytes : List ℕ} {result : Result SealedPart PlanFault} → Asks (always 1) a b (Given (HasObject from_bucket from_key head.etag head.size)) (Tells (TellsPiece from_bucket from_key at piece.size)) (Ok bytes)
-      → Asks (always 1) b c (GivenOf (IsUnnamed bucket id)) (PutsSegment bucket id piece.number bytes) result
-      → Asks (always 2) a c (GivenOf (MayCopy bucket id from_bucket from_key head)) (CopiesPiece bucket id from_bucket from_key at piece) result
+      → Asks (always 1) b c (GivenOf (IsUnnamed bucket id)) (PutsSegment bucket id piece.number bytes moment) result
+      → Asks (always 2) a c (GivenOf (MayCopy bucket id from_bucket from_key head)) (CopiesPiece bucket id from_bucket from_key at piece moment) result
   piece_copied {bytes = bytes} first then =
-      asks_then {R = CopiesPiece bucket id from_bucket from_key at piece} (omega arith) (asks_under has_object first) then
+      asks_then {R = CopiesPiece bucket id from_bucket from_key at piece moment} (omega arith) (asks_under has_object first) then
       (λ old new sound same has tells. subst (GivenOf (IsUnnamed bucket id)) (sym tells.same) (record { settled = has.settled; is = has.is.unnamed }))
-      (λ old new last part sound has tells puts. record { bytes = bytes; tells = tells.of_state; puts = subst (λ t. PutsSegment bucket id piece.number bytes t last part) tells.same puts })
+      (λ old new last part sound has tells puts. record { bytes = bytes; tells = tells.of_state; puts = subst (λ t. PutsSegment bucket id piece.number bytes moment t last part) tells.same puts })
 
   -- they weren't
   pub piece_unread : {f : PlanFault} → Asks (always 1) a b (Given (HasObject from_bucket from_key head.etag head.size)) (Tells (TellsPiece from_bucket from_key at piece.size)) (Err f)
-      → (result : Result SealedPart PlanFault) → IsErrAnd result (λ e. e ≡ f) → Asks (always 2) a b (GivenOf (MayCopy bucket id from_bucket from_key head)) (CopiesPiece bucket id from_bucket from_key at piece) result
-  piece_unread asks result is = asks_failed {R = CopiesPiece bucket id from_bucket from_key at piece} (omega arith) (asks_under has_object asks) result is
+      → (result : Result SealedPart PlanFault) → IsErrAnd result (λ e. e ≡ f) → Asks (always 2) a b (GivenOf (MayCopy bucket id from_bucket from_key head)) (CopiesPiece bucket id from_bucket from_key at piece moment) result
+  piece_unread asks result is = asks_failed {R = CopiesPiece bucket id from_bucket from_key at piece moment} (omega arith) (asks_under has_object asks) result is
 
 -- ---- what a cut keeps
 
@@ -137,6 +137,16 @@ module _ (S : Names SwiftObject) (id : List ℕ) (number : ℕ) (file : SwiftObj
       let less = and_parts (nat_lt p.number number) (list_all (λ (p : SealedPart). nat_lt p.number number) list) below in
       (λ i. part_bytes (option_and_then part_of (other_stays p.number (ltb-true p.number number less.0) i)) ++ bytes_stay list less.1 i)
 
+  dated_stay : (moment : ℕ) (list : List SealedPart) → list_all (λ (p : SealedPart). nat_lt p.number number) list ≡ true → AreDated S id moment list → AreDated after id moment list
+  dated_stay moment [] below dated = tt
+  dated_stay moment (p ∷ list) below dated =
+      let less = and_parts (nat_lt p.number number) (list_all (λ (p : SealedPart). nat_lt p.number number) list) below in
+      (ap (λ o. option_map modified_in (option_and_then part_of o)) (other_stays p.number (ltb-true p.number number less.0)) ∙ dated.0, dated_stay moment list less.1 dated.1)
+
+dated_more : (S : Names SwiftObject) (id : List ℕ) (moment : ℕ) (list : List SealedPart) (p : SealedPart) → AreDated S id moment list → option_map modified_in (part_at S id p.number) ≡ Some moment → AreDated S id moment (list ++ p ∷ [])
+dated_more S id moment [] p dated is = (is, tt)
+dated_more S id moment (q ∷ list) p dated is = (dated.0, dated_more S id moment list p dated.1 is)
+
 parts_more : (S : Names SwiftObject) (id : List ℕ) (list : List SealedPart) (p : SealedPart) → AreSealedParts S id list → IsSealedPart S id p → AreSealedParts S id (list ++ p ∷ [])
 parts_more S id [] p parts is = (is, tt)
 parts_more S id (q ∷ list) p parts is = (parts.0, parts_more S id list p parts.1 is)
@@ -151,9 +161,9 @@ bytes_more S id list p =
 
 -- ---- one more
 
-module _ {bucket : List ℕ} {id : ℕ} {from_bucket from_key : List ℕ} {at : ℕ} {list : List SealedPart} {piece : Piece} {part : SealedPart} {old new last : SwiftAccount} where
+module _ {bucket : List ℕ} {id : ℕ} {from_bucket from_key : List ℕ} {at moment : ℕ} {list : List SealedPart} {piece : Piece} {part : SealedPart} {old new last : SwiftAccount} where
   first_more : piece.number ≤ greatest_part → list_all (λ (p : SealedPart). nat_lt p.number piece.number) list ≡ true → s3_state new ≡ s3_state old
-      → CopiesFirst bucket id from_bucket from_key at old new list → CopiesPiece bucket id from_bucket from_key at piece new last part → CopiesFirst bucket id from_bucket from_key (at + piece.size) old last (list ++ part ∷ [])
+      → CopiesFirst bucket id from_bucket from_key at moment old new list → CopiesPiece bucket id from_bucket from_key at piece moment new last part → CopiesFirst bucket id from_bucket from_key (at + piece.size) moment old last (list ++ part ∷ [])
   first_more counted below same first more =
       let S : Names SwiftObject = files new (segments_name bucket) in
       let puts = more.puts in
@@ -167,6 +177,9 @@ module _ {bucket : List ℕ} {id : ℕ} {from_bucket from_key : List ℕ} {at : 
         parts = subst (λ fs. AreSealedParts fs (id_digits id) (list ++ part ∷ [])) (sym puts.holds)
             (parts_more (insert S name puts.file) (id_digits id) list part (parts_stay S (id_digits id) piece.number puts.file counted list below first.parts)
             (record { file = puts.file; bytes = more.bytes; there = there; own = puts.own; etag = puts.part.etag; size = puts.part.size }));
+        dated = subst (λ fs. AreDated fs (id_digits id) moment (list ++ part ∷ [])) (sym puts.holds)
+            (dated_more (insert S name puts.file) (id_digits id) moment list part (dated_stay S (id_digits id) piece.number puts.file counted moment list below first.dated)
+            (ap (λ o. option_map modified_in (option_and_then part_of o)) there ∙ puts.dated));
         bytes = λ o found.
             let same_object : Some more.tells.object ≡ Some o = sym more.tells.found ∙ ap (λ s. object_at (get s from_bucket) from_key) same ∙ found in
             let of_it : take piece.size (drop at more.tells.object.bytes) ≡ take piece.size (drop at o.bytes) = ap (λ (v : Option Object). take piece.size (drop at (bytes_or v))) same_object in
@@ -183,25 +196,25 @@ module _ {bucket : List ℕ} {id : ℕ} {from_bucket from_key : List ℕ} {at : 
 -- ---- the loop
 
 -- the first pieces were copied
-pub record Copying (a b : History) (bucket : List ℕ) (id : ℕ) (from_bucket from_key : List ℕ) (head : ObjectHead) (first : List Piece) (at : ℕ) (list : List SealedPart) : Type 0 where
+pub record Copying (a b : History) (bucket : List ℕ) (id : ℕ) (from_bucket from_key : List ℕ) (head : ObjectHead) (moment : ℕ) (first : List Piece) (at : ℕ) (list : List SealedPart) : Type 0 where
   pub at_is : at ≡ size_of_cut first
   pub listed : AreOfCut first list
-  pub asks : Asks (always (2 * length first)) a b (GivenOf (MayCopy bucket id from_bucket from_key head)) (CopiesFirst bucket id from_bucket from_key at) (Ok list)
+  pub asks : Asks (always (2 * length first)) a b (GivenOf (MayCopy bucket id from_bucket from_key head)) (CopiesFirst bucket id from_bucket from_key at moment) (Ok list)
 
 take_none : {X : Type 0} (xs : List X) → take 0 xs ≡ []
 take_none [] = refl
 take_none (x ∷ xs) = refl
 
-pub copying_none : (a : History) (bucket : List ℕ) (id : ℕ) (from_bucket from_key : List ℕ) (head : ObjectHead) (cut : List Piece) (list : List SealedPart) → list ≡ [] → Copying a a bucket id from_bucket from_key head (take 0 cut) 0 list
-copying_none a bucket id from_bucket from_key head cut list none =
-    subst (λ first. Copying a a bucket id from_bucket from_key head first 0 list) (sym (take_none cut))
-    (subst (Copying a a bucket id from_bucket from_key head [] 0) (sym none) (record {
+pub copying_none : (a : History) (bucket : List ℕ) (id : ℕ) (from_bucket from_key : List ℕ) (head : ObjectHead) (moment : ℕ) (cut : List Piece) (list : List SealedPart) → list ≡ [] → Copying a a bucket id from_bucket from_key head moment (take 0 cut) 0 list
+copying_none a bucket id from_bucket from_key head moment cut list none =
+    subst (λ first. Copying a a bucket id from_bucket from_key head moment first 0 list) (sym (take_none cut))
+    (subst (Copying a a bucket id from_bucket from_key head moment [] 0) (sym none) (record {
       at_is = refl;
       listed = record { pieces = refl; proper = refl };
       asks = record {
         grows = grows_none (always 0) (GivenOf (MayCopy bucket id from_bucket from_key head)) a;
         cause = refl;
-        effect = λ met. (none_made refl met.sound, refl, record { settled = met.has.settled; unnamed = met.has.is.unnamed; parts = tt; bytes = λ o found. sym (take_none o.bytes) });
+        effect = λ met. (none_made refl met.sound, refl, record { settled = met.has.settled; unnamed = met.has.is.unnamed; parts = tt; dated = tt; bytes = λ o found. sym (take_none o.bytes) });
         settled = λ observable settled. settled;
       };
     }))
@@ -228,9 +241,9 @@ piece_at size at i cut d is at_is below =
       below = order.1;
     }
 
-module _ {a b : History} {bucket : List ℕ} {id : ℕ} {from_bucket from_key : List ℕ} {head : ObjectHead} {first : List Piece} {at : ℕ} {list : List SealedPart}
-    (copying : Copying a b bucket id from_bucket from_key head first at list) (piece : Piece) where
-  may_here : (old new : SwiftAccount) → s3_state new ≡ s3_state old → GivenOf (MayCopy bucket id from_bucket from_key head) old → CopiesFirst bucket id from_bucket from_key at old new list
+module _ {a b : History} {bucket : List ℕ} {id : ℕ} {from_bucket from_key : List ℕ} {head : ObjectHead} {moment : ℕ} {first : List Piece} {at : ℕ} {list : List SealedPart}
+    (copying : Copying a b bucket id from_bucket from_key head moment first at list) (piece : Piece) where
+  may_here : (old new : SwiftAccount) → s3_state new ≡ s3_state old → GivenOf (MayCopy bucket id from_bucket from_key head) old → CopiesFirst bucket id from_bucket from_key at moment old new list
       → GivenOf (MayCopy bucket id from_bucket from_key head) new
   may_here old new same has told =
       record { settled = told.settled; is = record { unnamed = told.unnamed; source = subst (λ s. TellsObject from_bucket from_key s (Some head)) (sym same) has.is.source } }
@@ -240,50 +253,50 @@ module _ {a b : History} {bucket : List ℕ} {id : ℕ} {from_bucket from_key : 
 
   -- one more was copied
   then_one : {c : History} {part : SealedPart} → piece.number ≤ greatest_part → list_all (λ (q : Piece). nat_lt q.number piece.number) first ≡ true
-      → Asks (always 2) b c (GivenOf (MayCopy bucket id from_bucket from_key head)) (CopiesPiece bucket id from_bucket from_key at piece) (Ok part)
-      → Asks (always (2 * length (first ++ piece ∷ []))) a c (GivenOf (MayCopy bucket id from_bucket from_key head)) (λ old last p. CopiesFirst bucket id from_bucket from_key (at + piece.size) old last (list ++ p ∷ [])) (Ok part)
+      → Asks (always 2) b c (GivenOf (MayCopy bucket id from_bucket from_key head)) (CopiesPiece bucket id from_bucket from_key at piece moment) (Ok part)
+      → Asks (always (2 * length (first ++ piece ∷ []))) a c (GivenOf (MayCopy bucket id from_bucket from_key head)) (λ old last p. CopiesFirst bucket id from_bucket from_key (at + piece.size) moment old last (list ++ p ∷ [])) (Ok part)
   then_one counted below asks =
       let less : list_all (λ (p : SealedPart). nat_lt p.number piece.number) list ≡ true = sym (same_below piece.number list) ∙ ap (list_all (λ (q : Piece). nat_lt q.number piece.number)) copying.listed.pieces ∙ below in
-      asks_then {R = λ old last p. CopiesFirst bucket id from_bucket from_key (at + piece.size) old last (list ++ p ∷ [])} longer (asks_same_state copying.asks) asks
+      asks_then {R = λ old last p. CopiesFirst bucket id from_bucket from_key (at + piece.size) moment old last (list ++ p ∷ [])} longer (asks_same_state copying.asks) asks
       (λ old new sound same has told. may_here old new same has told.0)
       (λ old new last p sound has told more. first_more counted less told.1 told.0 more)
 
   pub copying_more : {c : History} {part : SealedPart} {at' : ℕ} {list' : List SealedPart} → piece.number ≤ greatest_part → list_all (λ (q : Piece). nat_lt q.number piece.number) first ≡ true
-      → Asks (always 2) b c (GivenOf (MayCopy bucket id from_bucket from_key head)) (CopiesPiece bucket id from_bucket from_key at piece) (Ok part)
-      → piece_in part ≡ piece → is_sealed_part part ≡ true → at' ≡ at + piece.size → list' ≡ list ++ part ∷ [] → Copying a c bucket id from_bucket from_key head (first ++ piece ∷ []) at' list'
+      → Asks (always 2) b c (GivenOf (MayCopy bucket id from_bucket from_key head)) (CopiesPiece bucket id from_bucket from_key at piece moment) (Ok part)
+      → piece_in part ≡ piece → is_sealed_part part ≡ true → at' ≡ at + piece.size → list' ≡ list ++ part ∷ [] → Copying a c bucket id from_bucket from_key head moment (first ++ piece ∷ []) at' list'
   copying_more {c = c} {part = part} {at' = at'} {list' = list'} counted below asks of_piece proper far grown = record {
     at_is = let sum = size_more first piece in far ∙ ap (λ n. n + piece.size) copying.at_is ∙ sym sum;
     listed = record {
       pieces = ap (map piece_in) grown ∙ map-append piece_in list (part ∷ []) ∙ (λ i. copying.listed.pieces i ++ of_piece i ∷ []);
       proper = ap (list_all is_sealed_part) grown ∙ list_all-append is_sealed_part list (part ∷ []) ∙ and_from _ _ copying.listed.proper (and_from _ _ proper refl);
     };
-    asks = asks_left {R = CopiesFirst bucket id from_bucket from_key at'} list' (omega arith) (then_one counted below asks)
-        (λ old new sound same has told. subst (λ n. CopiesFirst bucket id from_bucket from_key n old new list') (sym far) (subst (CopiesFirst bucket id from_bucket from_key (at + piece.size) old new) (sym grown) told));
+    asks = asks_left {R = CopiesFirst bucket id from_bucket from_key at' moment} list' (omega arith) (then_one counted below asks)
+        (λ old new sound same has told. subst (λ n. CopiesFirst bucket id from_bucket from_key n moment old new list') (sym far) (subst (CopiesFirst bucket id from_bucket from_key (at + piece.size) moment old new) (sym grown) told));
   }
 
   -- it wasn't
-  pub copying_fault : {c : History} {f : PlanFault} {most : ℕ} {size : ℕ} → length first < most → Asks (always 2) b c (GivenOf (MayCopy bucket id from_bucket from_key head)) (CopiesPiece bucket id from_bucket from_key at piece) (Err f)
+  pub copying_fault : {c : History} {f : PlanFault} {most : ℕ} {size : ℕ} → length first < most → Asks (always 2) b c (GivenOf (MayCopy bucket id from_bucket from_key head)) (CopiesPiece bucket id from_bucket from_key at piece moment) (Err f)
       → (result : Result (List SealedPart) PlanFault) → IsErrAnd result (λ e. e ≡ f)
-      → Asks (always (2 * most)) a c (GivenOf (MayCopy bucket id from_bucket from_key head)) (CopiesFirst bucket id from_bucket from_key size) result
+      → Asks (always (2 * most)) a c (GivenOf (MayCopy bucket id from_bucket from_key head)) (CopiesFirst bucket id from_bucket from_key size moment) result
   copying_fault {most = most} {size = size} few asks result is =
-      asks_failed {R = CopiesFirst bucket id from_bucket from_key size} (let long = length-append first (piece ∷ []) in omega (arith, few, long))
+      asks_failed {R = CopiesFirst bucket id from_bucket from_key size moment} (let long = length-append first (piece ∷ []) in omega (arith, few, long))
       (asks_then {R = λ old last p. Unit {0}} longer copying.asks asks (λ old new sound same has told. may_here old new same has told) (λ old new last p sound has told more. tt)) result is
 
   -- and then there was no memory to list it
-  pub copying_unlisted : {c : History} {part : SealedPart} {most : ℕ} {size : ℕ} → length first < most → Asks (always 2) b c (GivenOf (MayCopy bucket id from_bucket from_key head)) (CopiesPiece bucket id from_bucket from_key at piece) (Ok part)
+  pub copying_unlisted : {c : History} {part : SealedPart} {most : ℕ} {size : ℕ} → length first < most → Asks (always 2) b c (GivenOf (MayCopy bucket id from_bucket from_key head)) (CopiesPiece bucket id from_bucket from_key at piece moment) (Ok part)
       → (result : Result (List SealedPart) PlanFault) → IsErrAnd result (λ e. e ≡ fault.Memory)
-      → Asks (always (2 * most)) a c (GivenOf (MayCopy bucket id from_bucket from_key head)) (CopiesFirst bucket id from_bucket from_key size) result
+      → Asks (always (2 * most)) a c (GivenOf (MayCopy bucket id from_bucket from_key head)) (CopiesFirst bucket id from_bucket from_key size moment) result
   copying_unlisted {most = most} {size = size} few asks result is =
-      asks_no_memory {R = CopiesFirst bucket id from_bucket from_key size} (let long = length-append first (piece ∷ []) in omega (arith, few, long))
+      asks_no_memory {R = CopiesFirst bucket id from_bucket from_key size moment} (let long = length-append first (piece ∷ []) in omega (arith, few, long))
       (asks_then {R = λ old last p. Unit {0}} longer copying.asks asks (λ old new sound same has told. may_here old new same has told) (λ old new last p sound has told more. tt)) result is
 
 -- the first pieces, and the next
-pub copying_next : {a b c : History} {bucket : List ℕ} {id : ℕ} {from_bucket from_key : List ℕ} {head : ObjectHead} (cut : List Piece) (i : ℕ) (d : Piece) {at at' : ℕ} {list list' : List SealedPart} {part : SealedPart}
-    → Copying a b bucket id from_bucket from_key head (take i cut) at list → i < length cut → is_cut head.size cut ≡ true
-    → Asks (always 2) b c (GivenOf (MayCopy bucket id from_bucket from_key head)) (CopiesPiece bucket id from_bucket from_key at (get_or cut i d)) (Ok part)
-    → piece_in part ≡ get_or cut i d → is_sealed_part part ≡ true → at' ≡ at + (get_or cut i d).size → list' ≡ list ++ part ∷ [] → Copying a c bucket id from_bucket from_key head (take (i + 1) cut) at' list'
-copying_next {a = a} {c = c} {bucket = bucket} {id = id} {from_bucket = from_bucket} {from_key = from_key} {head = head} cut i d {at = at} {at' = at'} {list' = list'} copying below is asks of_piece proper far grown =
-    subst (λ first. Copying a c bucket id from_bucket from_key head first at' list') (sym (take_more cut i d below))
+pub copying_next : {a b c : History} {bucket : List ℕ} {id : ℕ} {from_bucket from_key : List ℕ} {head : ObjectHead} {moment : ℕ} (cut : List Piece) (i : ℕ) (d : Piece) {at at' : ℕ} {list list' : List SealedPart} {part : SealedPart}
+    → Copying a b bucket id from_bucket from_key head moment (take i cut) at list → i < length cut → is_cut head.size cut ≡ true
+    → Asks (always 2) b c (GivenOf (MayCopy bucket id from_bucket from_key head)) (CopiesPiece bucket id from_bucket from_key at (get_or cut i d) moment) (Ok part)
+    → piece_in part ≡ get_or cut i d → is_sealed_part part ≡ true → at' ≡ at + (get_or cut i d).size → list' ≡ list ++ part ∷ [] → Copying a c bucket id from_bucket from_key head moment (take (i + 1) cut) at' list'
+copying_next {a = a} {c = c} {bucket = bucket} {id = id} {from_bucket = from_bucket} {from_key = from_key} {head = head} {moment = moment} cut i d {at = at} {at' = at'} {list' = list'} copying below is asks of_piece proper far grown =
+    subst (λ first. Copying a c bucket id from_bucket from_key head moment first at' list') (sym (take_more cut i d below))
     (let at_loop = piece_at head.size at i cut d is copying.at_is below in copying_more copying (get_or cut i d) at_loop.number.within at_loop.below asks of_piece proper far grown)
 
 -- there are fewer than all
@@ -291,13 +304,13 @@ pub fewer : {X : Type 0} (i : ℕ) (xs : List X) → i < length xs → length (t
 fewer i xs below = let short = length-take i xs in omega (arith, short, below)
 
 -- all were
-pub copying_all : {a b : History} {bucket : List ℕ} {id : ℕ} {from_bucket from_key : List ℕ} {head : ObjectHead} (cut : List Piece) (i : ℕ) {at : ℕ} {list : List SealedPart} → Copying a b bucket id from_bucket from_key head (take i cut) at list
+pub copying_all : {a b : History} {bucket : List ℕ} {id : ℕ} {from_bucket from_key : List ℕ} {head : ObjectHead} {moment : ℕ} (cut : List Piece) (i : ℕ) {at : ℕ} {list : List SealedPart} → Copying a b bucket id from_bucket from_key head moment (take i cut) at list
     → length cut ≤ i → is_cut head.size cut ≡ true
-    → AreOfCut cut list × Asks (always (2 * length cut)) a b (GivenOf (MayCopy bucket id from_bucket from_key head)) (CopiesFirst bucket id from_bucket from_key head.size) (Ok list)
-copying_all {a = a} {b = b} {bucket = bucket} {id = id} {from_bucket = from_bucket} {from_key = from_key} {head = head} cut i {at = at} {list = list} copying far is =
+    → AreOfCut cut list × Asks (always (2 * length cut)) a b (GivenOf (MayCopy bucket id from_bucket from_key head)) (CopiesFirst bucket id from_bucket from_key head.size moment) (Ok list)
+copying_all {a = a} {b = b} {bucket = bucket} {id = id} {from_bucket = from_bucket} {from_key = from_key} {head = head} {moment = moment} cut i {at = at} {list = list} copying far is =
     let all = take_all i cut far in
     let whole : at ≡ head.size = copying.at_is ∙ ap size_of_cut all ∙ (keeps_cut head.size cut is).whole in (
       subst (λ c. AreOfCut c list) all copying.listed,
-      subst (λ n. Asks (always (2 * length cut)) a b (GivenOf (MayCopy bucket id from_bucket from_key head)) (CopiesFirst bucket id from_bucket from_key n) (Ok list)) whole
-          (subst (λ c. Asks (always (2 * length c)) a b (GivenOf (MayCopy bucket id from_bucket from_key head)) (CopiesFirst bucket id from_bucket from_key at) (Ok list)) all copying.asks),
+      subst (λ n. Asks (always (2 * length cut)) a b (GivenOf (MayCopy bucket id from_bucket from_key head)) (CopiesFirst bucket id from_bucket from_key n moment) (Ok list)) whole
+          (subst (λ c. Asks (always (2 * length c)) a b (GivenOf (MayCopy bucket id from_bucket from_key head)) (CopiesFirst bucket id from_bucket from_key at moment) (Ok list)) all copying.asks),
     )

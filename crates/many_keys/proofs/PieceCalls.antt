@@ -40,7 +40,7 @@ use Rattle.recovery.proofs.lemmas.Etags.{etag_agrees}
 use Rattle.recovery.proofs.lemmas.Quiet.{IsQuietOf, asks_failed}
 use Rattle.recovery.proofs.lemmas.SideNames.{file_name, segment_fits}
 use Rattle.plan_uploads.specs.Interpret.{part_tag, put_part_of}
-use Rattle.many_keys.specs.CopiedLists.{IsUnnamed, PutsSegment, TellsPiece, sized_due}
+use Rattle.many_keys.specs.CopiedLists.{IsUnnamed, modified_in, PutsSegment, TellsPiece, sized_due}
 use Rattle.many_keys.proofs.CutCalls.{object_of_head}
 use Rattle.many_keys.proofs.SideFiles.{part_etag, part_has_text, same_put, segments_there}
 
@@ -164,7 +164,7 @@ module _ (law : OrphanPut) (tree : SwiftAccount) (request : SwiftRequest) (told 
   says_stored : part_due told (stored_due (body_etag body) (swift_step request tree).reply) ≡ Ok told
   says_stored = ap (λ (a : Answer). part_due told (stored_due (body_etag body) a.reply)) answered ∙ ap (λ t. part_due told (cond t (Ok tt) (Err Inconsistent))) (etag_agrees body)
 
-  segment_put : PutsSegment bucket id number body tree (swift_step (put_part_of bucket id number body moment) tree).tree told
+  segment_put : PutsSegment bucket id number body moment tree (swift_step (put_part_of bucket id number body moment) tree).tree told
   segment_put =
       let done = law tree bucket (segment_name (id_digits id) number) (tag_text (part_tag (body_etag body) moment id)) [] body part put.is has.is.there has.is.abandoned stored sound has.settled.none in
       record {
@@ -174,12 +174,13 @@ module _ (law : OrphanPut) (tree : SwiftAccount) (request : SwiftRequest) (told 
         file = file_of_part id body moment;
         own = refl;
         reads = ap (λ t. part_bytes (part_by t (Some body))) part.tagged;
+        dated = ap (λ t. option_map modified_in (part_by t (Some body))) part.tagged;
         holds = done.holds;
       }
 
 -- PUT of a part's file under an id that nothing names leaves the state
 pub puts_segment : {request : SwiftRequest} {told : SealedPart} {bucket : List ℕ} {id number : ℕ} {body : List ℕ} {moment : ℕ} → OrphanPut → IsSegmentPut request told bucket id number body moment
-    → IsQuietOf (GivenOf (IsUnnamed bucket id)) request (λ reply. part_due told (stored_due (body_etag body) reply)) (PutsSegment bucket id number body)
+    → IsQuietOf (GivenOf (IsUnnamed bucket id)) request (λ reply. part_due told (stored_due (body_etag body) reply)) (PutsSegment bucket id number body moment)
 puts_segment {request = request} {told = told} {bucket = bucket} {id = id} {number = number} {body = body} {moment = moment} law put = record {
   effect = λ tree sound has.
       let done = law tree bucket (segment_name (id_digits id) number) (tag_text (part_tag (body_etag body) moment id)) [] body (part law tree request told bucket id number body moment put sound has) put.is has.is.there has.is.abandoned
@@ -190,7 +191,7 @@ puts_segment {request = request} {told = told} {bucket = bucket} {id = id} {numb
         says = says_stored law tree request told bucket id number body moment put sound has;
         sound = subst IsConsistent (sym same) done.quiet.sound;
         same = ap s3_state same ∙ done.quiet.state;
-        tells = subst (λ t. PutsSegment bucket id number body tree t told) (sym same) (segment_put law tree request told bucket id number body moment put sound has);
+        tells = subst (λ t. PutsSegment bucket id number body moment tree t told) (sym same) (segment_put law tree request told bucket id number body moment put sound has);
       };
   settled = λ tree. settled_same (subst (λ r. SameGateway tree (swift_step r tree).tree) (sym put.same) (same_put tree bucket (segment_name (id_digits id) number) (tag_text (part_tag (body_etag body) moment id)) [] body put.is));
 }

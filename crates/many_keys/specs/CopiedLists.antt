@@ -2,16 +2,17 @@
 -- Source: Object Storage API v1, "Static large objects"; Amazon S3 API Reference, "CopyObject"; and this profile.
 use Rattle.std.specs.Prelude.{◌≡◌, ◌≤◌, ◌<◌, ◌==◌, ◌^◌, ◌+◌, ◌-◌, ◌*◌, ℕ, Bool, true, false, ◌&&◌, cond, nat_le, nat_lt, List, [], ◌∷◌, length, map, drop, take, sum_by, Option, None, Some, Result, Ok, Err}
 use Rattle.std.specs.List.{list_all}
+use Rattle.std.specs.Option.{option_map}
 use Rattle.std.specs.FinMap.{get, insert}
 use Rattle.gate_base.specs.Ascii.{is_digit}
-use Rattle.gate_base.specs.Maps.{adjust}
+use Rattle.gate_base.specs.Maps.{adjust, Names}
 use Rattle.gate_base.specs.Told.{moment_limit}
 use Rattle.s3_names.specs.Id.{id_digits}
 use Rattle.s3_names.specs.Meta.{names_ascend}
 use Rattle.s3_names.specs.declared.acl.Acl.{Acl}
 use Rattle.s3_machine.specs.Copies.{copied}
 use Rattle.s3_machine.specs.Limits.{is_content_type, is_proper_meta, most_body_bytes}
-use Rattle.s3_machine.specs.State.{Object, State}
+use Rattle.s3_machine.specs.State.{Object, Part, State}
 use Rattle.s3_machine.specs.Step.{IsPlace, put_object}
 use Rattle.s3_machine.specs.Uploads.{greatest_part, most_parts, rises_from}
 use Rattle.s3_machine.specs.declared.operation.ObjectHead.{ObjectHead}
@@ -27,7 +28,7 @@ use Rattle.upload_texts.specs.Sealed.{is_sealed_part}
 use Rattle.upload_texts.specs.declared.sealed.Sealed.{Sealed}
 use Rattle.upload_texts.specs.declared.sealed.SealedPart.{SealedPart}
 use Rattle.upload_records.specs.Layout.{segment_name, segments_name}
-use Rattle.upload_records.specs.Native.{IsSettled, listed_of, object_at, part_bytes, part_of, s3_state, sealed_bytes, sealed_object}
+use Rattle.upload_records.specs.Native.{IsSettled, listed_of, object_at, part_at, part_bytes, part_of, s3_state, sealed_bytes, sealed_object}
 use Rattle.upload_records.specs.Consistent.{AreSealedParts, IsThere}
 use Rattle.upload_records.specs.Laws.{IsAbandoned}
 use Rattle.recovery.specs.Answers.{listed_by}
@@ -114,21 +115,25 @@ pub record IsPartOf (number : ℕ) (bytes : List ℕ) (p : SealedPart) : Type 0 
   pub etag : p.etag ≡ etag_text bytes
   pub size : p.size ≡ length bytes
 
--- a segment of the id was put with these bytes, and nothing else beside the bucket is another
-pub record PutsSegment (bucket : List ℕ) (id number : ℕ) (bytes : List ℕ) (old new : SwiftAccount) (told : SealedPart) : Type 0 where
+abbrev pub modified_in : Part → ℕ
+modified_in p = p.modified
+
+-- a segment of the id was put with these bytes at this moment, and nothing else beside the bucket is another
+pub record PutsSegment (bucket : List ℕ) (id number : ℕ) (bytes : List ℕ) (moment : ℕ) (old new : SwiftAccount) (told : SealedPart) : Type 0 where
   pub settled : IsSettled new
   pub unnamed : IsUnnamed bucket id new
   pub part : IsPartOf number bytes told
   pub file : SwiftObject
   pub own : file.content ≡ Plain bytes
   pub reads : part_bytes (part_of file) ≡ bytes
+  pub dated : option_map modified_in (part_of file) ≡ Some moment
   pub holds : files new (segments_name bucket) ≡ insert (files old (segments_name bucket)) (segment_name (id_digits id) number) file
 
 -- and these were bytes of the source
-pub record CopiesPiece (bucket : List ℕ) (id : ℕ) (from_bucket from_key : List ℕ) (at : ℕ) (piece : Piece) (old new : SwiftAccount) (told : SealedPart) : Type 0 where
+pub record CopiesPiece (bucket : List ℕ) (id : ℕ) (from_bucket from_key : List ℕ) (at : ℕ) (piece : Piece) (moment : ℕ) (old new : SwiftAccount) (told : SealedPart) : Type 0 where
   pub bytes : List ℕ
   pub tells : TellsPiece from_bucket from_key at piece.size (s3_state old) bytes
-  pub puts : PutsSegment bucket id piece.number bytes old new told
+  pub puts : PutsSegment bucket id piece.number bytes moment old new told
 
 -- ---- all of them
 
@@ -140,11 +145,17 @@ pub record AreOfCut (cut : List Piece) (list : List SealedPart) : Type 0 where
   pub pieces : map piece_in list ≡ cut
   pub proper : list_all is_sealed_part list ≡ true
 
--- the first bytes of the source stand beside the bucket, as the parts of this list
-pub record CopiesFirst (bucket : List ℕ) (id : ℕ) (from_bucket from_key : List ℕ) (size : ℕ) (old new : SwiftAccount) (list : List SealedPart) : Type 0 where
+-- each of these parts was put at this moment
+abbrev pub AreDated : Names SwiftObject → List ℕ → ℕ → List SealedPart → Type 0
+AreDated segments id moment [] = Unit {0}
+AreDated segments id moment (p ∷ list) = (option_map modified_in (part_at segments id p.number) ≡ Some moment) × AreDated segments id moment list
+
+-- the first bytes of the source stand beside the bucket, as the parts of this list, put at this moment
+pub record CopiesFirst (bucket : List ℕ) (id : ℕ) (from_bucket from_key : List ℕ) (size moment : ℕ) (old new : SwiftAccount) (list : List SealedPart) : Type 0 where
   pub settled : IsSettled new
   pub unnamed : IsUnnamed bucket id new
   pub parts : AreSealedParts (files new (segments_name bucket)) (id_digits id) list
+  pub dated : AreDated (files new (segments_name bucket)) (id_digits id) moment list
   pub bytes : (o : Object) → object_at (get (s3_state old) from_bucket) from_key ≡ Some o → sealed_bytes (files new (segments_name bucket)) (id_digits id) list ≡ take size o.bytes
 
 -- ---- the copy

@@ -47,7 +47,7 @@ pub(crate) fn copy_segments<W: Swift>(
     ensures listed { IfOk result (AreOfCut cut.now) }
     ensures asks { Asks (always (2 * length cut.now)) (W.history state.old.store.now) (W.history state.new.store.now)
         (GivenOf (MayCopy bucket.now id from_bucket.now from_key.now head.now))
-        (CopiesFirst bucket.now id from_bucket.now from_key.now head.now.size) result }
+        (CopiesFirst bucket.now id from_bucket.now from_key.now head.now.size moment) result }
 {
     let mut list = List::new(alloc);
     let mut at = 0;
@@ -96,7 +96,7 @@ fn copy_piece<W: Swift>(
     ensures proper { IfOk result (λ part. is_sealed_part part ≡ true) }
     ensures asks { Asks (always 2) (W.history state.old.store.now) (W.history state.new.store.now)
         (GivenOf (MayCopy bucket.now id from_bucket.now from_key.now head.now))
-        (CopiesPiece bucket.now id from_bucket.now from_key.now at piece) result }
+        (CopiesPiece bucket.now id from_bucket.now from_key.now at piece moment) result }
 {
     let bytes = get_piece(alloc, state, from_bucket, from_key, head, at, piece.size)?;
     put_segment(alloc, state, bucket, id, piece.number, bytes, moment)
@@ -174,7 +174,7 @@ fn put_segment<W: Swift>(
     ensures size { IfOk result (λ part. part.size ≡ length body) }
     ensures proper { IfOk result (λ part. is_sealed_part part ≡ true) }
     ensures asks { Asks (always 1) (W.history state.old.store.now) (W.history state.new.store.now)
-        (GivenOf (IsUnnamed bucket.now id)) (PutsSegment bucket.now id number body) result }
+        (GivenOf (IsUnnamed bucket.now id)) (PutsSegment bucket.now id number body moment) result }
 {
     law_orphan_put();
     let etag = body_etag(body.as_slice());

@@ -3,7 +3,7 @@ use Rattle.many_keys.proofs.Copying.{copying_all, copying_fault, copying_next, c
 use Rattle.many_keys.proofs.segments.copy_segments.Goals as goal
 
 pub loop-piece-init : goal.loop-piece-init
-loop-piece-init g c = record { stays = record { store = refl; settings = refl }; copying = copying_none _ _ _ _ _ _ c.args.cut.now _ c.new-list.ensures }
+loop-piece-init g c = record { stays = record { store = refl; settings = refl }; copying = copying_none _ _ _ _ _ _ _ c.args.cut.now _ c.new-list.ensures }
 
 pub copy_piece-requires-clause-number : goal.copy_piece-requires-clause-number
 copy_piece-requires-clause-number g c = (piece_at c.args.head.now.size c.loop-piece.at c.loop-piece.piece-index c.args.cut.now (record { number = 0; size = 0 }) c.requires.cut c.loop-piece.invariant.copying.at_is c.loop-piece-test.true).number
