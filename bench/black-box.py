@@ -1450,13 +1450,18 @@ MISPLACED = [
 ]
 
 
+def each_is_answered(check, store, gate, shown, *tables):
+    """Asks each request of the tables while the store gives the answers beside it: the reply is as its table says, and no answer is left."""
+    for rows, wanted in tables:
+        for title, words, answers in rows:
+            store.begin(answers)
+            check(title, (wanted, len(answers)), (shown(gate.ask(*words)), len(store.calls)))
+
+
 @group()
 def odd_answers_are_found_out(check):
     with Store() as store, Gate(store.text).settled(store) as gate:
-        for rows, wanted in ((ODD, (500, "InconsistentStore")), (MISPLACED, (503, "ServiceUnavailable"))):
-            for title, words, answers in rows:
-                store.begin(answers)
-                check(title, (wanted, len(answers)), (brief(gate.ask(*words)), len(store.calls)))
+        each_is_answered(check, store, gate, brief, (ODD, (500, "InconsistentStore")), (MISPLACED, (503, "ServiceUnavailable")))
         store.begin([OPEN, file(), answer(200, LIKE, b"abc")])
         reply = gate.ask(*GET)
         names = ["Date", "x-amz-request-id", "Last-Modified", "ETag", "Accept-Ranges", "Content-Type", "Content-Length", "Connection"]
@@ -2066,10 +2071,7 @@ FAILED_COPIES = [
 @group()
 def odd_answers_to_copies(check):
     with Store() as store, Gate(store.text).settled(store) as gate:
-        for rows, wanted in ((ODD_COPIES, (500, "InconsistentStore")), (FAILED_COPIES, (503, "ServiceUnavailable"))):
-            for title, words, answers in rows:
-                store.begin(answers)
-                check(title, (wanted, len(answers)), (copied(gate.ask(*words)), len(store.calls)))
+        each_is_answered(check, store, gate, copied, (ODD_COPIES, (500, "InconsistentStore")), (FAILED_COPIES, (503, "ServiceUnavailable")))
         etag = joined_etag(b"hello", b"world")
         for title, words, wanted, answers in (
             ("an object", COPY_A, (200, "Object", ABC), [*TO_A, WHOLE_A, answer(201, [("Etag", f'"{ABC}"')])]),
