@@ -31,7 +31,8 @@ pub fn cut_last(text: &[u8], separator: u8) -> (&[u8], &[u8])
 
 // The place behind the last such byte, or the first.
 fn behind_last(text: &[u8], separator: u8) -> usize
-    ensures place { result ≡ length text.now - suffix_len (λ byte. not (byte == separator)) text.now }
+    ensures place { result ≡ length text.now - suffix_len (λ byte. not (byte == separator))
+        text.now }
     ensures within { result ≤ length text.now }
 {
     let mut at = text.len();

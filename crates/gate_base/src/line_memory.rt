@@ -45,7 +45,8 @@ impl MemLine {
     ) -> Result<MemLine, Memory>
         requires { 0 < piece }
         ensures closed { IfOk result (λ line. is_open_of line ≡ false) }
-        ensures transcript { IfOk result (λ line. transcript_of line ≡ record empty { waiting = connections }) }
+        ensures transcript { IfOk result
+            (λ line. transcript_of line ≡ record empty { waiting = connections }) }
         ensures piece { IfOk result (λ line. piece_of line ≡ piece) }
         ensures fails { IfOk result (λ line. fails_of line ≡ fails) }
         ensures made { IfOk result (λ line. made_of line ≡ 0) }
@@ -100,7 +101,8 @@ impl<C: Counted> Line<C> for MemLine {
         ensures fails { fails_of self.new ≡ fails_of self.old }
         ensures made { made_of self.new ≡ one_more (made_of self.old) }
         ensures past { past_of self.new ≡ one_more_if (begins_past self.old) (past_of self.old) }
-        ensures next_counted { next_faults_of self.new ≡ one_more_if (is_err result) (next_faults_of self.old) }
+        ensures next_counted { next_faults_of self.new ≡ one_more_if (is_err result)
+            (next_faults_of self.old) }
         ensures out_of_memory { out_of_memory_of self.new ≡ out_of_memory_of self.old }
     {
         self.connected = false;
@@ -125,7 +127,8 @@ impl<C: Counted> Line<C> for MemLine {
     fn read(&mut self, buf: &mut [u8]) -> Result<usize, Failed>
         requires open { IsTrue (is_open_of self.old) }
         requires room { 0 < length buf.old }
-        ensures does { LineRead (model_of self.old) (length buf.old) buf.new result (model_of self.new) }
+        ensures does { LineRead (model_of self.old) (length buf.old) buf.new result
+            (model_of self.new) }
 
         ensures count { IfOk result (λ count. count ≡ min (piece_of self.old)
             (min (length buf.old) (length (transcript_of self.old).rest))) }
@@ -155,15 +158,18 @@ impl<C: Counted> Line<C> for MemLine {
     /// Failed exactly where the number of the call was given, or where memory ran out. Then nothing is sent.
     fn write(&mut self, store: &C, bytes: &[u8]) -> Result<(), Failed>
         requires { IsTrue (is_open_of self.old) }
-        ensures does { LineWrite (model_of self.old) (C.called store.now) bytes.now result (model_of self.new) }
+        ensures does { LineWrite (model_of self.old) (C.called store.now) bytes.now result
+            (model_of self.new) }
 
-        ensures unsent { OnErr result (transcript_of self.new ≡ with_fault (transcript_of self.old)) }
+        ensures unsent { OnErr result
+            (transcript_of self.new ≡ with_fault (transcript_of self.old)) }
         ensures failed { IsTrue (is_to_fail self.old) → IsErr result }
         ensures piece { piece_of self.new ≡ piece_of self.old }
         ensures fails { fails_of self.new ≡ fails_of self.old }
         ensures made { made_of self.new ≡ one_more (made_of self.old) }
         ensures past { past_of self.new ≡ past_of self.old }
-        ensures out_of_memory { out_of_memory_of self.new ≡ one_more_if (not (is_to_fail self.old) && is_err result) (out_of_memory_of self.old) }
+        ensures out_of_memory { out_of_memory_of self.new ≡ one_more_if
+            (not (is_to_fail self.old) && is_err result) (out_of_memory_of self.old) }
     {
         if self.calls.count() {
             self.transcript.add_fault();

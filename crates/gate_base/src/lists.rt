@@ -186,7 +186,8 @@ impl<T> List<T> {
     /// The item at an index, to be changed in its place.
     pub fn at_mut(&mut self, index: usize) -> &mut T
         requires { index < length self.old }
-        ensures* lends { sem 𝓛 (Lends (the_row T.row) T.row self.entry result (λ w. slice_set self.old index w)) }
+        ensures* lends { sem 𝓛
+            (Lends (the_row T.row) T.row self.entry result (λ w. slice_set self.old index w)) }
         ensures value { slice_get self.old index ≡ Some result.now }
     {
         &mut self.items[index]

@@ -84,7 +84,8 @@ pub trait Line<C: Counted> {
     /// where the count of faults rose, a prefix of the bytes was sent.
     fn write(&mut self, store: &C, bytes: &[u8]) -> Result<(), Failed>
         requires { IsTrue (model self.old).is_open }
-        ensures { LineWrite (model self.old) (C.called store.now) bytes.now result (model self.new) };
+        ensures { LineWrite (model self.old) (C.called store.now) bytes.now result
+            (model self.new) };
 
     /// Ends the present connection.
     fn close(&mut self)

@@ -64,7 +64,8 @@ impl Sink for MemSink {
         ensures failed { IsTrue (is_to_fail self.old) → IsErr result }
         ensures fails { fails_of self.new ≡ fails_of self.old }
         ensures made { made_of self.new ≡ one_more (made_of self.old) }
-        ensures out_of_memory { out_of_memory_of self.new ≡ one_more_if (not (is_to_fail self.old) && is_err result) (out_of_memory_of self.old) }
+        ensures out_of_memory { out_of_memory_of self.new ≡ one_more_if
+            (not (is_to_fail self.old) && is_err result) (out_of_memory_of self.old) }
     {
         if self.calls.count() {
             return Err(Failed);

@@ -33,7 +33,8 @@ impl MemWire {
 
     /// All the connections wait. It takes the room for a note per connection.
     pub(crate) fn new(alloc: Global, connections: List<Bytes>) -> Result<MemWire, Memory>
-        ensures { IfOk result (λ transcript. told_by transcript ≡ record empty { waiting = connections }) }
+        ensures { IfOk result
+            (λ transcript. told_by transcript ≡ record empty { waiting = connections }) }
     {
         let faulty = Vec::with_capacity(alloc, connections.len())?;
         Ok(MemWire {

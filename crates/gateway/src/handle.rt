@@ -44,9 +44,11 @@ pub fn handle_request<N: Line<W>, W: Swift, C: Clock, D: Draws>(
     ensures endings { EndsWith (end_of received) result }
     ensures served { NotFailedIfServed result }
     ensures writes { OnlyWrites (is_failed_reply result) (N.model line.old) (N.model line.new) }
-    ensures serves { ServesOver service.now.settings (λ R old new. HandledOnce R old.line.transcript.begun (progress_of old) (progress_of new) (asks_of service.now received) result)
-        (world (N.model line.old) (W.history store.old) known.old (C.model clock.old) (D.model draws.old))
-        (world (N.model line.new) (W.history store.new) known.new (C.model clock.new) (D.model draws.new)) }
+    ensures serves { ServesOver service.now.settings (λ R old new. HandledOnce R
+        old.line.transcript.begun (progress_of old) (progress_of new) (asks_of service.now received)
+        result) (world (N.model line.old) (W.history store.old) known.old (C.model clock.old)
+        (D.model draws.old)) (world (N.model line.new) (W.history store.new) known.new
+        (C.model clock.new) (D.model draws.new)) }
 {
     let next = next_label(clock, draws);
     let resolved = resolve(alloc, service, &mut received, next.moment);

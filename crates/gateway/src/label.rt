@@ -7,7 +7,8 @@ use s3_machine::Label;
 /// The label of the next request, of an anonymous caller: the clock is read once, and two words are drawn, its id and
 /// its word of chance.
 pub fn next_label<C: Clock, D: Draws>(clock: &mut C, draws: &mut D) -> Label
-    ensures { NextLabel (C.model clock.old) (D.model draws.old) (C.model clock.new) (D.model draws.new) result }
+    ensures { NextLabel (C.model clock.old) (D.model draws.old) (C.model clock.new)
+        (D.model draws.new) result }
 {
     let moment = clock.now();
     let request_id = draws.draw();

@@ -43,14 +43,20 @@ pub fn reply_to<W: Swift>(
     ensures showable { IsShowable result }
     ensures goes_on { GoesOn (W.history store.old) (W.history store.new) }
     ensures knows { Knows known.new (W.history store.new) }
-    ensures unavailable { result ≡ answer.Refused ServiceUnavailable → Rose (W.history store.old).faults (W.history store.new).faults }
+    ensures unavailable { result ≡ answer.Refused ServiceUnavailable
+        → Rose (W.history store.old).faults (W.history store.new).faults }
     ensures out_of_memory { means ≡ variant.Memory → result ≡ answer.Memory }
-    ensures stands { Stands settings.now known.old known.new (W.history store.old) (W.history store.new) }
+    ensures stands { Stands settings.now known.old known.new (W.history store.old)
+        (W.history store.new) }
 
     // Where memory ran out, some reply is expected, and it is not this one; then who sent the request may be unknown.
-    ensures effect { (all : Bool) → Where all (Met (IsKnown known.old) (W.history store.old)) → (request : Request) → Understands means request
+    ensures effect { (all : Bool) → Where all (Met (IsKnown known.old) (W.history store.old))
+        → (request : Request) → Understands means request
         → (means ≢ variant.Memory → label.now.caller ≡ request.caller)
-        → RepliesExpected (RepliesBy all settings.now (W.history store.new)) (store_cursor (W.history store.old) known.old) (store_cursor (W.history store.new) known.new) request (sent_by request.caller label.now) result }
+        → RepliesExpected (RepliesBy all settings.now (W.history store.new))
+        (store_cursor (W.history store.old) known.old)
+        (store_cursor (W.history store.new) known.new) request (sent_by request.caller label.now)
+        result }
 {
     match means {
         Meant::Op(op) => operate(alloc, store, known, settings, op, label),
@@ -71,7 +77,8 @@ fn operate<W: Swift>(
 ) -> Reply
     requires proper { IsProper op label.now }
     requires knows { Knows known.old (W.history store.old) }
-    ensures { Operated settings.now op label.now (W.history store.old) (W.history store.new) known.old known.new result }
+    ensures { Operated settings.now op label.now (W.history store.old) (W.history store.new)
+        known.old known.new result }
 {
     match known {
         Known::Settled => {}
@@ -100,8 +107,10 @@ fn perform<W: Swift>(
     label: &Label,
 ) -> Replied
     requires proper { IsProper op label.now }
-    requires settled { IsTrue (W.history store.old).observable → IsSettled (present (W.history store.old)) }
-    ensures { Answered (most_calls op (present (W.history store.old))) (W.history store.old) (W.history store.new) settings.now op label.now result.known result.reply }
+    requires settled { IsTrue (W.history store.old).observable
+        → IsSettled (present (W.history store.old)) }
+    ensures { Answered (most_calls op (present (W.history store.old))) (W.history store.old)
+        (W.history store.new) settings.now op label.now result.known result.reply }
 {
     let mut state = Settled::hold(store, settings);
     if is_upload(&op) {

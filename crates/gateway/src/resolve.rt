@@ -94,8 +94,12 @@ fn unknown() -> Understood
 /// The target is read, then the signature is verified, and then the meaning is found.
 fn understand(alloc: Global, service: &Service, message: &mut Message, moment: u64) -> Understood
     ensures proper { IsProperMeant result.means }
-    ensures means { result.means ≢ variant.Memory → result.means ≡ resolve_target service.now moment message.entry.now (target_of message.entry.now.target) }
-    ensures caller { result.means ≢ variant.Memory → result.caller ≡ caller_of service.now moment message.entry.now (target_of message.entry.now.target) }
+    ensures means { result.means ≢ variant.Memory
+        → result.means ≡ resolve_target service.now moment message.entry.now
+        (target_of message.entry.now.target) }
+    ensures caller { result.means ≢ variant.Memory
+        → result.caller ≡ caller_of service.now moment message.entry.now
+        (target_of message.entry.now.target) }
     ensures keeps { KeepsFront message.entry.now message.exit.now }
 {
     match Target::read(alloc, message.target.as_slice()) {
@@ -121,8 +125,12 @@ fn authenticate(
     moment: u64,
 ) -> Understood
     ensures proper { IsProperMeant result.means }
-    ensures means { result.means ≢ variant.Memory → result.means ≡ admitted service.now.settings message.entry.now target (verdict_at service.now moment message.entry.now target) }
-    ensures caller { result.means ≢ variant.Memory → result.caller ≡ caller_or_anonymous (verdict_at service.now moment message.entry.now target) }
+    ensures means { result.means ≢ variant.Memory
+        → result.means ≡ admitted service.now.settings message.entry.now target
+        (verdict_at service.now moment message.entry.now target) }
+    ensures caller { result.means ≢ variant.Memory
+        → result.caller ≡ caller_or_anonymous
+        (verdict_at service.now moment message.entry.now target) }
     ensures keeps { KeepsFront message.entry.now message.exit.now }
 {
     match verified(alloc, service, message, &target, moment) {
@@ -145,7 +153,8 @@ fn admit(
     caller: &Caller,
     settings: &Settings,
 ) -> Meant
-    ensures value { result ≢ variant.Memory → result ≡ meaning_of settings.now message.entry.now (asked_target target) caller.now }
+    ensures value { result ≢ variant.Memory
+        → result ≡ meaning_of settings.now message.entry.now (asked_target target) caller.now }
     ensures proper { IsProperMeant result }
     ensures keeps { KeepsFront message.entry.now message.exit.now }
 {
@@ -194,7 +203,8 @@ fn verified_by_query(
     moment: u64,
 ) -> Result<Caller, Meant>
     requires { is_presigned target.now.query ≡ true }
-    ensures verdict { Verifies (by_query (owner_or_refusal service.now.keys service.now.settings.region message.now target.now moment)) result }
+    ensures verdict { Verifies (by_query (owner_or_refusal service.now.keys
+        service.now.settings.region message.now target.now moment)) result }
     ensures proper { IfErr result IsProperMeant }
 {
     let region = service.settings.region.as_slice();
@@ -212,7 +222,8 @@ fn verified_by_header(
     target: &Target,
     moment: u64,
 ) -> Result<Caller, Meant>
-    ensures verdict { Verifies (by_header (caller_or_refusal service.now.keys service.now.settings.region message.now target.now moment)) result }
+    ensures verdict { Verifies (by_header (caller_or_refusal service.now.keys
+        service.now.settings.region message.now target.now moment)) result }
     ensures proper { IfErr result IsProperMeant }
 {
     let region = service.settings.region.as_slice();

@@ -38,9 +38,11 @@ pub fn serve_connection<N: Line<W>, W: Swift, C: Clock, D: Draws>(
     ensures line { LineServes (is_failed_end result) (N.model line.old) (N.model line.new) }
 
     // Where line, clock and draws are observable, it is one connection.
-    ensures serves { ServesOver service.now.settings (λ R old new. (spans : List Span) × ConnectionTrace service.now R old.line.transcript.begun result (start_of old) spans (progress_of new))
-        (world (N.model line.old) (W.history store.old) known.old (C.model clock.old) (D.model draws.old))
-        (world (N.model line.new) (W.history store.new) known.new (C.model clock.new) (D.model draws.new)) }
+    ensures serves { ServesOver service.now.settings (λ R old new. (spans : List Span)
+        × ConnectionTrace service.now R old.line.transcript.begun result (start_of old) spans
+        (progress_of new)) (world (N.model line.old) (W.history store.old) known.old
+        (C.model clock.old) (D.model draws.old)) (world (N.model line.new) (W.history store.new)
+        known.new (C.model clock.new) (D.model draws.new)) }
 {
     let mut reader = match Reader::new(alloc) {
         Ok(reader) => reader,
@@ -78,11 +80,15 @@ fn serve_next<N: Line<W>, W: Swift, C: Clock, D: Draws>(
     requires goes { reader.old.ended ≡ false }
     requires knows { Knows known.old (W.history store.old) }
     ensures goes { result ≡ None → reader.new.ended ≡ false }
-    ensures falls { result ≡ None → weight (N.model line.new).spent reader.new.bytes < weight (N.model line.old).spent reader.old.bytes }
+    ensures falls { result ≡ None
+        → weight (N.model line.new).spent reader.new.bytes < weight (N.model line.old).spent
+        reader.old.bytes }
     ensures line { LineServes (is_failed_step result) (N.model line.old) (N.model line.new) }
-    ensures serves { ServesOver service.now.settings (λ R old new. NextOne service.now R old.line.transcript.begun (cursor_of reader.old old) result (cursor_of reader.new new))
-        (world (N.model line.old) (W.history store.old) known.old (C.model clock.old) (D.model draws.old))
-        (world (N.model line.new) (W.history store.new) known.new (C.model clock.new) (D.model draws.new)) }
+    ensures serves { ServesOver service.now.settings (λ R old new. NextOne service.now R
+        old.line.transcript.begun (cursor_of reader.old old) result (cursor_of reader.new new))
+        (world (N.model line.old) (W.history store.old) known.old (C.model clock.old)
+        (D.model draws.old)) (world (N.model line.new) (W.history store.new) known.new
+        (C.model clock.new) (D.model draws.new)) }
 {
     match reader.next_request(line, store) {
         Ok(Got::Request(message)) => answer(
@@ -127,9 +133,11 @@ fn answer<N: Line<W>, W: Swift, C: Clock, D: Draws>(
     requires knows { Knows known.old (W.history store.old) }
     ensures ends { result ≡ None → end_of received ≡ None }
     ensures writes { OnlyWrites (is_failed_step result) (N.model line.old) (N.model line.new) }
-    ensures serves { ServesOver service.now.settings (λ R old new. HandledEnds R old.line.transcript.begun (progress_of old) (progress_of new) (asks_of service.now received) result)
-        (world (N.model line.old) (W.history store.old) known.old (C.model clock.old) (D.model draws.old))
-        (world (N.model line.new) (W.history store.new) known.new (C.model clock.new) (D.model draws.new)) }
+    ensures serves { ServesOver service.now.settings (λ R old new. HandledEnds R
+        old.line.transcript.begun (progress_of old) (progress_of new) (asks_of service.now received)
+        result) (world (N.model line.old) (W.history store.old) known.old (C.model clock.old)
+        (D.model draws.old)) (world (N.model line.new) (W.history store.new) known.new
+        (C.model clock.new) (D.model draws.new)) }
 {
     match handle_request(alloc, store, known, service, line, clock, draws, received) {
         Handled::Served(ended) => ended,
@@ -142,7 +150,9 @@ fn answer<N: Line<W>, W: Swift, C: Clock, D: Draws>(
 fn end_unread<N: Line<W>, W: Swift>(line: &mut N, store: &W) -> Ended
     requires { IsTrue (N.model line.old).is_open }
     ensures writes { OnlyWrites (is_failed_end result) (N.model line.old) (N.model line.new) }
-    ensures effect { IsTrue (N.model line.old).observable → EndsUnread (W.history store.now).called (N.model line.old).transcript result (N.model line.new).transcript }
+    ensures effect { IsTrue (N.model line.old).observable
+        → EndsUnread (W.history store.now).called (N.model line.old).transcript result
+        (N.model line.new).transcript }
 {
     match write_memory(line, store, false) {
         Written::Failed => Ended::LineFailed,

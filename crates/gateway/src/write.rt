@@ -43,7 +43,8 @@ pub fn write_reply<N: Line<W>, W: Swift>(
     requires moment { label.now.moment < moment_limit }
     ensures writes { OnlyWrites (is_failed_write result) (N.model line.old) (N.model line.new) }
     ensures effect { IsTrue (N.model line.old).observable
-        → WritesReply (N.model line.old).transcript (W.history store.now).called reply label.now method.now resource.now closing result (N.model line.new).transcript }
+        → WritesReply (N.model line.old).transcript (W.history store.now).called reply label.now
+        method.now resource.now closing result (N.model line.new).transcript }
 {
     match print_reply(alloc, reply, label, method, resource, closing) {
         Ok(text) => match line.write(store, text.as_slice()) {
@@ -59,7 +60,9 @@ pub fn write_memory<N: Line<W>, W: Swift>(line: &mut N, store: &W, head: bool) -
     requires { IsTrue (N.model line.old).is_open }
     ensures outcome { result ≢ written.Whole }
     ensures writes { OnlyWrites (is_failed_write result) (N.model line.old) (N.model line.new) }
-    ensures effect { IsTrue (N.model line.old).observable → WritesOutOfMemory (N.model line.old).transcript (W.history store.now).called (memory_reply head) result (N.model line.new).transcript }
+    ensures effect { IsTrue (N.model line.old).observable
+        → WritesOutOfMemory (N.model line.old).transcript (W.history store.now).called
+        (memory_reply head) result (N.model line.new).transcript }
 {
     write_out_of_memory(line, store, print_memory(head))
 }
@@ -68,7 +71,9 @@ fn write_out_of_memory<N: Line<W>, W: Swift>(line: &mut N, store: &W, bytes: &[u
     requires { IsTrue (N.model line.old).is_open }
     ensures outcome { result ≢ written.Whole }
     ensures writes { OnlyWrites (is_failed_write result) (N.model line.old) (N.model line.new) }
-    ensures effect { IsTrue (N.model line.old).observable → WritesOutOfMemory (N.model line.old).transcript (W.called store.now) bytes.now result (N.model line.new).transcript }
+    ensures effect { IsTrue (N.model line.old).observable
+        → WritesOutOfMemory (N.model line.old).transcript (W.called store.now) bytes.now result
+        (N.model line.new).transcript }
 {
     match line.write(store, bytes) {
         Ok(()) => Written::Memory,
@@ -90,7 +95,8 @@ pub fn print_reply(
 ) -> Result<Bytes, Memory>
     requires showable { IsShowable reply }
     requires moment { label.now.moment < moment_limit }
-    ensures text { IfOk result (λ text. text ≡ reply_text reply label.now method.now resource.now closing) }
+    ensures text { IfOk result
+        (λ text. text ≡ reply_text reply label.now method.now resource.now closing) }
     ensures known { OnOk result (reply ≢ answer.Memory) }
 {
     if let Reply::Memory = reply {

@@ -21,35 +21,40 @@ pub(crate) fn gate<'a>(alloc: Global) -> Result<Command<'a>, AllocError>
 }
 
 fn with_session<'a>(alloc: Global, gate: Command<'a>) -> Result<Command<'a>, AllocError>
-    ensures { IfOk result (λ command. app_of command ≡ with_subcommand (app_of gate.entry) session_app.top) }
+    ensures { IfOk result
+        (λ command. app_of command ≡ with_subcommand (app_of gate.entry) session_app.top) }
 {
     let session = serving(alloc, "session")?;
     gate.subcommand(session)
 }
 
 fn with_serve<'a>(alloc: Global, gate: Command<'a>) -> Result<Command<'a>, AllocError>
-    ensures { IfOk result (λ command. app_of command ≡ with_subcommand (app_of gate.entry) serve_app.top) }
+    ensures { IfOk result
+        (λ command. app_of command ≡ with_subcommand (app_of gate.entry) serve_app.top) }
 {
     let serve = serve(alloc)?;
     gate.subcommand(serve)
 }
 
 fn with_sign<'a>(alloc: Global, gate: Command<'a>) -> Result<Command<'a>, AllocError>
-    ensures { IfOk result (λ command. app_of command ≡ with_subcommand (app_of gate.entry) sign_app.top) }
+    ensures { IfOk result
+        (λ command. app_of command ≡ with_subcommand (app_of gate.entry) sign_app.top) }
 {
     let sign = sign(alloc)?;
     gate.subcommand(sign)
 }
 
 fn with_presign<'a>(alloc: Global, gate: Command<'a>) -> Result<Command<'a>, AllocError>
-    ensures { IfOk result (λ command. app_of command ≡ with_subcommand (app_of gate.entry) presign_app.top) }
+    ensures { IfOk result
+        (λ command. app_of command ≡ with_subcommand (app_of gate.entry) presign_app.top) }
 {
     let presign = presign(alloc)?;
     gate.subcommand(presign)
 }
 
 fn with_recover<'a>(alloc: Global, gate: Command<'a>) -> Result<Command<'a>, AllocError>
-    ensures { IfOk result (λ command. app_of command ≡ with_subcommand (app_of gate.entry) recover_app.top) }
+    ensures { IfOk result
+        (λ command. app_of command ≡ with_subcommand (app_of gate.entry) recover_app.top) }
 {
     gate.subcommand(Command::new(alloc, "recover"))
 }

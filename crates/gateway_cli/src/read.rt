@@ -70,7 +70,8 @@ fn fault_of(error: &Error) -> WordsFault
 }
 
 fn command_met(alloc: Global, matches: &ArgMatches) -> Result<Command, WordsFault>
-    ensures reads { ReadsWords (option_and_then (λ p. command_in p.0 p.1) (subcommand_rows_of matches.now)) result }
+    ensures reads { ReadsWords
+        (option_and_then (λ p. command_in p.0 p.1) (subcommand_rows_of matches.now)) result }
     ensures proper { IfOk result IsProper }
 {
     match matches.subcommand() {
@@ -137,7 +138,8 @@ fn session_with(
     region: Option<&str>,
     least_part: Option<&str>,
 ) -> Result<Command, WordsFault>
-    ensures reads { ReadsWords (session_with (option_map (λ text. text.now) region.entry) (option_map (λ text. text.now) least_part.entry)) result }
+    ensures reads { ReadsWords (session_with (option_map (λ text. text.now) region.entry)
+        (option_map (λ text. text.now) least_part.entry)) result }
     ensures proper { IfOk result IsProper }
 {
     let region = region_of(region);
@@ -159,7 +161,9 @@ fn serve_with(
     connections: Option<&str>,
     least_part: Option<&str>,
 ) -> Result<Command, WordsFault>
-    ensures reads { ReadsWords (serve_with (option_map (λ text. text.now) region.entry) (option_map (λ text. text.now) connections.entry) (option_map (λ text. text.now) least_part.entry)) result }
+    ensures reads { ReadsWords (serve_with (option_map (λ text. text.now) region.entry)
+        (option_map (λ text. text.now) connections.entry)
+        (option_map (λ text. text.now) least_part.entry)) result }
     ensures proper { IfOk result IsProper }
 {
     let region = region_of(region);
@@ -180,7 +184,8 @@ fn serve_with(
 }
 
 fn sign_with(alloc: Global, key: Option<&str>, region: Option<&str>) -> Result<Command, WordsFault>
-    ensures reads { ReadsWords (sign_with (option_map (λ text. text.now) key.entry) (option_map (λ text. text.now) region.entry)) result }
+    ensures reads { ReadsWords (sign_with (option_map (λ text. text.now) key.entry)
+        (option_map (λ text. text.now) region.entry)) result }
     ensures proper { IfOk result IsProper }
 {
     let Some(key) = key else {
@@ -203,7 +208,9 @@ fn presign_with(
     region: Option<&str>,
     expires: Option<&str>,
 ) -> Result<Command, WordsFault>
-    ensures reads { ReadsWords (presign_with (option_map (λ text. text.now) key.entry) (option_map (λ text. text.now) region.entry) (option_map (λ text. text.now) expires.entry)) result }
+    ensures reads { ReadsWords (presign_with (option_map (λ text. text.now) key.entry)
+        (option_map (λ text. text.now) region.entry) (option_map (λ text. text.now) expires.entry))
+        result }
     ensures proper { IfOk result IsProper }
 {
     let Some(key) = key else {

@@ -44,8 +44,10 @@ pub fn attempt<N: Line<W>, W: Swift, C: Clock, D: Draws>(
 ) -> RunOutcome
     ensures admits { Admits (is_possible (asked_for words.now) keys.now) result }
     ensures fits { Fits (asked_for words.now) result }
-    ensures idle { is_possible (asked_for words.now) keys.now ≡ false → (line.new ≡ line.old) × (store.new ≡ store.old) × (clock.new ≡ clock.old) × (draws.new ≡ draws.old) }
-    ensures apart { Apart (asked_for words.now) (line.new ≡ line.old) (store.new ≡ store.old) (clock.new ≡ clock.old) (draws.new ≡ draws.old) }
+    ensures idle { is_possible (asked_for words.now) keys.now ≡ false → (line.new ≡ line.old)
+        × (store.new ≡ store.old) × (clock.new ≡ clock.old) × (draws.new ≡ draws.old) }
+    ensures apart { Apart (asked_for words.now) (line.new ≡ line.old) (store.new ≡ store.old)
+        (clock.new ≡ clock.old) (draws.new ≡ draws.old) }
     ensures on { Continues
         (world (N.model line.old) (W.history store.old) Unsure (C.model clock.old) (D.model draws.old))
         (world (N.model line.new) (W.history store.new) Unsure (C.model clock.new) (D.model draws.new)) }
@@ -73,8 +75,10 @@ fn perform<N: Line<W>, W: Swift, C: Clock, D: Draws>(
     requires { IsProper command }
     ensures admits { Admits (is_possible (task_of (Some command)) keys.now) result }
     ensures fits { Fits (task_of (Some command)) result }
-    ensures idle { is_possible (task_of (Some command)) keys.now ≡ false → (line.new ≡ line.old) × (store.new ≡ store.old) × (clock.new ≡ clock.old) × (draws.new ≡ draws.old) }
-    ensures apart { Apart (task_of (Some command)) (line.new ≡ line.old) (store.new ≡ store.old) (clock.new ≡ clock.old) (draws.new ≡ draws.old) }
+    ensures idle { is_possible (task_of (Some command)) keys.now ≡ false → (line.new ≡ line.old)
+        × (store.new ≡ store.old) × (clock.new ≡ clock.old) × (draws.new ≡ draws.old) }
+    ensures apart { Apart (task_of (Some command)) (line.new ≡ line.old) (store.new ≡ store.old)
+        (clock.new ≡ clock.old) (draws.new ≡ draws.old) }
     ensures on { Continues
         (world (N.model line.old) (W.history store.old) Unsure (C.model clock.old) (D.model draws.old))
         (world (N.model line.new) (W.history store.new) Unsure (C.model clock.new) (D.model draws.new)) }
@@ -124,9 +128,11 @@ fn serve<N: Line<W>, W: Swift, C: Clock, D: Draws>(
     draws: &mut D,
 ) -> Status
     ensures line { LineServesAll most result (N.model line.old) (N.model line.new) }
-    ensures serves { (known : what_is_known) × ServesOver settings (RunTraces (record { settings = settings; keys = keys }))
-        (world (N.model line.old) (W.history store.old) Unsure (C.model clock.old) (D.model draws.old))
-        (world (N.model line.new) (W.history store.new) known (C.model clock.new) (D.model draws.new)) }
+    ensures serves { (known : what_is_known)
+        × ServesOver settings (RunTraces (record { settings = settings; keys = keys }))
+        (world (N.model line.old) (W.history store.old) Unsure (C.model clock.old)
+        (D.model draws.old)) (world (N.model line.new) (W.history store.new) known
+        (C.model clock.new) (D.model draws.new)) }
 {
     let service = Service { settings, keys };
     let mut known = Known::Unsure;
@@ -143,12 +149,16 @@ fn sign<N: Line<W>, W: Swift>(
     store: &W,
 ) -> RunOutcome
     ensures usage { result ≡ ended.Plain status.Usage → secret_of id.now keys.now ≡ None }
-    ensures refused { secret_of id.now keys.now ≡ None → (result ≡ ended.Plain status.Usage) × (line.new ≡ line.old) }
+    ensures refused { secret_of id.now keys.now ≡ None → (result ≡ ended.Plain status.Usage)
+        × (line.new ≡ line.old) }
     ensures fits { (id region : List ℕ) → Fits (to_sign id region) result }
-    ensures line { SignsOn (is_failed_run result) (W.history store.now).called (N.model line.old) (N.model line.new) }
-    ensures effect { (secret : List ℕ) → secret_of id.now keys.now ≡ Some secret → IsTrue (N.model line.old).observable
-        → (signing : Signing) × AnswersFirst secret region.now (N.model line.old).transcript.waiting signing
-        × SendsFirst (W.history store.now).called (N.model line.old).transcript signing (N.model line.new).transcript × (result ≡ end_of signing) }
+    ensures line { SignsOn (is_failed_run result) (W.history store.now).called (N.model line.old)
+        (N.model line.new) }
+    ensures effect { (secret : List ℕ) → secret_of id.now keys.now ≡ Some secret
+        → IsTrue (N.model line.old).observable → (signing : Signing)
+        × AnswersFirst secret region.now (N.model line.old).transcript.waiting signing
+        × SendsFirst (W.history store.now).called (N.model line.old).transcript signing
+        (N.model line.new).transcript × (result ≡ end_of signing) }
 {
     match keys.secret(id.as_slice()) {
         Some(secret) => end_of(sign_first(alloc, secret, region.as_slice(), line, store)),
@@ -172,14 +182,19 @@ fn presign<N: Line<W>, W: Swift, C: Clock>(
     requires least { 1 ≤ expires }
     requires most { expires ≤ 604800 }
     ensures usage { result ≡ ended.Plain status.Usage → secret_of id.now keys.now ≡ None }
-    ensures refused { secret_of id.now keys.now ≡ None → (result ≡ ended.Plain status.Usage) × (line.new ≡ line.old) × (clock.new ≡ clock.old) }
+    ensures refused { secret_of id.now keys.now ≡ None → (result ≡ ended.Plain status.Usage)
+        × (line.new ≡ line.old) × (clock.new ≡ clock.old) }
     ensures fits { (id region : List ℕ) (expires : ℕ) → Fits (to_presign id region expires) result }
-    ensures line { SignsOn (is_failed_run result) (W.history store.now).called (N.model line.old) (N.model line.new) }
+    ensures line { SignsOn (is_failed_run result) (W.history store.now).called (N.model line.old)
+        (N.model line.new) }
     ensures clock { IsTrue (C.model clock.old).observable → IsTrue (C.model clock.new).observable }
-    ensures effect { (secret : List ℕ) → secret_of id.now keys.now ≡ Some secret → IsTrue (N.model line.old).observable
-        → (moment : ℕ) × ClockNow (C.model clock.old) moment (C.model clock.new)
-        × (presigning : Presigning) × UrlFirst (Presigns secret id.now region.now moment expires) (N.model line.old).transcript.waiting presigning
-        × UrlSends (W.history store.now).called (N.model line.old).transcript presigning (N.model line.new).transcript × (result ≡ end_of_url presigning) }
+    ensures effect { (secret : List ℕ) → secret_of id.now keys.now ≡ Some secret
+        → IsTrue (N.model line.old).observable → (moment : ℕ)
+        × ClockNow (C.model clock.old) moment (C.model clock.new) × (presigning : Presigning)
+        × UrlFirst (Presigns secret id.now region.now moment expires)
+        (N.model line.old).transcript.waiting presigning
+        × UrlSends (W.history store.now).called (N.model line.old).transcript presigning
+        (N.model line.new).transcript × (result ≡ end_of_url presigning) }
 {
     match keys.secret(id.as_slice()) {
         Some(secret) => {

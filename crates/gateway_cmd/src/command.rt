@@ -53,14 +53,20 @@ pub fn run<N: Line<W>, R: Sink, W: Swift, C: Clock, D: Draws>(
     // The causes of the status. 5, out of memory, may come at any time: no clause gives its cause.
     ensures status { IsStatus result }
     ensures usage { result ≡ 2 → is_possible (asked_for words.now) keys.now ≡ false }
-    ensures refused { is_possible (asked_for words.now) keys.now ≡ false → (result ≡ 5 → ⊥) → result ≡ 2 }
+    ensures refused { is_possible (asked_for words.now) keys.now ≡ false → (result ≡ 5 → ⊥)
+        → result ≡ 2 }
     ensures line { result ≡ 3 → uses_line (asked_for words.now) ≡ true }
-    ensures upkeep { (result ≡ 4) ⊎ (result ≡ 7) → (is_possible (asked_for words.now) keys.now ≡ true) × (is_upkeep (asked_for words.now) ≡ true) }
-    ensures request { result ≡ 8 → (is_possible (asked_for words.now) keys.now ≡ true) × (is_signing (asked_for words.now) ≡ true) }
+    ensures upkeep { (result ≡ 4) ⊎ (result ≡ 7)
+        → (is_possible (asked_for words.now) keys.now ≡ true)
+        × (is_upkeep (asked_for words.now) ≡ true) }
+    ensures request { result ≡ 8 → (is_possible (asked_for words.now) keys.now ≡ true)
+        × (is_signing (asked_for words.now) ≡ true) }
 
     // Words and keys that are refused touch nothing but the report; and each task leaves alone what it has no use for.
-    ensures idle { is_possible (asked_for words.now) keys.now ≡ false → (line.new ≡ line.old) × (store.new ≡ store.old) × (clock.new ≡ clock.old) × (draws.new ≡ draws.old) }
-    ensures apart { Apart (asked_for words.now) (line.new ≡ line.old) (store.new ≡ store.old) (clock.new ≡ clock.old) (draws.new ≡ draws.old) }
+    ensures idle { is_possible (asked_for words.now) keys.now ≡ false → (line.new ≡ line.old)
+        × (store.new ≡ store.old) × (clock.new ≡ clock.old) × (draws.new ≡ draws.old) }
+    ensures apart { Apart (asked_for words.now) (line.new ≡ line.old) (store.new ≡ store.old)
+        (clock.new ≡ clock.old) (draws.new ≡ draws.old) }
 
     // A run that serves, and what it does to the line: 3 comes only where the line failed to give a connection, and 0 only where all
     // connections were served, or as many as were asked for. Where the line's count of faults did not rise, none failed.
@@ -69,14 +75,16 @@ pub fn run<N: Line<W>, R: Sink, W: Swift, C: Clock, D: Draws>(
 
     // A run that signs, or makes a URL: at most one connection of the line begins, and at most the interim line is sent on it: 3 comes only where
     // the line failed.
-    ensures signing { (id region : List ℕ) → asked_for words.now ≡ to_sign id region → SignsOn (result == 3) (W.history store.old).called (N.model line.old) (N.model line.new) }
+    ensures signing { (id region : List ℕ) → asked_for words.now ≡ to_sign id region
+        → SignsOn (result == 3) (W.history store.old).called (N.model line.old) (N.model line.new) }
 
     ensures presigning { (id region : List ℕ) (expires : ℕ) → asked_for words.now ≡ to_presign id region expires
         → SignsOn (result == 3) (W.history store.old).called (N.model line.old) (N.model line.new) }
 
     // A run that settles: 4 comes only where the store's count of faults rose, and 7 never over a consistent account. The state of the
     // account stays at each number of calls, whatever the status; by 0 and 6 no completion is sealed on it any more.
-    ensures recovering { asked_for words.now ≡ to_recover → StoreRecovered result (W.history store.old) (W.history store.new) }
+    ensures recovering { asked_for words.now ≡ to_recover
+        → StoreRecovered result (W.history store.old) (W.history store.new) }
 
     // The task was done as its end says, over line, store, clock and draws. The report has the lines of that end, and nothing else;
     // where its count of faults rose, the first bytes of them. It is left alone where all connections were served.
@@ -85,17 +93,23 @@ pub fn run<N: Line<W>, R: Sink, W: Swift, C: Clock, D: Draws>(
         (world (N.model line.old) (W.history store.old) Unsure (C.model clock.old) (D.model draws.old))
         (λ known. world (N.model line.new) (W.history store.new) known (C.model clock.new) (D.model draws.new))
         × Says ended result text × Reports text (R.model report.old) (R.model report.new) }
-    ensures silent { is_serving (asked_for words.now) ≡ true → result ≡ 0 → report.new ≡ report.old }
-    ensures unreported { result ≡ 6 → (is_some (tells (asked_for words.now)) ≡ true) × Rose (R.model report.old).faults (R.model report.new).faults }
-    ensures reported { is_some (tells (asked_for words.now)) ≡ true → result ≡ 0 → (R.model report.new).faults ≡ (R.model report.old).faults }
+    ensures silent { is_serving (asked_for words.now) ≡ true → result ≡ 0
+        → report.new ≡ report.old }
+    ensures unreported { result ≡ 6 → (is_some (tells (asked_for words.now)) ≡ true)
+        × Rose (R.model report.old).faults (R.model report.new).faults }
+    ensures reported { is_some (tells (asked_for words.now)) ≡ true → result ≡ 0
+        → (R.model report.new).faults ≡ (R.model report.old).faults }
 
     // What was observable still is, and what the store told of its calls before the run stays. Where its count of faults
     // did not rise and calls are left, no call failed. `Continues` reads nothing of `Unsure`, which fills a place.
     ensures on { Continues
         (world (N.model line.old) (W.history store.old) Unsure (C.model clock.old) (D.model draws.old))
         (world (N.model line.new) (W.history store.new) Unsure (C.model clock.new) (D.model draws.new)) }
-    ensures fault_free { IsTrue (W.history store.old).observable → (W.history store.new).called < budget → (Rose (W.history store.old).faults (W.history store.new).faults → ⊥)
-        → FaultFree (W.history store.new) (W.history store.old).called (W.history store.new).called }
+    ensures fault_free { IsTrue (W.history store.old).observable
+        → (W.history store.new).called < budget
+        → (Rose (W.history store.old).faults (W.history store.new).faults → ⊥)
+        → FaultFree (W.history store.new) (W.history store.old).called
+        (W.history store.new).called }
 
     // Where line, clock and draws are observable, a run that serves is a trace: its connections in order, none skipped, and
     // of each the requests in order. The interim line is sent where it is owed for a request, before its first call; the bytes
@@ -116,34 +130,44 @@ pub fn run<N: Line<W>, R: Sink, W: Swift, C: Clock, D: Draws>(
 
     // Under the premises of both, the replies are the machine's too, each after its step.
     ensures refines { (serving : Serving) → asked_for words.now ≡ to_serve serving
-        → IsObservable (world (N.model line.old) (W.history store.old) Unsure (C.model clock.old) (D.model draws.old)) → Met Any (W.history store.old)
+        → IsObservable (world (N.model line.old) (W.history store.old) Unsure (C.model clock.old)
+        (D.model draws.old)) → Met Any (W.history store.old)
         → RunRefines (service_of serving keys.now) (W.history store.new)
-        (world (N.model line.old) (W.history store.old) Unsure (C.model clock.old) (D.model draws.old))
-        (λ known. world (N.model line.new) (W.history store.new) known (C.model clock.new) (D.model draws.new)) }
+        (world (N.model line.old) (W.history store.old) Unsure (C.model clock.old)
+        (D.model draws.old)) (λ known. world (N.model line.new) (W.history store.new) known
+        (C.model clock.new) (D.model draws.new)) }
 
     // Over an observable store, whose account is consistent at entry, a run is one that may stand among others (see
     // [`gateway::law_many_runs`]): it answers requests, or it leaves the state.
-    ensures works { Met Any (W.history store.old) → HasWorked (asked_for words.now) (W.history store.old) (W.history store.new) }
+    ensures works { Met Any (W.history store.old)
+        → HasWorked (asked_for words.now) (W.history store.old) (W.history store.new) }
 
     // What is signed is the line's first request, by the secret of the key. Nothing was sent but the interim line, where it is owed.
     ensures effect_signed { (id region secret : List ℕ) → asked_for words.now ≡ to_sign id region
-        → are_keys (keys_of keys.now) ≡ true → secret_of id (keys_of keys.now) ≡ Some secret → IsTrue (N.model line.old).observable → (result ≡ 5 → ⊥)
-        → (signing : Signing) × AnswersFirst secret region (N.model line.old).transcript.waiting signing
-        × SendsFirst (W.history store.old).called (N.model line.old).transcript signing (N.model line.new).transcript
-        × (text : List ℕ) × Says (end_of signing) result text × Reports text (R.model report.old) (R.model report.new) }
+        → are_keys (keys_of keys.now) ≡ true → secret_of id (keys_of keys.now) ≡ Some secret
+        → IsTrue (N.model line.old).observable → (result ≡ 5 → ⊥) → (signing : Signing)
+        × AnswersFirst secret region (N.model line.old).transcript.waiting signing
+        × SendsFirst (W.history store.old).called (N.model line.old).transcript signing
+        (N.model line.new).transcript × (text : List ℕ) × Says (end_of signing) result text
+        × Reports text (R.model report.old) (R.model report.new) }
 
     // The URL is one of the line's first request, by the secret of the key, for the moment that the clock gave.
-    ensures effect_presigned { (id region secret : List ℕ) (expires : ℕ) → asked_for words.now ≡ to_presign id region expires
-        → are_keys (keys_of keys.now) ≡ true → secret_of id (keys_of keys.now) ≡ Some secret → IsTrue (N.model line.old).observable → (result ≡ 5 → ⊥)
-        → (moment : ℕ) × ClockNow (C.model clock.old) moment (C.model clock.new)
-        × (presigning : Presigning) × UrlFirst (Presigns secret id region moment expires) (N.model line.old).transcript.waiting presigning
-        × UrlSends (W.history store.old).called (N.model line.old).transcript presigning (N.model line.new).transcript
-        × (text : List ℕ) × Says (end_of_url presigning) result text × Reports text (R.model report.old) (R.model report.new) }
+    ensures effect_presigned { (id region secret : List ℕ) (expires : ℕ)
+        → asked_for words.now ≡ to_presign id region expires → are_keys (keys_of keys.now) ≡ true
+        → secret_of id (keys_of keys.now) ≡ Some secret → IsTrue (N.model line.old).observable
+        → (result ≡ 5 → ⊥) → (moment : ℕ) × ClockNow (C.model clock.old) moment (C.model clock.new)
+        × (presigning : Presigning)
+        × UrlFirst (Presigns secret id region moment expires) (N.model line.old).transcript.waiting
+        presigning × UrlSends (W.history store.old).called (N.model line.old).transcript presigning
+        (N.model line.new).transcript × (text : List ℕ) × Says (end_of_url presigning) result text
+        × Reports text (R.model report.old) (R.model report.new) }
 
     // The store was settled, and how that ended is what is reported.
-    ensures effect_recovered { asked_for words.now ≡ to_recover → are_keys (keys_of keys.now) ≡ true → (result ≡ 5 → ⊥)
-        → (settled : result_of (Unit {0}) unsettled) × Settles (W.history store.old) (W.history store.new) settled
-        × (text : List ℕ) × Says (recovered settled) result text × Reports text (R.model report.old) (R.model report.new) }
+    ensures effect_recovered { asked_for words.now ≡ to_recover → are_keys (keys_of keys.now) ≡ true
+        → (result ≡ 5 → ⊥) → (settled : result_of (Unit {0}) unsettled)
+        × Settles (W.history store.old) (W.history store.new) settled × (text : List ℕ)
+        × Says (recovered settled) result text
+        × Reports text (R.model report.old) (R.model report.new) }
 {
     let ended = attempt(alloc, words, keys, line, store, clock, draws);
     tell(alloc, ended, report)
@@ -151,10 +175,13 @@ pub fn run<N: Line<W>, R: Sink, W: Swift, C: Clock, D: Draws>(
 
 /// Reports how a run ended. The answer is its exit status.
 fn tell<R: Sink>(alloc: Global, ended: RunOutcome, report: &mut R) -> u8
-    ensures says { (text : List ℕ) × Says ended result text × Reports text (R.model report.old) (R.model report.new) }
+    ensures says { (text : List ℕ) × Says ended result text
+        × Reports text (R.model report.old) (R.model report.new) }
     ensures silent { ended ≡ ends.Plain Done → report.new ≡ report.old }
-    ensures unreported { result ≡ 6 → (is_plain ended ≡ false) × Rose (R.model report.old).faults (R.model report.new).faults }
-    ensures reported { is_plain ended ≡ false → result ≡ 0 → (R.model report.new).faults ≡ (R.model report.old).faults }
+    ensures unreported { result ≡ 6 → (is_plain ended ≡ false)
+        × Rose (R.model report.old).faults (R.model report.new).faults }
+    ensures reported { is_plain ended ≡ false → result ≡ 0
+        → (R.model report.new).faults ≡ (R.model report.old).faults }
 {
     match ended {
         RunOutcome::Told(told) => tell_told(alloc, &told, report),
@@ -180,7 +207,8 @@ fn tell_plain<R: Sink>(status: Status, report: &mut R) -> u8
 
 /// Reports what a run has to tell. The status says whether it could.
 fn tell_told<R: Sink>(alloc: Global, told: &Told, report: &mut R) -> u8
-    ensures says { (text : List ℕ) × Says (ends.Told told.now) result text × Reports text (R.model report.old) (R.model report.new) }
+    ensures says { (text : List ℕ) × Says (ends.Told told.now) result text
+        × Reports text (R.model report.old) (R.model report.new) }
     ensures unreported { result ≡ 6 → Rose (R.model report.old).faults (R.model report.new).faults }
     ensures reported { result ≡ 0 → (R.model report.new).faults ≡ (R.model report.old).faults }
 {
@@ -195,7 +223,8 @@ fn tell_told<R: Sink>(alloc: Global, told: &Told, report: &mut R) -> u8
 
 /// Reports of which object the store answered what it doesn't over a consistent account.
 fn tell_inconsistent<R: Sink>(alloc: Global, container: &Bytes, name: &Bytes, report: &mut R) -> u8
-    ensures says { (text : List ℕ) × Says (ends.Inconsistent container.now name.now) result text × Reports text (R.model report.old) (R.model report.new) }
+    ensures says { (text : List ℕ) × Says (ends.Inconsistent container.now name.now) result text
+        × Reports text (R.model report.old) (R.model report.new) }
     ensures code { (result ≡ 7) ⊎ (result ≡ 5) }
 {
     match inconsistent_line(alloc, container.as_slice(), name.as_slice()) {

@@ -17,7 +17,9 @@ use swift_calls::Swift;
 pub fn recover<W: Swift>(alloc: Global, store: &mut W) -> RunOutcome
     ensures fits { Fits to_recover result }
     ensures on { GoesOn (W.history store.old) (W.history store.new) }
-    ensures settles { (settled : result_of (Unit {0}) why) × Settles (W.history store.old) (W.history store.new) settled × (result ≡ recovered settled) }
+    ensures settles { (settled : result_of (Unit {0}) why)
+        × Settles (W.history store.old) (W.history store.new) settled
+        × (result ≡ recovered settled) }
 {
     match settle(alloc, store) {
         Ok(()) => RunOutcome::Told(Told::Settled),

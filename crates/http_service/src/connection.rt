@@ -24,9 +24,12 @@ pub fn serve_connection<C: Counted, N: Line<C>, S: Service<C, N>>(
     ensures goes { S.GoesOn service.old service.new }
 
     // Where the line is observable, it is one connection.
-    ensures serves { (view : S.View) → S.Given view service.old → IsTrue (N.model line.old).observable
-        → (notes : List S.Note) × ConnectionTrace S.number S.memory (S.Answers view service.new) (N.model line.old).transcript.begun result
-        (start_of (N.model line.old).transcript (S.state service.old)) notes (progress (S.state service.new) (N.model line.new).transcript.sent) }
+    ensures serves { (view : S.View) → S.Given view service.old
+        → IsTrue (N.model line.old).observable → (notes : List S.Note)
+        × ConnectionTrace S.number S.memory (S.Answers view service.new)
+        (N.model line.old).transcript.begun result
+        (start_of (N.model line.old).transcript (S.state service.old)) notes
+        (progress (S.state service.new) (N.model line.new).transcript.sent) }
 {
     let mut reader = match Reader::new(alloc) {
         Ok(reader) => reader,
@@ -50,7 +53,9 @@ fn serve_next<C: Counted, N: Line<C>, S: Service<C, N>>(
     requires open { IsTrue (N.model line.old).is_open }
     requires goes { reader.old.ended ≡ false }
     ensures goes { result ≡ None → reader.new.ended ≡ false }
-    ensures falls { result ≡ None → weight (N.model line.new).spent reader.new.bytes < weight (N.model line.old).spent reader.old.bytes }
+    ensures falls { result ≡ None
+        → weight (N.model line.new).spent reader.new.bytes < weight (N.model line.old).spent
+        reader.old.bytes }
     ensures line { LineServes (is_failed_step result) (N.model line.old) (N.model line.new) }
     ensures goes_on { S.GoesOn service.old service.new }
     ensures serves { (view : S.View) → S.Given view service.old → IsTrue (N.model line.old).observable
@@ -74,7 +79,9 @@ fn serve_next<C: Counted, N: Line<C>, S: Service<C, N>>(
 fn end_unread<C: Counted, N: Line<C>, S: Service<C, N>>(service: &S, line: &mut N) -> Ended
     requires { IsTrue (N.model line.old).is_open }
     ensures writes { OnlyWrites (is_failed_end result) (N.model line.old) (N.model line.new) }
-    ensures effect { IsTrue (N.model line.old).observable → EndsUnread (S.number (S.state service.now)) S.memory (N.model line.old).transcript result (N.model line.new).transcript }
+    ensures effect { IsTrue (N.model line.old).observable
+        → EndsUnread (S.number (S.state service.now)) S.memory (N.model line.old).transcript result
+        (N.model line.new).transcript }
 {
     match line.write(service.counter(), service.out_of_memory()) {
         Ok(()) => Ended::Memory,

@@ -28,9 +28,11 @@ pub fn serve_all<C: Counted, N: Line<C>, S: Service<C, N>>(
     ensures goes { S.GoesOn service.old service.new }
 
     // Where the line is observable, it is a run.
-    ensures serves { (view : S.View) → S.Given view service.old → IsTrue (N.model line.old).observable
-        → (notes : List S.Note) × RunTrace S.number S.memory (S.Answers view service.new)
-        (run_cursor (N.model line.old).transcript (S.state service.old)) notes (run_cursor (N.model line.new).transcript (S.state service.new)) }
+    ensures serves { (view : S.View) → S.Given view service.old
+        → IsTrue (N.model line.old).observable → (notes : List S.Note)
+        × RunTrace S.number S.memory (S.Answers view service.new)
+        (run_cursor (N.model line.old).transcript (S.state service.old)) notes
+        (run_cursor (N.model line.new).transcript (S.state service.new)) }
 {
     let mut left = most;
     'connections: loop {
@@ -72,9 +74,11 @@ fn serve_another<C: Counted, N: Line<C>, S: Service<C, N>>(
 ) -> Option<Stopped>
     ensures line { LineServesNext result (N.model line.old) (N.model line.new) }
     ensures goes { S.GoesOn service.old service.new }
-    ensures serves { (view : S.View) → S.Given view service.old → IsTrue (N.model line.old).observable
+    ensures serves { (view : S.View) → S.Given view service.old
+        → IsTrue (N.model line.old).observable
         → NextCursor S.number S.memory (S.Answers view service.new) result
-        (run_cursor (N.model line.old).transcript (S.state service.old)) (run_cursor (N.model line.new).transcript (S.state service.new)) }
+        (run_cursor (N.model line.old).transcript (S.state service.old))
+        (run_cursor (N.model line.new).transcript (S.state service.new)) }
 {
     match line.next() {
         Ok(true) => {

@@ -20,7 +20,8 @@ pub fn send_piece<C: Counted, N: Line<C>>(
     ensures writes { OnlyWrites (is_failed_step result) (N.model line.old) (N.model line.new) }
     ensures ends { (end ≢ None → result ≢ None) }
     ensures effect { IsTrue (N.model line.old).observable
-        → Sends (N.model line.old).transcript.begun (C.called counter.now) bytes.now end (N.model line.old).transcript.sent result (N.model line.new).transcript.sent }
+        → Sends (N.model line.old).transcript.begun (C.called counter.now) bytes.now end
+        (N.model line.old).transcript.sent result (N.model line.new).transcript.sent }
 {
     match line.write(counter, bytes) {
         Ok(()) => end,

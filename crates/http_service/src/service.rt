@@ -57,7 +57,8 @@ pub trait Service<C: Counted, N: Line<C>> {
         ensures writes { OnlyWrites (is_failed_step result) (N.model line.old) (N.model line.new) }
         ensures goes { GoesOn self.old self.new }
         ensures answers { (view : View) → Given view self.old → IsTrue (N.model line.old).observable
-            → IsAnswered (Answers view self.new) (N.model line.old).transcript (N.model line.new).transcript received (state self.old) result (state self.new) };
+            → IsAnswered (Answers view self.new) (N.model line.old).transcript
+            (N.model line.new).transcript received (state self.old) result (state self.new) };
 
     /// No answer, and answers after answers.
     ghost goes_on_none: { (service : Self) → GoesOn service service };

@@ -49,14 +49,22 @@ pub(crate) fn take_message<N: Line<C>, C: Counted>(
     requires within { IsRequestWithin (window pending.old.items) lines.now spans.now }
     requires none { partial.old.items ≡ [] }
     ensures line { LineServes (is_failed_read result) (N.model line.old) (N.model line.new) }
-    ensures sent { IsTrue (N.model line.old).observable → (h : RequestHead) → IsRequestAt (window pending.old.items) lines.now spans.now h
-        → SendsOn (is_owed (message_of h) ≡ true) (C.called store.now) (N.model line.old).transcript result (N.model line.new).transcript }
+    ensures sent { IsTrue (N.model line.old).observable → (h : RequestHead)
+        → IsRequestAt (window pending.old.items) lines.now spans.now h
+        → SendsOn (is_owed (message_of h) ≡ true) (C.called store.now) (N.model line.old).transcript
+        result (N.model line.new).transcript }
     ensures none { IfOk result (OnWhole (partial.new.items ≡ [])) }
-    ensures fewer { IfOk result (OnWhole (length pending.new.items + spans.now.len ≤ length pending.old.items)) }
-    ensures effect { IsTrue (N.model line.old).observable → IfOk result (λ taken. (h : RequestHead) → IsRequestAt (window pending.old.items) lines.now spans.now h
-        → TakenFrom (pending.old.items ++ (N.model line.old).transcript.rest) h spans.now.len taken ((pending.new.items ++ partial.new.items) ++ (N.model line.new).transcript.rest)) }
-    ensures effect_err { IsTrue (N.model line.old).observable → OnErr result
-        ((pending.new.items ++ partial.new.items) ++ (N.model line.new).transcript.rest ≡ pending.old.items ++ (N.model line.old).transcript.rest) }
+    ensures fewer { IfOk result
+        (OnWhole (length pending.new.items + spans.now.len ≤ length pending.old.items)) }
+    ensures effect { IsTrue (N.model line.old).observable
+        → IfOk result (λ taken. (h : RequestHead)
+        → IsRequestAt (window pending.old.items) lines.now spans.now h
+        → TakenFrom (pending.old.items ++ (N.model line.old).transcript.rest) h spans.now.len taken
+        ((pending.new.items ++ partial.new.items) ++ (N.model line.new).transcript.rest)) }
+    ensures effect_err { IsTrue (N.model line.old).observable
+        → OnErr result ((pending.new.items ++ partial.new.items)
+        ++ (N.model line.new).transcript.rest ≡ pending.old.items
+        ++ (N.model line.old).transcript.rest) }
 {
     let alloc = *pending.allocator();
     let mut message = message_at(alloc, window(pending), lines, spans)?;
@@ -100,12 +108,17 @@ fn take_offered<N: Line<C>, C: Counted>(
     requires none { body.old.items ≡ [] }
     ensures line { LineServes (is_failed_read result) (N.model line.old) (N.model line.new) }
     ensures sent { IsTrue (N.model line.old).observable
-        → SendsOn (is_owed message.now ≡ true) (C.called store.now) (N.model line.old).transcript result (N.model line.new).transcript }
-    ensures fewer { IfOk result (λ whole. IsTrue whole → length pending.new.items + start ≤ length pending.old.items) }
-    ensures effect { IsTrue (N.model line.old).observable → IfOk result (λ whole.
-        BodyFrom (pending.old.items ++ (N.model line.old).transcript.rest) start size whole body.new.items pending.new.items (N.model line.new).transcript.rest) }
-    ensures effect_err { IsTrue (N.model line.old).observable → OnErr result
-        ((pending.new.items ++ body.new.items) ++ (N.model line.new).transcript.rest ≡ pending.old.items ++ (N.model line.old).transcript.rest) }
+        → SendsOn (is_owed message.now ≡ true) (C.called store.now) (N.model line.old).transcript
+        result (N.model line.new).transcript }
+    ensures fewer { IfOk result
+        (λ whole. IsTrue whole → length pending.new.items + start ≤ length pending.old.items) }
+    ensures effect { IsTrue (N.model line.old).observable
+        → IfOk result (λ whole. BodyFrom (pending.old.items ++ (N.model line.old).transcript.rest)
+        start size whole body.new.items pending.new.items (N.model line.new).transcript.rest) }
+    ensures effect_err { IsTrue (N.model line.old).observable
+        → OnErr result ((pending.new.items ++ body.new.items)
+        ++ (N.model line.new).transcript.rest ≡ pending.old.items
+        ++ (N.model line.old).transcript.rest) }
 {
     offer(message, size, line, store)?;
     take_body(pending, body, start, size, line, store)
@@ -131,11 +144,15 @@ fn take_body<N: Line<C>, C: Counted>(
     requires within { start ≤ length pending.old.items }
     requires none { body.old.items ≡ [] }
     ensures reads { OnlyReads (is_failed_read result) (N.model line.old) (N.model line.new) }
-    ensures fewer { IfOk result (λ whole. IsTrue whole → length pending.new.items + start ≤ length pending.old.items) }
-    ensures effect { IsTrue (N.model line.old).observable → IfOk result (λ whole.
-        BodyFrom (pending.old.items ++ (N.model line.old).transcript.rest) start size whole body.new.items pending.new.items (N.model line.new).transcript.rest) }
-    ensures effect_err { IsTrue (N.model line.old).observable → OnErr result
-        ((pending.new.items ++ body.new.items) ++ (N.model line.new).transcript.rest ≡ pending.old.items ++ (N.model line.old).transcript.rest) }
+    ensures fewer { IfOk result
+        (λ whole. IsTrue whole → length pending.new.items + start ≤ length pending.old.items) }
+    ensures effect { IsTrue (N.model line.old).observable
+        → IfOk result (λ whole. BodyFrom (pending.old.items ++ (N.model line.old).transcript.rest)
+        start size whole body.new.items pending.new.items (N.model line.new).transcript.rest) }
+    ensures effect_err { IsTrue (N.model line.old).observable
+        → OnErr result ((pending.new.items ++ body.new.items)
+        ++ (N.model line.new).transcript.rest ≡ pending.old.items
+        ++ (N.model line.old).transcript.rest) }
 {
     if size <= pending.len() - start {
         body.extend_from_slice(&pending[start..start + size])?;
@@ -159,7 +176,8 @@ fn begin_body(
 ) -> Result<(), AllocError>
     requires within { start ≤ length pending.old.items }
     requires none { body.old.items ≡ [] }
-    ensures ok { IfOk result (λ _. (pending.new.items ≡ take start pending.old.items) × (body.new.items ≡ drop start pending.old.items)) }
+    ensures ok { IfOk result (λ _. (pending.new.items ≡ take start pending.old.items)
+        × (body.new.items ≡ drop start pending.old.items)) }
     ensures err { OnErr result ((pending.new.items ≡ pending.old.items) × (body.new.items ≡ [])) }
 {
     body.reserve(size)?;
@@ -178,9 +196,13 @@ fn finish_body<N: Line<C>, C: Counted>(
     requires open { IsTrue (N.model line.old).is_open }
     requires short { length body.old.items ≤ size }
     ensures reads { OnlyReads (is_failed_read result) (N.model line.old) (N.model line.new) }
-    ensures kept { IsTrue (N.model line.old).observable → body.new.items ++ (N.model line.new).transcript.rest ≡ body.old.items ++ (N.model line.old).transcript.rest }
+    ensures kept { IsTrue (N.model line.old).observable
+        → body.new.items ++ (N.model line.new).transcript.rest ≡ body.old.items
+        ++ (N.model line.old).transcript.rest }
     ensures whole { IfOk result (λ whole. IsTrue whole → length body.new.items ≡ size) }
-    ensures short { IsTrue (N.model line.old).observable → IfOk result (λ whole. whole ≡ false → (length body.new.items < size) × ((N.model line.new).transcript.rest ≡ [])) }
+    ensures short { IsTrue (N.model line.old).observable
+        → IfOk result (λ whole. whole ≡ false → (length body.new.items < size)
+        × ((N.model line.new).transcript.rest ≡ [])) }
 {
     let mut came = body.len();
     'pieces: while came < size {

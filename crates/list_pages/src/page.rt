@@ -28,7 +28,8 @@ pub fn names<W: Swift>(
     marker: &[u8],
 ) -> Result<List<NameItem>, PageFault>
     requires { Fit (page_request container.now prefix.now marker.now) }
-    ensures asks { AsksPage (W.history store.old) (W.history store.new) container.now prefix.now marker.now result }
+    ensures asks { AsksPage (W.history store.old) (W.history store.new) container.now prefix.now
+        marker.now result }
     ensures page { IfOk result (λ items. IsPageOf prefix.now marker.now (map name_in items)) }
 {
     let request = request(alloc, container, prefix, marker)?;

@@ -67,7 +67,8 @@ fn marker_of(asked: &Asked) -> &Bytes
 fn make_item(alloc: Global, text: &[u8], up: bool, item: &NameItem) -> Result<Item, RollFault>
     ensures row { IfOk result (λ made. row_view made ≡ (text.now, under_of up (head_in item.now))) }
     ensures shown { IfOk result IsShownItem }
-    ensures no_tag { result ≡ Err fault.NoTag → (up ≡ false) × (read_stamp item.now.content_type ≡ None) }
+    ensures no_tag { result ≡ Err fault.NoTag → (up ≡ false)
+        × (read_stamp item.now.content_type ≡ None) }
     ensures tagged { OnOk result (up ≡ false → read_stamp item.now.content_type ≢ None) }
 {
     let text = Bytes::from_slice(alloc, text)?;
@@ -100,7 +101,12 @@ fn read_head(alloc: Global, item: &NameItem) -> Result<ItemHead, RollFault>
 impl Roll {
     /// Before the first name.
     pub fn new(alloc: Global, asked: &Asked) -> Result<Roll, Memory>
-        ensures { IfOk result (λ roll. roll ≡ record { wanted = wanted asked.now; items = []; more = false; last = (wanted asked.now).marker }) }
+        ensures { IfOk result (λ roll. roll ≡ record {
+          wanted = wanted asked.now;
+          items = [];
+          more = false;
+          last = (wanted asked.now).marker;
+        }) }
     {
         let marker = marker_of(asked);
         Ok(Roll {
@@ -121,11 +127,15 @@ impl Roll {
     /// a fault all is as before.
     pub fn push(&mut self, item: &NameItem) -> Result<bool, RollFault>
         requires { begins self.old.wanted.prefix item.now.name ≡ true }
-        ensures rolled { OnOk result ((seen : List (List ℕ × ItemHead)) → Rolled self.old.wanted (rows_of self.old.items) self.old.more seen → Before item.now.name seen
-            → Rolled self.new.wanted (rows_of self.new.items) self.new.more (seen ++ seen_of item.now ∷ [])) }
+        ensures rolled { OnOk result ((seen : List (List ℕ × ItemHead))
+            → Rolled self.old.wanted (rows_of self.old.items) self.old.more seen
+            → Before item.now.name seen
+            → Rolled self.new.wanted (rows_of self.new.items) self.new.more
+            (seen ++ seen_of item.now ∷ [])) }
         ensures wanted { self.new.wanted ≡ self.old.wanted }
         ensures last { OnOk result (self.new.last ≡ item.now.name) }
-        ensures goes { IfOk result (λ goes. goes ≡ (nat_lt 0 self.new.wanted.max && not self.new.more)) }
+        ensures goes { IfOk result
+            (λ goes. goes ≡ (nat_lt 0 self.new.wanted.max && not self.new.more)) }
         ensures no_tag { result ≡ Err fault.NoTag → IsUntagged self.old item.now }
         ensures tagged { OnOk result (IsUntagged self.old item.now → ⊥) }
         ensures err { OnErr result (self.new ≡ self.old) }
@@ -143,13 +153,18 @@ impl Roll {
     /// Takes the names of a page, of a listing that wants items and is not full yet, until the answer is full. False once
     /// it is. The faults are those of [`Roll::push`] for one of the names.
     pub fn push_page(&mut self, page: &[NameItem]) -> Result<bool, RollFault>
-        requires names { list_all (is_name_with self.old.wanted.prefix) (map name_in page.now) ≡ true }
+        requires names { list_all (is_name_with self.old.wanted.prefix)
+            (map name_in page.now) ≡ true }
         requires wants { 0 < self.old.wanted.max }
         requires room { self.old.more ≡ false }
-        ensures rolled { OnOk result ((seen : List (List ℕ × ItemHead)) → Rolled self.old.wanted (rows_of self.old.items) self.old.more seen → Rises self.old.wanted.prefix seen (map seen_of page.now)
-            → Rolled self.new.wanted (rows_of self.new.items) self.new.more (seen ++ map seen_of page.now)) }
+        ensures rolled { OnOk result ((seen : List (List ℕ × ItemHead))
+            → Rolled self.old.wanted (rows_of self.old.items) self.old.more seen
+            → Rises self.old.wanted.prefix seen (map seen_of page.now)
+            → Rolled self.new.wanted (rows_of self.new.items) self.new.more
+            (seen ++ map seen_of page.now)) }
         ensures wanted { self.new.wanted ≡ self.old.wanted }
-        ensures last { result ≡ Ok true → self.new.last ≡ last_of self.old.last (map name_in page.now) }
+        ensures last { result ≡ Ok true
+            → self.new.last ≡ last_of self.old.last (map name_in page.now) }
         ensures goes { IfOk result (λ goes. goes ≡ not self.new.more) }
         ensures no_tag { result ≡ Err fault.NoTag → HasUntagged page.now }
     {
@@ -165,8 +180,11 @@ impl Roll {
     fn take(&mut self, item: &NameItem) -> Result<(), RollFault>
         requires prefix { begins self.old.wanted.prefix item.now.name ≡ true }
         requires room { self.old.more ≡ false }
-        ensures rolled { OnOk result ((seen : List (List ℕ × ItemHead)) → Rolled self.old.wanted (rows_of self.old.items) self.old.more seen → Before item.now.name seen
-            → Rolled self.new.wanted (rows_of self.new.items) self.new.more (seen ++ seen_of item.now ∷ [])) }
+        ensures rolled { OnOk result ((seen : List (List ℕ × ItemHead))
+            → Rolled self.old.wanted (rows_of self.old.items) self.old.more seen
+            → Before item.now.name seen
+            → Rolled self.new.wanted (rows_of self.new.items) self.new.more
+            (seen ++ seen_of item.now ∷ [])) }
         ensures wanted { self.new.wanted ≡ self.old.wanted }
         ensures last { self.new.last ≡ self.old.last }
         ensures no_tag { result ≡ Err fault.NoTag → IsUntagged self.old item.now }
@@ -221,7 +239,9 @@ impl Roll {
     pub fn finish(self) -> (List<Item>, bool)
         ensures items { result.0 ≡ self.items }
         ensures truncated { result.1 ≡ (nat_lt 0 self.wanted.max && self.more) }
-        ensures listed { (seen : List (List ℕ × ItemHead)) → Rolled self.wanted (rows_of self.items) self.more seen → (rows_of result.0, result.1) ≡ first_rows self.wanted seen }
+        ensures listed { (seen : List (List ℕ × ItemHead))
+            → Rolled self.wanted (rows_of self.items) self.more seen
+            → (rows_of result.0, result.1) ≡ first_rows self.wanted seen }
         ensures shown { All IsShownItem result.0 }
     {
         let truncated = 0 < self.max && self.more;

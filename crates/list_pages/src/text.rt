@@ -31,7 +31,9 @@ fn first_end(delimiter: &[u8], text: &[u8]) -> Option<usize>
 pub(crate) fn text_end(prefix: &[u8], delimiter: &[u8], key: &[u8]) -> (usize, bool)
     requires { begins prefix.now key.now ≡ true }
     ensures within { result.0 ≤ length key.now }
-    ensures row { (h : ItemHead) → row_of prefix.now delimiter.now (key.now, h) ≡ (take result.0 key.now, under_of result.1 h) }
+    ensures row { (h : ItemHead)
+        → row_of prefix.now delimiter.now
+        (key.now, h) ≡ (take result.0 key.now, under_of result.1 h) }
 {
     if delimiter.is_empty() {
         return (key.len(), false);

@@ -42,9 +42,11 @@ pub(crate) fn copy_object<W: Swift>(
     requires replaced { IfSome replaced IsProperReplaced }
     requires moment { label.now.moment < moment_limit }
     ensures stays { Stays state.old state.new }
-    ensures plans { Plans (by_account (copy_calls 5 (present (W.history state.old.store.now)) bucket from_bucket from_key))
+    ensures plans { Plans (by_account
+        (copy_calls 5 (present (W.history state.old.store.now)) bucket from_bucket from_key))
         (W.history state.old.store.now) (W.history state.new.store.now) state.old.settings.now
-        (Given Any) (CopyObject bucket key acl from_bucket from_key replaced) label.now known.Settled result }
+        (Given Any) (CopyObject bucket key acl from_bucket from_key replaced) label.now
+        known.Settled result }
 {
     let Some(list) = head_bucket(state, &bucket)? else {
         return Ok(Reply::Refused(Code::NoSuchBucket));
@@ -81,7 +83,8 @@ fn copy_within<W: Swift>(
     requires replaced { IfSome replaced IsProperReplaced }
     requires moment { label.now.moment < moment_limit }
     ensures stays { Stays state.old state.new }
-    ensures plans { Plans (by_account (copy_calls 4 (present (W.history state.old.store.now)) bucket from_bucket from_key))
+    ensures plans { Plans (by_account
+        (copy_calls 4 (present (W.history state.old.store.now)) bucket from_bucket from_key))
         (W.history state.old.store.now) (W.history state.new.store.now) state.old.settings.now
         (Given (λ s. TellsBucket bucket s (Some list)))
         (CopyObject bucket key acl from_bucket from_key replaced) label.now known.Settled result }
@@ -125,7 +128,8 @@ fn copy_from<W: Swift>(
     requires moment { label.now.moment < moment_limit }
     requires acl { is_other_acl acl list ≡ false }
     ensures stays { Stays state.old state.new }
-    ensures plans { Plans (by_account (copy_calls 3 (present (W.history state.old.store.now)) bucket from_bucket from_key))
+    ensures plans { Plans (by_account
+        (copy_calls 3 (present (W.history state.old.store.now)) bucket from_bucket from_key))
         (W.history state.old.store.now) (W.history state.new.store.now) state.old.settings.now
         (Given (IsFoundBucket bucket list from_bucket))
         (CopyObject bucket key acl from_bucket from_key replaced) label.now known.Settled result }
@@ -169,7 +173,8 @@ fn copy_found<W: Swift>(
     requires acl { is_other_acl acl list ≡ false }
     requires head { IsProperHead head }
     ensures stays { Stays state.old state.new }
-    ensures plans { Plans (by_account (copy_calls 2 (present (W.history state.old.store.now)) bucket from_bucket from_key))
+    ensures plans { Plans (by_account
+        (copy_calls 2 (present (W.history state.old.store.now)) bucket from_bucket from_key))
         (W.history state.old.store.now) (W.history state.new.store.now) state.old.settings.now
         (Given (IsFoundSource bucket list from_bucket from_key head))
         (CopyObject bucket key acl from_bucket from_key replaced) label.now known.Settled result }
@@ -225,9 +230,10 @@ fn copy_plain<W: Swift>(
     requires head { IsProperHead head }
     requires plain { length head.etag ≤ 32 }
     ensures stays { Stays state.old state.new }
-    ensures plans { (acl : Option Acl) (list : Acl) → is_other_acl acl list ≡ false → is_onto_itself bucket key from_bucket from_key replaced ≡ false
-        → Plans (always 2) (W.history state.old.store.now) (W.history state.new.store.now) state.old.settings.now
-        (Given (IsFoundSource bucket list from_bucket from_key head))
+    ensures plans { (acl : Option Acl) (list : Acl) → is_other_acl acl list ≡ false
+        → is_onto_itself bucket key from_bucket from_key replaced ≡ false
+        → Plans (always 2) (W.history state.old.store.now) (W.history state.new.store.now)
+        state.old.settings.now (Given (IsFoundSource bucket list from_bucket from_key head))
         (CopyObject bucket key acl from_bucket from_key replaced) label.now known.Settled result }
 {
     let body = read_source(alloc, state, from_bucket, from_key, &head)?;

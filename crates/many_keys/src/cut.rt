@@ -42,7 +42,8 @@ pub(crate) fn get_cut<W: Swift>(
     ensures stays { Stays state.old state.new }
     ensures proper { IfOk result (λ cut. is_cut head.now.size cut ≡ true) }
     ensures asks { Asks (always 1) (W.history state.old.store.now) (W.history state.new.store.now)
-        (Given (HasObject bucket.now key.now head.now.etag head.now.size)) (TellsOf (TellsCut bucket.now key.now)) result }
+        (Given (HasObject bucket.now key.now head.now.etag head.now.size))
+        (TellsOf (TellsCut bucket.now key.now)) result }
 {
     law_listing_found();
     law_object_listed();

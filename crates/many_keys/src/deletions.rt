@@ -28,8 +28,10 @@ pub(crate) fn delete_objects<W: Swift>(
     requires named { is_bucket bucket.now ≡ true }
     requires keyed { list_all is_key keys ≡ true }
     ensures stays { Stays state.old state.new }
-    ensures plans { (label : Label) → Plans (always (1 + length keys)) (W.history state.old.store.now) (W.history state.new.store.now) state.old.settings.now
-        (Given Any) (DeleteObjects bucket.now keys quiet) label known.Settled result }
+    ensures plans { (label : Label)
+        → Plans (always (1 + length keys)) (W.history state.old.store.now)
+        (W.history state.new.store.now) state.old.settings.now (Given Any)
+        (DeleteObjects bucket.now keys quiet) label known.Settled result }
 {
     let Some(list) = head_bucket(state, bucket)? else {
         return Ok(Reply::Refused(Code::NoSuchBucket));
@@ -49,7 +51,8 @@ fn delete_keys<W: Swift>(
     requires named { is_bucket bucket.now ≡ true }
     requires keyed { list_all is_key keys.now ≡ true }
     ensures stays { Stays state.old state.new }
-    ensures deletes { Deletes bucket.now keys.now (W.history state.old.store.now) (W.history state.new.store.now) state.old.settings.now result }
+    ensures deletes { Deletes bucket.now keys.now (W.history state.old.store.now)
+        (W.history state.new.store.now) state.old.settings.now result }
 {
     for key in keys {
         delete_key(state, bucket, key)?;
@@ -66,7 +69,9 @@ fn delete_key<W: Swift>(
     requires named { is_bucket bucket.now ≡ true }
     requires keyed { is_key key.now ≡ true }
     ensures stays { Stays state.old state.new }
-    ensures changes { Changes (always 1) (W.history state.old.store.now) (W.history state.new.store.now) (Given Any) (Becomes (drops_object bucket.now key.now)) result }
+    ensures changes { Changes (always 1) (W.history state.old.store.now)
+        (W.history state.new.store.now) (Given Any) (Becomes (drops_object bucket.now key.now))
+        result }
 {
     let container = bucket.copy()?;
     let name = key.copy()?;

@@ -191,7 +191,8 @@ fn copy_under<W: Swift>(
     ensures stays { Stays state.old state.new }
     ensures plans { (acl : Option Acl) (list : Acl) → is_other_acl acl list ≡ false
         → is_onto_itself bucket key from_bucket from_key replaced ≡ false
-        → Plans (always (2 * length cut + 1)) (W.history state.old.store.now) (W.history state.new.store.now) state.old.settings.now
+        → Plans (always (2 * length cut + 1)) (W.history state.old.store.now)
+        (W.history state.new.store.now) state.old.settings.now
         (GivenOf (MayFill bucket list id from_bucket from_key head))
         (CopyObject bucket key acl from_bucket from_key replaced) label.now known.Settled result }
 {
@@ -223,7 +224,8 @@ fn copy_as(
     requires replaced { IfSome replaced IsProperReplaced }
     requires head { IsProperHead head }
     ensures copy { result ≡ copy_as bucket key id replaced head list moment }
-    ensures content { IsProperReplaced (record { content_type = result.content_type; meta = result.meta }) }
+    ensures content { IsProperReplaced
+        (record { content_type = result.content_type; meta = result.meta }) }
     ensures ordered { names_ascend result.meta ≡ true }
     ensures fits { result.id < 2 ^ 128 }
 {
@@ -249,11 +251,14 @@ fn put_listed<W: Swift>(
 ) -> Result<Reply, PlanFault>
     requires copy { IsCopy sealed.now }
     ensures stays { Stays state.old state.new }
-    ensures plans { (acl : Option Acl) (list : Acl) (from_bucket from_key : List ℕ) (replaced : Option Replaced) (label : Label) → is_other_acl acl list ≡ false
-        → is_onto_itself sealed.now.bucket sealed.now.key from_bucket from_key replaced ≡ false → sealed.now.moment ≡ label.moment
-        → Plans (always 1) (W.history state.old.store.now) (W.history state.new.store.now) state.old.settings.now
-        (GivenOf (MayPut list from_bucket from_key replaced sealed.now))
-        (CopyObject sealed.now.bucket sealed.now.key acl from_bucket from_key replaced) label known.Settled result }
+    ensures plans { (acl : Option Acl) (list : Acl) (from_bucket from_key : List ℕ)
+        (replaced : Option Replaced) (label : Label) → is_other_acl acl list ≡ false
+        → is_onto_itself sealed.now.bucket sealed.now.key from_bucket from_key replaced ≡ false
+        → sealed.now.moment ≡ label.moment
+        → Plans (always 1) (W.history state.old.store.now) (W.history state.new.store.now)
+        state.old.settings.now (GivenOf (MayPut list from_bucket from_key replaced sealed.now))
+        (CopyObject sealed.now.bucket sealed.now.key acl from_bucket from_key replaced) label
+        known.Settled result }
 {
     let etag = sealed.etag.copy()?;
     copied_end(put_sealed(alloc, state, sealed), etag, sealed.moment)
@@ -270,9 +275,11 @@ fn put_sealed<W: Swift>(
 ) -> Result<(), PlanFault>
     requires copy { IsCopy sealed.now }
     ensures stays { Stays state.old state.new }
-    ensures changes { (from_bucket from_key : List ℕ) (replaced : Option Replaced) → Changes (always 1) (W.history state.old.store.now) (W.history state.new.store.now)
+    ensures changes { (from_bucket from_key : List ℕ) (replaced : Option Replaced)
+        → Changes (always 1) (W.history state.old.store.now) (W.history state.new.store.now)
         (GivenOf (HasCopy from_bucket from_key replaced sealed.now))
-        (CopiesObject sealed.now.bucket sealed.now.key from_bucket from_key replaced sealed.now.moment) result }
+        (CopiesObject sealed.now.bucket sealed.now.key from_bucket from_key replaced
+        sealed.now.moment) result }
 {
     let request = copy_request(alloc, sealed)?;
     let reply = state.call(request)?;

@@ -30,8 +30,9 @@ pub fn answer<W: Swift>(alloc: Global, state: &mut Settled<'_, W>, op: Op, label
     ensures stays { Stays state.old state.new }
 
     // The calls amount to the operation; those of a deletion step by step of its keys, and those of a copy with at most one commit.
-    ensures answered { Answered (most_calls op (present (W.history state.old.store.now))) (W.history state.old.store.now) (W.history state.new.store.now)
-        state.old.settings.now op label.now known.Settled result }
+    ensures answered { Answered (most_calls op (present (W.history state.old.store.now)))
+        (W.history state.old.store.now) (W.history state.new.store.now) state.old.settings.now op
+        label.now known.Settled result }
 {
     let mut op = op;
     reply_to(plan(alloc, state, &mut op, label))
@@ -47,7 +48,8 @@ fn plan<W: Swift>(
 ) -> Result<Reply, PlanFault>
     requires { IsProper op.old label.now }
     ensures stays { Stays state.old state.new }
-    ensures plans { Plans (most_calls op.old (present (W.history state.old.store.now))) (W.history state.old.store.now) (W.history state.new.store.now) state.old.settings.now
+    ensures plans { Plans (most_calls op.old (present (W.history state.old.store.now)))
+        (W.history state.old.store.now) (W.history state.new.store.now) state.old.settings.now
         (Given Any) op.old label.now known.Settled result }
 {
     match op {

@@ -119,7 +119,8 @@ fn get_piece<W: Swift>(
     ensures stays { Stays state.old state.new }
     ensures sized { IfOk result (λ bytes. length bytes ≡ size) }
     ensures asks { Asks (always 1) (W.history state.old.store.now) (W.history state.new.store.now)
-        (Given (HasObject bucket.now key.now head.now.etag head.now.size)) (Tells (TellsPiece bucket.now key.now at size)) result }
+        (Given (HasObject bucket.now key.now head.now.etag head.now.size))
+        (Tells (TellsPiece bucket.now key.now at size)) result }
 {
     let container = bucket.copy()?;
     let name = key.copy()?;

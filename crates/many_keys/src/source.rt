@@ -28,7 +28,8 @@ pub(crate) fn head_source<W: Swift>(
 ) -> Result<Option<ObjectHead>, PlanFault>
     requires place { IsPlace bucket.now key.now }
     ensures stays { Stays state.old state.new }
-    ensures asks { Asks (always 1) (W.history state.old.store.now) (W.history state.new.store.now) IsSettled (Tells (TellsObject bucket.now key.now)) result }
+    ensures asks { Asks (always 1) (W.history state.old.store.now) (W.history state.new.store.now)
+        IsSettled (Tells (TellsObject bucket.now key.now)) result }
     ensures proper { IfOk result (λ told. IfSome told IsProperHead) }
 {
     law_object_proper();
@@ -76,7 +77,8 @@ pub(crate) fn read_source<W: Swift>(
     requires plain { length head.now.etag ≤ 32 }
     ensures stays { Stays state.old state.new }
     ensures asks { Asks (always 1) (W.history state.old.store.now) (W.history state.new.store.now)
-        (Given (λ s. TellsObject bucket key s (Some head.now))) (Tells (λ s body. TellsBytes bucket key None s (Some body))) result }
+        (Given (λ s. TellsObject bucket key s (Some head.now)))
+        (Tells (λ s body. TellsBytes bucket key None s (Some body))) result }
     ensures body { IfOk result (λ body. is_source_body head.now body ≡ true) }
 {
     law_object_proper();

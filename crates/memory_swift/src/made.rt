@@ -22,7 +22,9 @@ pub fn client_over<S: Shelf + Drop>(
     after: List<u64>,
 ) -> Result<SwiftClient<StoreLink<S>>, Memory>
     requires { IsPlace place }
-    ensures fresh { IfOk result (λ store. IsFresh (S.model shelf).observable (is_sure_by (S.model shelf).sure before after) (S.model shelf).account (⟦<SwiftClient<StoreLink<S>> as Swift>⟧.history store)) }
+    ensures fresh { IfOk result (λ store. IsFresh (S.model shelf).observable
+        (is_sure_by (S.model shelf).sure before after) (S.model shelf).account
+        (⟦<SwiftClient<StoreLink<S>> as Swift>⟧.history store)) }
     ensures before { IfOk result (λ store. store.link.before ≡ before) }
     ensures after { IfOk result (λ store. store.link.after ≡ after) }
     ensures place { IfOk result (λ store. store.place ≡ place) }
@@ -36,7 +38,8 @@ pub fn client_over<S: Shelf + Drop>(
 /// A store in memory without a container. While calls are left, each is answered, as far as memory goes.
 #[tactic(auto, using(crate::proofs::Fresh::fresh_empty))]
 pub fn memory_store(alloc: Global) -> Result<SwiftClient<StoreLink<MapShelf>>, Memory>
-    ensures { IfOk result (λ store. IsFresh true true empty (⟦<SwiftClient<StoreLink<MapShelf>> as Swift>⟧.history store)) }
+    ensures { IfOk result (λ store. IsFresh true true empty
+        (⟦<SwiftClient<StoreLink<MapShelf>> as Swift>⟧.history store)) }
 {
     let place = memory_place(alloc)?;
     let shelf = MapShelf::new(alloc);

@@ -42,8 +42,9 @@ fn next_of(reader: &mut Reader, line: &mut MemLine) -> Result<Got, Memory>
     requires open { IsTrue (is_open_of line.old) }
     ensures open { IsTrue (is_open_of line.new) }
     ensures ends { IfOk result (λ got. reader.new.ended ≡ ends (Ok got)) }
-    ensures gives { IfOk result (λ got. GivesFirstMessage
-        reader.old (reader.old.bytes ++ (transcript_of line.old).rest) got reader.new (reader.new.bytes ++ (transcript_of line.new).rest)) }
+    ensures gives { IfOk result (λ got. GivesFirstMessage reader.old
+        (reader.old.bytes ++ (transcript_of line.old).rest) got reader.new
+        (reader.new.bytes ++ (transcript_of line.new).rest)) }
 {
     match reader.next_request(line, &NoCount) {
         Ok(got) => Ok(got),

@@ -44,7 +44,9 @@ impl<S: Shelf> Store<S> {
     pub fn serve(&mut self, message: Message, out: &mut Bytes) -> Result<(), StoreFault>
         ensures place { self.new.place ≡ self.old.place }
         ensures keeps { ShelfKeeps (S.model self.old.shelf) result (S.model self.new.shelf) }
-        ensures served { Served (S.model self.old.shelf).observable self.old.place message (S.model self.old.shelf).account (S.model self.new.shelf).account out.old out.new result }
+        ensures served { Served (S.model self.old.shelf).observable self.old.place message
+            (S.model self.old.shelf).account (S.model self.new.shelf).account out.old out.new
+            result }
     {
         serve(self.alloc, &self.place, &mut self.shelf, message, out)
     }
@@ -53,14 +55,21 @@ impl<S: Shelf> Store<S> {
     /// Request`. True where the shelf failed, and then nothing is appended.
     pub(crate) fn hand(&mut self, bytes: &[u8], out: &mut Bytes) -> Result<bool, Memory>
         ensures place { self.new.place ≡ self.old.place }
-        ensures faults { IfOk result (λ lost. RisesIf lost (S.model self.old.shelf).faults (S.model self.new.shelf).faults) }
+        ensures faults { IfOk result (λ lost. RisesIf lost (S.model self.old.shelf).faults
+            (S.model self.new.shelf).faults) }
         ensures sure { IsTrue (S.model self.old.shelf).sure → IsTrue (S.model self.new.shelf).sure }
         ensures never { IsTrue (S.model self.old.shelf).sure → IfOk result (λ lost. lost ≡ false) }
-        ensures observable { IsTrue (S.model self.old.shelf).observable → IsTrue (S.model self.new.shelf).observable }
-        ensures told { IsTrue (S.model self.new.shelf).observable → IsTrue (S.model self.old.shelf).observable }
-        ensures same { IsTrue (S.model self.old.shelf).observable → OnErr result ((S.model self.new.shelf).account ≡ (S.model self.old.shelf).account) }
-        ensures hands { out.old ≡ [] → length out.new < 2 ^ 63 → IsTrue (S.model self.old.shelf).observable → (call : SwiftRequest) → Fit call
-            → SpellsRequest self.old.place call bytes.now → Hands call (S.model self.old.shelf).account (S.model self.new.shelf).account out.new result }
+        ensures observable { IsTrue (S.model self.old.shelf).observable
+            → IsTrue (S.model self.new.shelf).observable }
+        ensures told { IsTrue (S.model self.new.shelf).observable
+            → IsTrue (S.model self.old.shelf).observable }
+        ensures same { IsTrue (S.model self.old.shelf).observable
+            → OnErr result ((S.model self.new.shelf).account ≡ (S.model self.old.shelf).account) }
+        ensures hands { out.old ≡ [] → length out.new < 2 ^ 63
+            → IsTrue (S.model self.old.shelf).observable → (call : SwiftRequest) → Fit call
+            → SpellsRequest self.old.place call bytes.now
+            → Hands call (S.model self.old.shelf).account (S.model self.new.shelf).account out.new
+            result }
     {
         law_reads_back();
         match message_in(self.alloc, bytes)? {

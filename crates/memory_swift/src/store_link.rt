@@ -44,9 +44,12 @@ impl<S: Shelf> StoreLink<S> {
     /// A link to the store. The exchanges numbered in `before` lose their request, and those in `after` their answer; a
     /// number in both lists counts as one of `before`. No exchange was made.
     pub fn new(store: Store<S>, before: List<u64>, after: List<u64>) -> StoreLink<S>
-        ensures fresh { IsFresh (S.model store.shelf).observable (is_sure_by (S.model store.shelf).sure before after) (S.model store.shelf).account (⟦<StoreLink<S> as Link>⟧.history result) }
+        ensures fresh { IsFresh (S.model store.shelf).observable
+            (is_sure_by (S.model store.shelf).sure before after) (S.model store.shelf).account
+            (⟦<StoreLink<S> as Link>⟧.history result) }
         ensures place { ⟦<StoreLink<S> as Link>⟧.place result ≡ store.place }
-        ensures losses { ⟦<StoreLink<S> as OverShelf>⟧.losses result ≡ record { before = before; after = after } }
+        ensures losses { ⟦<StoreLink<S> as OverShelf>⟧.losses result ≡ record
+            { before = before; after = after } }
         ensures before { result.before ≡ before }
         ensures after { result.after ≡ after }
     {
@@ -74,7 +77,8 @@ impl<S: Shelf> StoreLink<S> {
     /// Writes down what an exchange found, and whether it was lost.
     fn note(&mut self, was: Snapshot<Store<S>>, lost: bool)
         requires { vec_len self.old.log < vec_capacity self.old.log }
-        ensures log { self.new.log.items ≡ self.old.log.items ++ record { was = was; lost = lost } ∷ [] }
+        ensures log { self.new.log.items ≡ self.old.log.items
+            ++ record { was = was; lost = lost } ∷ [] }
         ensures store { self.new.store ≡ self.old.store }
         ensures before { self.new.before ≡ self.old.before }
         ensures after { self.new.after ≡ self.old.after }
@@ -92,17 +96,26 @@ fn hand_by<S: Shelf>(
     answer: &mut Bytes,
 ) -> Result<bool, Memory>
     ensures place { store.new.place ≡ store.old.place }
-    ensures observable { IsTrue (S.model store.old.shelf).observable → IsTrue (S.model store.new.shelf).observable }
-    ensures told { IsTrue (S.model store.new.shelf).observable → IsTrue (S.model store.old.shelf).observable }
-    ensures same { IsTrue (S.model store.old.shelf).observable → OnErr result ((S.model store.new.shelf).account ≡ (S.model store.old.shelf).account) }
+    ensures observable { IsTrue (S.model store.old.shelf).observable
+        → IsTrue (S.model store.new.shelf).observable }
+    ensures told { IsTrue (S.model store.new.shelf).observable
+        → IsTrue (S.model store.old.shelf).observable }
+    ensures same { IsTrue (S.model store.old.shelf).observable
+        → OnErr result ((S.model store.new.shelf).account ≡ (S.model store.old.shelf).account) }
     ensures sure { IsTrue (S.model store.old.shelf).sure → IsTrue (S.model store.new.shelf).sure }
-    ensures never { outcome ≡ Outcome.Answered → IsTrue (S.model store.old.shelf).sure → IfOk result (λ lost. lost ≡ false) }
+    ensures never { outcome ≡ Outcome.Answered → IsTrue (S.model store.old.shelf).sure
+        → IfOk result (λ lost. lost ≡ false) }
     ensures goes { Goes (λ s. (S.model s.shelf).faults) outcome store.old store.new result }
-    ensures hands { answer.old ≡ [] → length answer.new < 2 ^ 63 → IsTrue (S.model store.old.shelf).observable → (call : SwiftRequest) → Fit call
-        → SpellsRequest store.old.place call request.now → Hands call (S.model store.old.shelf).account (S.model store.new.shelf).account answer.new result }
-    ensures untold { outcome ≡ Outcome.LostAfter → answer.old ≡ [] → length answer.new < 2 ^ 63 → IsTrue (S.model store.old.shelf).observable
+    ensures hands { answer.old ≡ [] → length answer.new < 2 ^ 63
+        → IsTrue (S.model store.old.shelf).observable → (call : SwiftRequest) → Fit call
+        → SpellsRequest store.old.place call request.now
+        → Hands call (S.model store.old.shelf).account (S.model store.new.shelf).account answer.new
+        result }
+    ensures untold { outcome ≡ Outcome.LostAfter → answer.old ≡ [] → length answer.new < 2 ^ 63
+        → IsTrue (S.model store.old.shelf).observable
         → (Rose (S.model store.old.shelf).faults (S.model store.new.shelf).faults → ⊥)
-        → IfOk result (λ lost. Serves store.old.place request.now (S.model store.old.shelf).account (S.model store.new.shelf).account) }
+        → IfOk result (λ lost. Serves store.old.place request.now (S.model store.old.shelf).account
+        (S.model store.new.shelf).account) }
 {
     match outcome {
         Outcome::LostBefore => Ok(true),
@@ -154,15 +167,23 @@ impl<S: Shelf> Link for StoreLink<S> {
 
     fn exchange(&mut self, request: &[u8], reply: &mut Bytes) -> Result<(), LinkFault>
         requires { length self.old.log.items < budget }
-        ensures place { ⟦<StoreLink<S> as Link>⟧.place self.new ≡ ⟦<StoreLink<S> as Link>⟧.place self.old }
-        ensures exchanges { Exchanges (⟦<StoreLink<S> as Link>⟧.place self.old) (⟦<StoreLink<S> as Link>⟧.history self.old) request.now reply.new result (⟦<StoreLink<S> as Link>⟧.history self.new) }
+        ensures place { ⟦<StoreLink<S> as Link>⟧.place self.new ≡ ⟦<StoreLink<S> as Link>⟧.place
+            self.old }
+        ensures exchanges { Exchanges (⟦<StoreLink<S> as Link>⟧.place self.old)
+            (⟦<StoreLink<S> as Link>⟧.history self.old) request.now reply.new result
+            (⟦<StoreLink<S> as Link>⟧.history self.new) }
         ensures losses { ⟦<StoreLink<S> as OverShelf>⟧.losses self.new ≡ ⟦<StoreLink<S> as OverShelf>⟧.losses self.old }
-        ensures goes { GoesAs (planned (⟦<StoreLink<S> as OverShelf>⟧.losses self.old) ((⟦<StoreLink<S> as Link>⟧.history self.old).called + 1)) result
-            (⟦<StoreLink<S> as OverShelf>⟧.shelf self.old) (⟦<StoreLink<S> as OverShelf>⟧.shelf self.new) }
+        ensures goes { GoesAs (planned (⟦<StoreLink<S> as OverShelf>⟧.losses self.old)
+            ((⟦<StoreLink<S> as Link>⟧.history self.old).called + 1)) result
+            (⟦<StoreLink<S> as OverShelf>⟧.shelf self.old)
+            (⟦<StoreLink<S> as OverShelf>⟧.shelf self.new) }
         ensures untold { IsServedUntold (⟦<StoreLink<S> as Link>⟧.place self.old) request.now
-            (planned (⟦<StoreLink<S> as OverShelf>⟧.losses self.old) ((⟦<StoreLink<S> as Link>⟧.history self.old).called + 1)) result
-            (⟦<StoreLink<S> as OverShelf>⟧.shelf self.old) (⟦<StoreLink<S> as OverShelf>⟧.shelf self.new) }
-        ensures kept { IsTrue (⟦<StoreLink<S> as OverShelf>⟧.shelf self.old).observable → IsErrOf result LinkFault.Memory
+            (planned (⟦<StoreLink<S> as OverShelf>⟧.losses self.old)
+            ((⟦<StoreLink<S> as Link>⟧.history self.old).called + 1)) result
+            (⟦<StoreLink<S> as OverShelf>⟧.shelf self.old)
+            (⟦<StoreLink<S> as OverShelf>⟧.shelf self.new) }
+        ensures kept { IsTrue (⟦<StoreLink<S> as OverShelf>⟧.shelf self.old).observable
+            → IsErrOf result LinkFault.Memory
             → (⟦<StoreLink<S> as OverShelf>⟧.shelf self.new).account ≡ (⟦<StoreLink<S> as OverShelf>⟧.shelf self.old).account }
     {
         if self.log.reserve(1).is_err() {

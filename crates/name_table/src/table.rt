@@ -59,7 +59,8 @@ impl<V> Table<V> {
 
     /// What stands under a name, to be changed in its place.
     pub fn get_mut(&mut self, name: &[u8]) -> Option<&mut V>
-        ensures* lends { sem 𝓛 (LendsSo (the_row V.row) V.row self.entry result (λ n w. OnSome result (n ≡ insert self.old name.now w)) (λ n. n ≡ self.old)) }
+        ensures* lends { sem 𝓛 (LendsSo (the_row V.row) V.row self.entry result
+            (λ n w. OnSome result (n ≡ insert self.old name.now w)) (λ n. n ≡ self.old)) }
         ensures value { option_copied_mut result ≡ get self.old name.now }
     {
         self.entries.get_mut(name)

@@ -36,8 +36,10 @@ pub(crate) fn abort_upload<W: Swift>(
 ) -> Result<Reply, PlanFault>
     requires { is_bucket bucket.now ≡ true }
     ensures stays { Stays state.old state.new }
-    ensures plans { (label : Label) → Plans (by_account (3 + pages (named_by (present (W.history state.old.store.now)) bucket.now text.now)
-        + named_by (present (W.history state.old.store.now)) bucket.now text.now))
+    ensures plans { (label : Label)
+        → Plans (by_account (3 + pages
+        (named_by (present (W.history state.old.store.now)) bucket.now text.now) + named_by
+        (present (W.history state.old.store.now)) bucket.now text.now))
         (W.history state.old.store.now) (W.history state.new.store.now) state.old.settings.now
         (Given Any) (AbortUpload bucket.now key.now text.now) label known.Settled result }
     ensures beside { (label : Label) → LeavesBeside (clears bucket.now text.now) label
@@ -60,12 +62,16 @@ fn abort_open<W: Swift>(
 ) -> Result<Reply, PlanFault>
     requires { is_bucket bucket.now ≡ true }
     ensures stays { Stays state.old state.new }
-    ensures plans { (key text : List ℕ) (label : Label) → Plans (by_account (1 + pages (named_by (present (W.history state.old.store.now)) bucket.now (id_digits id))
-        + named_by (present (W.history state.old.store.now)) bucket.now (id_digits id)))
+    ensures plans { (key text : List ℕ) (label : Label)
+        → Plans (by_account (1 + pages
+        (named_by (present (W.history state.old.store.now)) bucket.now (id_digits id)) + named_by
+        (present (W.history state.old.store.now)) bucket.now (id_digits id)))
         (W.history state.old.store.now) (W.history state.new.store.now) state.old.settings.now
-        (GivenOf (IsOpenUpload bucket.now key text id)) (AbortUpload bucket.now key text) label known.Settled result }
-    ensures beside { (key text : List ℕ) (label : Label) → LeavesBeside (clears bucket.now text) label
-        (W.history state.old.store.now) (W.history state.new.store.now) (GivenOf (IsOpenUpload bucket.now key text id)) result }
+        (GivenOf (IsOpenUpload bucket.now key text id)) (AbortUpload bucket.now key text) label
+        known.Settled result }
+    ensures beside { (key text : List ℕ) (label : Label)
+        → LeavesBeside (clears bucket.now text) label (W.history state.old.store.now)
+        (W.history state.new.store.now) (GivenOf (IsOpenUpload bucket.now key text id)) result }
 {
     let folder = segments_container(alloc, bucket.as_slice())?;
     let prefix = segments_prefix(alloc, id)?;
@@ -85,12 +91,16 @@ fn drop_and_purge<W: Swift>(
     requires folder { folder.now ≡ segments_name bucket.now }
     requires prefix { prefix.now ≡ segments_prefix (id_digits id) }
     ensures stays { Stays state.old state.new }
-    ensures plans { (key text : List ℕ) (label : Label) → Plans (by_account (1 + pages (named_by (present (W.history state.old.store.now)) bucket.now (id_digits id))
-        + named_by (present (W.history state.old.store.now)) bucket.now (id_digits id)))
+    ensures plans { (key text : List ℕ) (label : Label)
+        → Plans (by_account (1 + pages
+        (named_by (present (W.history state.old.store.now)) bucket.now (id_digits id)) + named_by
+        (present (W.history state.old.store.now)) bucket.now (id_digits id)))
         (W.history state.old.store.now) (W.history state.new.store.now) state.old.settings.now
-        (GivenOf (IsOpenUpload bucket.now key text id)) (AbortUpload bucket.now key text) label known.Settled result }
-    ensures beside { (key text : List ℕ) (label : Label) → LeavesBeside (clears bucket.now text) label
-        (W.history state.old.store.now) (W.history state.new.store.now) (GivenOf (IsOpenUpload bucket.now key text id)) result }
+        (GivenOf (IsOpenUpload bucket.now key text id)) (AbortUpload bucket.now key text) label
+        known.Settled result }
+    ensures beside { (key text : List ℕ) (label : Label)
+        → LeavesBeside (clears bucket.now text) label (W.history state.old.store.now)
+        (W.history state.new.store.now) (GivenOf (IsOpenUpload bucket.now key text id)) result }
 {
     drop_record(alloc, state, bucket, id)?;
     gone_end(purge(alloc, state, bucket, folder, prefix))

@@ -16,7 +16,8 @@ pub(crate) fn chosen_parts(
     parts: &[PartItem],
     list: &[Listed],
 ) -> Result<Option<List<SealedPart>>, Memory>
-    ensures { Ascend parts.now → IfOk result (λ chosen. chosen ≡ listed_parts (by_number parts.now) list.now) }
+    ensures { Ascend parts.now
+        → IfOk result (λ chosen. chosen ≡ listed_parts (by_number parts.now) list.now) }
 {
     let mut chosen = List::new(alloc);
     for listed in list {
@@ -30,7 +31,8 @@ pub(crate) fn chosen_parts(
 
 /// The size of a part of a list, where it is there with its ETag.
 fn size_listed(parts: &[PartItem], listed: &Listed) -> Option<u64>
-    ensures { Ascend parts.now → result ≡ size_listed (get (by_number parts.now) listed.now.number) listed.now.etag }
+    ensures { Ascend parts.now
+        → result ≡ size_listed (get (by_number parts.now) listed.now.number) listed.now.etag }
 {
     match part_of(parts, listed.number) {
         Some(part) if part.etag.as_slice() == listed.etag.as_slice() => Some(part.size),
@@ -49,7 +51,8 @@ fn part_of(parts: &[PartItem], number: u32) -> Option<&PartItem>
 }
 
 fn sealed_part(listed: &Listed, size: u64) -> Result<SealedPart, Memory>
-    ensures { IfOk result (λ part. part ≡ record { number = listed.now.number; etag = listed.now.etag; size = size }) }
+    ensures { IfOk result (λ part. part ≡ record
+        { number = listed.now.number; etag = listed.now.etag; size = size }) }
 {
     let etag = listed.etag.copy()?;
     Ok(SealedPart {

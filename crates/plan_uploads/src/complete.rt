@@ -50,9 +50,11 @@ pub(crate) fn complete_upload<W: Swift>(
     requires list { IsProperList list.now }
     requires moment { label.now.moment < moment_limit }
     ensures stays { Stays state.old state.new }
-    ensures plans { Plans (by_account (6 + pages (named_by (present (W.history state.old.store.now)) bucket.now text.now)))
+    ensures plans { Plans (by_account
+        (6 + pages (named_by (present (W.history state.old.store.now)) bucket.now text.now)))
         (W.history state.old.store.now) (W.history state.new.store.now) state.old.settings.now
-        (Given Any) (CompleteUpload bucket.now key.now text.now list.now) label.now (known_in result) (end_in result) }
+        (Given Any) (CompleteUpload bucket.now key.now text.now list.now) label.now
+        (known_in result) (end_in result) }
     ensures unsure { LeavesUnsureOnly result }
 {
     match find_completion(alloc, state, bucket, key, text, list.as_slice())? {
@@ -80,7 +82,8 @@ fn refused(code: Code) -> Completing
 }
 
 fn again(bucket: &Bytes, key: &Bytes, etag: Bytes) -> Result<Completing, Memory>
-    ensures { IfOk result (λ completing. completing ≡ answered_by (Reply.Completed bucket.now key.now etag)) }
+    ensures { IfOk result
+        (λ completing. completing ≡ answered_by (Reply.Completed bucket.now key.now etag)) }
 {
     let bucket = bucket.copy()?;
     let key = key.copy()?;
@@ -101,9 +104,13 @@ fn complete_open<W: Swift>(
     requires list { IsProperList list.now }
     requires moment { label.now.moment < moment_limit }
     ensures stays { Stays state.old state.new }
-    ensures plans { (text : List ℕ) → Plans (by_account (4 + pages (named_by (present (W.history state.old.store.now)) bucket.now (id_digits opened.id))))
+    ensures plans { (text : List ℕ)
+        → Plans (by_account (4 + pages
+        (named_by (present (W.history state.old.store.now)) bucket.now (id_digits opened.id))))
         (W.history state.old.store.now) (W.history state.new.store.now) state.old.settings.now
-        (GivenOf (IsOpenAs bucket.now key.now text opened)) (CompleteUpload bucket.now key.now text list.now) label.now (known_in result) (end_in result) }
+        (GivenOf (IsOpenAs bucket.now key.now text opened))
+        (CompleteUpload bucket.now key.now text list.now) label.now (known_in result)
+        (end_in result) }
     ensures unsure { LeavesUnsureOnly result }
 {
     if !rises(list.as_slice()) {
@@ -138,8 +145,11 @@ fn complete_by<W: Swift>(
     requires ascends { rises list.now ≡ true }
     requires moment { label.now.moment < moment_limit }
     ensures stays { Stays state.old state.new }
-    ensures plans { (text : List ℕ) → Plans (always 4) (W.history state.old.store.now) (W.history state.new.store.now) state.old.settings.now
-        (GivenOf (HasParts bucket.now key.now text opened parts.now)) (CompleteUpload bucket.now key.now text list.now) label.now (known_in result) (end_in result) }
+    ensures plans { (text : List ℕ)
+        → Plans (always 4) (W.history state.old.store.now) (W.history state.new.store.now)
+        state.old.settings.now (GivenOf (HasParts bucket.now key.now text opened parts.now))
+        (CompleteUpload bucket.now key.now text list.now) label.now (known_in result)
+        (end_in result) }
     ensures unsure { LeavesUnsureOnly result }
 {
     let Some(chosen) = chosen_parts(alloc, parts, list.as_slice())? else {
@@ -162,7 +172,8 @@ fn sealed_of(
     list: &List<Listed>,
     moment: u64,
 ) -> Result<Sealed, Memory>
-    ensures sealed { IfOk result (λ sealed. sealed ≡ completion_of bucket.now key.now opened chosen list.now moment) }
+    ensures sealed { IfOk result
+        (λ sealed. sealed ≡ completion_of bucket.now key.now opened chosen list.now moment) }
     ensures fits { IfOk result (λ sealed. sealed.id < 2 ^ 128) }
 {
     let etag = upload_etag(alloc, list.as_slice())?;
@@ -188,8 +199,12 @@ fn complete_sealed<W: Swift>(
     sealed: &Sealed,
 ) -> Result<Completing, PlanFault>
     ensures stays { Stays state.old state.new }
-    ensures plans { (text : List ℕ) (list : List Listed) (label : Label) → Plans (always 4) (W.history state.old.store.now) (W.history state.new.store.now) state.old.settings.now
-        (GivenOf (MayComplete state.old.settings.now text list label sealed.now)) (CompleteUpload sealed.now.bucket sealed.now.key text list) label (known_in result) (end_in result) }
+    ensures plans { (text : List ℕ) (list : List Listed) (label : Label)
+        → Plans (always 4) (W.history state.old.store.now) (W.history state.new.store.now)
+        state.old.settings.now
+        (GivenOf (MayComplete state.old.settings.now text list label sealed.now))
+        (CompleteUpload sealed.now.bucket sealed.now.key text list) label (known_in result)
+        (end_in result) }
     ensures unsure { LeavesUnsureOnly result }
 {
     if !sealed.has_text() {
@@ -200,7 +215,8 @@ fn complete_sealed<W: Swift>(
 }
 
 fn completed_reply(sealed: &Sealed) -> Result<Reply, Memory>
-    ensures { IfOk result (λ reply. reply ≡ Reply.Completed sealed.now.bucket sealed.now.key sealed.now.etag) }
+    ensures { IfOk result
+        (λ reply. reply ≡ Reply.Completed sealed.now.bucket sealed.now.key sealed.now.etag) }
 {
     let bucket = sealed.bucket.copy()?;
     let key = sealed.key.copy()?;

@@ -50,8 +50,10 @@ pub fn copy_part<W: Swift>(
     requires range { IfSome range IsProperCopyRange }
     requires moment { label.now.moment < moment_limit }
     ensures stays { Stays state.old state.new }
-    ensures plans { Plans (always 6) (W.history state.old.store.now) (W.history state.new.store.now) state.old.settings.now
-        (Given Any) (CopyPart bucket.now key.now text.now number from_bucket from_key range) label.now known.Settled result }
+    ensures plans { Plans (always 6) (W.history state.old.store.now) (W.history state.new.store.now)
+        state.old.settings.now (Given Any)
+        (CopyPart bucket.now key.now text.now number from_bucket from_key range) label.now
+        known.Settled result }
 {
     match find_upload(alloc, state, bucket, key, text)? {
         Found::NoBucket => Ok(Reply::Refused(Code::NoSuchBucket)),
@@ -88,8 +90,11 @@ fn copy_into<W: Swift>(
     requires range { IfSome range IsProperCopyRange }
     requires moment { label.now.moment < moment_limit }
     ensures stays { Stays state.old state.new }
-    ensures plans { (key text : List ℕ) → Plans (always 4) (W.history state.old.store.now) (W.history state.new.store.now) state.old.settings.now
-        (GivenOf (IsOpenUpload bucket.now key text id)) (CopyPart bucket.now key text number from_bucket from_key range) label.now known.Settled result }
+    ensures plans { (key text : List ℕ)
+        → Plans (always 4) (W.history state.old.store.now) (W.history state.new.store.now)
+        state.old.settings.now (GivenOf (IsOpenUpload bucket.now key text id))
+        (CopyPart bucket.now key text number from_bucket from_key range) label.now known.Settled
+        result }
 {
     let Some(_) = head_bucket(state, &from_bucket)? else {
         return Ok(Reply::Refused(Code::NoSuchBucket));
@@ -125,8 +130,11 @@ fn copy_from<W: Swift>(
     requires range { IfSome range IsProperCopyRange }
     requires moment { label.now.moment < moment_limit }
     ensures stays { Stays state.old state.new }
-    ensures plans { (key text : List ℕ) → Plans (always 3) (W.history state.old.store.now) (W.history state.new.store.now) state.old.settings.now
-        (GivenOf (MayCopyFrom bucket.now key text id from_bucket)) (CopyPart bucket.now key text number from_bucket from_key range) label.now known.Settled result }
+    ensures plans { (key text : List ℕ)
+        → Plans (always 3) (W.history state.old.store.now) (W.history state.new.store.now)
+        state.old.settings.now (GivenOf (MayCopyFrom bucket.now key text id from_bucket))
+        (CopyPart bucket.now key text number from_bucket from_key range) label.now known.Settled
+        result }
 {
     let Some(head) = head_object(alloc, state, &from_bucket, &from_key)? else {
         return Ok(Reply::Refused(Code::NoSuchKey));
@@ -166,8 +174,12 @@ fn copy_of<W: Swift>(
     requires shown { IsShownHead (Some head) }
     requires moment { label.now.moment < moment_limit }
     ensures stays { Stays state.old state.new }
-    ensures plans { (key text : List ℕ) → Plans (always 2) (W.history state.old.store.now) (W.history state.new.store.now) state.old.settings.now
-        (GivenOf (MayCopyOf bucket.now key text id from_bucket from_key head)) (CopyPart bucket.now key text number from_bucket from_key range) label.now known.Settled result }
+    ensures plans { (key text : List ℕ)
+        → Plans (always 2) (W.history state.old.store.now) (W.history state.new.store.now)
+        state.old.settings.now
+        (GivenOf (MayCopyOf bucket.now key text id from_bucket from_key head))
+        (CopyPart bucket.now key text number from_bucket from_key range) label.now known.Settled
+        result }
 {
     if !has_last(range, head.size) {
         return Ok(Reply::Refused(Code::InvalidRange));
@@ -239,8 +251,12 @@ fn copy_bytes<W: Swift>(
     requires sized { wanted ≤ most_body_bytes }
     requires moment { label.now.moment < moment_limit }
     ensures stays { Stays state.old state.new }
-    ensures plans { (key text : List ℕ) → Plans (always 2) (W.history state.old.store.now) (W.history state.new.store.now) state.old.settings.now
-        (GivenOf (MayCopyOf bucket.now key text id from_bucket from_key head)) (CopyPart bucket.now key text number from_bucket from_key range) label.now known.Settled result }
+    ensures plans { (key text : List ℕ)
+        → Plans (always 2) (W.history state.old.store.now) (W.history state.new.store.now)
+        state.old.settings.now
+        (GivenOf (MayCopyOf bucket.now key text id from_bucket from_key head))
+        (CopyPart bucket.now key text number from_bucket from_key range) label.now known.Settled
+        result }
 {
     let etag = head.etag.as_slice();
     let told = get_object(alloc, state, from_bucket, from_key, etag, head.size, range)?;
@@ -268,8 +284,12 @@ fn put_copy<W: Swift>(
     requires sized { length bytes ≤ most_body_bytes }
     requires moment { label.now.moment < moment_limit }
     ensures stays { Stays state.old state.new }
-    ensures plans { (key text from_bucket from_key : List ℕ) (range : Option (ℕ × ℕ)) → Plans (always 1) (W.history state.old.store.now) (W.history state.new.store.now) state.old.settings.now
-        (GivenOf (MayPutCopy bucket.now key text id from_bucket from_key range bytes)) (CopyPart bucket.now key text number from_bucket from_key range) label.now known.Settled result }
+    ensures plans { (key text from_bucket from_key : List ℕ) (range : Option (ℕ × ℕ))
+        → Plans (always 1) (W.history state.old.store.now) (W.history state.new.store.now)
+        state.old.settings.now
+        (GivenOf (MayPutCopy bucket.now key text id from_bucket from_key range bytes))
+        (CopyPart bucket.now key text number from_bucket from_key range) label.now known.Settled
+        result }
 {
     let body = Body::new(bytes);
     let etag = body.etag();
@@ -302,8 +322,12 @@ fn put_bytes<W: Swift>(
     requires moment { label.now.moment < moment_limit }
     requires etag { etag.now ≡ body_etag bytes }
     ensures stays { Stays state.old state.new }
-    ensures plans { (key text from_bucket from_key : List ℕ) (range : Option (ℕ × ℕ)) → Plans (always 1) (W.history state.old.store.now) (W.history state.new.store.now) state.old.settings.now
-        (GivenOf (MayPutCopy bucket.now key text id from_bucket from_key range bytes)) (CopyPart bucket.now key text number from_bucket from_key range) label.now known.Settled result }
+    ensures plans { (key text from_bucket from_key : List ℕ) (range : Option (ℕ × ℕ))
+        → Plans (always 1) (W.history state.old.store.now) (W.history state.new.store.now)
+        state.old.settings.now
+        (GivenOf (MayPutCopy bucket.now key text id from_bucket from_key range bytes))
+        (CopyPart bucket.now key text number from_bucket from_key range) label.now known.Settled
+        result }
 {
     let text = Bytes::from_slice(alloc, etag)?;
     let moment = label.moment;

@@ -45,7 +45,8 @@ pub(crate) fn create_upload<W: Swift>(
         + segments_of (present (W.history state.old.store.now)) bucket + 1)))
         (W.history state.old.store.now) (W.history state.new.store.now) state.old.settings.now
         (Given Any) (CreateUpload bucket key acl content_type meta) label.now known.Settled result }
-    ensures beside { LeavesBeside (opens_in bucket) label.now (W.history state.old.store.now) (W.history state.new.store.now) (Given Any) result }
+    ensures beside { LeavesBeside (opens_in bucket) label.now (W.history state.old.store.now)
+        (W.history state.new.store.now) (Given Any) result }
 {
     let Some(list) = head_bucket(state, &bucket)? else {
         return Ok(Reply::Refused(Code::NoSuchBucket));
@@ -80,12 +81,13 @@ fn create_within<W: Swift>(
     requires meta { is_proper_meta meta ≡ true }
     requires moment { label.now.moment < moment_limit }
     ensures stays { Stays state.old state.new }
-    ensures plans { Plans (by_account (1 + 2 * (records_of (present (W.history state.old.store.now)) bucket
-        + segments_of (present (W.history state.old.store.now)) bucket + 1)))
+    ensures plans { Plans (by_account (1 + 2 * (records_of (present (W.history state.old.store.now))
+        bucket + segments_of (present (W.history state.old.store.now)) bucket + 1)))
         (W.history state.old.store.now) (W.history state.new.store.now) state.old.settings.now
-        (Given (λ s. TellsBucket bucket s (Some list))) (CreateUpload bucket key acl content_type meta) label.now known.Settled result }
-    ensures beside { LeavesBeside (opens_in bucket) label.now (W.history state.old.store.now) (W.history state.new.store.now)
-        (Given (λ s. TellsBucket bucket s (Some list))) result }
+        (Given (λ s. TellsBucket bucket s (Some list)))
+        (CreateUpload bucket key acl content_type meta) label.now known.Settled result }
+    ensures beside { LeavesBeside (opens_in bucket) label.now (W.history state.old.store.now)
+        (W.history state.new.store.now) (Given (λ s. TellsBucket bucket s (Some list))) result }
 {
     if is_other_acl(acl, list) {
         return Ok(Reply::Refused(Code::NotImplemented));
@@ -124,10 +126,11 @@ fn start<W: Swift>(
     requires moment { label.now.moment < moment_limit }
     requires acl { is_other_acl acl list ≡ false }
     ensures stays { Stays state.old state.new }
-    ensures plans { Plans (always 1) (W.history state.old.store.now) (W.history state.new.store.now) state.old.settings.now
-        (GivenOf (MayStart bucket list label.now.draw id)) (CreateUpload bucket key acl content_type meta) label.now known.Settled result }
-    ensures beside { LeavesBeside (opens_in bucket) label.now (W.history state.old.store.now) (W.history state.new.store.now)
-        (GivenOf (MayStart bucket list label.now.draw id)) result }
+    ensures plans { Plans (always 1) (W.history state.old.store.now) (W.history state.new.store.now)
+        state.old.settings.now (GivenOf (MayStart bucket list label.now.draw id))
+        (CreateUpload bucket key acl content_type meta) label.now known.Settled result }
+    ensures beside { LeavesBeside (opens_in bucket) label.now (W.history state.old.store.now)
+        (W.history state.new.store.now) (GivenOf (MayStart bucket list label.now.draw id)) result }
 {
     let name = key.copy()?;
     started_end(

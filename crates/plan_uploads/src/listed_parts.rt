@@ -127,7 +127,8 @@ fn next_parts<W: Swift>(
     ensures dated { All IsShownPart parts.old → OnOk result (All IsShownPart parts.new) }
     ensures is_marker { IfOk result (λ next. IfSome next IsMarker) }
     ensures asks { Asks (always 1) (W.history state.old.store.now) (W.history state.new.store.now)
-        (GivenOf (InBucket bucket.now)) (TellsOf (TellsNext (part_due (segments_prefix (id_digits id))) (segments_name bucket.now)
+        (GivenOf (InBucket bucket.now)) (TellsOf (TellsNext
+        (part_due (segments_prefix (id_digits id))) (segments_name bucket.now)
         (segments_prefix (id_digits id)) marker.now parts.old parts.new)) result }
 {
     let folder = segments_container(alloc, bucket.as_slice())?;
@@ -172,7 +173,8 @@ pub(crate) fn list_parts<W: Swift>(
     requires few { max ≤ most_items }
     ensures stays { Stays state.old state.new }
     ensures dated { IfOk result (λ told. All IsShownPart told.0) }
-    ensures asks { Asks (by_account (pages (named_by (present (W.history state.old.store.now)) bucket.now (id_digits id))))
+    ensures asks { Asks (by_account
+        (pages (named_by (present (W.history state.old.store.now)) bucket.now (id_digits id))))
         (W.history state.old.store.now) (W.history state.new.store.now)
         (GivenOf (InBucket bucket.now)) (TellsOf (TellsParts bucket.now id marker max)) result }
 {

@@ -71,7 +71,9 @@ fn next_ids<W: Swift>(
         × ((W.history state.new.store.now).called ≡ (W.history state.old.store.now).called + 1)) }
     ensures is_marker { IfOk result (λ next. IfSome next IsMarker) }
     ensures asks { Asks (always 1) (W.history state.old.store.now) (W.history state.new.store.now)
-        (GivenOf (InBucket bucket.now)) (TellsOf (TellsNext id_due (uploads_name bucket.now) [] marker.now ids.old ids.new)) result }
+        (GivenOf (InBucket bucket.now))
+        (TellsOf (TellsNext id_due (uploads_name bucket.now) [] marker.now ids.old ids.new))
+        result }
 {
     let folder = uploads_container(alloc, bucket.as_slice())?;
     let page = page(alloc, state, folder.as_slice(), b"", marker.as_slice())?;
@@ -137,7 +139,8 @@ fn place(alloc: Global, key: &[u8], id: &[u8]) -> Result<Bytes, Memory>
 
 impl AskedUploads {
     fn is_listed(&self, key: &[u8], id: &[u8]) -> bool
-        ensures { result ≡ (begins self.now.prefix key.now && is_upload_after self.now.key_marker self.now.id_marker key.now id.now) }
+        ensures { result ≡ (begins self.now.prefix key.now
+            && is_upload_after self.now.key_marker self.now.id_marker key.now id.now) }
     {
         begins(self.prefix.as_slice(), key)
             && is_after(
@@ -287,10 +290,11 @@ pub(crate) fn list_uploads<W: Swift>(
     requires proper { IsProperUploads prefix.now key_marker.now id_marker.now max }
     ensures stays { Stays state.old state.new }
     ensures dated { IfOk result (λ told. All IsShownUpload told.0) }
-    ensures asks { Asks (by_account (pages (records_of (present (W.history state.old.store.now)) bucket.now)
-        + records_of (present (W.history state.old.store.now)) bucket.now))
-        (W.history state.old.store.now) (W.history state.new.store.now)
-        (GivenOf (InBucket bucket.now)) (Tells (TellsUploads bucket.now prefix.now key_marker.now id_marker.now max)) result }
+    ensures asks { Asks (by_account (pages
+        (records_of (present (W.history state.old.store.now)) bucket.now) + records_of
+        (present (W.history state.old.store.now)) bucket.now)) (W.history state.old.store.now)
+        (W.history state.new.store.now) (GivenOf (InBucket bucket.now))
+        (Tells (TellsUploads bucket.now prefix.now key_marker.now id_marker.now max)) result }
 {
     if max == 0 {
         return Ok((List::new(alloc), false));

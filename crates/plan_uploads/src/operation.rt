@@ -40,8 +40,9 @@ pub fn answer<W: Swift>(alloc: Global, state: &mut Settled<'_, W>, op: Op, label
     ensures stays { Stays state.old state.new }
 
     // The calls amount to the operation, with at most one commit.
-    ensures answered { Answered (most_calls op (present (W.history state.old.store.now))) (W.history state.old.store.now) (W.history state.new.store.now)
-        state.old.settings.now op label.now result.known result.reply }
+    ensures answered { Answered (most_calls op (present (W.history state.old.store.now)))
+        (W.history state.old.store.now) (W.history state.new.store.now) state.old.settings.now op
+        label.now result.known result.reply }
 {
     if is_completion(&op) {
         complete(alloc, state, &op, label)
@@ -59,8 +60,9 @@ fn answer_settled<W: Swift>(
 ) -> Replied
     requires proper { IsProper op label.now }
     ensures stays { Stays state.old state.new }
-    ensures answered { Answered (most_calls op (present (W.history state.old.store.now))) (W.history state.old.store.now) (W.history state.new.store.now)
-        state.old.settings.now op label.now result.known result.reply }
+    ensures answered { Answered (most_calls op (present (W.history state.old.store.now)))
+        (W.history state.old.store.now) (W.history state.new.store.now) state.old.settings.now op
+        label.now result.known result.reply }
 {
     Replied {
         reply: reply_to(plan(alloc, state, op, label)),
@@ -72,8 +74,9 @@ fn answer_settled<W: Swift>(
 fn complete<W: Swift>(alloc: Global, state: &mut Settled<'_, W>, op: &Op, label: &Label) -> Replied
     requires proper { IsProper op.now label.now }
     ensures stays { Stays state.old state.new }
-    ensures answered { Answered (most_calls op.now (present (W.history state.old.store.now))) (W.history state.old.store.now) (W.history state.new.store.now)
-        state.old.settings.now op.now label.now result.known result.reply }
+    ensures answered { Answered (most_calls op.now (present (W.history state.old.store.now)))
+        (W.history state.old.store.now) (W.history state.new.store.now) state.old.settings.now
+        op.now label.now result.known result.reply }
 {
     match op {
         Op::CompleteUpload {
@@ -120,9 +123,11 @@ fn plan<W: Swift>(
 ) -> Result<Reply, PlanFault>
     requires { IsProper op label.now }
     ensures stays { Stays state.old state.new }
-    ensures plans { Plans (most_calls op (present (W.history state.old.store.now))) (W.history state.old.store.now) (W.history state.new.store.now) state.old.settings.now
+    ensures plans { Plans (most_calls op (present (W.history state.old.store.now)))
+        (W.history state.old.store.now) (W.history state.new.store.now) state.old.settings.now
         (Given Any) op label.now known.Settled result }
-    ensures beside { LeavesBeside (beside_of op) label.now (W.history state.old.store.now) (W.history state.new.store.now) (Given Any) result }
+    ensures beside { LeavesBeside (beside_of op) label.now (W.history state.old.store.now)
+        (W.history state.new.store.now) (Given Any) result }
 {
     if is_create(&op) {
         plan_create(alloc, state, op, label)
@@ -156,9 +161,11 @@ fn plan_create<W: Swift>(
 ) -> Result<Reply, PlanFault>
     requires { IsProper op label.now }
     ensures stays { Stays state.old state.new }
-    ensures plans { Plans (most_calls op (present (W.history state.old.store.now))) (W.history state.old.store.now) (W.history state.new.store.now) state.old.settings.now
+    ensures plans { Plans (most_calls op (present (W.history state.old.store.now)))
+        (W.history state.old.store.now) (W.history state.new.store.now) state.old.settings.now
         (Given Any) op label.now known.Settled result }
-    ensures beside { LeavesBeside (beside_of op) label.now (W.history state.old.store.now) (W.history state.new.store.now) (Given Any) result }
+    ensures beside { LeavesBeside (beside_of op) label.now (W.history state.old.store.now)
+        (W.history state.new.store.now) (Given Any) result }
 {
     match op {
         Op::CreateUpload {
@@ -181,9 +188,11 @@ fn plan_part<W: Swift>(
 ) -> Result<Reply, PlanFault>
     requires { IsProper op label.now }
     ensures stays { Stays state.old state.new }
-    ensures plans { Plans (most_calls op (present (W.history state.old.store.now))) (W.history state.old.store.now) (W.history state.new.store.now) state.old.settings.now
+    ensures plans { Plans (most_calls op (present (W.history state.old.store.now)))
+        (W.history state.old.store.now) (W.history state.new.store.now) state.old.settings.now
         (Given Any) op label.now known.Settled result }
-    ensures beside { LeavesBeside (beside_of op) label.now (W.history state.old.store.now) (W.history state.new.store.now) (Given Any) result }
+    ensures beside { LeavesBeside (beside_of op) label.now (W.history state.old.store.now)
+        (W.history state.new.store.now) (Given Any) result }
 {
     match op {
         Op::UploadPart {
@@ -206,9 +215,11 @@ fn plan_abort<W: Swift>(
 ) -> Result<Reply, PlanFault>
     requires { IsProper op.now label.now }
     ensures stays { Stays state.old state.new }
-    ensures plans { Plans (most_calls op.now (present (W.history state.old.store.now))) (W.history state.old.store.now) (W.history state.new.store.now) state.old.settings.now
+    ensures plans { Plans (most_calls op.now (present (W.history state.old.store.now)))
+        (W.history state.old.store.now) (W.history state.new.store.now) state.old.settings.now
         (Given Any) op.now label.now known.Settled result }
-    ensures beside { LeavesBeside (beside_of op.now) label.now (W.history state.old.store.now) (W.history state.new.store.now) (Given Any) result }
+    ensures beside { LeavesBeside (beside_of op.now) label.now (W.history state.old.store.now)
+        (W.history state.new.store.now) (Given Any) result }
 {
     match op {
         Op::AbortUpload { bucket, key, id } => abort_upload(alloc, state, bucket, key, id),
@@ -225,9 +236,11 @@ fn plan_listing<W: Swift>(
 ) -> Result<Reply, PlanFault>
     requires { IsProper op label.now }
     ensures stays { Stays state.old state.new }
-    ensures plans { Plans (most_calls op (present (W.history state.old.store.now))) (W.history state.old.store.now) (W.history state.new.store.now) state.old.settings.now
+    ensures plans { Plans (most_calls op (present (W.history state.old.store.now)))
+        (W.history state.old.store.now) (W.history state.new.store.now) state.old.settings.now
         (Given Any) op label.now known.Settled result }
-    ensures beside { LeavesBeside (beside_of op) label.now (W.history state.old.store.now) (W.history state.new.store.now) (Given Any) result }
+    ensures beside { LeavesBeside (beside_of op) label.now (W.history state.old.store.now)
+        (W.history state.new.store.now) (Given Any) result }
 {
     match op {
         Op::ListUploads {

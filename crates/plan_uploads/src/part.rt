@@ -38,8 +38,9 @@ pub(crate) fn upload_part<W: Swift>(
     requires sized { length body ≤ most_body_bytes }
     requires moment { label.now.moment < moment_limit }
     ensures stays { Stays state.old state.new }
-    ensures plans { Plans (always 3) (W.history state.old.store.now) (W.history state.new.store.now) state.old.settings.now
-        (Given Any) (UploadPart bucket.now key.now text.now number body) label.now known.Settled result }
+    ensures plans { Plans (always 3) (W.history state.old.store.now) (W.history state.new.store.now)
+        state.old.settings.now (Given Any) (UploadPart bucket.now key.now text.now number body)
+        label.now known.Settled result }
 {
     match find_upload(alloc, state, bucket, key, text)? {
         Found::NoBucket => Ok(Reply::Refused(Code::NoSuchBucket)),
@@ -63,8 +64,10 @@ fn part_into<W: Swift>(
     requires sized { length body ≤ most_body_bytes }
     requires moment { label.now.moment < moment_limit }
     ensures stays { Stays state.old state.new }
-    ensures plans { (key text : List ℕ) → Plans (always 1) (W.history state.old.store.now) (W.history state.new.store.now) state.old.settings.now
-        (GivenOf (IsOpenUpload bucket.now key text id)) (UploadPart bucket.now key text number body) label.now known.Settled result }
+    ensures plans { (key text : List ℕ)
+        → Plans (always 1) (W.history state.old.store.now) (W.history state.new.store.now)
+        state.old.settings.now (GivenOf (IsOpenUpload bucket.now key text id))
+        (UploadPart bucket.now key text number body) label.now known.Settled result }
 {
     let etag = body.etag();
     put_bytes(
@@ -96,8 +99,10 @@ fn put_bytes<W: Swift>(
     requires moment { label.now.moment < moment_limit }
     requires etag { etag.now ≡ body_etag body }
     ensures stays { Stays state.old state.new }
-    ensures plans { (key text : List ℕ) → Plans (always 1) (W.history state.old.store.now) (W.history state.new.store.now) state.old.settings.now
-        (GivenOf (IsOpenUpload bucket.now key text id)) (UploadPart bucket.now key text number body) label.now known.Settled result }
+    ensures plans { (key text : List ℕ)
+        → Plans (always 1) (W.history state.old.store.now) (W.history state.new.store.now)
+        state.old.settings.now (GivenOf (IsOpenUpload bucket.now key text id))
+        (UploadPart bucket.now key text number body) label.now known.Settled result }
 {
     let text = Bytes::from_slice(alloc, etag)?;
     stored_end(

@@ -65,7 +65,8 @@ pub fn part_request(
     requires sized { length body ≤ most_body_bytes }
     requires etag { etag.now ≡ body_etag body }
     requires moment { moment < moment_limit }
-    ensures request { IfOk result (λ request. request ≡ put_part_of bucket.now id number body moment) }
+    ensures request { IfOk result
+        (λ request. request ≡ put_part_of bucket.now id number body moment) }
     ensures fits { IfOk result Fit }
 {
     let content_type = part_type(alloc, etag, moment, id)?;

@@ -132,7 +132,8 @@ fn open_text(
     requires content_type { is_content_type content_type ≡ true }
     requires meta { is_proper_meta meta ≡ true }
     requires started { started < moment_limit }
-    ensures reads { IfOk result (λ text. read_record text ≡ Some (Open key content_type meta started)) }
+    ensures reads { IfOk result
+        (λ text. read_record text ≡ Some (Open key content_type meta started)) }
     ensures short { IfOk result (λ text. length text ≤ most_open_text) }
 {
     let _ordered = meta.pairs();

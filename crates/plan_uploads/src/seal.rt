@@ -31,7 +31,8 @@ pub(crate) fn seal<W: Swift>(
 ) -> Result<(), PlanFault>
     requires { has_sealed_text sealed.now ≡ true }
     ensures stays { Stays state.old state.new }
-    ensures seals { Seals (W.history state.old.store.now) (W.history state.new.store.now) sealed.now result }
+    ensures seals { Seals (W.history state.old.store.now) (W.history state.new.store.now) sealed.now
+        result }
 {
     law_completion_sealed();
     let text = sealed.write(alloc)?;
@@ -72,8 +73,11 @@ pub(crate) fn seal_and_finish<W: Swift>(
     requires text { has_sealed_text sealed.now ≡ true }
     requires reply { reply ≡ Reply.Completed sealed.now.bucket sealed.now.key sealed.now.etag }
     ensures stays { Stays state.old state.new }
-    ensures plans { (text : List ℕ) (list : List Listed) (label : Label) → Plans (always 4) (W.history state.old.store.now) (W.history state.new.store.now) state.old.settings.now
-        (GivenOf (CompletesBy state.old.settings.now text list label sealed.now)) (CompleteUpload sealed.now.bucket sealed.now.key text list) label result.known result.end }
+    ensures plans { (text : List ℕ) (list : List Listed) (label : Label)
+        → Plans (always 4) (W.history state.old.store.now) (W.history state.new.store.now)
+        state.old.settings.now
+        (GivenOf (CompletesBy state.old.settings.now text list label sealed.now))
+        (CompleteUpload sealed.now.bucket sealed.now.key text list) label result.known result.end }
     ensures unsure { LeavesUnsureOnly (Ok result) }
 {
     match seal(alloc, state, sealed) {

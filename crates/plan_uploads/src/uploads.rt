@@ -39,7 +39,9 @@ pub(crate) fn show_parts<W: Swift>(
     requires name { is_bucket bucket ≡ true }
     requires few { max ≤ most_items }
     ensures stays { Stays state.old state.new }
-    ensures plans { (label : Label) → Plans (by_account (2 + pages (named_by (present (W.history state.old.store.now)) bucket text.now)))
+    ensures plans { (label : Label)
+        → Plans (by_account
+        (2 + pages (named_by (present (W.history state.old.store.now)) bucket text.now)))
         (W.history state.old.store.now) (W.history state.new.store.now) state.old.settings.now
         (Given Any) (ListParts bucket key text.now marker max) label known.Settled result }
 {
@@ -63,9 +65,12 @@ fn parts_within<W: Swift>(
     requires name { is_bucket bucket ≡ true }
     requires few { max ≤ most_items }
     ensures stays { Stays state.old state.new }
-    ensures plans { (text : List ℕ) (label : Label) → Plans (by_account (pages (named_by (present (W.history state.old.store.now)) bucket (id_digits id))))
+    ensures plans { (text : List ℕ) (label : Label)
+        → Plans (by_account
+        (pages (named_by (present (W.history state.old.store.now)) bucket (id_digits id))))
         (W.history state.old.store.now) (W.history state.new.store.now) state.old.settings.now
-        (GivenOf (IsOpenUpload bucket key text id)) (ListParts bucket key text marker max) label known.Settled result }
+        (GivenOf (IsOpenUpload bucket key text id)) (ListParts bucket key text marker max) label
+        known.Settled result }
 {
     let listed = list_parts(alloc, state, &bucket, id, marker, max)?;
     Ok(parts_reply(bucket, key, id, marker, max, listed))
@@ -109,10 +114,12 @@ pub(crate) fn show_uploads<W: Swift>(
     requires name { is_bucket bucket ≡ true }
     requires proper { IsProperUploads prefix key_marker id_marker max }
     ensures stays { Stays state.old state.new }
-    ensures plans { (label : Label) → Plans (by_account (1 + pages (records_of (present (W.history state.old.store.now)) bucket)
-        + records_of (present (W.history state.old.store.now)) bucket))
-        (W.history state.old.store.now) (W.history state.new.store.now) state.old.settings.now
-        (Given Any) (ListUploads bucket prefix key_marker id_marker max) label known.Settled result }
+    ensures plans { (label : Label)
+        → Plans (by_account (1 + pages
+        (records_of (present (W.history state.old.store.now)) bucket) + records_of
+        (present (W.history state.old.store.now)) bucket)) (W.history state.old.store.now)
+        (W.history state.new.store.now) state.old.settings.now (Given Any)
+        (ListUploads bucket prefix key_marker id_marker max) label known.Settled result }
 {
     let Some(_) = head_bucket(state, &bucket)? else {
         return Ok(Reply::Refused(Code::NoSuchBucket));
@@ -133,10 +140,13 @@ fn uploads_within<W: Swift>(
     requires name { is_bucket bucket ≡ true }
     requires proper { IsProperUploads prefix key_marker id_marker max }
     ensures stays { Stays state.old state.new }
-    ensures plans { (acl : Acl) (label : Label) → Plans (by_account (pages (records_of (present (W.history state.old.store.now)) bucket)
-        + records_of (present (W.history state.old.store.now)) bucket))
-        (W.history state.old.store.now) (W.history state.new.store.now) state.old.settings.now
-        (Given (λ s. TellsBucket bucket s (Some acl))) (ListUploads bucket prefix key_marker id_marker max) label known.Settled result }
+    ensures plans { (acl : Acl) (label : Label)
+        → Plans (by_account (pages
+        (records_of (present (W.history state.old.store.now)) bucket) + records_of
+        (present (W.history state.old.store.now)) bucket)) (W.history state.old.store.now)
+        (W.history state.new.store.now) state.old.settings.now
+        (Given (λ s. TellsBucket bucket s (Some acl)))
+        (ListUploads bucket prefix key_marker id_marker max) label known.Settled result }
 {
     let listed = list_uploads(alloc, state, &bucket, &prefix, &key_marker, &id_marker, max)?;
     Ok(uploads_reply(bucket, prefix, key_marker, id_marker, max, listed))

@@ -24,8 +24,9 @@ pub(crate) fn get_bucket_acl<W: Swift>(
 ) -> Result<Reply, PlanFault>
     requires { is_bucket bucket.now ≡ true }
     ensures stays { Stays state.old state.new }
-    ensures plans { (label : Label) → Plans (always 1) (W.history state.old.store.now) (W.history state.new.store.now) state.old.settings.now
-        (Given Any) (GetBucketAcl bucket.now) label known.Settled result }
+    ensures plans { (label : Label)
+        → Plans (always 1) (W.history state.old.store.now) (W.history state.new.store.now)
+        state.old.settings.now (Given Any) (GetBucketAcl bucket.now) label known.Settled result }
 {
     match head_bucket(state, bucket)? {
         Some(list) => Ok(Reply::AclOf(list)),
@@ -41,8 +42,9 @@ pub(crate) fn put_bucket_acl<W: Swift>(
 ) -> Result<Reply, PlanFault>
     requires { is_bucket bucket ≡ true }
     ensures stays { Stays state.old state.new }
-    ensures plans { (label : Label) → Plans (always 1) (W.history state.old.store.now) (W.history state.new.store.now) state.old.settings.now
-        (Given Any) (PutBucketAcl bucket acl) label known.Settled result }
+    ensures plans { (label : Label)
+        → Plans (always 1) (W.history state.old.store.now) (W.history state.new.store.now)
+        state.old.settings.now (Given Any) (PutBucketAcl bucket acl) label known.Settled result }
 {
     set_end(set_acl(state, bucket, acl))
 }
@@ -68,8 +70,10 @@ pub(crate) fn get_object_acl<W: Swift>(
 ) -> Result<Reply, PlanFault>
     requires place { IsPlace bucket.now key.now }
     ensures stays { Stays state.old state.new }
-    ensures plans { (label : Label) → Plans (always 2) (W.history state.old.store.now) (W.history state.new.store.now) state.old.settings.now
-        (Given Any) (GetObjectAcl bucket.now key.now) label known.Settled result }
+    ensures plans { (label : Label)
+        → Plans (always 2) (W.history state.old.store.now) (W.history state.new.store.now)
+        state.old.settings.now (Given Any) (GetObjectAcl bucket.now key.now) label known.Settled
+        result }
 {
     let Some(list) = head_bucket(state, bucket)? else {
         return Ok(Reply::Refused(Code::NoSuchBucket));
@@ -87,8 +91,10 @@ fn acl_within<W: Swift>(
 ) -> Result<Reply, PlanFault>
     requires place { IsPlace bucket.now key.now }
     ensures stays { Stays state.old state.new }
-    ensures plans { (label : Label) → Plans (always 1) (W.history state.old.store.now) (W.history state.new.store.now) state.old.settings.now
-        (Given (λ s. TellsBucket bucket.now s (Some list))) (GetObjectAcl bucket.now key.now) label known.Settled result }
+    ensures plans { (label : Label)
+        → Plans (always 1) (W.history state.old.store.now) (W.history state.new.store.now)
+        state.old.settings.now (Given (λ s. TellsBucket bucket.now s (Some list)))
+        (GetObjectAcl bucket.now key.now) label known.Settled result }
 {
     let Some(_) = recovery::head_object(alloc, state, bucket, key)? else {
         return Ok(Reply::Refused(Code::NoSuchKey));

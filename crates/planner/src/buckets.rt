@@ -130,7 +130,8 @@ fn empty_segments<W: Swift>(
     requires segments { segments.now ≡ segments_name bucket }
     requires moment { label.now.moment < moment_limit }
     ensures stays { Stays state.old state.new }
-    ensures plans { Plans (by_account (1 + purge_calls (present (W.history state.old.store.now)) (segments_name bucket) []))
+    ensures plans { Plans (by_account
+        (1 + purge_calls (present (W.history state.old.store.now)) (segments_name bucket) []))
         (W.history state.old.store.now) (W.history state.new.store.now) state.old.settings.now
         (GivenOf (HasBareUploads bucket)) (CreateBucket bucket acl) label.now known.Settled result }
 {
@@ -149,8 +150,9 @@ fn make_bare<W: Swift>(
     requires name { is_bucket bucket ≡ true }
     requires moment { label.now.moment < moment_limit }
     ensures stays { Stays state.old state.new }
-    ensures plans { Plans (always 1) (W.history state.old.store.now) (W.history state.new.store.now) state.old.settings.now
-        (GivenOf (MayMake bucket)) (CreateBucket bucket acl) label.now known.Settled result }
+    ensures plans { Plans (always 1) (W.history state.old.store.now) (W.history state.new.store.now)
+        state.old.settings.now (GivenOf (MayMake bucket)) (CreateBucket bucket acl) label.now
+        known.Settled result }
 {
     let name = bucket.copy()?;
     made_end(make_bucket(state, bucket, acl, label.moment), name)
@@ -173,8 +175,10 @@ pub(crate) fn list_buckets<W: Swift>(
     state: &mut Settled<'_, W>,
 ) -> Result<Reply, PlanFault>
     ensures stays { Stays state.old state.new }
-    ensures plans { (label : Label) → Plans (most_calls ListBuckets (present (W.history state.old.store.now)))
-        (W.history state.old.store.now) (W.history state.new.store.now) state.old.settings.now (Given Any) ListBuckets label known.Settled result }
+    ensures plans { (label : Label)
+        → Plans (most_calls ListBuckets (present (W.history state.old.store.now)))
+        (W.history state.old.store.now) (W.history state.new.store.now) state.old.settings.now
+        (Given Any) ListBuckets label known.Settled result }
 {
     Ok(Reply::Buckets(recovery::list_buckets(alloc, state)?))
 }
@@ -186,8 +190,9 @@ pub(crate) fn delete_bucket<W: Swift>(
 ) -> Result<Reply, PlanFault>
     requires { is_bucket bucket ≡ true }
     ensures stays { Stays state.old state.new }
-    ensures plans { (label : Label) → Plans (always 1) (W.history state.old.store.now) (W.history state.new.store.now) state.old.settings.now
-        (Given Any) (DeleteBucket bucket) label known.Settled result }
+    ensures plans { (label : Label)
+        → Plans (always 1) (W.history state.old.store.now) (W.history state.new.store.now)
+        state.old.settings.now (Given Any) (DeleteBucket bucket) label known.Settled result }
 {
     dropped_end(drop_bucket(state, bucket))
 }
@@ -212,8 +217,8 @@ pub(crate) fn show_bucket<W: Swift>(
 ) -> Result<Reply, PlanFault>
     requires { is_bucket bucket.now ≡ true }
     ensures stays { Stays state.old state.new }
-    ensures plans { Plans (always 1) (W.history state.old.store.now) (W.history state.new.store.now) state.old.settings.now
-        (Given Any) (HeadBucket bucket.now) label.now known.Settled result }
+    ensures plans { Plans (always 1) (W.history state.old.store.now) (W.history state.new.store.now)
+        state.old.settings.now (Given Any) (HeadBucket bucket.now) label.now known.Settled result }
 {
     let Some(list) = head_bucket(state, bucket)? else {
         return Ok(Reply::Refused(Code::NoSuchBucket));
@@ -232,8 +237,9 @@ pub(crate) fn get_location<W: Swift>(
 ) -> Result<Reply, PlanFault>
     requires { is_bucket bucket.now ≡ true }
     ensures stays { Stays state.old state.new }
-    ensures plans { (label : Label) → Plans (always 1) (W.history state.old.store.now) (W.history state.new.store.now) state.old.settings.now
-        (Given Any) (GetLocation bucket.now) label known.Settled result }
+    ensures plans { (label : Label)
+        → Plans (always 1) (W.history state.old.store.now) (W.history state.new.store.now)
+        state.old.settings.now (Given Any) (GetLocation bucket.now) label known.Settled result }
 {
     let region = state.settings().region.copy()?;
     match head_bucket(state, bucket)? {

@@ -33,8 +33,10 @@ pub(crate) fn list_objects<W: Swift>(
     requires name { is_bucket bucket ≡ true }
     requires asked { IsProperAsked asked }
     ensures stays { Stays state.old state.new }
-    ensures plans { Plans (by_account (1 + pages (len (files (present (W.history state.old.store.now)) bucket)))) (W.history state.old.store.now) (W.history state.new.store.now)
-        state.old.settings.now (Given Any) (ListObjects bucket asked) label.now known.Settled result }
+    ensures plans { Plans
+        (by_account (1 + pages (len (files (present (W.history state.old.store.now)) bucket))))
+        (W.history state.old.store.now) (W.history state.new.store.now) state.old.settings.now
+        (Given Any) (ListObjects bucket asked) label.now known.Settled result }
 {
     let Some(list) = head_bucket(state, &bucket)? else {
         return Ok(Reply::Refused(Code::NoSuchBucket));
@@ -54,8 +56,11 @@ fn list_within<W: Swift>(
     requires name { is_bucket bucket ≡ true }
     requires asked { IsProperAsked asked }
     ensures stays { Stays state.old state.new }
-    ensures plans { Plans (by_account (pages (len (files (present (W.history state.old.store.now)) bucket)))) (W.history state.old.store.now) (W.history state.new.store.now)
-        state.old.settings.now (Given (λ s. TellsBucket bucket s (Some list))) (ListObjects bucket asked) label.now known.Settled result }
+    ensures plans { Plans
+        (by_account (pages (len (files (present (W.history state.old.store.now)) bucket))))
+        (W.history state.old.store.now) (W.history state.new.store.now) state.old.settings.now
+        (Given (λ s. TellsBucket bucket s (Some list))) (ListObjects bucket asked) label.now
+        known.Settled result }
 {
     if !may_read(label.caller, list) {
         return Ok(Reply::Refused(Code::AccessDenied));

@@ -46,8 +46,9 @@ pub(crate) fn put_object<W: Swift>(
     requires content { IsProperContent content_type meta.now body }
     requires moment { label.now.moment < moment_limit }
     ensures stays { Stays state.old state.new }
-    ensures plans { Plans (always 2) (W.history state.old.store.now) (W.history state.new.store.now) state.old.settings.now
-        (Given Any) (PutObject bucket key acl content_type meta.now body) label.now known.Settled result }
+    ensures plans { Plans (always 2) (W.history state.old.store.now) (W.history state.new.store.now)
+        state.old.settings.now (Given Any) (PutObject bucket key acl content_type meta.now body)
+        label.now known.Settled result }
 {
     let Some(list) = head_bucket(state, &bucket)? else {
         return Ok(Reply::Refused(Code::NoSuchBucket));
@@ -83,8 +84,9 @@ fn put_into<W: Swift>(
     requires content { IsProperContent content_type meta.now body }
     requires moment { label.now.moment < moment_limit }
     ensures stays { Stays state.old state.new }
-    ensures plans { Plans (always 1) (W.history state.old.store.now) (W.history state.new.store.now) state.old.settings.now
-        (Given (λ s. TellsBucket bucket s (Some list))) (PutObject bucket key acl content_type meta.now body) label.now known.Settled result }
+    ensures plans { Plans (always 1) (W.history state.old.store.now) (W.history state.new.store.now)
+        state.old.settings.now (Given (λ s. TellsBucket bucket s (Some list)))
+        (PutObject bucket key acl content_type meta.now body) label.now known.Settled result }
 {
     if is_other_acl(acl, list) {
         return Ok(Reply::Refused(Code::NotImplemented));
@@ -125,8 +127,9 @@ fn put_bytes<W: Swift>(
     requires acl { is_other_acl acl list ≡ false }
     requires etag { etag.now ≡ body_etag body }
     ensures stays { Stays state.old state.new }
-    ensures plans { Plans (always 1) (W.history state.old.store.now) (W.history state.new.store.now) state.old.settings.now
-        (Given (λ s. TellsBucket bucket s (Some list))) (PutObject bucket key acl content_type meta.now body) label.now known.Settled result }
+    ensures plans { Plans (always 1) (W.history state.old.store.now) (W.history state.new.store.now)
+        state.old.settings.now (Given (λ s. TellsBucket bucket s (Some list)))
+        (PutObject bucket key acl content_type meta.now body) label.now known.Settled result }
 {
     let text = Bytes::from_slice(alloc, etag)?;
     stored_end(
@@ -169,8 +172,9 @@ pub(crate) fn get_object<W: Swift>(
 ) -> Result<Reply, PlanFault>
     requires place { IsPlace bucket key }
     ensures stays { Stays state.old state.new }
-    ensures plans { Plans (always 3) (W.history state.old.store.now) (W.history state.new.store.now) state.old.settings.now
-        (Given Any) (GetObject bucket key range conditions.now) label.now known.Settled result }
+    ensures plans { Plans (always 3) (W.history state.old.store.now) (W.history state.new.store.now)
+        state.old.settings.now (Given Any) (GetObject bucket key range conditions.now) label.now
+        known.Settled result }
 {
     let Some(list) = head_bucket(state, &bucket)? else {
         return Ok(Reply::Refused(Code::NoSuchBucket));
@@ -191,8 +195,9 @@ fn get_within<W: Swift>(
 ) -> Result<Reply, PlanFault>
     requires place { IsPlace bucket key }
     ensures stays { Stays state.old state.new }
-    ensures plans { Plans (always 2) (W.history state.old.store.now) (W.history state.new.store.now) state.old.settings.now
-        (Given (λ s. TellsBucket bucket s (Some list))) (GetObject bucket key range conditions.now) label.now known.Settled result }
+    ensures plans { Plans (always 2) (W.history state.old.store.now) (W.history state.new.store.now)
+        state.old.settings.now (Given (λ s. TellsBucket bucket s (Some list)))
+        (GetObject bucket key range conditions.now) label.now known.Settled result }
 {
     if !may_read(label.caller, list) {
         return Ok(Reply::Refused(Code::AccessDenied));
@@ -216,8 +221,10 @@ fn get_judged<W: Swift>(
     requires place { IsPlace bucket key }
     requires shown { IsShownHead (Some head) }
     ensures stays { Stays state.old state.new }
-    ensures plans { (list : Acl) (label : Label) → Plans (always 1) (W.history state.old.store.now) (W.history state.new.store.now) state.old.settings.now
-        (Given (TellsReadable bucket key label.caller list head)) (GetObject bucket key range conditions.now) label known.Settled result }
+    ensures plans { (list : Acl) (label : Label)
+        → Plans (always 1) (W.history state.old.store.now) (W.history state.new.store.now)
+        state.old.settings.now (Given (TellsReadable bucket key label.caller list head))
+        (GetObject bucket key range conditions.now) label known.Settled result }
 {
     match judge(range, conditions, &head) {
         Judged::PreconditionFailed => Ok(Reply::Refused(Code::PreconditionFailed)),
@@ -245,8 +252,10 @@ fn get_span<W: Swift>(
     requires shown { IsShownHead (Some head) }
     requires judged { judged range conditions.now head ≡ judged_as.Bytes span partial }
     ensures stays { Stays state.old state.new }
-    ensures plans { (list : Acl) (label : Label) → Plans (always 1) (W.history state.old.store.now) (W.history state.new.store.now) state.old.settings.now
-        (Given (TellsReadable bucket key label.caller list head)) (GetObject bucket key range conditions.now) label known.Settled result }
+    ensures plans { (list : Acl) (label : Label)
+        → Plans (always 1) (W.history state.old.store.now) (W.history state.new.store.now)
+        state.old.settings.now (Given (TellsReadable bucket key label.caller list head))
+        (GetObject bucket key range conditions.now) label known.Settled result }
 {
     let asked = range_of(span, partial);
     let told = recovery::get_object(
@@ -310,8 +319,9 @@ pub(crate) fn head_object<W: Swift>(
 ) -> Result<Reply, PlanFault>
     requires place { IsPlace bucket.now key.now }
     ensures stays { Stays state.old state.new }
-    ensures plans { Plans (always 2) (W.history state.old.store.now) (W.history state.new.store.now) state.old.settings.now
-        (Given Any) (HeadObject bucket.now key.now range conditions.now) label.now known.Settled result }
+    ensures plans { Plans (always 2) (W.history state.old.store.now) (W.history state.new.store.now)
+        state.old.settings.now (Given Any) (HeadObject bucket.now key.now range conditions.now)
+        label.now known.Settled result }
 {
     let Some(list) = head_bucket(state, bucket)? else {
         return Ok(Reply::Refused(Code::NoSuchBucket));
@@ -332,8 +342,9 @@ fn head_within<W: Swift>(
 ) -> Result<Reply, PlanFault>
     requires place { IsPlace bucket.now key.now }
     ensures stays { Stays state.old state.new }
-    ensures plans { Plans (always 1) (W.history state.old.store.now) (W.history state.new.store.now) state.old.settings.now
-        (Given (λ s. TellsBucket bucket.now s (Some list))) (HeadObject bucket.now key.now range conditions.now) label.now known.Settled result }
+    ensures plans { Plans (always 1) (W.history state.old.store.now) (W.history state.new.store.now)
+        state.old.settings.now (Given (λ s. TellsBucket bucket.now s (Some list)))
+        (HeadObject bucket.now key.now range conditions.now) label.now known.Settled result }
 {
     if !may_read(label.caller, list) {
         return Ok(Reply::Refused(Code::AccessDenied));
@@ -373,8 +384,9 @@ pub(crate) fn delete_object<W: Swift>(
 ) -> Result<Reply, PlanFault>
     requires place { IsPlace bucket key }
     ensures stays { Stays state.old state.new }
-    ensures plans { (label : Label) → Plans (always 2) (W.history state.old.store.now) (W.history state.new.store.now) state.old.settings.now
-        (Given Any) (DeleteObject bucket key) label known.Settled result }
+    ensures plans { (label : Label)
+        → Plans (always 2) (W.history state.old.store.now) (W.history state.new.store.now)
+        state.old.settings.now (Given Any) (DeleteObject bucket key) label known.Settled result }
 {
     let Some(list) = head_bucket(state, &bucket)? else {
         return Ok(Reply::Refused(Code::NoSuchBucket));
@@ -390,8 +402,10 @@ fn delete_from<W: Swift>(
 ) -> Result<Reply, PlanFault>
     requires place { IsPlace bucket key }
     ensures stays { Stays state.old state.new }
-    ensures plans { (list : Acl) (label : Label) → Plans (always 1) (W.history state.old.store.now) (W.history state.new.store.now) state.old.settings.now
-        (Given (λ s. TellsBucket bucket s (Some list))) (DeleteObject bucket key) label known.Settled result }
+    ensures plans { (list : Acl) (label : Label)
+        → Plans (always 1) (W.history state.old.store.now) (W.history state.new.store.now)
+        state.old.settings.now (Given (λ s. TellsBucket bucket s (Some list)))
+        (DeleteObject bucket key) label known.Settled result }
 {
     gone_end(recovery::delete_object(state, bucket, key))
 }

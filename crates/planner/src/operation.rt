@@ -28,8 +28,9 @@ pub fn answer<W: Swift>(alloc: Global, state: &mut Settled<'_, W>, op: Op, label
     ensures stays { Stays state.old state.new }
 
     // The calls amount to the operation, with at most one commit.
-    ensures answered { Answered (most_calls op (present (W.history state.old.store.now))) (W.history state.old.store.now) (W.history state.new.store.now)
-        state.old.settings.now op label.now known.Settled result }
+    ensures answered { Answered (most_calls op (present (W.history state.old.store.now)))
+        (W.history state.old.store.now) (W.history state.new.store.now) state.old.settings.now op
+        label.now known.Settled result }
 {
     reply_to(plan(alloc, state, op, label))
 }
@@ -44,7 +45,8 @@ fn plan<W: Swift>(
 ) -> Result<Reply, PlanFault>
     requires { IsProper op label.now }
     ensures stays { Stays state.old state.new }
-    ensures plans { Plans (most_calls op (present (W.history state.old.store.now))) (W.history state.old.store.now) (W.history state.new.store.now) state.old.settings.now
+    ensures plans { Plans (most_calls op (present (W.history state.old.store.now)))
+        (W.history state.old.store.now) (W.history state.new.store.now) state.old.settings.now
         (Given Any) op label.now known.Settled result }
 {
     if is_put(&op) {
@@ -91,7 +93,8 @@ fn plan_put<W: Swift>(
 ) -> Result<Reply, PlanFault>
     requires { IsProper op label.now }
     ensures stays { Stays state.old state.new }
-    ensures plans { Plans (most_calls op (present (W.history state.old.store.now))) (W.history state.old.store.now) (W.history state.new.store.now) state.old.settings.now
+    ensures plans { Plans (most_calls op (present (W.history state.old.store.now)))
+        (W.history state.old.store.now) (W.history state.new.store.now) state.old.settings.now
         (Given Any) op label.now known.Settled result }
 {
     match op {
@@ -126,7 +129,8 @@ fn plan_lent<W: Swift>(
 ) -> Result<Reply, PlanFault>
     requires { IsProper op.now label.now }
     ensures stays { Stays state.old state.new }
-    ensures plans { Plans (most_calls op.now (present (W.history state.old.store.now))) (W.history state.old.store.now) (W.history state.new.store.now) state.old.settings.now
+    ensures plans { Plans (most_calls op.now (present (W.history state.old.store.now)))
+        (W.history state.old.store.now) (W.history state.new.store.now) state.old.settings.now
         (Given Any) op.now label.now known.Settled result }
 {
     match op {
@@ -154,7 +158,8 @@ fn plan_of_bucket<W: Swift>(
 ) -> Result<Reply, PlanFault>
     requires { IsProper op label.now }
     ensures stays { Stays state.old state.new }
-    ensures plans { Plans (most_calls op (present (W.history state.old.store.now))) (W.history state.old.store.now) (W.history state.new.store.now) state.old.settings.now
+    ensures plans { Plans (most_calls op (present (W.history state.old.store.now)))
+        (W.history state.old.store.now) (W.history state.new.store.now) state.old.settings.now
         (Given Any) op label.now known.Settled result }
 {
     match op {
@@ -175,7 +180,8 @@ fn plan_of_key<W: Swift>(
 ) -> Result<Reply, PlanFault>
     requires { IsProper op label.now }
     ensures stays { Stays state.old state.new }
-    ensures plans { Plans (most_calls op (present (W.history state.old.store.now))) (W.history state.old.store.now) (W.history state.new.store.now) state.old.settings.now
+    ensures plans { Plans (most_calls op (present (W.history state.old.store.now)))
+        (W.history state.old.store.now) (W.history state.new.store.now) state.old.settings.now
         (Given Any) op label.now known.Settled result }
 {
     match op {

@@ -54,7 +54,8 @@ pub fn presign(
     requires moment { moment < moment_limit }
     requires least { 1 ≤ expires }
     requires most { expires ≤ 604800 }
-    ensures { IfOk result (IsPresigned secret.now id.now region.now message.now target.now moment expires) }
+    ensures { IfOk result
+        (IsPresigned secret.now id.now region.now message.now target.now moment expires) }
 {
     let time = time_at(moment);
     let query = signing_query(alloc, id, region, &time, expires, target.query.pairs())?;
@@ -82,7 +83,8 @@ fn url_of(
     query: &[Pair],
 ) -> Result<Bytes, Memory>
     requires { is_time time.now ≡ true }
-    ensures { IfOk result (λ url. url ≡ url_of secret.now region.now message.now path.now time.now query.now) }
+    ensures { IfOk result
+        (λ url. url ≡ url_of secret.now region.now message.now path.now time.now query.now) }
 {
     let names = [Bytes::from_slice(alloc, b"host")?];
     let text = signed_text(alloc, message, path, query, &names)?;
@@ -95,7 +97,8 @@ fn url_of(
 }
 
 fn append_signature(alloc: Global, url: &mut Bytes, signature: [u8; 32]) -> Result<(), Memory>
-    ensures { OnOk result (url.new ≡ url.old ++ codes "&X-Amz-Signature=" ++ encode_lower signature) }
+    ensures { OnOk result
+        (url.new ≡ url.old ++ codes "&X-Amz-Signature=" ++ encode_lower signature) }
 {
     url.append(b"&X-Amz-Signature=")?;
     url.append(hex::encode(alloc, signature)?.as_bytes())
@@ -112,7 +115,8 @@ fn signing_query(
     query: &[Pair],
 ) -> Result<List<Pair>, Memory>
     requires { is_time time.now ≡ true }
-    ensures { IfOk result (λ pairs. pairs ≡ signing_query id.now region.now time.now expires query.now) }
+    ensures { IfOk result
+        (λ pairs. pairs ≡ signing_query id.now region.now time.now expires query.now) }
 {
     let credential = credential_for(alloc, id, time, region)?;
     let mut pairs = pairs_of(alloc, query)?;
@@ -128,7 +132,8 @@ fn add_parameters(
     time: &[u8],
     expires: u64,
 ) -> Result<(), Memory>
-    ensures { OnOk result (pairs.new ≡ pairs.old ++ with_credential credential.now time.now expires) }
+    ensures { OnOk result
+        (pairs.new ≡ pairs.old ++ with_credential credential.now time.now expires) }
 {
     let seconds = seconds_text(alloc, expires)?;
     add_scope(alloc, pairs, credential, time)?;
@@ -166,7 +171,8 @@ fn add_span(alloc: Global, pairs: &mut List<Pair>, seconds: &[u8]) -> Result<(),
 }
 
 fn add(alloc: Global, pairs: &mut List<Pair>, name: &[u8], value: &[u8]) -> Result<(), Memory>
-    ensures { OnOk result (pairs.new ≡ pairs.old ++ record { name = name.now; value = value.now } ∷ []) }
+    ensures { OnOk result
+        (pairs.new ≡ pairs.old ++ record { name = name.now; value = value.now } ∷ []) }
 {
     let pair = Pair {
         name: Bytes::from_slice(alloc, name)?,
@@ -188,7 +194,8 @@ fn pairs_of(alloc: Global, query: &[Pair]) -> Result<List<Pair>, Memory>
 #[tactic(auto, using(crate::proofs::Times::time_has_form))]
 fn credential_for(alloc: Global, id: &[u8], time: &[u8], region: &[u8]) -> Result<Bytes, Memory>
     requires { is_time time.now ≡ true }
-    ensures { IfOk result (λ credential. credential ≡ credential_for id.now (date_of time.now) region.now) }
+    ensures { IfOk result
+        (λ credential. credential ≡ credential_for id.now (date_of time.now) region.now) }
 {
     let mut credential = Bytes::from_slice(alloc, id)?;
     append_scope(&mut credential, date_of(time), region)?;
@@ -196,7 +203,8 @@ fn credential_for(alloc: Global, id: &[u8], time: &[u8], region: &[u8]) -> Resul
 }
 
 fn append_scope(text: &mut Bytes, date: &[u8], region: &[u8]) -> Result<(), Memory>
-    ensures { OnOk result (text.new ≡ text.old ++ 47 ∷ [] ++ date.now ++ 47 ∷ [] ++ region.now ++ codes "/s3/aws4_request") }
+    ensures { OnOk result (text.new ≡ text.old ++ 47 ∷ [] ++ date.now ++ 47 ∷ [] ++ region.now
+        ++ codes "/s3/aws4_request") }
 {
     text.push(b'/')?;
     text.append(date)?;

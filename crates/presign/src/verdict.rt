@@ -53,7 +53,8 @@ fn judge(
     claim: &Claim,
 ) -> Result<Caller, QueryRefusal>
     requires { is_time claim.now.time ≡ true }
-    ensures { Gives result (judged_with (secret_of claim.now.by.id keys.now) region.now message.now target.now moment claim.now) }
+    ensures { Gives result (judged_with (secret_of claim.now.by.id keys.now) region.now message.now
+        target.now moment claim.now) }
 {
     match keys.secret(claim.by.id.as_slice()) {
         Some(secret) => judge_with(alloc, secret, region, message, target, moment, claim),
@@ -72,7 +73,8 @@ fn judge_with(
     claim: &Claim,
 ) -> Result<Caller, QueryRefusal>
     requires { is_time claim.now.time ≡ true }
-    ensures { Gives result (first_refusal (reasons secret.now region.now message.now target.now moment claim.now)) }
+    ensures { Gives result
+        (first_refusal (reasons secret.now region.now message.now target.now moment claim.now)) }
 {
     let headers = message.headers.as_slice();
     if has_wrong_scope(region, &claim.by) {
@@ -136,7 +138,8 @@ fn expected(
     claim: &Claim,
 ) -> Result<Signed, Memory>
     requires { is_time claim.now.time ≡ true }
-    ensures { IfOk result (λ due. due ≡ expected secret.now region.now message.now target.now claim.now) }
+    ensures { IfOk result
+        (λ due. due ≡ expected secret.now region.now message.now target.now claim.now) }
 {
     let query = target.query.without(alloc, SIGNATURE)?;
     let names = claim.by.names.as_slice();

@@ -46,10 +46,14 @@ pub fn presign_first<N: Line<W>, W: Counted>(
     requires moment { moment < moment_limit }
     requires least { 1 ≤ expires }
     requires most { expires ≤ 604800 }
-    ensures line { SignsOn (is_failed_presigning result) (W.called store.now) (N.model line.old) (N.model line.new) }
+    ensures line { SignsOn (is_failed_presigning result) (W.called store.now) (N.model line.old)
+        (N.model line.new) }
     ensures effect { IsTrue (N.model line.old).observable
-        → AnswersFirst (Presigns secret.now id.now region.now moment expires) (N.model line.old).transcript.waiting result }
-    ensures sent { IsTrue (N.model line.old).observable → SendsFirst (W.called store.now) (N.model line.old).transcript result (N.model line.new).transcript }
+        → AnswersFirst (Presigns secret.now id.now region.now moment expires)
+        (N.model line.old).transcript.waiting result }
+    ensures sent { IsTrue (N.model line.old).observable
+        → SendsFirst (W.called store.now) (N.model line.old).transcript result
+        (N.model line.new).transcript }
 {
     match line.next() {
         Ok(true) => presign_next(alloc, secret, id, region, moment, expires, line, store),
@@ -78,8 +82,10 @@ fn presign_next<N: Line<W>, W: Counted>(
     ensures line { LineServes (is_failed_presigning result) (N.model line.old) (N.model line.new) }
     ensures effect { IsTrue (N.model line.old).observable
         → AnswersFrom (Presigns secret.now id.now region.now moment expires) (N.model line.old).transcript.rest result }
-    ensures sent { IsTrue (N.model line.old).observable → SendsBy (OwesInterim (N.model line.old).transcript.rest) (N.model line.old).transcript.begun
-        (W.called store.now) (N.model line.old).transcript.sent result (N.model line.new).transcript.sent }
+    ensures sent { IsTrue (N.model line.old).observable
+        → SendsBy (OwesInterim (N.model line.old).transcript.rest)
+        (N.model line.old).transcript.begun (W.called store.now) (N.model line.old).transcript.sent
+        result (N.model line.new).transcript.sent }
 {
     let mut reader = match Reader::new(alloc) {
         Ok(reader) => reader,
@@ -113,7 +119,8 @@ fn answer(
     requires least { 1 ≤ expires }
     requires most { expires ≤ 604800 }
     ensures heard { is_failed_presigning result ≡ false }
-    ensures effect { Answers (Presigns secret.now id.now region.now moment expires) message.now result }
+    ensures effect { Answers (Presigns secret.now id.now region.now moment expires) message.now
+        result }
 {
     match presign_message(alloc, secret, id, region, moment, expires, message) {
         Ok(Some(url)) => Presigning::Url(url),

@@ -26,7 +26,8 @@ pub(crate) fn presign_message(
     requires moment { moment < moment_limit }
     requires least { 1 ≤ expires }
     requires most { expires ≤ 604800 }
-    ensures { IfOk result (λ answer. MatchOption answer (can_presign message.now ≡ false) (Presigns secret.now id.now region.now moment expires message.now)) }
+    ensures { IfOk result (λ answer. MatchOption answer (can_presign message.now ≡ false)
+        (Presigns secret.now id.now region.now moment expires message.now)) }
 {
     if !has_host(message) {
         return Ok(None);

@@ -32,7 +32,8 @@ pub fn make_beside<W: Swift>(
 ) -> Result<(), PlanFault>
     requires { IsBeside folder.now bucket.now }
     ensures stays { Stays state.old state.new }
-    ensures asks { Asks (always 1) (W.history state.old.store.now) (W.history state.new.store.now) IsSettled (MakesContainer folder.now) result }
+    ensures asks { Asks (always 1) (W.history state.old.store.now) (W.history state.new.store.now)
+        IsSettled (MakesContainer folder.now) result }
 {
     let reply = ask(
         state.store,
@@ -68,8 +69,10 @@ fn delete_name<W: Swift>(
     requires folder { IsContainerName folder.now }
     requires name { is_key name.now ≡ true }
     ensures stays { Stays state.old state.new }
-    ensures asks { (bucket prefix : List ℕ) → begins prefix name.now ≡ true → Asks (always 1) (W.history state.old.store.now) (W.history state.new.store.now)
-        (MayDelete folder.now bucket prefix) (TellsDeleted folder.now bucket prefix (name.now ∷ [])) result }
+    ensures asks { (bucket prefix : List ℕ) → begins prefix name.now ≡ true
+        → Asks (always 1) (W.history state.old.store.now) (W.history state.new.store.now)
+        (MayDelete folder.now bucket prefix) (TellsDeleted folder.now bucket prefix (name.now ∷ []))
+        result }
 {
     let container = folder.copy()?;
     let name = name.copy()?;
@@ -115,7 +118,8 @@ fn purge_page<W: Swift>(
     ensures is_marker { IfOk result (λ next. IfSome next IsMarker) }
     ensures asks { Asks (always 1001) (W.history state.old.store.now) (W.history state.new.store.now)
         (MayPurge folder.now bucket.now prefix.now marker.now) (TellsPurged folder.now bucket.now prefix.now) result }
-    ensures pays { PaysPage folder.now bucket.now prefix.now marker.now (W.history state.old.store.now) (W.history state.new.store.now) result }
+    ensures pays { PaysPage folder.now bucket.now prefix.now marker.now
+        (W.history state.old.store.now) (W.history state.new.store.now) result }
 {
     let page = file_page(
         alloc,

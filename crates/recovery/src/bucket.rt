@@ -26,7 +26,8 @@ pub fn head_bucket<W: Swift>(
 ) -> Result<Option<Acl>, PlanFault>
     requires { is_bucket bucket.now ≡ true }
     ensures stays { Stays state.old state.new }
-    ensures asks { Asks (always 1) (W.history state.old.store.now) (W.history state.new.store.now) IsSettled (Tells (TellsBucket bucket.now)) result }
+    ensures asks { Asks (always 1) (W.history state.old.store.now) (W.history state.new.store.now)
+        IsSettled (Tells (TellsBucket bucket.now)) result }
 {
     let reply = ask(
         state.store,
@@ -52,7 +53,9 @@ pub fn make_bucket<W: Swift>(
     requires name { is_bucket bucket ≡ true }
     requires moment { moment < moment_limit }
     ensures stays { Stays state.old state.new }
-    ensures changes { Changes (always 1) (W.history state.old.store.now) (W.history state.new.store.now) (GivenOf (MayMake bucket)) (Becomes (makes_bucket bucket acl moment)) result }
+    ensures changes { Changes (always 1) (W.history state.old.store.now)
+        (W.history state.new.store.now) (GivenOf (MayMake bucket))
+        (Becomes (makes_bucket bucket acl moment)) result }
 {
     let reply = ask(
         state.store,
@@ -87,7 +90,8 @@ pub fn drop_bucket<W: Swift>(
 ) -> Result<Dropped, PlanFault>
     requires { is_bucket bucket ≡ true }
     ensures stays { Stays state.old state.new }
-    ensures changes { Changes (always 1) (W.history state.old.store.now) (W.history state.new.store.now) (Given Any) (DropsBucket bucket) result }
+    ensures changes { Changes (always 1) (W.history state.old.store.now)
+        (W.history state.new.store.now) (Given Any) (DropsBucket bucket) result }
 {
     let reply = ask(
         state.store,
@@ -107,7 +111,8 @@ pub fn set_acl<W: Swift>(
 ) -> Result<bool, PlanFault>
     requires { is_bucket bucket ≡ true }
     ensures stays { Stays state.old state.new }
-    ensures changes { Changes (always 1) (W.history state.old.store.now) (W.history state.new.store.now) (Given Any) (SetsAcl bucket acl) result }
+    ensures changes { Changes (always 1) (W.history state.old.store.now)
+        (W.history state.new.store.now) (Given Any) (SetsAcl bucket acl) result }
 {
     let reply = ask(
         state.store,

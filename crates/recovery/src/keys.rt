@@ -40,7 +40,8 @@ fn page<W: Swift>(
     ensures counted { IfOk result (λ _. (W.history state.old.store.now).called < budget
         × ((W.history state.new.store.now).called ≡ (W.history state.old.store.now).called + 1)) }
     ensures page { IfOk result (λ items. IsPageOf prefix.now marker.now (map name_in items)) }
-    ensures asks { Asks (always 1) (W.history state.old.store.now) (W.history state.new.store.now) IsSettled (TellsOf (TellsKeys bucket.now prefix.now marker.now)) result }
+    ensures asks { Asks (always 1) (W.history state.old.store.now) (W.history state.new.store.now)
+        IsSettled (TellsOf (TellsKeys bucket.now prefix.now marker.now)) result }
 {
     Ok(names(
         alloc,
@@ -72,7 +73,8 @@ fn take_page<W: Swift>(
     ensures wanted { roll.new.wanted ≡ roll.old.wanted }
     ensures room { result ≡ Ok true → roll.new.more ≡ false }
     ensures is_marker { result ≡ Ok true → IsMarker roll.new.last }
-    ensures asks { Asks (always 1) (W.history state.old.store.now) (W.history state.new.store.now) IsSettled (TellsOf (TellsTaken bucket.now prefix.now roll.old roll.new)) result }
+    ensures asks { Asks (always 1) (W.history state.old.store.now) (W.history state.new.store.now)
+        IsSettled (TellsOf (TellsTaken bucket.now prefix.now roll.old roll.new)) result }
 {
     let page = page(alloc, state, bucket, prefix, roll.next_marker())?;
     if !roll.push_page(page.as_slice())? {
@@ -97,8 +99,10 @@ pub fn list_objects<W: Swift>(
     requires asked { IsProperAsked asked.now }
     ensures stays { Stays state.old state.new }
     ensures dated { IfOk result (λ told. All IsShownItem told.0) }
-    ensures asks { Asks (by_account (pages (len (files (present (W.history state.old.store.now)) bucket.now)))) (W.history state.old.store.now) (W.history state.new.store.now)
-        IsSettled (Tells (TellsListing bucket.now asked.now)) result }
+    ensures asks { Asks
+        (by_account (pages (len (files (present (W.history state.old.store.now)) bucket.now))))
+        (W.history state.old.store.now) (W.history state.new.store.now) IsSettled
+        (Tells (TellsListing bucket.now asked.now)) result }
 {
     let mut roll = Roll::new(alloc, asked)?;
     if asked.max == 0 {

@@ -48,7 +48,8 @@ fn page<W: Swift>(state: &mut Settled<'_, W>, marker: &Bytes) -> Result<List<Byt
     ensures stays { Stays state.old state.new }
     ensures counted { IfOk result (λ _. (W.history state.old.store.now).called < budget
         × ((W.history state.new.store.now).called ≡ (W.history state.old.store.now).called + 1)) }
-    ensures asks { Asks (always 1) (W.history state.old.store.now) (W.history state.new.store.now) (MayListAfter marker.now) (TellsOf (TellsPage marker.now)) result }
+    ensures asks { Asks (always 1) (W.history state.old.store.now) (W.history state.new.store.now)
+        (MayListAfter marker.now) (TellsOf (TellsPage marker.now)) result }
 {
     let request = SwiftRequest::ListContainers {
         marker: marker.copy()?,
@@ -136,7 +137,8 @@ fn item<W: Swift>(state: &mut Settled<'_, W>, bucket: &Bytes) -> Result<BucketIt
     requires { is_bucket bucket.now ≡ true }
     ensures stays { Stays state.old state.new }
     ensures dated { IfOk result IsShownBucket }
-    ensures asks { Asks (always 1) (W.history state.old.store.now) (W.history state.new.store.now) (Has bucket.now) (TellsOf (TellsItem bucket.now)) result }
+    ensures asks { Asks (always 1) (W.history state.old.store.now) (W.history state.new.store.now)
+        (Has bucket.now) (TellsOf (TellsItem bucket.now)) result }
 {
     let name = bucket.copy()?;
     let created = created(state, bucket)?;
@@ -148,7 +150,8 @@ fn created<W: Swift>(state: &mut Settled<'_, W>, bucket: &Bytes) -> Result<u64, 
     requires { is_bucket bucket.now ≡ true }
     ensures stays { Stays state.old state.new }
     ensures dated { IfOk result (λ moment. moment < moment_limit) }
-    ensures asks { Asks (always 1) (W.history state.old.store.now) (W.history state.new.store.now) (Has bucket.now) (TellsOf (TellsCreated bucket.now)) result }
+    ensures asks { Asks (always 1) (W.history state.old.store.now) (W.history state.new.store.now)
+        (Has bucket.now) (TellsOf (TellsCreated bucket.now)) result }
 {
     let reply = ask(
         state.store,
@@ -201,8 +204,9 @@ fn items<W: Swift>(
 ) -> Result<List<BucketItem>, PlanFault>
     ensures stays { Stays state.old state.new }
     ensures dated { IfOk result (All IsShownBucket) }
-    ensures asks { Asks (always (length (filter is_bucket names.now))) (W.history state.old.store.now) (W.history state.new.store.now)
-        (HasNames names.now) (TellsOf (TellsItems names.now)) result }
+    ensures asks { Asks (always (length (filter is_bucket names.now)))
+        (W.history state.old.store.now) (W.history state.new.store.now) (HasNames names.now)
+        (TellsOf (TellsItems names.now)) result }
 {
     let mut items = List::new(alloc);
     for name in names {
@@ -221,8 +225,9 @@ pub fn list_buckets<W: Swift>(
 ) -> Result<List<BucketItem>, PlanFault>
     ensures stays { Stays state.old state.new }
     ensures dated { IfOk result (All IsShownBucket) }
-    ensures asks { Asks (by_account (pages (len (present (W.history state.old.store.now))) + len (s3_state (present (W.history state.old.store.now)))))
-        (W.history state.old.store.now) (W.history state.new.store.now) IsSettled (Tells TellsBuckets) result }
+    ensures asks { Asks (by_account (pages (len (present (W.history state.old.store.now))) + len
+        (s3_state (present (W.history state.old.store.now))))) (W.history state.old.store.now)
+        (W.history state.new.store.now) IsSettled (Tells TellsBuckets) result }
 {
     let names = container_names(alloc, state)?;
     items(alloc, state, names.as_slice())
@@ -234,8 +239,9 @@ fn container_names<W: Swift>(
     state: &mut Settled<'_, W>,
 ) -> Result<List<Bytes>, PlanFault>
     ensures stays { Stays state.old state.new }
-    ensures asks { Asks (by_account (pages (len (present (W.history state.old.store.now))))) (W.history state.old.store.now) (W.history state.new.store.now)
-        IsSettled (TellsOf TellsNames) result }
+    ensures asks { Asks (by_account (pages (len (present (W.history state.old.store.now)))))
+        (W.history state.old.store.now) (W.history state.new.store.now) IsSettled
+        (TellsOf TellsNames) result }
 {
     let mut names = List::new(alloc);
     let mut marker = Bytes::new(alloc);

@@ -38,7 +38,8 @@ pub fn head_object<W: Swift>(
     requires name { is_bucket bucket.now ≡ true }
     requires key { is_key key.now ≡ true }
     ensures stays { Stays state.old state.new }
-    ensures asks { Asks (always 1) (W.history state.old.store.now) (W.history state.new.store.now) IsSettled (Tells (TellsObject bucket.now key.now)) result }
+    ensures asks { Asks (always 1) (W.history state.old.store.now) (W.history state.new.store.now)
+        IsSettled (Tells (TellsObject bucket.now key.now)) result }
     ensures shown { IfOk result IsShownHead }
 {
     let container = bucket.copy()?;
@@ -67,8 +68,10 @@ pub fn get_object<W: Swift>(
     requires key { is_key key ≡ true }
     requires range { IfSome range IsRange }
     ensures stays { Stays state.old state.new }
-    ensures asks { Asks (always 1) (W.history state.old.store.now) (W.history state.new.store.now) (Given (HasObject bucket key etag.now size)) (Tells (TellsBytes bucket key range)) result }
-    ensures unchanged { GivesUnchanged (W.history state.old.store.now) bucket key etag.now size result }
+    ensures asks { Asks (always 1) (W.history state.old.store.now) (W.history state.new.store.now)
+        (Given (HasObject bucket key etag.now size)) (Tells (TellsBytes bucket key range)) result }
+    ensures unchanged { GivesUnchanged (W.history state.old.store.now) bucket key etag.now size
+        result }
 {
     let reply = ask(
         state.store,
@@ -103,7 +106,9 @@ pub fn put_object<W: Swift>(
     requires etag { etag.now ≡ body_etag body }
     requires moment { moment < moment_limit }
     ensures stays { Stays state.old state.new }
-    ensures changes { Changes (always 1) (W.history state.old.store.now) (W.history state.new.store.now) (Given (HasBucket bucket)) (Becomes (puts_object bucket key content_type meta.now body moment)) result }
+    ensures changes { Changes (always 1) (W.history state.old.store.now)
+        (W.history state.new.store.now) (Given (HasBucket bucket))
+        (Becomes (puts_object bucket key content_type meta.now body moment)) result }
 {
     let request = put_request(alloc, bucket, key, content_type, meta, body, etag, moment)?;
     let reply = ask(state.store, request)?;
@@ -127,7 +132,8 @@ fn put_request(
     requires content { IsProperContent content_type meta.now body }
     requires etag { etag.now ≡ body_etag body }
     requires moment { moment < moment_limit }
-    ensures request { IfOk result (λ request. request ≡ put_of bucket key content_type meta.now body moment) }
+    ensures request { IfOk result
+        (λ request. request ≡ put_of bucket key content_type meta.now body moment) }
     ensures fits { IfOk result Fit }
     ensures ordered { OnOk result (names_ascend meta.now ≡ true) }
 {
@@ -169,7 +175,8 @@ pub fn delete_object<W: Swift>(
     requires name { is_bucket bucket ≡ true }
     requires key { is_key key ≡ true }
     ensures stays { Stays state.old state.new }
-    ensures changes { Changes (always 1) (W.history state.old.store.now) (W.history state.new.store.now) (Given Any) (Becomes (drops_object bucket key)) result }
+    ensures changes { Changes (always 1) (W.history state.old.store.now)
+        (W.history state.new.store.now) (Given Any) (Becomes (drops_object bucket key)) result }
 {
     let reply = ask(
         state.store,

@@ -19,8 +19,10 @@ use upload_texts::Sealed;
 
 /// Settles a store: makes the gateway's own container, and finishes the completion that is sealed there, if one is.
 pub(crate) fn settle_store<W: Swift>(alloc: Global, store: &mut W) -> Result<(), PlanFault>
-    ensures asks { Asks (always 5) (W.history store.old) (W.history store.new) Any (Leaves IsSettled) result }
-    ensures done { IsTrue (W.history store.old).observable → result ≡ Ok tt → IsSettled (present (W.history store.new)) }
+    ensures asks { Asks (always 5) (W.history store.old) (W.history store.new) Any
+        (Leaves IsSettled) result }
+    ensures done { IsTrue (W.history store.old).observable → result ≡ Ok tt
+        → IsSettled (present (W.history store.new)) }
 {
     put_gateway(alloc, store)?;
     settle_made(alloc, store)
@@ -29,8 +31,10 @@ pub(crate) fn settle_store<W: Swift>(alloc: Global, store: &mut W) -> Result<(),
 /// Makes the gateway's own container, which may be there, by PUT of it (Object Storage API v1, "Create container").
 #[tactic(auto, using(crate::proofs::Settling::gateway_is_container))]
 fn put_gateway<W: Swift>(alloc: Global, store: &mut W) -> Result<(), PlanFault>
-    ensures asks { Asks (always 1) (W.history store.old) (W.history store.new) Any (Leaves HasGateway) result }
-    ensures there { IsTrue (W.history store.old).observable → result ≡ Ok tt → HasGateway (present (W.history store.new)) }
+    ensures asks { Asks (always 1) (W.history store.old) (W.history store.new) Any
+        (Leaves HasGateway) result }
+    ensures there { IsTrue (W.history store.old).observable → result ≡ Ok tt
+        → HasGateway (present (W.history store.new)) }
 {
     let reply = ask(
         store,
@@ -45,7 +49,8 @@ fn put_gateway<W: Swift>(alloc: Global, store: &mut W) -> Result<(), PlanFault>
 
 /// Finishes the completion that is sealed, if one is.
 fn settle_made<W: Swift>(alloc: Global, store: &mut W) -> Result<(), PlanFault>
-    ensures asks { Asks (always 4) (W.history store.old) (W.history store.new) HasGateway (Leaves IsSettled) result }
+    ensures asks { Asks (always 4) (W.history store.old) (W.history store.new) HasGateway
+        (Leaves IsSettled) result }
     ensures done { LeavesClear tt (W.history store.old) (W.history store.new) result }
 {
     match get_sealed(alloc, store)? {
@@ -58,7 +63,8 @@ fn settle_made<W: Swift>(alloc: Global, store: &mut W) -> Result<(), PlanFault>
 /// metadata").
 #[tactic(auto, using(crate::proofs::Settling::gateway_is_container, crate::proofs::Settling::sealed_is_object))]
 fn get_sealed<W: Swift>(alloc: Global, store: &mut W) -> Result<Option<Sealed>, PlanFault>
-    ensures asks { Asks (always 1) (W.history store.old) (W.history store.new) HasGateway TellsSealed result }
+    ensures asks { Asks (always 1) (W.history store.old) (W.history store.new) HasGateway
+        TellsSealed result }
     ensures has { IfOk result (λ found. IfSome found (λ s. has_sealed_text s ≡ true)) }
     ensures keeps { KeepsGateway (W.history store.old) (W.history store.new) }
     ensures none { LeavesClear None (W.history store.old) (W.history store.new) result }
@@ -87,7 +93,8 @@ pub fn roll_forward<W: Swift>(
     sealed: &Sealed,
 ) -> Result<(), PlanFault>
     requires { has_sealed_text sealed.now ≡ true }
-    ensures asks { Asks (always 3) (W.history store.old) (W.history store.new) (IsSealed sealed.now) (Leaves IsSettled) result }
+    ensures asks { Asks (always 3) (W.history store.old) (W.history store.new) (IsSealed sealed.now)
+        (Leaves IsSettled) result }
     ensures keeps { KeepsGateway (W.history store.old) (W.history store.new) }
     ensures done { LeavesClear tt (W.history store.old) (W.history store.new) result }
 {
@@ -102,7 +109,8 @@ fn put_sealed_object<W: Swift>(
     sealed: &Sealed,
 ) -> Result<(), PlanFault>
     requires { has_sealed_text sealed.now ≡ true }
-    ensures asks { Asks (always 1) (W.history store.old) (W.history store.new) (IsSealed sealed.now) (Leaves (HasObject sealed.now)) result }
+    ensures asks { Asks (always 1) (W.history store.old) (W.history store.new) (IsSealed sealed.now)
+        (Leaves (HasObject sealed.now)) result }
     ensures keeps { KeepsGateway (W.history store.old) (W.history store.new) }
 {
     let request = object_request(alloc, sealed)?;
@@ -113,7 +121,8 @@ fn put_sealed_object<W: Swift>(
 /// Puts the record of a sealed completion whose object is there, and deletes what is sealed.
 fn keep<W: Swift>(alloc: Global, store: &mut W, sealed: &Sealed) -> Result<(), PlanFault>
     requires { has_sealed_text sealed.now ≡ true }
-    ensures asks { Asks (always 2) (W.history store.old) (W.history store.new) (HasObject sealed.now) (Leaves IsSettled) result }
+    ensures asks { Asks (always 2) (W.history store.old) (W.history store.new)
+        (HasObject sealed.now) (Leaves IsSettled) result }
     ensures keeps { KeepsGateway (W.history store.old) (W.history store.new) }
     ensures done { LeavesClear tt (W.history store.old) (W.history store.new) result }
 {
@@ -128,7 +137,8 @@ fn put_sealed_record<W: Swift>(
     sealed: &Sealed,
 ) -> Result<(), PlanFault>
     requires { has_sealed_text sealed.now ≡ true }
-    ensures asks { Asks (always 1) (W.history store.old) (W.history store.new) (HasObject sealed.now) (Leaves (HasRecord sealed.now)) result }
+    ensures asks { Asks (always 1) (W.history store.old) (W.history store.new)
+        (HasObject sealed.now) (Leaves (HasRecord sealed.now)) result }
     ensures keeps { KeepsGateway (W.history store.old) (W.history store.new) }
 {
     let text = done_text(alloc, sealed)?;
@@ -141,7 +151,8 @@ fn put_sealed_record<W: Swift>(
 /// Deletes what is sealed, whose object and record are there (Object Storage API v1, "Delete object").
 #[tactic(auto, using(crate::proofs::Settling::gateway_is_container, crate::proofs::Settling::sealed_is_object))]
 fn delete_sealed<W: Swift>(alloc: Global, store: &mut W, sealed: &Sealed) -> Result<(), PlanFault>
-    ensures asks { Asks (always 1) (W.history store.old) (W.history store.new) (HasRecord sealed.now) (Leaves IsSettled) result }
+    ensures asks { Asks (always 1) (W.history store.old) (W.history store.new)
+        (HasRecord sealed.now) (Leaves IsSettled) result }
     ensures keeps { KeepsGateway (W.history store.old) (W.history store.new) }
     ensures done { LeavesClear tt (W.history store.old) (W.history store.new) result }
 {

@@ -136,7 +136,8 @@ fn segments_in(
     parts: &[SealedPart],
 ) -> Result<List<Segment>, Memory>
     requires { list_all is_sealed_part parts.now ≡ true }
-    ensures { IfOk result (λ segments. segments ≡ listing_of folder.now (id_digits id) (filled_parts parts.now)) }
+    ensures { IfOk result
+        (λ segments. segments ≡ listing_of folder.now (id_digits id) (filled_parts parts.now)) }
 {
     let mut segments = List::new(alloc);
     for part in parts {
@@ -154,7 +155,8 @@ fn add_segment(
     part: &SealedPart,
 ) -> Result<(), Memory>
     requires { is_sealed_part part.now ≡ true }
-    ensures { OnOk result (segments.new ≡ segments.old ++ map (part_segment folder.now (id_digits id)) (filled_parts (part.now ∷ []))) }
+    ensures { OnOk result (segments.new ≡ segments.old
+        ++ map (part_segment folder.now (id_digits id)) (filled_parts (part.now ∷ []))) }
 {
     if part.size == 0 {
         return Ok(());

@@ -79,7 +79,8 @@ impl<'a, W: Swift> Unsure<'a, W> {
     pub fn settle(&mut self) -> Result<(), SettleFault>
         ensures same { self.new.store.ghost_name ≡ self.old.store.ghost_name }
         ensures settings { self.new.settings.now ≡ self.old.settings.now }
-        ensures settles { Settles (W.history self.old.store.now) (W.history self.new.store.now) result }
+        ensures settles { Settles (W.history self.old.store.now) (W.history self.new.store.now)
+            result }
     {
         match settle_store(self.alloc, self.store) {
             Ok(()) => Ok(()),
@@ -114,7 +115,8 @@ impl<'a, W: Swift> Unsure<'a, W> {
 impl<'a, W: Swift> Settled<'a, W> {
     /// A store that is known to be settled ([`Known::Settled`]). It takes no memory.
     pub fn hold(store: &'a mut W, settings: &'a Settings) -> Settled<'a, W>
-        requires { IsTrue (W.history store.old).observable → IsSettled (present (W.history store.old)) }
+        requires { IsTrue (W.history store.old).observable
+            → IsSettled (present (W.history store.old)) }
         ensures same { result.store.ghost_name ≡ store.entry.ghost_name }
         ensures store { result.store.now ≡ store.old }
         ensures settings { result.settings.now ≡ settings.now }
@@ -140,7 +142,8 @@ impl<'a, W: Swift> Settled<'a, W> {
     pub fn call(&mut self, request: SwiftRequest) -> Result<SwiftReply, SwiftFault>
         requires { Fit request }
         ensures stays { Stays self.old self.new }
-        ensures calls { Calls (W.history self.old.store.now) (W.history self.new.store.now) request result }
+        ensures calls { Calls (W.history self.old.store.now) (W.history self.new.store.now) request
+            result }
     {
         ask(self.store, request)
     }
@@ -150,9 +153,11 @@ impl<'a, W: Swift> Settled<'a, W> {
     pub fn finish(&mut self, alloc: Global, sealed: &Sealed) -> Result<(), PlanFault>
         requires { has_sealed_text sealed.now ≡ true }
         ensures stays { Stays self.old self.new }
-        ensures asks { Asks (always 3) (W.history self.old.store.now) (W.history self.new.store.now) (IsSealed sealed.now) (Leaves IsSettled) result }
+        ensures asks { Asks (always 3) (W.history self.old.store.now) (W.history self.new.store.now)
+            (IsSealed sealed.now) (Leaves IsSettled) result }
         ensures keeps { KeepsGateway (W.history self.old.store.now) (W.history self.new.store.now) }
-        ensures done { LeavesClear tt (W.history self.old.store.now) (W.history self.new.store.now) result }
+        ensures done { LeavesClear tt (W.history self.old.store.now) (W.history self.new.store.now)
+            result }
     {
         roll_forward(alloc, self.store, sealed)
     }
@@ -167,7 +172,8 @@ impl<'a, W: Swift> Settled<'a, W> {
     ) -> Result<List<NameItem>, PageFault>
         requires { Fit (page_request container.now prefix.now marker.now) }
         ensures stays { Stays self.old self.new }
-        ensures asks { AsksPage (W.history self.old.store.now) (W.history self.new.store.now) container.now prefix.now marker.now result }
+        ensures asks { AsksPage (W.history self.old.store.now) (W.history self.new.store.now)
+            container.now prefix.now marker.now result }
         ensures page { IfOk result (λ items. IsPageOf prefix.now marker.now (map name_in items)) }
     {
         names(alloc, self.store, container, prefix, marker)

@@ -47,7 +47,8 @@ fn completion_parts(alloc: Global, bytes: &[u8]) -> Result<List<(u32, &[u8])>, B
 
 // All parts that can be read, the bytes behind them, and how many were left where no further one could be read.
 fn parts(alloc: Global, bytes: &[u8]) -> Result<(List<(u32, &[u8])>, &[u8], usize), Memory>
-    ensures { IfOk result (λ found. Skips Part bytes.now (map part_of found.0) found.1.now found.2) }
+    ensures { IfOk result
+        (λ found. Skips Part bytes.now (map part_of found.0) found.1.now found.2) }
 {
     let mut parts = List::new(alloc);
     let mut rest = bytes;

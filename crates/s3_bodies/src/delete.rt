@@ -71,7 +71,8 @@ fn texts(alloc: Global, bytes: &[u8]) -> Result<(List<&[u8]>, bool), BodyFault>
 
 // What stands in the root, the bytes behind it, and how many were left where nothing more could be read.
 fn inside(alloc: Global, bytes: &[u8]) -> Result<(List<&[u8]>, bool, &[u8], usize), Memory>
-    ensures { IfOk result (λ found. SkipsInside bytes.now (texts_of found.0, found.1) found.2.now found.3) }
+    ensures { IfOk result
+        (λ found. SkipsInside bytes.now (texts_of found.0, found.1) found.2.now found.3) }
 {
     let (before, rest, left) = objects(List::new(alloc), bytes)?;
     match quiet(rest) {

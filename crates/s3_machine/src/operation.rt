@@ -316,7 +316,8 @@ fn copy_put_object(
     meta: &Meta,
     body: &Body,
 ) -> Result<Op, Memory>
-    ensures { IfOk result (λ op. op ≡ Op.PutObject bucket.now key.now acl content_type.now meta.now body.now) }
+    ensures { IfOk result
+        (λ op. op ≡ Op.PutObject bucket.now key.now acl content_type.now meta.now body.now) }
 {
     Ok(Op::PutObject {
         bucket: bucket.copy()?,
@@ -385,7 +386,8 @@ fn copy_list_uploads(
     id_marker: &Bytes,
     max: u32,
 ) -> Result<Op, Memory>
-    ensures { IfOk result (λ op. op ≡ Op.ListUploads bucket.now prefix.now key_marker.now id_marker.now max) }
+    ensures { IfOk result
+        (λ op. op ≡ Op.ListUploads bucket.now prefix.now key_marker.now id_marker.now max) }
 {
     Ok(Op::ListUploads {
         bucket: bucket.copy()?,
@@ -403,7 +405,8 @@ fn copy_create_upload(
     content_type: &Bytes,
     meta: &Meta,
 ) -> Result<Op, Memory>
-    ensures { IfOk result (λ op. op ≡ Op.CreateUpload bucket.now key.now acl content_type.now meta.now) }
+    ensures { IfOk result
+        (λ op. op ≡ Op.CreateUpload bucket.now key.now acl content_type.now meta.now) }
 {
     Ok(Op::CreateUpload {
         bucket: bucket.copy()?,
@@ -494,7 +497,8 @@ fn copy_copy_object(
     from_key: &Bytes,
     replaced: &Option<Replaced>,
 ) -> Result<Op, Memory>
-    ensures { IfOk result (λ op. op ≡ Op.CopyObject bucket.now key.now acl from_bucket.now from_key.now replaced.now) }
+    ensures { IfOk result (λ op. op ≡ Op.CopyObject bucket.now key.now acl from_bucket.now
+        from_key.now replaced.now) }
 {
     Ok(Op::CopyObject {
         bucket: bucket.copy()?,
@@ -515,7 +519,8 @@ fn copy_copy_part(
     from_key: &Bytes,
     range: Option<(u64, u64)>,
 ) -> Result<Op, Memory>
-    ensures { IfOk result (λ op. op ≡ Op.CopyPart bucket.now key.now id.now number from_bucket.now from_key.now range) }
+    ensures { IfOk result (λ op. op ≡ Op.CopyPart bucket.now key.now id.now number from_bucket.now
+        from_key.now range) }
 {
     Ok(Op::CopyPart {
         bucket: bucket.copy()?,
@@ -701,7 +706,8 @@ fn copy_objects(
     items: &List<Item>,
     truncated: bool,
 ) -> Result<Reply, Memory>
-    ensures { IfOk result (λ reply. reply ≡ Reply.Objects bucket.now asked.now items.now truncated) }
+    ensures { IfOk result
+        (λ reply. reply ≡ Reply.Objects bucket.now asked.now items.now truncated) }
 {
     Ok(Reply::Objects {
         bucket: bucket.copy()?,
@@ -720,7 +726,8 @@ fn copy_uploads(
     items: &List<UploadItem>,
     truncated: bool,
 ) -> Result<Reply, Memory>
-    ensures { IfOk result (λ reply. reply ≡ Reply.Uploads bucket.now prefix.now key_marker.now id_marker.now max items.now truncated) }
+    ensures { IfOk result (λ reply. reply ≡ Reply.Uploads bucket.now prefix.now key_marker.now
+        id_marker.now max items.now truncated) }
 {
     Ok(Reply::Uploads {
         bucket: bucket.copy()?,
@@ -770,7 +777,8 @@ fn copy_parts(
     items: &List<PartItem>,
     truncated: bool,
 ) -> Result<Reply, Memory>
-    ensures { IfOk result (λ reply. reply ≡ Reply.Parts bucket.now key.now id marker max items.now truncated) }
+    ensures { IfOk result
+        (λ reply. reply ≡ Reply.Parts bucket.now key.now id marker max items.now truncated) }
 {
     Ok(Reply::Parts {
         bucket: bucket.copy()?,

@@ -34,7 +34,8 @@ impl BucketName {
     /// they are one.
     pub fn read(alloc: Global, name: &[u8]) -> Result<BucketName, NameFault>
         ensures answer { Gives result (bucket_of name.now) }
-        ensures refusal { (fault : NameFault) → bucket_of name.now ≡ Err fault → result ≡ Err fault }
+        ensures refusal { (fault : NameFault) → bucket_of name.now ≡ Err fault
+            → result ≡ Err fault }
     {
         if !is_bucket(name) {
             return Err(NameFault::BadBucket);
@@ -84,7 +85,8 @@ fn bucket_byte(byte: u8) -> bool
 }
 
 fn has_bucket_bytes(name: &[u8]) -> bool
-    ensures { result ≡ (nat_le 3 (length name.now) && nat_le (length name.now) 63 && list_all is_bucket_byte name.now) }
+    ensures { result ≡ (nat_le 3 (length name.now) && nat_le (length name.now) 63
+        && list_all is_bucket_byte name.now) }
 {
     3 <= name.len() && name.len() <= 63 && all_bucket_bytes(name)
 }

@@ -55,7 +55,8 @@ fn encode(alloc: Global, bytes: &[u8], set: AsciiSet) -> Result<Bytes, Memory>
 pub fn decode(alloc: Global, bytes: &[u8]) -> Result<Bytes, NameFault>
     ensures answer { Gives result (decoded bytes.now) }
     ensures bad_escape { IsErrOf result NameFault.BadEscape ↔ (has_bad_escape bytes.now ≡ true) }
-    ensures stands_for { (value : List ℕ) → (decoded bytes.now ≡ Ok value) ↔ StandsFor bytes.now value }
+    ensures stands_for { (value : List ℕ)
+        → (decoded bytes.now ≡ Ok value) ↔ StandsFor bytes.now value }
 {
     if has_bad_escape(bytes) {
         return Err(NameFault::BadEscape);

@@ -37,7 +37,8 @@ impl Query {
     #[tactic(auto, unfolding(crate::specs::Query::query_of))]
     pub fn read(alloc: Global, text: &[u8]) -> Result<Query, NameFault>
         ensures answer { Gives result (query_of text.now) }
-        ensures bad_escape { list_any has_bad_side (pieces text.now) ≡ true → result ≡ Err NameFault.BadEscape }
+        ensures bad_escape { list_any has_bad_side (pieces text.now) ≡ true
+            → result ≡ Err NameFault.BadEscape }
     {
         if any_bad_side(text) {
             return Err(NameFault::BadEscape);

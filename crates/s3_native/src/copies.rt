@@ -95,7 +95,8 @@ impl Native {
     pub(crate) fn step_copy(&mut self, op: &Op, label: &Label) -> Result<Reply, Memory>
         requires { IsProper op.now label.now }
         ensures settings { self.new.settings ≡ self.old.settings }
-        ensures ok { IfOk result (λ reply. S3Step self.old.settings self.old.state op.now label.now reply self.new.state) }
+        ensures ok { IfOk result (λ reply. S3Step self.old.settings self.old.state op.now label.now
+            reply self.new.state) }
         ensures err { OnErr result (self.new.state ≡ self.old.state) }
     {
         match op {
@@ -141,8 +142,9 @@ impl Native {
         label: &Label,
     ) -> Result<Reply, Memory>
         ensures settings { self.new.settings ≡ self.old.settings }
-        ensures ok { IfOk result (λ reply.
-            S3Step self.old.settings self.old.state (CopyObject bucket.now key.now acl from_bucket.now from_key.now replaced.now) label.now reply self.new.state) }
+        ensures ok { IfOk result (λ reply. S3Step self.old.settings self.old.state
+            (CopyObject bucket.now key.now acl from_bucket.now from_key.now replaced.now) label.now
+            reply self.new.state) }
         ensures err { OnErr result (self.new.state ≡ self.old.state) }
     {
         let Some(found) = self.buckets.get(bucket.as_slice()) else {
@@ -190,8 +192,9 @@ impl Native {
     ) -> Result<Reply, Memory>
         requires { IfSome range IsProperCopyRange }
         ensures settings { self.new.settings ≡ self.old.settings }
-        ensures ok { IfOk result (λ reply.
-            S3Step self.old.settings self.old.state (CopyPart bucket.now key.now id.now number from_bucket.now from_key.now range) label.now reply self.new.state) }
+        ensures ok { IfOk result (λ reply. S3Step self.old.settings self.old.state
+            (CopyPart bucket.now key.now id.now number from_bucket.now from_key.now range) label.now
+            reply self.new.state) }
         ensures err { OnErr result (self.new.state ≡ self.old.state) }
     {
         let Some(found) = self.buckets.get(bucket.as_slice()) else {

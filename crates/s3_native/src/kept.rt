@@ -32,7 +32,8 @@ impl Model for NativeKept {
 impl NativeKept {
     /// Whether it is of this key, with this list.
     pub(crate) fn is_same(&self, key: &[u8], list: &[Listed]) -> bool
-        ensures { result ≡ (bytes_eq self.now.key key.now && pointwise same_listed self.now.list list.now) }
+        ensures { result ≡ (bytes_eq self.now.key key.now
+            && pointwise same_listed self.now.list list.now) }
     {
         self.key.as_slice() == key && same_list(self.list.as_slice(), list)
     }

@@ -55,7 +55,9 @@ fn roll_end(delimiter: &[u8], text: &[u8]) -> Option<usize>
 fn row_end(prefix: &[u8], delimiter: &[u8], key: &[u8]) -> (usize, bool)
     requires { begins prefix.now key.now ≡ true }
     ensures within { result.0 ≤ length key.now }
-    ensures row { (head : ItemHead) → row_of prefix.now delimiter.now (key.now, head) ≡ (take result.0 key.now, under result.1 head) }
+    ensures row { (head : ItemHead)
+        → row_of prefix.now delimiter.now
+        (key.now, head) ≡ (take result.0 key.now, under result.1 head) }
 {
     let (_, rest) = key.split_at(prefix.len());
     match roll_end(delimiter, rest) {
@@ -125,8 +127,9 @@ fn rows(
     prefix: &[u8],
     delimiter: &[u8],
 ) -> Result<Table<Option<ItemHead>>, Memory>
-    ensures { IfOk result (λ rows. rows ≡
-        from_entries {R = name_cmp} (map (row_of prefix.now delimiter.now) (with_prefix prefix.now (map listed_key (entries objects.now))))) }
+    ensures { IfOk result (λ rows. rows ≡ from_entries {R = name_cmp}
+        (map (row_of prefix.now delimiter.now)
+        (with_prefix prefix.now (map listed_key (entries objects.now))))) }
 {
     let mut rows = Table::new(alloc);
     for (key, object) in objects.as_map() {

@@ -67,7 +67,8 @@ impl NativeObject {
         meta: &Meta,
         body: &Body,
     ) -> Result<NativeObject, Memory>
-        ensures { IfOk result (λ made. made ≡ new_object moment content_type.now meta.now body.now) }
+        ensures { IfOk result
+            (λ made. made ≡ new_object moment content_type.now meta.now body.now) }
     {
         Ok(NativeObject {
             bytes: Bytes::from_slice(alloc, body.as_slice())?,
@@ -302,7 +303,8 @@ pub(crate) fn put_object(
     key: &[u8],
     object: NativeObject,
 ) -> Result<(), Memory>
-    ensures ok { OnOk result (buckets.new ≡ adjust bucket.now (put_object key.now object) buckets.old) }
+    ensures ok { OnOk result
+        (buckets.new ≡ adjust bucket.now (put_object key.now object) buckets.old) }
     ensures err { OnErr result (buckets.new ≡ buckets.old) }
 {
     match buckets.get_mut(bucket) {
@@ -369,7 +371,8 @@ impl Native {
     pub fn step(&mut self, op: &Op, label: &Label) -> Result<Reply, Memory>
         requires { IsProper op.now label.now }
         ensures settings { self.new.settings ≡ self.old.settings }
-        ensures ok { IfOk result (λ reply. S3Step self.old.settings self.old.state op.now label.now reply self.new.state) }
+        ensures ok { IfOk result (λ reply. S3Step self.old.settings self.old.state op.now label.now
+            reply self.new.state) }
         ensures err { OnErr result (self.new.state ≡ self.old.state) }
     {
         match op {
@@ -414,7 +417,8 @@ impl Native {
     }
 
     fn list_buckets(&self, label: &Label) -> Result<Reply, Memory>
-        ensures { IfOk result (λ reply. S3Step self.now.settings self.now.state ListBuckets label.now reply self.now.state) }
+        ensures { IfOk result (λ reply. S3Step self.now.settings self.now.state ListBuckets
+            label.now reply self.now.state) }
     {
         Ok(Reply::Buckets(bucket_items(&self.buckets, self.alloc)?))
     }
@@ -422,7 +426,8 @@ impl Native {
     /// Where memory runs out, the state is as before.
     fn create_bucket(&mut self, bucket: &Bytes, acl: Acl, label: &Label) -> Result<Reply, Memory>
         ensures settings { self.new.settings ≡ self.old.settings }
-        ensures ok { IfOk result (λ reply. S3Step self.old.settings self.old.state (CreateBucket bucket.now acl) label.now reply self.new.state) }
+        ensures ok { IfOk result (λ reply. S3Step self.old.settings self.old.state
+            (CreateBucket bucket.now acl) label.now reply self.new.state) }
         ensures err { OnErr result (self.new.state ≡ self.old.state) }
     {
         if self.buckets.get(bucket.as_slice()).is_some() {
@@ -436,7 +441,8 @@ impl Native {
 
     fn delete_bucket(&mut self, bucket: &Bytes, label: &Label) -> Reply
         ensures settings { self.new.settings ≡ self.old.settings }
-        ensures step { S3Step self.old.settings self.old.state (DeleteBucket bucket.now) label.now result self.new.state }
+        ensures step { S3Step self.old.settings self.old.state (DeleteBucket bucket.now) label.now
+            result self.new.state }
     {
         let Some(found) = self.buckets.get(bucket.as_slice()) else {
             return Reply::Refused(Code::NoSuchBucket);
@@ -449,7 +455,8 @@ impl Native {
     }
 
     fn head_bucket(&self, bucket: &Bytes, label: &Label) -> Reply
-        ensures { S3Step self.now.settings self.now.state (HeadBucket bucket.now) label.now result self.now.state }
+        ensures { S3Step self.now.settings self.now.state (HeadBucket bucket.now) label.now result
+            self.now.state }
     {
         let Some(found) = self.buckets.get(bucket.as_slice()) else {
             return Reply::Refused(Code::NoSuchBucket);
@@ -461,7 +468,8 @@ impl Native {
     }
 
     fn get_location(&self, bucket: &Bytes, label: &Label) -> Result<Reply, Memory>
-        ensures { IfOk result (λ reply. S3Step self.now.settings self.now.state (GetLocation bucket.now) label.now reply self.now.state) }
+        ensures { IfOk result (λ reply. S3Step self.now.settings self.now.state
+            (GetLocation bucket.now) label.now reply self.now.state) }
     {
         if self.buckets.get(bucket.as_slice()).is_none() {
             return Ok(Reply::Refused(Code::NoSuchBucket));
@@ -472,7 +480,8 @@ impl Native {
     }
 
     fn get_bucket_acl(&self, bucket: &Bytes, label: &Label) -> Reply
-        ensures { S3Step self.now.settings self.now.state (GetBucketAcl bucket.now) label.now result self.now.state }
+        ensures { S3Step self.now.settings self.now.state (GetBucketAcl bucket.now) label.now result
+            self.now.state }
     {
         match self.buckets.get(bucket.as_slice()) {
             Some(found) => Reply::AclOf(found.acl()),
@@ -482,7 +491,8 @@ impl Native {
 
     fn put_bucket_acl(&mut self, bucket: &Bytes, acl: Acl, label: &Label) -> Reply
         ensures settings { self.new.settings ≡ self.old.settings }
-        ensures step { S3Step self.old.settings self.old.state (PutBucketAcl bucket.now acl) label.now result self.new.state }
+        ensures step { S3Step self.old.settings self.old.state (PutBucketAcl bucket.now acl)
+            label.now result self.new.state }
     {
         if self.buckets.get(bucket.as_slice()).is_none() {
             return Reply::Refused(Code::NoSuchBucket);
@@ -492,7 +502,8 @@ impl Native {
     }
 
     fn list_objects(&self, bucket: &Bytes, asked: &Asked, label: &Label) -> Result<Reply, Memory>
-        ensures { IfOk result (λ reply. S3Step self.now.settings self.now.state (ListObjects bucket.now asked.now) label.now reply self.now.state) }
+        ensures { IfOk result (λ reply. S3Step self.now.settings self.now.state
+            (ListObjects bucket.now asked.now) label.now reply self.now.state) }
     {
         let Some(found) = self.buckets.get(bucket.as_slice()) else {
             return Ok(Reply::Refused(Code::NoSuchBucket));
@@ -510,7 +521,8 @@ impl Native {
     }
 
     fn get_object_acl(&self, bucket: &Bytes, key: &Bytes, label: &Label) -> Reply
-        ensures { S3Step self.now.settings self.now.state (GetObjectAcl bucket.now key.now) label.now result self.now.state }
+        ensures { S3Step self.now.settings self.now.state (GetObjectAcl bucket.now key.now)
+            label.now result self.now.state }
     {
         let Some(found) = self.buckets.get(bucket.as_slice()) else {
             return Reply::Refused(Code::NoSuchBucket);
@@ -533,8 +545,9 @@ impl Native {
         label: &Label,
     ) -> Result<Reply, Memory>
         ensures settings { self.new.settings ≡ self.old.settings }
-        ensures ok { IfOk result (λ reply.
-            S3Step self.old.settings self.old.state (PutObject bucket.now key.now acl content_type.now meta.now body.now) label.now reply self.new.state) }
+        ensures ok { IfOk result (λ reply. S3Step self.old.settings self.old.state
+            (PutObject bucket.now key.now acl content_type.now meta.now body.now) label.now reply
+            self.new.state) }
         ensures err { OnErr result (self.new.state ≡ self.old.state) }
     {
         let Some(found) = self.buckets.get(bucket.as_slice()) else {
@@ -557,8 +570,8 @@ impl Native {
         conditions: &Conditions,
         label: &Label,
     ) -> Result<Reply, Memory>
-        ensures { IfOk result (λ reply.
-            S3Step self.now.settings self.now.state (GetObject bucket.now key.now range conditions.now) label.now reply self.now.state) }
+        ensures { IfOk result (λ reply. S3Step self.now.settings self.now.state
+            (GetObject bucket.now key.now range conditions.now) label.now reply self.now.state) }
     {
         let Some(found) = self.buckets.get(bucket.as_slice()) else {
             return Ok(Reply::Refused(Code::NoSuchBucket));
@@ -580,8 +593,8 @@ impl Native {
         conditions: &Conditions,
         label: &Label,
     ) -> Result<Reply, Memory>
-        ensures { IfOk result (λ reply.
-            S3Step self.now.settings self.now.state (HeadObject bucket.now key.now range conditions.now) label.now reply self.now.state) }
+        ensures { IfOk result (λ reply. S3Step self.now.settings self.now.state
+            (HeadObject bucket.now key.now range conditions.now) label.now reply self.now.state) }
     {
         let Some(found) = self.buckets.get(bucket.as_slice()) else {
             return Ok(Reply::Refused(Code::NoSuchBucket));
@@ -597,7 +610,8 @@ impl Native {
 
     fn delete_object(&mut self, bucket: &Bytes, key: &Bytes, label: &Label) -> Result<Reply, Memory>
         ensures settings { self.new.settings ≡ self.old.settings }
-        ensures ok { IfOk result (λ reply. S3Step self.old.settings self.old.state (DeleteObject bucket.now key.now) label.now reply self.new.state) }
+        ensures ok { IfOk result (λ reply. S3Step self.old.settings self.old.state
+            (DeleteObject bucket.now key.now) label.now reply self.new.state) }
         ensures err { OnErr result (self.new.state ≡ self.old.state) }
     {
         if self.buckets.get(bucket.as_slice()).is_none() {
@@ -616,8 +630,8 @@ impl Native {
         label: &Label,
     ) -> Result<Reply, Memory>
         ensures settings { self.new.settings ≡ self.old.settings }
-        ensures ok { IfOk result (λ reply.
-            S3Step self.old.settings self.old.state (DeleteObjects bucket.now keys.now quiet) label.now reply self.new.state) }
+        ensures ok { IfOk result (λ reply. S3Step self.old.settings self.old.state
+            (DeleteObjects bucket.now keys.now quiet) label.now reply self.new.state) }
         ensures err { OnErr result (self.new.state ≡ self.old.state) }
     {
         if self.buckets.get(bucket.as_slice()).is_none() {

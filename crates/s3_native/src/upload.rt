@@ -80,7 +80,8 @@ impl NativePart {
 impl Numbered<NativePart> {
     /// The parts whose number is above the marker, in the order of the numbers.
     fn items_above(&self, alloc: Global, marker: u32) -> Result<List<PartItem>, Memory>
-        ensures { IfOk result (λ items. items ≡ map part_item (filter (λ e. nat_lt marker e.0) (entries self.now))) }
+        ensures { IfOk result
+            (λ items. items ≡ map part_item (filter (λ e. nat_lt marker e.0) (entries self.now))) }
     {
         let mut items = List::new(alloc);
         for (number, part) in &self.entries {
@@ -174,7 +175,8 @@ impl NativeUpload {
         meta: &Meta,
         started: u64,
     ) -> Result<NativeUpload, Memory>
-        ensures { IfOk result (λ made. made ≡ new_upload key.now content_type.now meta.now started) }
+        ensures { IfOk result
+            (λ made. made ≡ new_upload key.now content_type.now meta.now started) }
     {
         Ok(NativeUpload {
             key: key.copy()?,
@@ -257,7 +259,13 @@ impl NativeUpload {
 
     /// What is kept of its completion by a list.
     fn kept(&self, list: &List<Listed>, etag: &Bytes, moment: u64) -> Result<NativeKept, Memory>
-        ensures { IfOk result (λ kept. kept ≡ record { key = self.now.key; list = list.now; etag = etag.now; started = self.now.started; moment = moment }) }
+        ensures { IfOk result (λ kept. kept ≡ record {
+          key = self.now.key;
+          list = list.now;
+          etag = etag.now;
+          started = self.now.started;
+          moment = moment;
+        }) }
     {
         Ok(NativeKept {
             key: self.key.copy()?,
@@ -275,7 +283,12 @@ impl NativeUpload {
         list: &List<Listed>,
         moment: u64,
     ) -> Result<(Bytes, NativeObject, NativeKept), Memory>
-        ensures { IfOk result (λ made. made ≡ (upload_etag (map etag_listed list.now), joined_by self.now list.now moment, kept_by self.now list.now moment)) }
+        ensures { IfOk result (λ made. made ≡ (
+          upload_etag (map etag_listed list.now),
+          joined_by
+              self.now list.now moment,
+          kept_by self.now list.now moment,
+        )) }
     {
         let etag = upload_etag(alloc, list.as_slice())?;
         let kept = self.kept(list, &etag, moment)?;

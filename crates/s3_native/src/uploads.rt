@@ -62,7 +62,8 @@ fn is_after(key_marker: &[u8], id_marker: &[u8], key: &[u8], id: &[u8]) -> bool
 
 impl NativeUpload {
     fn is_listed(&self, prefix: &[u8], key_marker: &[u8], id_marker: &[u8], id: &[u8]) -> bool
-        ensures { result ≡ is_upload_listed prefix.now key_marker.now id_marker.now (id.now, self.now) }
+        ensures { result ≡ is_upload_listed prefix.now key_marker.now id_marker.now
+            (id.now, self.now) }
     {
         let key = self.key.as_slice();
         begins(prefix, key) && is_after(key_marker, id_marker, key, id)
@@ -119,8 +120,9 @@ fn rows_after(
     key_marker: &[u8],
     id_marker: &[u8],
 ) -> Result<Table<UploadItem>, Memory>
-    ensures { IfOk result (λ rows. rows ≡
-        from_entries {R = name_cmp} (map upload_row (filter (is_upload_listed prefix.now key_marker.now id_marker.now) (entries uploads.now)))) }
+    ensures { IfOk result (λ rows. rows ≡ from_entries {R = name_cmp}
+        (map upload_row (filter (is_upload_listed prefix.now key_marker.now id_marker.now)
+        (entries uploads.now)))) }
 {
     let mut rows = Table::new(alloc);
     for (id, upload) in uploads.as_map() {
@@ -142,7 +144,8 @@ fn uploads_listed(
     id_marker: &[u8],
     max: u32,
 ) -> Result<(List<UploadItem>, bool), Memory>
-    ensures { IfOk result (λ listed. listed ≡ cut max (uploads_after prefix.now key_marker.now id_marker.now uploads.now)) }
+    ensures { IfOk result (λ listed. listed ≡ cut max
+        (uploads_after prefix.now key_marker.now id_marker.now uploads.now)) }
 {
     let rows = rows_after(uploads, alloc, prefix, key_marker, id_marker)?;
     let items = items_in(&rows, alloc)?;
@@ -260,7 +263,8 @@ fn open_upload(
     id: &[u8],
     upload: NativeUpload,
 ) -> Result<(), Memory>
-    ensures ok { OnOk result (buckets.new ≡ adjust bucket.now (open_upload id.now upload) buckets.old) }
+    ensures ok { OnOk result
+        (buckets.new ≡ adjust bucket.now (open_upload id.now upload) buckets.old) }
     ensures err { OnErr result (buckets.new ≡ buckets.old) }
 {
     match buckets.get_mut(bucket) {
@@ -277,7 +281,8 @@ pub(crate) fn put_part(
     number: u32,
     part: NativePart,
 ) -> Result<(), Memory>
-    ensures ok { OnOk result (buckets.new ≡ adjust bucket.now (on_upload id.now (with_part number part)) buckets.old) }
+    ensures ok { OnOk result
+        (buckets.new ≡ adjust bucket.now (on_upload id.now (with_part number part)) buckets.old) }
     ensures err { OnErr result (buckets.new ≡ buckets.old) }
 {
     match buckets.get_mut(bucket) {
@@ -304,7 +309,8 @@ fn close(
     object: NativeObject,
     kept: NativeKept,
 ) -> Result<(), Memory>
-    ensures ok { OnOk result (buckets.new ≡ adjust bucket.now (closed key.now id.now object kept) buckets.old) }
+    ensures ok { OnOk result
+        (buckets.new ≡ adjust bucket.now (closed key.now id.now object kept) buckets.old) }
     ensures err { OnErr result (buckets.new ≡ buckets.old) }
 {
     match buckets.get_mut(bucket) {
@@ -317,7 +323,8 @@ impl Native {
     /// A step of an operation on uploads. It is asked for no other one; such a one ends as where memory runs out.
     pub(crate) fn step_upload(&mut self, op: &Op, label: &Label) -> Result<Reply, Memory>
         ensures settings { self.new.settings ≡ self.old.settings }
-        ensures ok { IfOk result (λ reply. S3Step self.old.settings self.old.state op.now label.now reply self.new.state) }
+        ensures ok { IfOk result (λ reply. S3Step self.old.settings self.old.state op.now label.now
+            reply self.new.state) }
         ensures err { OnErr result (self.new.state ≡ self.old.state) }
     {
         match op {
@@ -369,8 +376,9 @@ impl Native {
         max: u32,
         label: &Label,
     ) -> Result<Reply, Memory>
-        ensures { IfOk result (λ reply.
-            S3Step self.now.settings self.now.state (ListUploads bucket.now prefix.now key_marker.now id_marker.now max) label.now reply self.now.state) }
+        ensures { IfOk result (λ reply. S3Step self.now.settings self.now.state
+            (ListUploads bucket.now prefix.now key_marker.now id_marker.now max) label.now reply
+            self.now.state) }
     {
         let Some(found) = self.buckets.get(bucket.as_slice()) else {
             return Ok(Reply::Refused(Code::NoSuchBucket));
@@ -406,8 +414,9 @@ impl Native {
         label: &Label,
     ) -> Result<Reply, Memory>
         ensures settings { self.new.settings ≡ self.old.settings }
-        ensures ok { IfOk result (λ reply.
-            S3Step self.old.settings self.old.state (CreateUpload bucket.now key.now acl content_type.now meta.now) label.now reply self.new.state) }
+        ensures ok { IfOk result (λ reply. S3Step self.old.settings self.old.state
+            (CreateUpload bucket.now key.now acl content_type.now meta.now) label.now reply
+            self.new.state) }
         ensures err { OnErr result (self.new.state ≡ self.old.state) }
     {
         let Some(found) = self.buckets.get(bucket.as_slice()) else {
@@ -442,8 +451,8 @@ impl Native {
         label: &Label,
     ) -> Result<Reply, Memory>
         ensures settings { self.new.settings ≡ self.old.settings }
-        ensures ok { IfOk result (λ reply.
-            S3Step self.old.settings self.old.state (UploadPart bucket.now key.now id.now number body.now) label.now reply self.new.state) }
+        ensures ok { IfOk result (λ reply. S3Step self.old.settings self.old.state
+            (UploadPart bucket.now key.now id.now number body.now) label.now reply self.new.state) }
         ensures err { OnErr result (self.new.state ≡ self.old.state) }
     {
         let Some(found) = self.buckets.get(bucket.as_slice()) else {
@@ -476,8 +485,8 @@ impl Native {
         max: u32,
         label: &Label,
     ) -> Result<Reply, Memory>
-        ensures { IfOk result (λ reply.
-            S3Step self.now.settings self.now.state (ListParts bucket.now key.now id.now marker max) label.now reply self.now.state) }
+        ensures { IfOk result (λ reply. S3Step self.now.settings self.now.state
+            (ListParts bucket.now key.now id.now marker max) label.now reply self.now.state) }
     {
         let Some(found) = self.buckets.get(bucket.as_slice()) else {
             return Ok(Reply::Refused(Code::NoSuchBucket));
@@ -502,7 +511,8 @@ impl Native {
 
     fn abort_upload(&mut self, bucket: &Bytes, key: &Bytes, id: &Bytes, label: &Label) -> Reply
         ensures settings { self.new.settings ≡ self.old.settings }
-        ensures step { S3Step self.old.settings self.old.state (AbortUpload bucket.now key.now id.now) label.now result self.new.state }
+        ensures step { S3Step self.old.settings self.old.state
+            (AbortUpload bucket.now key.now id.now) label.now result self.new.state }
     {
         let Some(found) = self.buckets.get(bucket.as_slice()) else {
             return Reply::Refused(Code::NoSuchBucket);
@@ -527,8 +537,8 @@ impl Native {
         label: &Label,
     ) -> Result<Reply, Memory>
         ensures settings { self.new.settings ≡ self.old.settings }
-        ensures ok { IfOk result (λ reply.
-            S3Step self.old.settings self.old.state (CompleteUpload bucket.now key.now id.now list.now) label.now reply self.new.state) }
+        ensures ok { IfOk result (λ reply. S3Step self.old.settings self.old.state
+            (CompleteUpload bucket.now key.now id.now list.now) label.now reply self.new.state) }
         ensures err { OnErr result (self.new.state ≡ self.old.state) }
     {
         let Some(found) = self.buckets.get(bucket.as_slice()) else {
@@ -554,10 +564,11 @@ impl Native {
         list: &List<Listed>,
         label: &Label,
     ) -> Result<Reply, Memory>
-        requires { (b : Bucket) → get self.now.state bucket.now ≡ Some b → kept_as key.now list.now (get b.kept id.now) ≡ None }
+        requires { (b : Bucket) → get self.now.state bucket.now ≡ Some b
+            → kept_as key.now list.now (get b.kept id.now) ≡ None }
         ensures settings { self.new.settings ≡ self.old.settings }
-        ensures ok { IfOk result (λ reply.
-            S3Step self.old.settings self.old.state (CompleteUpload bucket.now key.now id.now list.now) label.now reply self.new.state) }
+        ensures ok { IfOk result (λ reply. S3Step self.old.settings self.old.state
+            (CompleteUpload bucket.now key.now id.now list.now) label.now reply self.new.state) }
         ensures err { OnErr result (self.new.state ≡ self.old.state) }
     {
         let Some(found) = self.buckets.get(bucket.as_slice()) else {

@@ -19,7 +19,8 @@ pub(crate) fn copied(
 ) -> Result<Page, Memory>
     requires dated { modified < moment_limit }
     requires moment { label.now.moment < moment_limit }
-    ensures { IfOk result (λ page. page ≡ xml_page 200 (copied_body part etag.now modified) label.now) }
+    ensures { IfOk result
+        (λ page. page ≡ xml_page 200 (copied_body part etag.now modified) label.now) }
 {
     Ok(Page {
         status: 200,

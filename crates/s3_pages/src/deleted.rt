@@ -41,7 +41,8 @@ fn deleted_body(alloc: Global, keys: &[Bytes], quiet: bool) -> Result<Bytes, Mem
 impl Xml {
     /// Appends the keys that were deleted, where the test is true.
     fn deleted_where(&mut self, test: bool, keys: &[Bytes]) -> Result<(), Memory>
-        ensures { OnOk result (self.new.text ≡ self.old.text ++ where_true test (flat_map deleted_element keys.now)) }
+        ensures { OnOk result (self.new.text ≡ self.old.text
+            ++ where_true test (flat_map deleted_element keys.now)) }
     {
         if test { self.deleted(keys) } else { Ok(()) }
     }

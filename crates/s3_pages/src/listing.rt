@@ -42,7 +42,8 @@ pub(crate) fn objects(
 ) -> Result<Page, Memory>
     requires dated { All IsShownItem items.now }
     requires moment { label.now.moment < moment_limit }
-    ensures { IfOk result (λ page. page ≡ xml_page 200 (objects_body bucket.now asked.now items.now truncated) label.now) }
+    ensures { IfOk result (λ page. page ≡ xml_page 200
+        (objects_body bucket.now asked.now items.now truncated) label.now) }
 {
     Ok(Page {
         status: 200,
@@ -104,7 +105,8 @@ fn next_text(items: &[Item]) -> &[u8]
 
 impl Xml {
     fn asked(&mut self, asked: &Asked, items: &[Item], truncated: bool) -> Result<(), Memory>
-        ensures { OnOk result (self.new.text ≡ self.old.text ++ by_version (is_second asked.now) asked.now items.now truncated) }
+        ensures { OnOk result (self.new.text ≡ self.old.text
+            ++ by_version (is_second asked.now) asked.now items.now truncated) }
     {
         if is_second(asked) {
             self.second_version(asked, items, truncated)
@@ -120,7 +122,8 @@ impl Xml {
         items: &[Item],
         truncated: bool,
     ) -> Result<(), Memory>
-        ensures { OnOk result (self.new.text ≡ self.old.text ++ first_version asked.now items.now truncated) }
+        ensures { OnOk result
+            (self.new.text ≡ self.old.text ++ first_version asked.now items.now truncated) }
     {
         self.shown(b"Prefix", asked.url, asked.prefix.as_slice())?;
         self.shown(b"Marker", asked.url, asked.marker.as_slice())?;
@@ -140,7 +143,8 @@ impl Xml {
         items: &[Item],
         truncated: bool,
     ) -> Result<(), Memory>
-        ensures { OnOk result (self.new.text ≡ self.old.text ++ second_version asked.now items.now truncated) }
+        ensures { OnOk result
+            (self.new.text ≡ self.old.text ++ second_version asked.now items.now truncated) }
     {
         self.shown(b"Prefix", asked.url, asked.prefix.as_slice())?;
         self.shown_where(
@@ -172,7 +176,8 @@ impl Xml {
     }
 
     fn shown_where(&mut self, test: bool, name: &[u8], url: bool, text: &[u8]) -> Result<(), Memory>
-        ensures { OnOk result (self.new.text ≡ self.old.text ++ where_true test (text_element url name.now text.now)) }
+        ensures { OnOk result (self.new.text ≡ self.old.text
+            ++ where_true test (text_element url name.now text.now)) }
     {
         if test {
             self.shown(name, url, text)
@@ -191,7 +196,9 @@ impl Xml {
     }
 
     fn next_token(&mut self, truncated: bool, text: &[u8]) -> Result<(), Memory>
-        ensures { OnOk result (self.new.text ≡ self.old.text ++ where_true truncated (element (codes "NextContinuationToken") (encode_lower text.now))) }
+        ensures { OnOk result (self.new.text ≡ self.old.text
+            ++ where_true truncated
+            (element (codes "NextContinuationToken") (encode_lower text.now))) }
     {
         if truncated {
             self.hex(b"NextContinuationToken", text)
@@ -202,7 +209,8 @@ impl Xml {
 
     fn contents(&mut self, asked: &Asked, items: &[Item]) -> Result<(), Memory>
         requires { All IsShownItem items.now }
-        ensures { OnOk result (self.new.text ≡ self.old.text ++ flat_map (contents_of asked.now) items.now) }
+        ensures { OnOk result
+            (self.new.text ≡ self.old.text ++ flat_map (contents_of asked.now) items.now) }
     {
         for item in items {
             self.contents_of(asked, item)?;
@@ -223,7 +231,8 @@ impl Xml {
     #[tactic(auto, unfolding(crate::specs::Bodies::contents))]
     fn object(&mut self, asked: &Asked, key: &[u8], head: &ItemHead) -> Result<(), Memory>
         requires { IsShownItemHead head.now }
-        ensures { OnOk result (self.new.text ≡ self.old.text ++ contents asked.now key.now head.now) }
+        ensures { OnOk result
+            (self.new.text ≡ self.old.text ++ contents asked.now key.now head.now) }
     {
         self.tags(b"<Contents>")?;
         self.shown(b"Key", asked.url, key)?;
@@ -236,7 +245,8 @@ impl Xml {
     }
 
     fn prefixes(&mut self, asked: &Asked, items: &[Item]) -> Result<(), Memory>
-        ensures { OnOk result (self.new.text ≡ self.old.text ++ flat_map (prefix_of asked.now) items.now) }
+        ensures { OnOk result
+            (self.new.text ≡ self.old.text ++ flat_map (prefix_of asked.now) items.now) }
     {
         for item in items {
             self.prefix_of(asked, item)?;

@@ -43,7 +43,8 @@ fn object_headers(
 ) -> Result<List<Pair>, Memory>
     requires shown { IsShown head.now from length partial }
     requires moment { label.now.moment < moment_limit }
-    ensures { IfOk result (λ headers. headers ≡ object_headers head.now from length partial label.now) }
+    ensures { IfOk result
+        (λ headers. headers ≡ object_headers head.now from length partial label.now) }
 {
     let mut headers = common(alloc, label)?;
     add_head(alloc, &mut headers, head)?;

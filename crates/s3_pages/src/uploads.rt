@@ -42,7 +42,9 @@ pub(crate) fn uploads(
 ) -> Result<Page, Memory>
     requires dated { All IsShownUpload items.now }
     requires moment { label.now.moment < moment_limit }
-    ensures { IfOk result (λ page. page ≡ xml_page 200 (uploads_body bucket.now prefix.now key_marker.now id_marker.now max items.now truncated) label.now) }
+    ensures { IfOk result (λ page. page ≡ xml_page 200
+        (uploads_body bucket.now prefix.now key_marker.now id_marker.now max items.now truncated)
+        label.now) }
 {
     Ok(Page {
         status: 200,
@@ -65,7 +67,8 @@ fn uploads_body(
     truncated: bool,
 ) -> Result<Bytes, Memory>
     requires { All IsShownUpload items.now }
-    ensures { IfOk result (λ body. body ≡ uploads_body bucket.now prefix.now key_marker.now id_marker.now max items.now truncated) }
+    ensures { IfOk result (λ body. body ≡ uploads_body bucket.now prefix.now key_marker.now
+        id_marker.now max items.now truncated) }
 {
     let mut xml = Xml::new(alloc)?;
     xml.root(b"ListMultipartUploadsResult")?;
@@ -87,7 +90,8 @@ pub(crate) fn started(
     label: &Label,
 ) -> Result<Page, Memory>
     requires { label.now.moment < moment_limit }
-    ensures { IfOk result (λ page. page ≡ xml_page 200 (started_body bucket.now key.now id) label.now) }
+    ensures { IfOk result
+        (λ page. page ≡ xml_page 200 (started_body bucket.now key.now id) label.now) }
 {
     Ok(Page {
         status: 200,
@@ -121,7 +125,8 @@ pub(crate) fn parts(
 ) -> Result<Page, Memory>
     requires dated { All IsShownPart items.now }
     requires moment { label.now.moment < moment_limit }
-    ensures { IfOk result (λ page. page ≡ xml_page 200 (parts_body bucket.now key.now id marker max items.now truncated) label.now) }
+    ensures { IfOk result (λ page. page ≡ xml_page 200
+        (parts_body bucket.now key.now id marker max items.now truncated) label.now) }
 {
     Ok(Page {
         status: 200,
@@ -142,7 +147,8 @@ fn parts_body(
     truncated: bool,
 ) -> Result<Bytes, Memory>
     requires { All IsShownPart items.now }
-    ensures { IfOk result (λ body. body ≡ parts_body bucket.now key.now id marker max items.now truncated) }
+    ensures { IfOk result
+        (λ body. body ≡ parts_body bucket.now key.now id marker max items.now truncated) }
 {
     let mut xml = Xml::new(alloc)?;
     xml.root(b"ListPartsResult")?;
@@ -165,7 +171,8 @@ pub(crate) fn completed(
     label: &Label,
 ) -> Result<Page, Memory>
     requires { label.now.moment < moment_limit }
-    ensures { IfOk result (λ page. page ≡ xml_page 200 (completed_body bucket.now key.now etag.now) label.now) }
+    ensures { IfOk result
+        (λ page. page ≡ xml_page 200 (completed_body bucket.now key.now etag.now) label.now) }
 {
     Ok(Page {
         status: 200,
@@ -210,7 +217,8 @@ impl Xml {
         key_marker: &[u8],
         id_marker: &[u8],
     ) -> Result<(), Memory>
-        ensures { OnOk result (self.new.text ≡ self.old.text ++ uploads_asked bucket.now prefix.now key_marker.now id_marker.now) }
+        ensures { OnOk result (self.new.text ≡ self.old.text
+            ++ uploads_asked bucket.now prefix.now key_marker.now id_marker.now) }
     {
         self.element(b"Bucket", bucket)?;
         self.element(b"Prefix", prefix)?;
@@ -219,7 +227,8 @@ impl Xml {
     }
 
     fn next_upload(&mut self, items: &[UploadItem], truncated: bool) -> Result<(), Memory>
-        ensures { OnOk result (self.new.text ≡ self.old.text ++ where_true truncated (next_upload items.now)) }
+        ensures { OnOk result
+            (self.new.text ≡ self.old.text ++ where_true truncated (next_upload items.now)) }
     {
         if !truncated {
             return Ok(());
@@ -264,7 +273,8 @@ impl Xml {
     /// Appends of which upload a reply speaks.
     #[tactic(auto, unfolding(crate::specs::Bodies::upload_place))]
     fn upload_place(&mut self, bucket: &[u8], key: &[u8], id: u128) -> Result<(), Memory>
-        ensures { OnOk result (self.new.text ≡ self.old.text ++ upload_place bucket.now key.now id) }
+        ensures { OnOk result
+            (self.new.text ≡ self.old.text ++ upload_place bucket.now key.now id) }
     {
         self.element(b"Bucket", bucket)?;
         self.element(b"Key", key)?;
@@ -279,7 +289,8 @@ impl Xml {
         items: &[PartItem],
         truncated: bool,
     ) -> Result<(), Memory>
-        ensures { OnOk result (self.new.text ≡ self.old.text ++ parts_asked marker max items.now truncated) }
+        ensures { OnOk result
+            (self.new.text ≡ self.old.text ++ parts_asked marker max items.now truncated) }
     {
         self.count(b"PartNumberMarker", marker)?;
         self.next_part(truncated, items)?;
@@ -288,7 +299,9 @@ impl Xml {
     }
 
     fn next_part(&mut self, truncated: bool, items: &[PartItem]) -> Result<(), Memory>
-        ensures { OnOk result (self.new.text ≡ self.old.text ++ where_true truncated (number_element (codes "NextPartNumberMarker") (next_part items.now))) }
+        ensures { OnOk result (self.new.text ≡ self.old.text
+            ++ where_true truncated
+            (number_element (codes "NextPartNumberMarker") (next_part items.now))) }
     {
         if truncated {
             self.count(b"NextPartNumberMarker", next_part(items))

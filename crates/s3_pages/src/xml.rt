@@ -142,7 +142,8 @@ impl Xml {
 
     /// Appends an element with a text of a listing, escaped as in a path where that was asked for.
     pub fn shown(&mut self, name: &[u8], url: bool, text: &[u8]) -> Result<(), Memory>
-        ensures { OnOk result (self.new.text ≡ self.old.text ++ text_element url name.now text.now) }
+        ensures { OnOk result
+            (self.new.text ≡ self.old.text ++ text_element url name.now text.now) }
     {
         if !url {
             return self.element(name, text);
@@ -186,7 +187,8 @@ impl Xml {
 
     /// Appends an element with a text in lower-case hexadecimal.
     pub fn hex(&mut self, name: &[u8], text: &[u8]) -> Result<(), Memory>
-        ensures { OnOk result (self.new.text ≡ self.old.text ++ element name.now (encode_lower text.now)) }
+        ensures { OnOk result
+            (self.new.text ≡ self.old.text ++ element name.now (encode_lower text.now)) }
     {
         let digits = hex::encode(self.alloc, text)?;
         self.element(name, digits.as_bytes())

@@ -210,7 +210,8 @@ pub fn location_faults(
     region: &[u8],
     body: &[u8],
 ) -> Result<(bool, bool), Memory>
-    ensures { IfOk result (λ faults. faults ≡ record { 0 = has_bad_location row body.now; 1 = has_other_location row region.now body.now }) }
+    ensures { IfOk result (λ faults. faults ≡ record
+        { 0 = has_bad_location row body.now; 1 = has_other_location row region.now body.now }) }
 {
     if !shape_of(row).has_location() {
         return Ok((false, false));

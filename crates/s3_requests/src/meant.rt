@@ -76,7 +76,8 @@ pub fn meaning(
     caller: &Caller,
     settings: &Settings,
 ) -> Meant
-    ensures value { result ≢ variant.Memory → result ≡ meaning_of settings.now message.entry.now target.now caller.now }
+    ensures value { result ≢ variant.Memory
+        → result ≡ meaning_of settings.now message.entry.now target.now caller.now }
     ensures proper { IsProperMeant result }
     ensures keeps { KeepsFront message.entry.now message.exit.now }
 {
@@ -95,7 +96,8 @@ fn by_target(
     target: &Target,
     caller: &Caller,
 ) -> Result<Meant, Memory>
-    ensures value { IfOk result (λ meant. meant ≡ meaning_of settings.now message.entry.now target.now caller.now) }
+    ensures value { IfOk result
+        (λ meant. meant ≡ meaning_of settings.now message.entry.now target.now caller.now) }
     ensures keeps { KeepsFront message.entry.now message.exit.now }
 {
     if !is_method(message.method.as_slice()) {
@@ -128,7 +130,9 @@ fn by_row(
     target: &Target,
     caller: &Caller,
 ) -> Result<Meant, Memory>
-    ensures value { IfOk result (λ meant. meant ≡ first_refusal (reasons settings.now row message.entry.now target.now caller.now) (op_of row message.entry.now target.now)) }
+    ensures value { IfOk result (λ meant. meant ≡ first_refusal
+        (reasons settings.now row message.entry.now target.now caller.now)
+        (op_of row message.entry.now target.now)) }
     ensures keeps { KeepsFront message.entry.now message.exit.now }
 {
     if has_foreign_name(row, target.query.pairs()) {
@@ -149,7 +153,9 @@ fn by_headers(
     target: &Target,
     caller: &Caller,
 ) -> Result<Meant, Memory>
-    ensures value { IfOk result (λ meant. meant ≡ first_refusal (header_reasons settings.now row message.entry.now target.now caller.now) (op_of row message.entry.now target.now)) }
+    ensures value { IfOk result (λ meant. meant ≡ first_refusal
+        (header_reasons settings.now row message.entry.now target.now caller.now)
+        (op_of row message.entry.now target.now)) }
     ensures keeps { KeepsFront message.entry.now message.exit.now }
 {
     let method = message.method.as_slice();
@@ -187,7 +193,9 @@ fn by_digest(
     target: &Target,
     caller: &Caller,
 ) -> Result<Meant, Memory>
-    ensures value { IfOk result (λ meant. meant ≡ first_refusal (digest_reasons settings.now row message.entry.now target.now caller.now) (op_of row message.entry.now target.now)) }
+    ensures value { IfOk result (λ meant. meant ≡ first_refusal
+        (digest_reasons settings.now row message.entry.now target.now caller.now)
+        (op_of row message.entry.now target.now)) }
     ensures keeps { KeepsFront message.entry.now message.exit.now }
 {
     let headers = message.headers.as_slice();
@@ -212,7 +220,9 @@ fn by_arguments(
     digest: Option<[u8; 16]>,
 ) -> Result<Meant, Memory>
     requires digest { IsDigestOf digest message.now.body }
-    ensures value { IfOk result (λ meant. meant ≡ first_refusal (argument_reasons settings.now row message.entry.now target.now caller.now) (op_of row message.entry.now target.now)) }
+    ensures value { IfOk result (λ meant. meant ≡ first_refusal
+        (argument_reasons settings.now row message.entry.now target.now caller.now)
+        (op_of row message.entry.now target.now)) }
     ensures keeps { KeepsFront message.entry.now message.exit.now }
 {
     let query = target.query.pairs();
@@ -242,7 +252,9 @@ fn by_source(
     digest: Option<[u8; 16]>,
 ) -> Result<Meant, Memory>
     requires digest { IsDigestOf digest message.now.body }
-    ensures value { IfOk result (λ meant. meant ≡ first_refusal (source_reasons settings.now row message.entry.now caller.now) (op_of row message.entry.now target.now)) }
+    ensures value { IfOk result (λ meant. meant ≡ first_refusal
+        (source_reasons settings.now row message.entry.now caller.now)
+        (op_of row message.entry.now target.now)) }
     ensures keeps { KeepsFront message.entry.now message.exit.now }
 {
     match taken_source(alloc, row, message.headers.as_slice())? {
@@ -266,7 +278,9 @@ fn by_content(
 ) -> Result<Meant, Memory>
     requires source { source ≡ given_source row message.now.headers }
     requires digest { IsDigestOf digest message.now.body }
-    ensures value { IfOk result (λ meant. meant ≡ first_refusal (content_reasons settings.now row message.entry.now caller.now) (op_of row message.entry.now target.now)) }
+    ensures value { IfOk result (λ meant. meant ≡ first_refusal
+        (content_reasons settings.now row message.entry.now caller.now)
+        (op_of row message.entry.now target.now)) }
     ensures keeps { KeepsFront message.entry.now message.exit.now }
 {
     let headers = message.headers.as_slice();
@@ -296,7 +310,9 @@ fn by_meta(
 ) -> Result<Meant, Memory>
     requires taken { taken ≡ given row message.now.headers }
     requires digest { IsDigestOf digest message.now.body }
-    ensures value { IfOk result (λ meant. meant ≡ first_refusal (meta_reasons settings.now row message.entry.now caller.now) (op_of row message.entry.now target.now)) }
+    ensures value { IfOk result (λ meant. meant ≡ first_refusal
+        (meta_reasons settings.now row message.entry.now caller.now)
+        (op_of row message.entry.now target.now)) }
     ensures keeps { KeepsFront message.entry.now message.exit.now }
 {
     if has_bad_entry(&taken.meta) {
@@ -324,7 +340,9 @@ fn by_body(
 ) -> Result<Meant, Memory>
     requires taken { taken ≡ given row message.now.headers }
     requires digest { IsDigestOf digest message.now.body }
-    ensures value { IfOk result (λ meant. meant ≡ first_refusal (body_reasons settings.now row message.entry.now caller.now) (op_of row message.entry.now target.now)) }
+    ensures value { IfOk result (λ meant. meant ≡ first_refusal
+        (body_reasons settings.now row message.entry.now caller.now)
+        (op_of row message.entry.now target.now)) }
     ensures keeps { KeepsFront message.entry.now message.exit.now }
 {
     if is_long_body(message.body.as_slice()) {
@@ -353,7 +371,8 @@ fn by_list(
 ) -> Result<Meant, Memory>
     requires taken { taken ≡ given row message.now.headers }
     requires digest { IsDigestOf digest message.now.body }
-    ensures value { IfOk result (λ meant. meant ≡ first_refusal (list_reasons row message.entry.now caller.now) (op_of row message.entry.now target.now)) }
+    ensures value { IfOk result (λ meant. meant ≡ first_refusal
+        (list_reasons row message.entry.now caller.now) (op_of row message.entry.now target.now)) }
     ensures keeps { KeepsFront message.entry.now message.exit.now }
 {
     match taken_list(alloc, row, message.body.as_slice())? {
@@ -376,7 +395,9 @@ fn by_deletes(
     requires taken { taken ≡ given row message.now.headers }
     requires list { list ≡ given_list row message.now.body }
     requires digest { IsDigestOf digest message.now.body }
-    ensures value { IfOk result (λ meant. meant ≡ first_refusal (deletes_reasons row message.entry.now caller.now) (op_of row message.entry.now target.now)) }
+    ensures value { IfOk result (λ meant. meant ≡ first_refusal
+        (deletes_reasons row message.entry.now caller.now)
+        (op_of row message.entry.now target.now)) }
     ensures keeps { KeepsFront message.entry.now message.exit.now }
 {
     match taken_deletes(alloc, row, message.body.as_slice())? {
@@ -517,7 +538,8 @@ fn put_object(
     digest: Option<[u8; 16]>,
 ) -> Result<Meant, Memory>
     requires digest { IsDigestOf digest message.now.body }
-    ensures value { IfOk result (λ meant. meant ≡ Meant.Op (Op.PutObject target.now.bucket target.now.key taken.acl taken.content_type taken.meta message.entry.now.body)) }
+    ensures value { IfOk result (λ meant. meant ≡ Meant.Op (Op.PutObject target.now.bucket
+        target.now.key taken.acl taken.content_type taken.meta message.entry.now.body)) }
     ensures keeps { KeepsFront message.entry.now message.exit.now }
 {
     let (bucket, key) = place(target)?;
@@ -533,7 +555,8 @@ fn put_object(
 
 /// The bucket and the key of the target.
 fn place(target: &Target) -> Result<(Bytes, Bytes), Memory>
-    ensures { IfOk result (λ copies. copies ≡ record { 0 = target.now.bucket; 1 = target.now.key }) }
+    ensures { IfOk result
+        (λ copies. copies ≡ record { 0 = target.now.bucket; 1 = target.now.key }) }
 {
     let bucket = target.bucket.copy()?;
     let key = target.key.copy()?;
@@ -541,7 +564,8 @@ fn place(target: &Target) -> Result<(Bytes, Bytes), Memory>
 }
 
 fn list_objects(alloc: Global, target: &Target) -> Result<Meant, Memory>
-    ensures { IfOk result (λ meant. meant ≡ Meant.Op (Op.ListObjects target.now.bucket (first_asked target.now.query))) }
+    ensures { IfOk result (λ meant. meant ≡ Meant.Op
+        (Op.ListObjects target.now.bucket (first_asked target.now.query))) }
 {
     let bucket = target.bucket.copy()?;
     let asked = first_asked(alloc, target.query.pairs())?;
@@ -549,7 +573,8 @@ fn list_objects(alloc: Global, target: &Target) -> Result<Meant, Memory>
 }
 
 fn list_objects_v2(alloc: Global, target: &Target) -> Result<Meant, Memory>
-    ensures { IfOk result (λ meant. meant ≡ Meant.Op (Op.ListObjects target.now.bucket (second_asked target.now.query))) }
+    ensures { IfOk result (λ meant. meant ≡ Meant.Op
+        (Op.ListObjects target.now.bucket (second_asked target.now.query))) }
 {
     let bucket = target.bucket.copy()?;
     let asked = second_asked(alloc, target.query.pairs())?;
@@ -557,7 +582,8 @@ fn list_objects_v2(alloc: Global, target: &Target) -> Result<Meant, Memory>
 }
 
 fn get_object(alloc: Global, headers: &[Pair], target: &Target) -> Result<Meant, Memory>
-    ensures { IfOk result (λ meant. meant ≡ Meant.Op (Op.GetObject target.now.bucket target.now.key (given_range headers.now) (given_conditions headers.now))) }
+    ensures { IfOk result (λ meant. meant ≡ Meant.Op (Op.GetObject target.now.bucket target.now.key
+        (given_range headers.now) (given_conditions headers.now))) }
 {
     let range = given_range(alloc, headers)?;
     let (bucket, key) = place(target)?;
@@ -571,7 +597,8 @@ fn get_object(alloc: Global, headers: &[Pair], target: &Target) -> Result<Meant,
 }
 
 fn head_object(alloc: Global, headers: &[Pair], target: &Target) -> Result<Meant, Memory>
-    ensures { IfOk result (λ meant. meant ≡ Meant.Op (Op.HeadObject target.now.bucket target.now.key (given_range headers.now) (given_conditions headers.now))) }
+    ensures { IfOk result (λ meant. meant ≡ Meant.Op (Op.HeadObject target.now.bucket target.now.key
+        (given_range headers.now) (given_conditions headers.now))) }
 {
     let range = given_range(alloc, headers)?;
     let (bucket, key) = place(target)?;
@@ -585,7 +612,8 @@ fn head_object(alloc: Global, headers: &[Pair], target: &Target) -> Result<Meant
 }
 
 fn delete_object(target: &Target) -> Result<Meant, Memory>
-    ensures { IfOk result (λ meant. meant ≡ Meant.Op (Op.DeleteObject target.now.bucket target.now.key)) }
+    ensures { IfOk result
+        (λ meant. meant ≡ Meant.Op (Op.DeleteObject target.now.bucket target.now.key)) }
 {
     let bucket = target.bucket.copy()?;
     let key = target.key.copy()?;
@@ -593,7 +621,8 @@ fn delete_object(target: &Target) -> Result<Meant, Memory>
 }
 
 fn get_object_acl(target: &Target) -> Result<Meant, Memory>
-    ensures { IfOk result (λ meant. meant ≡ Meant.Op (Op.GetObjectAcl target.now.bucket target.now.key)) }
+    ensures { IfOk result
+        (λ meant. meant ≡ Meant.Op (Op.GetObjectAcl target.now.bucket target.now.key)) }
 {
     let bucket = target.bucket.copy()?;
     let key = target.key.copy()?;
@@ -601,7 +630,8 @@ fn get_object_acl(target: &Target) -> Result<Meant, Memory>
 }
 
 fn list_uploads(alloc: Global, target: &Target) -> Result<Meant, Memory>
-    ensures { IfOk result (λ meant. meant ≡ Meant.Op (uploads_asked target.now.bucket target.now.query)) }
+    ensures { IfOk result
+        (λ meant. meant ≡ Meant.Op (uploads_asked target.now.bucket target.now.query)) }
 {
     let bucket = target.bucket.copy()?;
     let op = uploads_asked(alloc, bucket, target.query.pairs())?;
@@ -616,7 +646,8 @@ fn delete_objects(target: &Target, deletes: Deletes) -> Result<Meant, Memory>
 }
 
 fn create_upload(target: &Target, taken: Taken) -> Result<Meant, Memory>
-    ensures { IfOk result (λ meant. meant ≡ Meant.Op (Op.CreateUpload target.now.bucket target.now.key taken.acl taken.content_type taken.meta)) }
+    ensures { IfOk result (λ meant. meant ≡ Meant.Op (Op.CreateUpload target.now.bucket
+        target.now.key taken.acl taken.content_type taken.meta)) }
 {
     let (bucket, key) = place(target)?;
     Ok(Meant::Op(Op::CreateUpload {
@@ -635,7 +666,9 @@ fn upload_part(
     digest: Option<[u8; 16]>,
 ) -> Result<Meant, Memory>
     requires digest { IsDigestOf digest message.now.body }
-    ensures value { IfOk result (λ meant. meant ≡ Meant.Op (Op.UploadPart target.now.bucket target.now.key (given_upload target.now.query) (given_part target.now.query) message.entry.now.body)) }
+    ensures value { IfOk result (λ meant. meant ≡ Meant.Op (Op.UploadPart target.now.bucket
+        target.now.key (given_upload target.now.query) (given_part target.now.query)
+        message.entry.now.body)) }
     ensures keeps { KeepsFront message.entry.now message.exit.now }
 {
     let (bucket, key) = place(target)?;
@@ -650,7 +683,8 @@ fn upload_part(
 }
 
 fn list_parts(alloc: Global, target: &Target) -> Result<Meant, Memory>
-    ensures { IfOk result (λ meant. meant ≡ Meant.Op (parts_asked target.now.bucket target.now.key target.now.query)) }
+    ensures { IfOk result (λ meant. meant ≡ Meant.Op
+        (parts_asked target.now.bucket target.now.key target.now.query)) }
 {
     let (bucket, key) = place(target)?;
     let op = parts_asked(alloc, bucket, key, target.query.pairs())?;
@@ -658,7 +692,8 @@ fn list_parts(alloc: Global, target: &Target) -> Result<Meant, Memory>
 }
 
 fn abort_upload(alloc: Global, target: &Target) -> Result<Meant, Memory>
-    ensures { IfOk result (λ meant. meant ≡ Meant.Op (Op.AbortUpload target.now.bucket target.now.key (given_upload target.now.query))) }
+    ensures { IfOk result (λ meant. meant ≡ Meant.Op
+        (Op.AbortUpload target.now.bucket target.now.key (given_upload target.now.query))) }
 {
     let (bucket, key) = place(target)?;
     let id = given_upload(alloc, target.query.pairs())?;
@@ -666,7 +701,8 @@ fn abort_upload(alloc: Global, target: &Target) -> Result<Meant, Memory>
 }
 
 fn complete_upload(alloc: Global, target: &Target, list: List<Listed>) -> Result<Meant, Memory>
-    ensures { IfOk result (λ meant. meant ≡ Meant.Op (Op.CompleteUpload target.now.bucket target.now.key (given_upload target.now.query) list)) }
+    ensures { IfOk result (λ meant. meant ≡ Meant.Op (Op.CompleteUpload target.now.bucket
+        target.now.key (given_upload target.now.query) list)) }
 {
     let (bucket, key) = place(target)?;
     let id = given_upload(alloc, target.query.pairs())?;
@@ -679,14 +715,16 @@ fn complete_upload(alloc: Global, target: &Target, list: List<Listed>) -> Result
 }
 
 fn copy_object(target: &Target, taken: Taken) -> Result<Meant, Memory>
-    ensures { IfOk result (λ meant. meant ≡ Meant.Op (copy_asked target.now.bucket target.now.key taken)) }
+    ensures { IfOk result
+        (λ meant. meant ≡ Meant.Op (copy_asked target.now.bucket target.now.key taken)) }
 {
     let (bucket, key) = place(target)?;
     Ok(Meant::Op(copy_asked(bucket, key, taken)))
 }
 
 fn upload_part_copy(alloc: Global, target: &Target, source: Source) -> Result<Meant, Memory>
-    ensures { IfOk result (λ meant. meant ≡ Meant.Op (part_copy_asked target.now.bucket target.now.key target.now.query source)) }
+    ensures { IfOk result (λ meant. meant ≡ Meant.Op
+        (part_copy_asked target.now.bucket target.now.key target.now.query source)) }
 {
     let (bucket, key) = place(target)?;
     let op = part_copy_asked(alloc, bucket, key, target.query.pairs(), source)?;
@@ -700,7 +738,8 @@ fn level_of_target(target: &Target) -> Level
 }
 
 fn table_row(message: &Message, target: &Target) -> Option<Row>
-    ensures { result ≡ row_for message.now.method (level_of target.now.bucket target.now.key) target.now.query }
+    ensures { result ≡ row_for message.now.method (level_of target.now.bucket target.now.key)
+        target.now.query }
 {
     row_for(
         message.method.as_slice(),

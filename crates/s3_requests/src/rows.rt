@@ -267,7 +267,8 @@ impl Shape {
 
     /// Whether a request with the method, at the level, may be one of the row.
     fn is_at(&self, method: &[u8], level: Level) -> bool
-        ensures { result ≡ bytes_eq method.now self.now.method && is_same_level level self.now.level }
+        ensures { result ≡ bytes_eq method.now self.now.method
+            && is_same_level level self.now.level }
     {
         method == self.method && is_same_level(level, self.level)
     }

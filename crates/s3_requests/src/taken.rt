@@ -20,7 +20,8 @@ pub struct Taken {
 
 /// What a copy is put with in place of what its source has, where it replaces that.
 fn replaced_by(replaces: bool, content_type: Bytes, meta: Meta) -> Option<Replaced>
-    ensures { result ≡ (if replaces then Some (record { content_type = content_type; meta = meta }) else None) }
+    ensures { result ≡ (if replaces then Some (record { content_type = content_type; meta = meta })
+        else None) }
 {
     if replaces {
         Some(Replaced { content_type, meta })

@@ -34,9 +34,13 @@ pub fn sign_first<N: Line<W>, W: Counted>(
     line: &mut N,
     store: &W,
 ) -> Signing
-    ensures line { SignsOn (is_failed_signing result) (W.called store.now) (N.model line.old) (N.model line.new) }
-    ensures effect { IsTrue (N.model line.old).observable → AnswersFirst secret.now region.now (N.model line.old).transcript.waiting result }
-    ensures sent { IsTrue (N.model line.old).observable → SendsFirst (W.called store.now) (N.model line.old).transcript result (N.model line.new).transcript }
+    ensures line { SignsOn (is_failed_signing result) (W.called store.now) (N.model line.old)
+        (N.model line.new) }
+    ensures effect { IsTrue (N.model line.old).observable
+        → AnswersFirst secret.now region.now (N.model line.old).transcript.waiting result }
+    ensures sent { IsTrue (N.model line.old).observable
+        → SendsFirst (W.called store.now) (N.model line.old).transcript result
+        (N.model line.new).transcript }
 {
     match line.next() {
         Ok(true) => sign_next(alloc, secret, region, line, store),
@@ -55,9 +59,12 @@ fn sign_next<N: Line<W>, W: Counted>(
 ) -> Signing
     requires { IsTrue (N.model line.old).is_open }
     ensures line { LineServes (is_failed_signing result) (N.model line.old) (N.model line.new) }
-    ensures effect { IsTrue (N.model line.old).observable → AnswersFrom secret.now region.now (N.model line.old).transcript.rest result }
-    ensures sent { IsTrue (N.model line.old).observable → SendsBy (OwesInterim (N.model line.old).transcript.rest) (N.model line.old).transcript.begun
-        (W.called store.now) (N.model line.old).transcript.sent result (N.model line.new).transcript.sent }
+    ensures effect { IsTrue (N.model line.old).observable
+        → AnswersFrom secret.now region.now (N.model line.old).transcript.rest result }
+    ensures sent { IsTrue (N.model line.old).observable
+        → SendsBy (OwesInterim (N.model line.old).transcript.rest)
+        (N.model line.old).transcript.begun (W.called store.now) (N.model line.old).transcript.sent
+        result (N.model line.new).transcript.sent }
 {
     let mut reader = match Reader::new(alloc) {
         Ok(reader) => reader,

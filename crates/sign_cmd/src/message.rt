@@ -17,7 +17,8 @@ pub(crate) fn sign_message(
     region: &[u8],
     message: &Message,
 ) -> Result<Option<Signed>, Memory>
-    ensures { IfOk result (λ answer. MatchOption answer (can_sign message.now ≡ false) (Signs secret.now region.now message.now)) }
+    ensures { IfOk result (λ answer. MatchOption answer (can_sign message.now ≡ false)
+        (Signs secret.now region.now message.now)) }
 {
     if !has_signing_headers(message.headers.as_slice()) {
         return Ok(None);

@@ -53,7 +53,8 @@ pub fn unix_seconds(time: &[u8]) -> u64
 #[tactic(auto, using(crate::proofs::VerdictLemmas::time_has_day))]
 fn day_of(time: &[u8]) -> u32
     requires { is_time time.now ≡ true }
-    ensures { result ≡ day_number (year_of time.now) (two_digits time.now 4) (two_digits time.now 6) }
+    ensures { result ≡ day_number (year_of time.now) (two_digits time.now 4)
+        (two_digits time.now 6) }
 {
     let year = year_of(time);
     let month = two_digits(time, 4);

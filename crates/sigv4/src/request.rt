@@ -37,7 +37,8 @@ pub fn canonical_with(
     names: &[Bytes],
     payload: &[u8],
 ) -> Result<Bytes, Memory>
-    ensures { IfOk result (λ text. text ≡ canonical_of message.now.method path.now query.now message.now.headers names.now payload.now) }
+    ensures { IfOk result (λ text. text ≡ canonical_of message.now.method path.now query.now
+        message.now.headers names.now payload.now) }
 {
     let parts = [
         message.method.copy()?,

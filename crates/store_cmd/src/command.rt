@@ -101,8 +101,10 @@ fn serve_from<N: Line<NoCount>, S: Shelf>(
     line: &mut N,
 ) -> Stopped
     ensures line { LineServesAll (Some most) result (N.model line.old) (N.model line.new) }
-    ensures serves { (told : Bool) → (IsTrue told → IsTrue (S.model shelf.old).observable) → IsTrue (N.model line.old).observable
-        → RunTrace told setup.now.place (run_cursor (N.model line.old) (S.model shelf.old)) (run_cursor (N.model line.new) (S.model shelf.new)) }
+    ensures serves { (told : Bool) → (IsTrue told → IsTrue (S.model shelf.old).observable)
+        → IsTrue (N.model line.old).observable
+        → RunTrace told setup.now.place (run_cursor (N.model line.old) (S.model shelf.old))
+        (run_cursor (N.model line.new) (S.model shelf.new)) }
 {
     let none = NoCount;
     serve_all(

@@ -78,10 +78,13 @@ fn answer_message<N: Line<NoCount>, S: Shelf>(
 ) -> Option<Ended>
     requires { IsTrue (N.model line.old).is_open }
     ensures writes { OnlyWrites (is_failed_step result) (N.model line.old) (N.model line.new) }
-    ensures observable { IsTrue (S.model shelf.old).observable → IsTrue (S.model shelf.new).observable }
-    ensures answers { (told : Bool) → (IsTrue told → IsTrue (S.model shelf.old).observable) → IsTrue (N.model line.old).observable
-        → AnswersMessage told setup.now.place (N.model line.old).transcript.begun message (state_of (S.model shelf.old)) (N.model line.old).transcript.sent
-        result (state_of (S.model shelf.new)) (N.model line.new).transcript.sent }
+    ensures observable { IsTrue (S.model shelf.old).observable
+        → IsTrue (S.model shelf.new).observable }
+    ensures answers { (told : Bool) → (IsTrue told → IsTrue (S.model shelf.old).observable)
+        → IsTrue (N.model line.old).observable
+        → AnswersMessage told setup.now.place (N.model line.old).transcript.begun message
+        (state_of (S.model shelf.old)) (N.model line.old).transcript.sent result
+        (state_of (S.model shelf.new)) (N.model line.new).transcript.sent }
 {
     let last = closes(&message);
     let mut text = Bytes::new(alloc);
@@ -116,7 +119,8 @@ fn refuse<N: Line<NoCount>>(setup: &Setup, line: &mut N, kind: Kind, place: u64)
     ensures ends { result ≢ None }
     ensures writes { OnlyWrites (is_failed_step result) (N.model line.old) (N.model line.new) }
     ensures sends { IsTrue (N.model line.old).observable
-        → Sends (N.model line.old).transcript.begun 0 (refusal 400) (Some (Refused kind place)) (N.model line.old).transcript.sent result (N.model line.new).transcript.sent }
+        → Sends (N.model line.old).transcript.begun 0 (refusal 400) (Some (Refused kind place))
+        (N.model line.old).transcript.sent result (N.model line.new).transcript.sent }
 {
     send_piece(
         line,

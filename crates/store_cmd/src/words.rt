@@ -91,7 +91,8 @@ fn with_needed<'a>(
     command: Command<'a>,
     name: &'a str,
 ) -> Result<Command<'a>, AllocError>
-    ensures { IfOk result (λ more. app_of more ≡ with_rule (app_of command.entry) (needed_rule name.entry.now)) }
+    ensures { IfOk result
+        (λ more. app_of more ≡ with_rule (app_of command.entry) (needed_rule name.entry.now)) }
 {
     let option = needed(alloc, name);
     command.arg(option)
@@ -142,7 +143,9 @@ fn asked_by(
     account: Option<&str>,
     connections: Option<&str>,
 ) -> Result<Asked, WordsFault>
-    ensures reads { ReadsWords (asked_by (option_map (λ text. text.now) token.entry) (option_map (λ text. text.now) account.entry) (option_map (λ text. text.now) connections.entry)) result }
+    ensures reads { ReadsWords (asked_by (option_map (λ text. text.now) token.entry)
+        (option_map (λ text. text.now) account.entry)
+        (option_map (λ text. text.now) connections.entry)) result }
     ensures place { IfOk result (λ asked. IsPlace (place_by asked)) }
 {
     let Some(token) = token else {

@@ -156,7 +156,8 @@ fn copy_list(
     marker: &Bytes,
     limit: u32,
 ) -> Result<SwiftRequest, Memory>
-    ensures { IfOk result (λ copied. copied ≡ SwiftRequest.ListNames container.now prefix.now marker.now limit) }
+    ensures { IfOk result
+        (λ copied. copied ≡ SwiftRequest.ListNames container.now prefix.now marker.now limit) }
 {
     let container = container.copy()?;
     let (prefix, marker) = copy_both(prefix, marker)?;
@@ -211,7 +212,8 @@ fn copy_put(
     meta: &List<Bytes>,
     body: &Bytes,
 ) -> Result<SwiftRequest, Memory>
-    ensures { IfOk result (λ copied. copied ≡ SwiftRequest.PutObject container.now name.now content_type.now meta.now body.now) }
+    ensures { IfOk result (λ copied. copied ≡ SwiftRequest.PutObject container.now name.now
+        content_type.now meta.now body.now) }
 {
     let meta = meta.copy()?;
     let (container, name) = copy_both(container, name)?;
@@ -232,7 +234,8 @@ fn copy_manifest(
     meta: &List<Bytes>,
     segments: &List<Segment>,
 ) -> Result<SwiftRequest, Memory>
-    ensures { IfOk result (λ copied. copied ≡ SwiftRequest.PutManifest container.now name.now content_type.now meta.now segments.now) }
+    ensures { IfOk result (λ copied. copied ≡ SwiftRequest.PutManifest container.now name.now
+        content_type.now meta.now segments.now) }
 {
     let meta = meta.copy()?;
     let (container, name) = copy_both(container, name)?;

@@ -103,7 +103,8 @@ fn is_place(container: &Bytes, name: &Bytes) -> bool
 }
 
 fn is_content(content_type: &Bytes, meta: &List<Bytes>, body: &Bytes) -> bool
-    ensures { IsTrue result ↔ (IsTrue (is_content_type content_type.now) × IsTrue (is_meta meta.now) × (length body.now ≤ most_body)) }
+    ensures { IsTrue result ↔ (IsTrue (is_content_type content_type.now) × IsTrue (is_meta meta.now)
+        × (length body.now ≤ most_body)) }
 {
     is_field(content_type.as_slice(), 512) && is_meta(meta.as_slice()) && body.len() <= MOST_BODY
 }
@@ -129,7 +130,8 @@ fn puts_fit(
     meta: &List<Bytes>,
     body: &Bytes,
 ) -> bool
-    ensures { IsTrue result ↔ Fit (asked.PutObject container.now name.now content_type.now meta.now body.now) }
+    ensures { IsTrue result ↔ Fit
+        (asked.PutObject container.now name.now content_type.now meta.now body.now) }
 {
     is_place(container, name) && is_content(content_type, meta, body)
 }
@@ -149,7 +151,8 @@ fn are_segment_places(segments: &[Segment]) -> bool
 }
 
 fn is_manifest(content_type: &Bytes, meta: &List<Bytes>, segments: &List<Segment>) -> bool
-    ensures { IsTrue result ↔ (IsTrue (is_content_type content_type.now) × IsTrue (is_meta meta.now) × (length segments.now ≤ most_segments) × All IsSegmentPlace segments.now) }
+    ensures { IsTrue result ↔ (IsTrue (is_content_type content_type.now) × IsTrue (is_meta meta.now)
+        × (length segments.now ≤ most_segments) × All IsSegmentPlace segments.now) }
 {
     is_field(content_type.as_slice(), 512)
         && is_meta(meta.as_slice())
@@ -164,7 +167,8 @@ fn puts_manifest_fit(
     meta: &List<Bytes>,
     segments: &List<Segment>,
 ) -> bool
-    ensures { IsTrue result ↔ Fit (asked.PutManifest container.now name.now content_type.now meta.now segments.now) }
+    ensures { IsTrue result ↔ Fit
+        (asked.PutManifest container.now name.now content_type.now meta.now segments.now) }
 {
     is_place(container, name) && is_manifest(content_type, meta, segments)
 }

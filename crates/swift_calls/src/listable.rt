@@ -30,7 +30,8 @@ fn lists_at(containers: &List<Container>, segment: &Segment) -> bool
 }
 
 fn any_lists(containers: &List<Container>, segments: &[Segment]) -> bool
-    ensures { result ≡ list_any (λ s. lists_at (look_in containers.now s.container s.name)) segments.now }
+    ensures { result ≡ list_any (λ s. lists_at (look_in containers.now s.container s.name))
+        segments.now }
 {
     segments.iter().any(|segment| lists_at(containers, segment))
 }
@@ -76,7 +77,8 @@ fn may_all_be_listed(
     segments: &[Segment],
 ) -> Result<bool, Memory>
     requires { AreSized containers.now }
-    ensures { IfOk result (λ may. may ≡ list_all (may_be_listed (look_in containers.now)) segments.now) }
+    ensures { IfOk result
+        (λ may. may ≡ list_all (may_be_listed (look_in containers.now)) segments.now) }
 {
     for segment in segments {
         if !may_be_listed(alloc, containers, segment)? {

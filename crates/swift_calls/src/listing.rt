@@ -24,7 +24,8 @@ pub(crate) fn list_containers(
     marker: &[u8],
     limit: usize,
 ) -> Result<List<Bytes>, Memory>
-    ensures { IfOk result (λ names. names ≡ page limit name_of (λ c. is_listed [] marker.now c.name) containers.now) }
+    ensures { IfOk result (λ names. names ≡ page limit name_of (λ c. is_listed [] marker.now c.name)
+        containers.now) }
 {
     let mut names = List::new(alloc);
     for container in containers {
@@ -48,7 +49,8 @@ pub(crate) fn list_objects(
     limit: usize,
 ) -> Result<List<NameItem>, Memory>
     requires { AreSizedObjects objects.now }
-    ensures { IfOk result (λ items. items ≡ page limit stored_item (λ s. is_listed prefix.now marker.now s.name) objects.now) }
+    ensures { IfOk result (λ items. items ≡ page limit stored_item
+        (λ s. is_listed prefix.now marker.now s.name) objects.now) }
 {
     let mut items = List::new(alloc);
     for object in objects {

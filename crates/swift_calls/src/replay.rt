@@ -35,7 +35,8 @@ impl MemSwift {
         ensures account { IfOk result (λ m. account_after m 0 ≡ account) }
         ensures faults { IfOk result (λ m. faults_after m 0 ≡ 0) }
         ensures sure { IfOk result (λ m. (history_of m).sure ≡ loses_none before after stop) }
-        ensures planned { IfOk result (λ m. (number : ℕ) → planned m number ≡ outcome_at before after stop number) }
+        ensures planned { IfOk result
+            (λ m. (number : ℕ) → planned m number ≡ outcome_at before after stop number) }
     {
         Ok(MemSwift {
             present: account.copy()?,
@@ -96,8 +97,10 @@ impl MemSwift {
     fn make(&mut self, request: &SwiftRequest) -> Result<SwiftReply, SwiftFault>
         requires { Fit request.now }
         ensures plan { SamePlan self.old self.new }
-        ensures logs { Logs (planned self.old (calls_of self.old + 1)) request.now result self.old.log.items self.new.log.items }
-        ensures reply { IfOk result (λ reply. reply ≡ (swift_step request.now (tree_of self.old.present)).reply) }
+        ensures logs { Logs (planned self.old (calls_of self.old + 1)) request.now result
+            self.old.log.items self.new.log.items }
+        ensures reply { IfOk result
+            (λ reply. reply ≡ (swift_step request.now (tree_of self.old.present)).reply) }
     {
         let outcome = self.outcome(self.log.as_slice().len() as u64 + 1);
         let reply = enter(
@@ -121,9 +124,11 @@ fn enter(
 ) -> Result<Option<SwiftReply>, Memory>
     requires ordered { IsOrdered account.old }
     requires sized { IsSized account.old }
-    ensures reply { IfOk result (λ reply. reply ≡ reply_by outcome (swift_step request.now (tree_of account.old)).reply) }
+    ensures reply { IfOk result
+        (λ reply. reply ≡ reply_by outcome (swift_step request.now (tree_of account.old)).reply) }
     ensures effect { OnOk result (account.new ≡ left_by outcome request.now account.old) }
-    ensures logs { OnOk result (log.new.items ≡ log.old.items ++ record { request = request.now; outcome = outcome } ∷ []) }
+    ensures logs { OnOk result (log.new.items ≡ log.old.items
+        ++ record { request = request.now; outcome = outcome } ∷ []) }
     ensures kept { OnErr result (account.new ≡ account.old) }
     ensures same { OnErr result (log.new.items ≡ log.old.items) }
 {
@@ -169,8 +174,10 @@ impl Entry {
     fn go(&self, alloc: Global, account: &mut Account) -> Result<Option<SwiftReply>, Memory>
         requires ordered { IsOrdered account.old }
         requires sized { IsSized account.old }
-        ensures reply { IfOk result (λ reply. reply ≡ reply_by self.now.outcome (swift_step self.now.request (tree_of account.old)).reply) }
-        ensures effect { OnOk result (account.new ≡ left_by self.now.outcome self.now.request account.old) }
+        ensures reply { IfOk result (λ reply. reply ≡ reply_by self.now.outcome
+            (swift_step self.now.request (tree_of account.old)).reply) }
+        ensures effect { OnOk result
+            (account.new ≡ left_by self.now.outcome self.now.request account.old) }
         ensures err { OnErr result (account.new ≡ account.old) }
     {
         match self.outcome {
@@ -209,7 +216,9 @@ impl Swift for MemSwift {
         requires { Fit request.now }
         ensures calls { Calls (history_of self.old) (history_of self.new) request.now result }
         ensures plan { SamePlan self.old self.new }
-        ensures exact { Goes (planned self.old (calls_of self.old + 1)) request.now result (account_after self.old (calls_of self.old)) (account_after self.new (calls_of self.new)) }
+        ensures exact { Goes (planned self.old (calls_of self.old + 1)) request.now result
+            (account_after self.old (calls_of self.old))
+            (account_after self.new (calls_of self.new)) }
         ensures memory { IsErrOf result SwiftFault.Memory → calls_of self.new ≡ calls_of self.old }
     {
         self.make(request)

@@ -64,7 +64,8 @@ fn joined_inner(
     segments: &[Segment],
 ) -> Result<Option<Bytes>, Memory>
     requires { AreSized containers.now }
-    ensures { IfOk result (λ bytes. bytes ≡ joined (inner_bytes (look_in containers.now)) segments.now) }
+    ensures { IfOk result
+        (λ bytes. bytes ≡ joined (inner_bytes (look_in containers.now)) segments.now) }
 {
     let mut body = Bytes::new(alloc);
     for segment in segments {
@@ -124,7 +125,8 @@ fn joined_outer(
     segments: &[Segment],
 ) -> Result<Option<Bytes>, Memory>
     requires { AreSized containers.now }
-    ensures { IfOk result (λ bytes. bytes ≡ joined (outer_bytes (look_in containers.now)) segments.now) }
+    ensures { IfOk result
+        (λ bytes. bytes ≡ joined (outer_bytes (look_in containers.now)) segments.now) }
 {
     let mut body = Bytes::new(alloc);
     for segment in segments {
@@ -179,7 +181,8 @@ pub(crate) fn read_object(
 ) -> Result<SwiftReply, Memory>
     requires sized { AreSized containers.now }
     requires size { size_of object.now.content < 2 ^ 63 }
-    ensures { IfOk result (λ reply. reply ≡ get_reply (look_in containers.now) range (Some (file_of object.now))) }
+    ensures { IfOk result
+        (λ reply. reply ≡ get_reply (look_in containers.now) range (Some (file_of object.now))) }
 {
     let head = head_of(alloc, object)?;
     match &object.content {

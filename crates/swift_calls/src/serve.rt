@@ -28,7 +28,8 @@ fn serve_list_containers(
     limit: u32,
 ) -> Result<SwiftReply, Memory>
     requires { AreOrdered containers.now }
-    ensures { IfOk result (λ reply. reply ≡ (swift_step (SwiftRequest.ListContainers marker.now limit) (tree_of (listed containers.now))).reply) }
+    ensures { IfOk result (λ reply. reply ≡ (swift_step
+        (SwiftRequest.ListContainers marker.now limit) (tree_of (listed containers.now))).reply) }
 {
     let names = list_containers(alloc, containers.as_slice(), marker, limit as usize)?;
     Ok(SwiftReply::Containers(names))
@@ -37,7 +38,8 @@ fn serve_list_containers(
 /// Asks for a container's read list and creation time.
 #[tactic(auto, using(crate::proofs::Serving::head_some, crate::proofs::Serving::head_none))]
 fn serve_head_container(containers: &List<Container>, name: &[u8]) -> SwiftReply
-    ensures { result ≡ (swift_step (SwiftRequest.HeadContainer name.now) (tree_of (listed containers.now))).reply }
+    ensures { result ≡ (swift_step (SwiftRequest.HeadContainer name.now)
+        (tree_of (listed containers.now))).reply }
 {
     match item_at(containers, name) {
         Some(container) => SwiftReply::Readers {
@@ -58,8 +60,11 @@ fn serve_put_container(
     readers: ReadList,
     created: Option<u64>,
 ) -> Result<SwiftReply, Memory>
-    ensures reply { IfOk result (λ reply. reply ≡ (swift_step (SwiftRequest.PutContainer name.now readers created) (tree_of (listed containers.old))).reply) }
-    ensures effect { OnOk result (containers.new ≡ (served (SwiftRequest.PutContainer name.now readers created) (listed containers.old)).containers) }
+    ensures reply { IfOk result (λ reply. reply ≡ (swift_step
+        (SwiftRequest.PutContainer name.now readers created)
+        (tree_of (listed containers.old))).reply) }
+    ensures effect { OnOk result (containers.new ≡ (served
+        (SwiftRequest.PutContainer name.now readers created) (listed containers.old)).containers) }
     ensures err { OnErr result (containers.new ≡ containers.old) }
 {
     match containers.find(name) {
@@ -88,8 +93,10 @@ fn serve_post_container(
     name: &[u8],
     readers: ReadList,
 ) -> SwiftReply
-    ensures reply { result ≡ (swift_step (SwiftRequest.PostContainer name.now readers) (tree_of (listed containers.old))).reply }
-    ensures effect { containers.new ≡ (served (SwiftRequest.PostContainer name.now readers) (listed containers.old)).containers }
+    ensures reply { result ≡ (swift_step (SwiftRequest.PostContainer name.now readers)
+        (tree_of (listed containers.old))).reply }
+    ensures effect { containers.new ≡ (served (SwiftRequest.PostContainer name.now readers)
+        (listed containers.old)).containers }
 {
     match containers.find(name) {
         Some(index) => {
@@ -123,8 +130,10 @@ fn serve_delete_container(
     containers: &mut List<Container>,
     name: &[u8],
 ) -> SwiftReply
-    ensures reply { result ≡ (swift_step (SwiftRequest.DeleteContainer name.now) (tree_of (listed containers.old))).reply }
-    ensures effect { containers.new ≡ (served (SwiftRequest.DeleteContainer name.now) (listed containers.old)).containers }
+    ensures reply { result ≡ (swift_step (SwiftRequest.DeleteContainer name.now)
+        (tree_of (listed containers.old))).reply }
+    ensures effect { containers.new ≡ (served (SwiftRequest.DeleteContainer name.now)
+        (listed containers.old)).containers }
 {
     match is_bare(containers, name) {
         Some(true) => {
@@ -158,7 +167,9 @@ fn serve_list_names(
 ) -> Result<SwiftReply, Memory>
     requires ordered { AreOrdered containers.now }
     requires sized { AreSized containers.now }
-    ensures { IfOk result (λ reply. reply ≡ (swift_step (SwiftRequest.ListNames container.now prefix.now marker.now limit) (tree_of (listed containers.now))).reply) }
+    ensures { IfOk result (λ reply. reply ≡ (swift_step
+        (SwiftRequest.ListNames container.now prefix.now marker.now limit)
+        (tree_of (listed containers.now))).reply) }
 {
     match item_at(containers, container) {
         Some(container) => {
@@ -178,8 +189,11 @@ fn serve_put_object(
     container: &[u8],
     object: Stored,
 ) -> Result<SwiftReply, Memory>
-    ensures reply { IfOk result (λ reply. reply ≡ (put_object (get (tree_of (listed containers.old)) container.now) container.now object.name (file_of object) (tree_of (listed containers.old))).reply) }
-    ensures effect { OnOk result (containers.new ≡ changed name_of container.now (with_object object) containers.old) }
+    ensures reply { IfOk result (λ reply. reply ≡ (put_object
+        (get (tree_of (listed containers.old)) container.now) container.now object.name
+        (file_of object) (tree_of (listed containers.old))).reply) }
+    ensures effect { OnOk result
+        (containers.new ≡ changed name_of container.now (with_object object) containers.old) }
     ensures err { OnErr result (containers.new ≡ containers.old) }
 {
     match containers.find(container) {
@@ -199,7 +213,12 @@ fn list_object(
     meta: &List<Bytes>,
     segments: &List<Segment>,
 ) -> Result<Stored, Memory>
-    ensures { IfOk result (λ object. object ≡ record { name = name.now; content_type = content_type.now; meta = meta.now; content = Segments segments.now }) }
+    ensures { IfOk result (λ object. object ≡ record {
+      name = name.now;
+      content_type = content_type.now;
+      meta = meta.now;
+      content = Segments segments.now;
+    }) }
 {
     Ok(Stored {
         name: name.copy()?,
@@ -221,8 +240,12 @@ fn serve_put_manifest(
     segments: &List<Segment>,
 ) -> Result<SwiftReply, Memory>
     requires { AreSized containers.old }
-    ensures reply { IfOk result (λ reply. reply ≡ (swift_step (SwiftRequest.PutManifest container.now name.now content_type.now meta.now segments.now) (tree_of (listed containers.old))).reply) }
-    ensures effect { OnOk result (containers.new ≡ (served (SwiftRequest.PutManifest container.now name.now content_type.now meta.now segments.now) (listed containers.old)).containers) }
+    ensures reply { IfOk result (λ reply. reply ≡ (swift_step
+        (SwiftRequest.PutManifest container.now name.now content_type.now meta.now segments.now)
+        (tree_of (listed containers.old))).reply) }
+    ensures effect { OnOk result (containers.new ≡ (served
+        (SwiftRequest.PutManifest container.now name.now content_type.now meta.now segments.now)
+        (listed containers.old)).containers) }
     ensures err { OnErr result (containers.new ≡ containers.old) }
 {
     match item_at(containers, container) {
@@ -246,7 +269,8 @@ fn serve_head_object(
     name: &[u8],
 ) -> Result<SwiftReply, Memory>
     requires { AreSized containers.now }
-    ensures { IfOk result (λ reply. reply ≡ (swift_step (SwiftRequest.HeadObject container.now name.now) (tree_of (listed containers.now))).reply) }
+    ensures { IfOk result (λ reply. reply ≡ (swift_step
+        (SwiftRequest.HeadObject container.now name.now) (tree_of (listed containers.now))).reply) }
 {
     match object_at(containers, container, name) {
         Some(object) => Ok(SwiftReply::Head(head_of(alloc, object)?)),
@@ -264,7 +288,9 @@ fn serve_get_object(
     range: Option<(u64, u64)>,
 ) -> Result<SwiftReply, Memory>
     requires { AreSized containers.now }
-    ensures { IfOk result (λ reply. reply ≡ (swift_step (SwiftRequest.GetObject container.now name.now range) (tree_of (listed containers.now))).reply) }
+    ensures { IfOk result (λ reply. reply ≡ (swift_step
+        (SwiftRequest.GetObject container.now name.now range)
+        (tree_of (listed containers.now))).reply) }
 {
     match object_at(containers, container, name) {
         Some(object) => read_object(alloc, containers, object, range),
@@ -279,7 +305,9 @@ fn serve_get_manifest(
     container: &[u8],
     name: &[u8],
 ) -> Result<SwiftReply, Memory>
-    ensures { IfOk result (λ reply. reply ≡ (swift_step (SwiftRequest.GetManifest container.now name.now) (tree_of (listed containers.now))).reply) }
+    ensures { IfOk result (λ reply. reply ≡ (swift_step
+        (SwiftRequest.GetManifest container.now name.now)
+        (tree_of (listed containers.now))).reply) }
 {
     match object_at(containers, container, name) {
         Some(object) => manifest_of(&object.content),
@@ -316,8 +344,10 @@ fn serve_delete_object(
     container: &[u8],
     name: &[u8],
 ) -> SwiftReply
-    ensures reply { result ≡ (swift_step (SwiftRequest.DeleteObject container.now name.now) (tree_of (listed containers.old))).reply }
-    ensures effect { containers.new ≡ (served (SwiftRequest.DeleteObject container.now name.now) (listed containers.old)).containers }
+    ensures reply { result ≡ (swift_step (SwiftRequest.DeleteObject container.now name.now)
+        (tree_of (listed containers.old))).reply }
+    ensures effect { containers.new ≡ (served (SwiftRequest.DeleteObject container.now name.now)
+        (listed containers.old)).containers }
 {
     match containers.find(container) {
         Some(index) => {
@@ -338,7 +368,12 @@ fn plain_object(
     meta: &List<Bytes>,
     body: &Bytes,
 ) -> Result<Stored, Memory>
-    ensures { IfOk result (λ object. object ≡ record { name = name.now; content_type = content_type.now; meta = meta.now; content = Plain body.now }) }
+    ensures { IfOk result (λ object. object ≡ record {
+      name = name.now;
+      content_type = content_type.now;
+      meta = meta.now;
+      content = Plain body.now;
+    }) }
 {
     Ok(Stored {
         name: name.copy()?,
@@ -356,7 +391,8 @@ pub(crate) fn serve(
 ) -> Result<SwiftReply, Memory>
     requires ordered { IsOrdered account.old }
     requires sized { IsSized account.old }
-    ensures reply { IfOk result (λ reply. reply ≡ (swift_step request.now (tree_of account.old)).reply) }
+    ensures reply { IfOk result
+        (λ reply. reply ≡ (swift_step request.now (tree_of account.old)).reply) }
     ensures effect { OnOk result (account.new ≡ served request.now account.old) }
     ensures err { OnErr result (account.new ≡ account.old) }
 {

@@ -19,7 +19,8 @@ pub fn over_tcp<R: Net + Drop>(
     limit: u64,
 ) -> Result<SwiftClient<TcpLink<R>>, Memory>
     requires { IsPlace place }
-    ensures history { IfOk result (λ store. ⟦<SwiftClient<TcpLink<R>> as Swift>⟧.history store ≡ silent_history 0 0) }
+    ensures history { IfOk result
+        (λ store. ⟦<SwiftClient<TcpLink<R>> as Swift>⟧.history store ≡ silent_history 0 0) }
     ensures address { IfOk result (λ store. store.link.address ≡ place.host) }
     ensures limit { IfOk result (λ store. store.link.limit ≡ limit) }
     ensures place { IfOk result (λ store. store.place ≡ place) }

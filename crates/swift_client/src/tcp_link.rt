@@ -71,7 +71,8 @@ impl<R: Net + Drop> TcpLink<R> {
         limit: u64,
         stream: R::Stream,
     ) -> io::Result<TcpLink<R>>
-        ensures history { IfOk result (λ link. ⟦<TcpLink<R> as Link>⟧.history link ≡ silent_history 0 0) }
+        ensures history { IfOk result
+            (λ link. ⟦<TcpLink<R> as Link>⟧.history link ≡ silent_history 0 0) }
         ensures address { IfOk result (λ link. link.address ≡ address) }
         ensures limit { IfOk result (λ link. link.limit ≡ limit) }
     {

@@ -85,7 +85,8 @@ fn reply_of(
     headers: &[Pair],
     body: &[u8],
 ) -> Result<Option<SwiftReply>, Memory>
-    ensures { IfOk result (λ reply. reply ≡ reply_of call.now (record { status = status; headers = headers.now; body = body.now })) }
+    ensures { IfOk result (λ reply. reply ≡ reply_of call.now
+        (record { status = status; headers = headers.now; body = body.now })) }
 {
     match call {
         SwiftRequest::ListContainers { .. } => containers_reply(alloc, status, body),

@@ -66,7 +66,8 @@ fn piece_at<'a>(
     headers: &'a [Pair],
     index: u64,
 ) -> Result<Option<Option<&'a [u8]>>, Memory>
-    ensures { IfOk result (λ piece. option_map option_copied piece ≡ field (meta_name index) headers.now) }
+    ensures { IfOk result
+        (λ piece. option_map option_copied piece ≡ field (meta_name index) headers.now) }
 {
     let name = meta_name(alloc, index)?;
     Ok(field(headers, name.as_slice()))

@@ -131,7 +131,8 @@ pub(crate) fn append_meta(text: &mut Bytes, pieces: &[Bytes]) -> Result<(), Memo
 /// Adds the piece of metadata of a number.
 #[tactic(auto, using(crate::proofs::SentLemmas::piece_is))]
 fn append_piece(text: &mut Bytes, index: u64, piece: &[u8]) -> Result<(), Memory>
-    ensures { OnOk result (text.new ≡ text.old ++ print_header (codes "X-Object-Meta-S3-" ++ decimal index, piece.now)) }
+    ensures { OnOk result (text.new ≡ text.old
+        ++ print_header (codes "X-Object-Meta-S3-" ++ decimal index, piece.now)) }
 {
     text.append(b"X-Object-Meta-S3-")?;
     append_decimal(text, index)?;

@@ -13,7 +13,8 @@ use swift_calls::NameItem;
 
 /// The text of a listing of containers; none where a name isn't UTF-8.
 pub(crate) fn containers_text(alloc: Global, names: &[Bytes]) -> Result<Option<Bytes>, Memory>
-    ensures { IfOk result (λ text. text ≡ (if list_all is_utf8 names.now then Some (list_text (map container_value names.now)) else None)) }
+    ensures { IfOk result (λ text. text ≡ (if list_all is_utf8 names.now then Some
+        (list_text (map container_value names.now)) else None)) }
 {
     if are_utf8(names) {
         Ok(Some(names_text(alloc, names)?))
@@ -24,7 +25,8 @@ pub(crate) fn containers_text(alloc: Global, names: &[Bytes]) -> Result<Option<B
 
 /// The text of a listing of objects; none where one of their texts isn't UTF-8.
 pub(crate) fn items_text(alloc: Global, items: &[NameItem]) -> Result<Option<Bytes>, Memory>
-    ensures { IfOk result (λ text. text ≡ (if list_all is_item items.now then Some (list_text (map item_value items.now)) else None)) }
+    ensures { IfOk result (λ text. text ≡ (if list_all is_item items.now then Some
+        (list_text (map item_value items.now)) else None)) }
 {
     if are_items(items) {
         Ok(Some(objects_text(alloc, items)?))

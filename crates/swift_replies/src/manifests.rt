@@ -55,7 +55,8 @@ fn manifest_by(
 }
 
 fn segments_reply(alloc: Global, body: &[u8]) -> Result<Option<SwiftReply>, Memory>
-    ensures { IfOk result (λ reply. reply ≡ option_map (λ segments. Manifest segments) (segments_in Got body.now)) }
+    ensures { IfOk result
+        (λ reply. reply ≡ option_map (λ segments. Manifest segments) (segments_in Got body.now)) }
 {
     match segments_in(alloc, body, Form::Got)? {
         Some(segments) => Ok(Some(SwiftReply::Manifest(segments))),

@@ -173,7 +173,8 @@ fn get_manifest_answer(alloc: Global, reply: &SwiftReply) -> Result<Bytes, Memor
 
 /// The status line and Content-Length, with room for a body.
 fn begin(alloc: Global, status: u16, size: u64, room: usize) -> Result<Bytes, Memory>
-    ensures { IfOk result (λ text. text ≡ status_line status ++ print_headers (length_field size ∷ [])) }
+    ensures { IfOk result
+        (λ text. text ≡ status_line status ++ print_headers (length_field size ∷ [])) }
 {
     let mut text = Bytes::with_room(alloc, room.saturating_add(HEAD_ROOM))?;
     append_status(&mut text, status)?;
@@ -199,7 +200,8 @@ fn finish(text: &mut Bytes, body: &[u8]) -> Result<(), Memory>
 
 /// The same for a head of at most 65,536 bytes, and else an answer of status 500.
 fn finish_within(alloc: Global, head: Bytes, body: &[u8]) -> Result<Bytes, Memory>
-    ensures { IfOk result (λ text. text ≡ (if nat_le (length (head ++ 13 ∷ 10 ∷ [])) HEAD_LIMIT then (head ++ 13 ∷ 10 ∷ []) ++ body.now else refusal 500)) }
+    ensures { IfOk result (λ text. text ≡ (if nat_le (length (head ++ 13 ∷ 10 ∷ [])) HEAD_LIMIT then
+        (head ++ 13 ∷ 10 ∷ []) ++ body.now else refusal 500)) }
 {
     let mut text = head;
     text.append(b"\r\n")?;
@@ -346,7 +348,8 @@ fn is_sent(range: Option<(u64, u64)>, head: &StoredHead, count: usize) -> bool
 
 #[tactic(auto, using(crate::proofs::SentLemmas::whole_is))]
 fn whole_answer(alloc: Global, head: &StoredHead, body: &[u8]) -> Result<Bytes, Memory>
-    ensures { IfOk result (λ text. text ≡ text_by (within_limit (bytes_by None head.now body.now))) }
+    ensures { IfOk result
+        (λ text. text ≡ text_by (within_limit (bytes_by None head.now body.now))) }
 {
     let mut text = begin(alloc, 200, body.len() as u64, body.len())?;
     append_object(&mut text, head)?;
@@ -362,7 +365,8 @@ fn part_answer(
     body: &[u8],
 ) -> Result<Bytes, Memory>
     requires { first + length body.now < 2 ^ 64 }
-    ensures { IfOk result (λ text. text ≡ text_by (within_limit (bytes_by (Some (first, last)) head.now body.now))) }
+    ensures { IfOk result
+        (λ text. text ≡ text_by (within_limit (bytes_by (Some (first, last)) head.now body.now))) }
 {
     let mut text = begin(alloc, 206, body.len() as u64, body.len())?;
     append_object(&mut text, head)?;
@@ -374,7 +378,8 @@ fn part_answer(
 #[tactic(auto, using(crate::proofs::SentLemmas::header_is))]
 fn append_range(text: &mut Bytes, first: u64, count: u64, size: u64) -> Result<(), Memory>
     requires { first + count < 2 ^ 64 }
-    ensures { OnOk result (text.new ≡ text.old ++ print_header (codes "Content-Range", range_text first count size)) }
+    ensures { OnOk result (text.new ≡ text.old
+        ++ print_header (codes "Content-Range", range_text first count size)) }
 {
     text.append(b"Content-Range")?;
     text.append(b": ")?;

@@ -79,7 +79,8 @@ fn container_call(
     container: Bytes,
     message: &Message,
 ) -> Result<Option<SwiftRequest>, Memory>
-    ensures { IfOk result (λ call. call ≡ bodiless message.now (container_call container message.now)) }
+    ensures { IfOk result
+        (λ call. call ≡ bodiless message.now (container_call container message.now)) }
 {
     if has_body(message) {
         return Ok(None);

@@ -85,7 +85,8 @@ fn append_account_listing(
     limit: u32,
     marker: &[u8],
 ) -> Result<(), Memory>
-    ensures { OnOk result (text.new ≡ text.old ++ account_text place.now ++ listing_text limit marker.now) }
+    ensures { OnOk result
+        (text.new ≡ text.old ++ account_text place.now ++ listing_text limit marker.now) }
 {
     append_account(alloc, text, place)?;
     append_listing(alloc, text, limit, marker)

@@ -161,7 +161,8 @@ fn append_own(text: &mut Bytes, call: &SwiftRequest) -> Result<(), Memory>
 
 /// Adds the type and the metadata of an object that is put.
 fn append_content(text: &mut Bytes, content_type: &Bytes, meta: &List<Bytes>) -> Result<(), Memory>
-    ensures { OnOk result (text.new ≡ text.old ++ print_headers (content_fields content_type.now meta.now)) }
+    ensures { OnOk result
+        (text.new ≡ text.old ++ print_headers (content_fields content_type.now meta.now)) }
 {
     append_field(text, b"Content-Type", content_type.as_slice())?;
     append_meta(text, meta.as_slice())
@@ -221,7 +222,8 @@ fn append_meta(text: &mut Bytes, pieces: &[Bytes]) -> Result<(), Memory>
 }
 
 fn append_piece(text: &mut Bytes, index: u64, piece: &[u8]) -> Result<(), Memory>
-    ensures { OnOk result (text.new ≡ text.old ++ print_header (codes "X-Object-Meta-S3-" ++ decimal index, piece.now)) }
+    ensures { OnOk result (text.new ≡ text.old
+        ++ print_header (codes "X-Object-Meta-S3-" ++ decimal index, piece.now)) }
 {
     text.append(b"X-Object-Meta-S3-")?;
     append_decimal(text, index)?;

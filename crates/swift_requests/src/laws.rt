@@ -12,19 +12,24 @@ use slo_manifest::law_text_reads_back;
 
 /// What is written for a call is one whole request that spells the call, and has the place's token.
 pub fn law_call_reads_back()
-    ensures { (place : Place) (call : SwiftRequest) → IsPlace place → Fit call → SpellsRequest place call (call_text place call) }
+    ensures { (place : Place) (call : SwiftRequest) → IsPlace place → Fit call
+        → SpellsRequest place call (call_text place call) }
 {
     law_text_reads_back();
 }
 
 /// The head that is written for a call is within what a store reads: less than 16,384 bytes, fewer than 100 fields.
 pub fn law_call_head_is_small()
-    ensures bytes { (place : Place) (call : SwiftRequest) → IsPlace place → Fit call → length (call_head place call) < 16384 }
-    ensures fields { (place : Place) (call : SwiftRequest) → Fit call → length (call_fields place call) < 100 }
+    ensures bytes { (place : Place) (call : SwiftRequest) → IsPlace place → Fit call
+        → length (call_head place call) < 16384 }
+    ensures fields { (place : Place) (call : SwiftRequest) → Fit call
+        → length (call_fields place call) < 100 }
 {}
 
 /// No message spells two calls, and no bytes do.
 pub fn law_one_call()
-    ensures message { (place : Place) (message : Message) (a b : SwiftRequest) → SpellsCall place a message → SpellsCall place b message → a ≡ b }
-    ensures bytes { (place : Place) (bytes : List ℕ) (a b : SwiftRequest) → SpellsRequest place a bytes → SpellsRequest place b bytes → a ≡ b }
+    ensures message { (place : Place) (message : Message) (a b : SwiftRequest)
+        → SpellsCall place a message → SpellsCall place b message → a ≡ b }
+    ensures bytes { (place : Place) (bytes : List ℕ) (a b : SwiftRequest)
+        → SpellsRequest place a bytes → SpellsRequest place b bytes → a ≡ b }
 {}

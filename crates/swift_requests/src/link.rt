@@ -50,7 +50,8 @@ pub trait Link: Counted {
     fn exchange(&mut self, request: &[u8], reply: &mut Bytes) -> Result<(), LinkFault>
         requires { Self.called self.old < budget }
         ensures place { place self.new ≡ place self.old }
-        ensures exchanges { Exchanges (place self.old) (history self.old) request.now reply.new result (history self.new) };
+        ensures exchanges { Exchanges (place self.old) (history self.old) request.now reply.new
+            result (history self.new) };
 
     /// The exchanges of the history are those that are counted.
     ghost counted: { (link : Self) → (history link).called ≡ Self.called link };

@@ -17,7 +17,8 @@ pub(crate) fn containers_listing(
     alloc: Global,
     query: &[u8],
 ) -> Result<Option<SwiftRequest>, Memory>
-    ensures { IfOk result (λ call. call ≡ option_and_then containers_listing (values_named account_names query.now)) }
+    ensures { IfOk result (λ call. call ≡ option_and_then containers_listing
+        (values_named account_names query.now)) }
 {
     let Some((format, rest)) = first_value(alloc, query, b"format")? else {
         return Ok(None);
@@ -43,7 +44,8 @@ pub(crate) fn names_listing(
     container: Bytes,
     query: &[u8],
 ) -> Result<Option<SwiftRequest>, Memory>
-    ensures { IfOk result (λ call. call ≡ option_and_then (names_listing container) (values_named container_names query.now)) }
+    ensures { IfOk result (λ call. call ≡ option_and_then (names_listing container)
+        (values_named container_names query.now)) }
 {
     let Some((format, rest)) = first_value(alloc, query, b"format")? else {
         return Ok(None);
@@ -77,7 +79,8 @@ fn first_value<'a>(
     text: &'a [u8],
     name: &[u8],
 ) -> Result<Option<(Bytes, &'a [u8])>, Memory>
-    ensures { IfOk result (λ found. option_map (λ first. (first.0, first.1.now)) found ≡ first_value name.now text.now) }
+    ensures { IfOk result (λ found. option_map (λ first. (first.0, first.1.now)) found ≡ first_value
+        name.now text.now) }
 {
     if !has_more(text) {
         return Ok(None);

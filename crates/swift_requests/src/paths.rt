@@ -81,7 +81,8 @@ fn object_path(
     container: &[u8],
     name: &[u8],
 ) -> Result<Option<Path>, Memory>
-    ensures { IfOk result (λ path. path ≡ object_path (unescaped account.now) (unescaped container.now) (unescaped name.now)) }
+    ensures { IfOk result (λ path. path ≡ object_path (unescaped account.now)
+        (unescaped container.now) (unescaped name.now)) }
 {
     let Some(account) = unescaped(alloc, account)? else {
         return Ok(None);

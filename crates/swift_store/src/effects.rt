@@ -34,7 +34,9 @@ fn etag_in(reply: SwiftReply) -> Option<Bytes>
 #[tactic(auto, using(crate::proofs::Writing::posted_by, crate::proofs::Writing::not_posted, crate::proofs::Writing::moment_told, crate::proofs::Writing::unwritten))]
 fn post_container<S: Shelf>(shelf: &mut S, name: &[u8], readers: ReadList) -> Result<(), StoreFault>
     requires name { IsContainerName name.now }
-    ensures writes { ShelfWrites (λ account. (swift_step (asked.PostContainer name.now readers) account).tree) (S.model shelf.old) result (S.model shelf.new) }
+    ensures writes { ShelfWrites
+        (λ account. (swift_step (asked.PostContainer name.now readers) account).tree)
+        (S.model shelf.old) result (S.model shelf.new) }
 {
     match shelf.container(name)? {
         Some((_, created)) => { shelf.put_container(name, readers, created) }
@@ -49,7 +51,12 @@ fn delete_container<S: Shelf>(
     reply: &SwiftReply,
 ) -> Result<(), StoreFault>
     ensures keeps { ShelfKeeps (S.model shelf.old) result (S.model shelf.new) }
-    ensures effect { IsTrue (S.model shelf.old).observable → reply.now ≡ (swift_step (asked.DeleteContainer name.now) (S.model shelf.old).account).reply → Writes (S.model shelf.old).account (swift_step (asked.DeleteContainer name.now) (S.model shelf.old).account).tree (S.model shelf.new).account result }
+    ensures effect { IsTrue (S.model shelf.old).observable
+        → reply.now ≡ (swift_step (asked.DeleteContainer name.now)
+        (S.model shelf.old).account).reply
+        → Writes (S.model shelf.old).account
+        (swift_step (asked.DeleteContainer name.now) (S.model shelf.old).account).tree
+        (S.model shelf.new).account result }
 {
     if is_gone(reply) {
         shelf.drop_container(name)?;
@@ -70,7 +77,12 @@ fn put_object<S: Shelf>(
     requires fit { Fit (asked.PutObject container.now name content_type meta body) }
     requires tags { TagsWith body reply }
     ensures keeps { ShelfKeeps (S.model shelf.old) result (S.model shelf.new) }
-    ensures effect { IsTrue (S.model shelf.old).observable → reply ≡ (swift_step (asked.PutObject container.now name content_type meta body) (S.model shelf.old).account).reply → Writes (S.model shelf.old).account (swift_step (asked.PutObject container.now name content_type meta body) (S.model shelf.old).account).tree (S.model shelf.new).account result }
+    ensures effect { IsTrue (S.model shelf.old).observable
+        → reply ≡ (swift_step (asked.PutObject container.now name content_type meta body)
+        (S.model shelf.old).account).reply
+        → Writes (S.model shelf.old).account (swift_step
+        (asked.PutObject container.now name content_type meta body)
+        (S.model shelf.old).account).tree (S.model shelf.new).account result }
 {
     match etag_in(reply) {
         Some(etag) => put_tagged(
@@ -99,7 +111,12 @@ fn put_manifest<S: Shelf>(
     requires fit { Fit (asked.PutManifest container.now name content_type meta segments) }
     requires tags { TagsList segments reply }
     ensures keeps { ShelfKeeps (S.model shelf.old) result (S.model shelf.new) }
-    ensures effect { IsTrue (S.model shelf.old).observable → reply ≡ (swift_step (asked.PutManifest container.now name content_type meta segments) (S.model shelf.old).account).reply → Writes (S.model shelf.old).account (swift_step (asked.PutManifest container.now name content_type meta segments) (S.model shelf.old).account).tree (S.model shelf.new).account result }
+    ensures effect { IsTrue (S.model shelf.old).observable
+        → reply ≡ (swift_step (asked.PutManifest container.now name content_type meta segments)
+        (S.model shelf.old).account).reply
+        → Writes (S.model shelf.old).account (swift_step
+        (asked.PutManifest container.now name content_type meta segments)
+        (S.model shelf.old).account).tree (S.model shelf.new).account result }
 {
     match etag_in(reply) {
         Some(etag) => put_tagged(
@@ -126,8 +143,11 @@ fn put_tagged<S: Shelf>(
     etag: Bytes,
 ) -> Result<(), StoreFault>
     requires etag { etag ≡ etag_of content }
-    requires made { IsMadeObject name (record { content_type = content_type; meta = meta; content = content }) }
-    ensures writes { ShelfWrites (put_file container.now name (record { content_type = content_type; meta = meta; content = content })) (S.model shelf.old) result (S.model shelf.new) }
+    requires made { IsMadeObject name
+        (record { content_type = content_type; meta = meta; content = content }) }
+    ensures writes { ShelfWrites (put_file container.now name
+        (record { content_type = content_type; meta = meta; content = content }))
+        (S.model shelf.old) result (S.model shelf.new) }
 {
     let object = Stored {
         name,
@@ -146,7 +166,12 @@ fn delete_object<S: Shelf>(
     reply: &SwiftReply,
 ) -> Result<(), StoreFault>
     ensures keeps { ShelfKeeps (S.model shelf.old) result (S.model shelf.new) }
-    ensures effect { IsTrue (S.model shelf.old).observable → reply.now ≡ (swift_step (asked.DeleteObject container.now name.now) (S.model shelf.old).account).reply → Writes (S.model shelf.old).account (swift_step (asked.DeleteObject container.now name.now) (S.model shelf.old).account).tree (S.model shelf.new).account result }
+    ensures effect { IsTrue (S.model shelf.old).observable
+        → reply.now ≡ (swift_step (asked.DeleteObject container.now name.now)
+        (S.model shelf.old).account).reply
+        → Writes (S.model shelf.old).account
+        (swift_step (asked.DeleteObject container.now name.now) (S.model shelf.old).account).tree
+        (S.model shelf.new).account result }
 {
     if is_gone(reply) {
         let _there = shelf.remove(container, name)?;
@@ -163,7 +188,10 @@ pub(crate) fn apply<S: Shelf>(
     requires fit { Fit call }
     requires tags { TagsBody call reply }
     ensures keeps { ShelfKeeps (S.model shelf.old) result (S.model shelf.new) }
-    ensures effect { IsTrue (S.model shelf.old).observable → reply ≡ (swift_step (call) (S.model shelf.old).account).reply → Writes (S.model shelf.old).account (swift_step (call) (S.model shelf.old).account).tree (S.model shelf.new).account result }
+    ensures effect { IsTrue (S.model shelf.old).observable
+        → reply ≡ (swift_step (call) (S.model shelf.old).account).reply
+        → Writes (S.model shelf.old).account (swift_step (call) (S.model shelf.old).account).tree
+        (S.model shelf.new).account result }
 {
     match call {
         SwiftRequest::PutObject {
@@ -194,7 +222,10 @@ fn apply_list<S: Shelf>(
     requires fit { Fit call }
     requires tags { TagsBody call reply }
     ensures keeps { ShelfKeeps (S.model shelf.old) result (S.model shelf.new) }
-    ensures effect { IsTrue (S.model shelf.old).observable → reply ≡ (swift_step (call) (S.model shelf.old).account).reply → Writes (S.model shelf.old).account (swift_step (call) (S.model shelf.old).account).tree (S.model shelf.new).account result }
+    ensures effect { IsTrue (S.model shelf.old).observable
+        → reply ≡ (swift_step (call) (S.model shelf.old).account).reply
+        → Writes (S.model shelf.old).account (swift_step (call) (S.model shelf.old).account).tree
+        (S.model shelf.new).account result }
 {
     match call {
         SwiftRequest::PutManifest {
@@ -224,7 +255,10 @@ fn apply_other<S: Shelf>(
 ) -> Result<(), StoreFault>
     requires fit { Fit call }
     ensures keeps { ShelfKeeps (S.model shelf.old) result (S.model shelf.new) }
-    ensures effect { IsTrue (S.model shelf.old).observable → reply.now ≡ (swift_step (call) (S.model shelf.old).account).reply → Writes (S.model shelf.old).account (swift_step (call) (S.model shelf.old).account).tree (S.model shelf.new).account result }
+    ensures effect { IsTrue (S.model shelf.old).observable
+        → reply.now ≡ (swift_step (call) (S.model shelf.old).account).reply
+        → Writes (S.model shelf.old).account (swift_step (call) (S.model shelf.old).account).tree
+        (S.model shelf.new).account result }
 {
     apply_small(shelf, &call, reply)
 }
@@ -238,7 +272,11 @@ fn apply_small<S: Shelf>(
 ) -> Result<(), StoreFault>
     requires fit { Fit call.now }
     ensures keeps { ShelfKeeps (S.model shelf.old) result (S.model shelf.new) }
-    ensures effect { IsTrue (S.model shelf.old).observable → reply.now ≡ (swift_step (call.now) (S.model shelf.old).account).reply → Writes (S.model shelf.old).account (swift_step (call.now) (S.model shelf.old).account).tree (S.model shelf.new).account result }
+    ensures effect { IsTrue (S.model shelf.old).observable
+        → reply.now ≡ (swift_step (call.now) (S.model shelf.old).account).reply
+        → Writes (S.model shelf.old).account
+        (swift_step (call.now) (S.model shelf.old).account).tree (S.model shelf.new).account
+        result }
 {
     match call {
         SwiftRequest::PutContainer {

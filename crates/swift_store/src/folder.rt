@@ -74,7 +74,8 @@ impl Folder {
         marker: &[u8],
         limit: usize,
     ) -> Result<List<NameItem>, Memory>
-        ensures { IfOk result (λ items. items ≡ object_page limit prefix.now marker.now self.now.files) }
+        ensures { IfOk result
+            (λ items. items ≡ object_page limit prefix.now marker.now self.now.files) }
     {
         object_page(&self.objects, alloc, prefix, marker, limit)
     }
@@ -196,7 +197,8 @@ fn run(
     start: Bound<&Vec<u8>>,
     limit: usize,
 ) -> Result<List<NameItem>, Memory>
-    ensures { IfOk result (λ items. items ≡ object_run limit prefix.now (bound_map (λ x. x.now.items) start.entry) objects.now) }
+    ensures { IfOk result (λ items. items ≡ object_run limit prefix.now
+        (bound_map (λ x. x.now.items) start.entry) objects.now) }
 {
     let mut items = List::new(alloc);
     for (name, object) in objects.as_map().range((start, Bound::Unbounded)) {

@@ -18,7 +18,10 @@ fn read_own<S: Shelf>(
     count: u64,
     out: &mut Bytes,
 ) -> Result<(), StoreFault>
-    ensures reads { ShelfReads (λ account done. (bytes : List ℕ) → inner_bytes (find_object account) segment.now ≡ Some bytes → out.new ≡ out.old ++ window skip count bytes) (S.model shelf.old) result (S.model shelf.new) }
+    ensures reads { ShelfReads (λ account done. (bytes : List ℕ)
+        → inner_bytes (find_object account) segment.now ≡ Some bytes
+        → out.new ≡ out.old ++ window skip count bytes) (S.model shelf.old) result
+        (S.model shelf.new) }
 {
     let room = segment.size.saturating_sub(skip);
     let end = skip + count.min(room);
@@ -39,7 +42,10 @@ fn read_inner<S: Shelf>(
     count: u64,
     out: &mut Bytes,
 ) -> Result<(), StoreFault>
-    ensures reads { ShelfReads (λ account done. (bytes : List ℕ) → inner_bytes (find_object account) segment.now ≡ Some bytes → out.new ≡ out.old ++ window skip count bytes) (S.model shelf.old) result (S.model shelf.new) }
+    ensures reads { ShelfReads (λ account done. (bytes : List ℕ)
+        → inner_bytes (find_object account) segment.now ≡ Some bytes
+        → out.new ≡ out.old ++ window skip count bytes) (S.model shelf.old) result
+        (S.model shelf.new) }
 {
     if skip < segment.size && 0 < count {
         read_own(shelf, segment, skip, count, out)
@@ -56,7 +62,10 @@ fn read_all_inner<S: Shelf>(
     count: u64,
     out: &mut Bytes,
 ) -> Result<(), StoreFault>
-    ensures reads { ShelfReads (λ account done. (bytes : List ℕ) → joined (inner_bytes (find_object account)) segments.now ≡ Some bytes → out.new ≡ out.old ++ window skip count bytes) (S.model shelf.old) result (S.model shelf.new) }
+    ensures reads { ShelfReads (λ account done. (bytes : List ℕ)
+        → joined (inner_bytes (find_object account)) segments.now ≡ Some bytes
+        → out.new ≡ out.old ++ window skip count bytes) (S.model shelf.old) result
+        (S.model shelf.new) }
 {
     let mut skip = skip;
     let mut count = count;
@@ -76,7 +85,10 @@ fn read_listed<S: Shelf>(
     count: u64,
     out: &mut Bytes,
 ) -> Result<(), StoreFault>
-    ensures reads { ShelfReads (λ account done. (bytes : List ℕ) → outer_bytes (find_object account) segment.now ≡ Some bytes → out.new ≡ out.old ++ window skip count bytes) (S.model shelf.old) result (S.model shelf.new) }
+    ensures reads { ShelfReads (λ account done. (bytes : List ℕ)
+        → outer_bytes (find_object account) segment.now ≡ Some bytes
+        → out.new ≡ out.old ++ window skip count bytes) (S.model shelf.old) result
+        (S.model shelf.new) }
 {
     match shelf.segments(segment.container.as_slice(), segment.name.as_slice())? {
         Some(segments) => read_all_inner(shelf, segments.as_slice(), skip, count, out),
@@ -92,7 +104,10 @@ fn read_outer<S: Shelf>(
     count: u64,
     out: &mut Bytes,
 ) -> Result<(), StoreFault>
-    ensures reads { ShelfReads (λ account done. (bytes : List ℕ) → outer_bytes (find_object account) segment.now ≡ Some bytes → out.new ≡ out.old ++ window skip count bytes) (S.model shelf.old) result (S.model shelf.new) }
+    ensures reads { ShelfReads (λ account done. (bytes : List ℕ)
+        → outer_bytes (find_object account) segment.now ≡ Some bytes
+        → out.new ≡ out.old ++ window skip count bytes) (S.model shelf.old) result
+        (S.model shelf.new) }
 {
     if skip < segment.size && 0 < count {
         read_listed(shelf, segment, skip, count, out)
@@ -109,7 +124,10 @@ fn read_all_outer<S: Shelf>(
     count: u64,
     out: &mut Bytes,
 ) -> Result<(), StoreFault>
-    ensures reads { ShelfReads (λ account done. (bytes : List ℕ) → joined (outer_bytes (find_object account)) segments.now ≡ Some bytes → out.new ≡ out.old ++ window skip count bytes) (S.model shelf.old) result (S.model shelf.new) }
+    ensures reads { ShelfReads (λ account done. (bytes : List ℕ)
+        → joined (outer_bytes (find_object account)) segments.now ≡ Some bytes
+        → out.new ≡ out.old ++ window skip count bytes) (S.model shelf.old) result
+        (S.model shelf.new) }
 {
     let mut skip = skip;
     let mut count = count;
@@ -129,7 +147,9 @@ pub(crate) fn read_joined<S: Shelf>(
     skip: u64,
     count: u64,
 ) -> Result<Bytes, StoreFault>
-    ensures reads { ShelfReads (λ account body. (bytes : List ℕ) → joined (outer_bytes (find_object account)) segments.now ≡ Some bytes → body ≡ window skip count bytes) (S.model shelf.old) result (S.model shelf.new) }
+    ensures reads { ShelfReads (λ account body. (bytes : List ℕ)
+        → joined (outer_bytes (find_object account)) segments.now ≡ Some bytes
+        → body ≡ window skip count bytes) (S.model shelf.old) result (S.model shelf.new) }
 {
     let mut body = Bytes::with_room(alloc, count as usize)?;
     read_all_outer(shelf, segments, skip, count, &mut body)?;

@@ -23,14 +23,16 @@ fn list_containers<S: Shelf>(
     marker: &[u8],
     limit: u32,
 ) -> Result<SwiftReply, StoreFault>
-    ensures reads { ShelfReads (IsReply (asked.ListContainers marker.now limit)) (S.model shelf.old) result (S.model shelf.new) }
+    ensures reads { ShelfReads (IsReply (asked.ListContainers marker.now limit)) (S.model shelf.old)
+        result (S.model shelf.new) }
 {
     Ok(SwiftReply::Containers(shelf.containers(marker, limit)?))
 }
 
 #[tactic(auto, using(crate::proofs::Replying::head_some, crate::proofs::Replying::head_none))]
 fn head_container<S: Shelf>(shelf: &mut S, name: &[u8]) -> Result<SwiftReply, StoreFault>
-    ensures reads { ShelfReads (IsReply (asked.HeadContainer name.now)) (S.model shelf.old) result (S.model shelf.new) }
+    ensures reads { ShelfReads (IsReply (asked.HeadContainer name.now)) (S.model shelf.old) result
+        (S.model shelf.new) }
 {
     match shelf.container(name)? {
         Some((readers, created)) => Ok(SwiftReply::Readers { readers, created }),
@@ -40,7 +42,9 @@ fn head_container<S: Shelf>(shelf: &mut S, name: &[u8]) -> Result<SwiftReply, St
 
 #[tactic(auto, using(crate::proofs::Replying::put_there, crate::proofs::Replying::put_made))]
 fn put_container<S: Shelf>(shelf: &mut S, name: &[u8]) -> Result<SwiftReply, StoreFault>
-    ensures reads { ShelfReads (λ account reply. (readers : ReadList) (created : Option ℕ) → IsReply (asked.PutContainer name.now readers created) account reply) (S.model shelf.old) result (S.model shelf.new) }
+    ensures reads { ShelfReads (λ account reply. (readers : ReadList) (created : Option ℕ)
+        → IsReply (asked.PutContainer name.now readers created) account reply) (S.model shelf.old)
+        result (S.model shelf.new) }
 {
     if shelf.container(name)?.is_some() {
         Ok(SwiftReply::There)
@@ -51,7 +55,9 @@ fn put_container<S: Shelf>(shelf: &mut S, name: &[u8]) -> Result<SwiftReply, Sto
 
 #[tactic(auto, using(crate::proofs::Replying::post_there, crate::proofs::Replying::post_missing))]
 fn post_container<S: Shelf>(shelf: &mut S, name: &[u8]) -> Result<SwiftReply, StoreFault>
-    ensures reads { ShelfReads (λ account reply. (readers : ReadList) → IsReply (asked.PostContainer name.now readers) account reply) (S.model shelf.old) result (S.model shelf.new) }
+    ensures reads { ShelfReads (λ account reply. (readers : ReadList)
+        → IsReply (asked.PostContainer name.now readers) account reply) (S.model shelf.old) result
+        (S.model shelf.new) }
 {
     if shelf.container(name)?.is_some() {
         Ok(SwiftReply::Gone)
@@ -62,7 +68,8 @@ fn post_container<S: Shelf>(shelf: &mut S, name: &[u8]) -> Result<SwiftReply, St
 
 #[tactic(auto, using(crate::proofs::Replying::delete_gone, crate::proofs::Replying::delete_full, crate::proofs::Replying::delete_missing))]
 fn delete_container<S: Shelf>(shelf: &mut S, name: &[u8]) -> Result<SwiftReply, StoreFault>
-    ensures reads { ShelfReads (IsReply (asked.DeleteContainer name.now)) (S.model shelf.old) result (S.model shelf.new) }
+    ensures reads { ShelfReads (IsReply (asked.DeleteContainer name.now)) (S.model shelf.old) result
+        (S.model shelf.new) }
 {
     match shelf.is_bare(name)? {
         Some(true) => Ok(SwiftReply::Gone),
@@ -79,7 +86,8 @@ fn list_names<S: Shelf>(
     marker: &[u8],
     limit: u32,
 ) -> Result<SwiftReply, StoreFault>
-    ensures reads { ShelfReads (IsReply (asked.ListNames container.now prefix.now marker.now limit)) (S.model shelf.old) result (S.model shelf.new) }
+    ensures reads { ShelfReads (IsReply (asked.ListNames container.now prefix.now marker.now limit))
+        (S.model shelf.old) result (S.model shelf.new) }
 {
     if shelf.container(container)?.is_some() {
         Ok(SwiftReply::Names(shelf.names(container, prefix, marker, limit)?))
@@ -96,7 +104,9 @@ fn put_object<S: Shelf>(
     container: &[u8],
     body: &[u8],
 ) -> Result<SwiftReply, StoreFault>
-    ensures reads { ShelfReads (λ account reply. (name content_type : List ℕ) (meta : List (List ℕ)) → IsReply (asked.PutObject container.now name content_type meta body.now) account reply) (S.model shelf.old) result (S.model shelf.new) }
+    ensures reads { ShelfReads (λ account reply. (name content_type : List ℕ) (meta : List (List ℕ))
+        → IsReply (asked.PutObject container.now name content_type meta body.now) account reply)
+        (S.model shelf.old) result (S.model shelf.new) }
     ensures tags { IfOk result (TagsWith body.now) }
 {
     if shelf.container(container)?.is_some() {
@@ -113,7 +123,8 @@ fn head_object<S: Shelf>(
     container: &[u8],
     name: &[u8],
 ) -> Result<SwiftReply, StoreFault>
-    ensures reads { ShelfReads (IsReply (asked.HeadObject container.now name.now)) (S.model shelf.old) result (S.model shelf.new) }
+    ensures reads { ShelfReads (IsReply (asked.HeadObject container.now name.now))
+        (S.model shelf.old) result (S.model shelf.new) }
 {
     match shelf.head(container, name)? {
         Some(head) => Ok(SwiftReply::Head(head)),
@@ -127,7 +138,8 @@ fn delete_object<S: Shelf>(
     container: &[u8],
     name: &[u8],
 ) -> Result<SwiftReply, StoreFault>
-    ensures reads { ShelfReads (IsReply (asked.DeleteObject container.now name.now)) (S.model shelf.old) result (S.model shelf.new) }
+    ensures reads { ShelfReads (IsReply (asked.DeleteObject container.now name.now))
+        (S.model shelf.old) result (S.model shelf.new) }
 {
     if shelf.head(container, name)?.is_some() {
         Ok(SwiftReply::Gone)
@@ -145,7 +157,8 @@ fn get_object<S: Shelf>(
     name: &[u8],
     range: Option<(u64, u64)>,
 ) -> Result<SwiftReply, StoreFault>
-    ensures reads { ShelfReads (IsReply (asked.GetObject container.now name.now range)) (S.model shelf.old) result (S.model shelf.new) }
+    ensures reads { ShelfReads (IsReply (asked.GetObject container.now name.now range))
+        (S.model shelf.old) result (S.model shelf.new) }
 {
     match shelf.head(container, name)? {
         Some(head) => {
@@ -168,7 +181,10 @@ fn get_plain<S: Shelf>(
     head: StoredHead,
     range: Option<(u64, u64)>,
 ) -> Result<SwiftReply, StoreFault>
-    ensures reads { ShelfReads (λ account reply. Some head ≡ option_map head_of (find_object account container.now name.now) → head.manifest ≡ false → IsReply (asked.GetObject container.now name.now range) account reply) (S.model shelf.old) result (S.model shelf.new) }
+    ensures reads { ShelfReads (λ account reply. Some head ≡ option_map head_of
+        (find_object account container.now name.now) → head.manifest ≡ false
+        → IsReply (asked.GetObject container.now name.now range) account reply) (S.model shelf.old)
+        result (S.model shelf.new) }
 {
     match bounds(range, head.size) {
         Some((from, end)) => {
@@ -189,7 +205,10 @@ fn get_listed<S: Shelf>(
     head: StoredHead,
     range: Option<(u64, u64)>,
 ) -> Result<SwiftReply, StoreFault>
-    ensures reads { ShelfReads (λ account reply. Some head ≡ option_map head_of (find_object account container.now name.now) → head.manifest ≡ true → IsReply (asked.GetObject container.now name.now range) account reply) (S.model shelf.old) result (S.model shelf.new) }
+    ensures reads { ShelfReads (λ account reply. Some head ≡ option_map head_of
+        (find_object account container.now name.now) → head.manifest ≡ true
+        → IsReply (asked.GetObject container.now name.now range) account reply) (S.model shelf.old)
+        result (S.model shelf.new) }
 {
     match list_bytes(shelf, alloc, container, name, head.size, range)? {
         Some(Some(body)) => Ok(SwiftReply::Bytes { head, body }),
@@ -208,7 +227,9 @@ fn list_bytes<S: Shelf>(
     size: u64,
     range: Option<(u64, u64)>,
 ) -> Result<Option<Option<Bytes>>, StoreFault>
-    ensures reads { ShelfReads (λ account bytes. bytes ≡ listed_part (find_object account) range size (segments_at (find_object account container.now name.now))) (S.model shelf.old) result (S.model shelf.new) }
+    ensures reads { ShelfReads (λ account bytes. bytes ≡ listed_part (find_object account) range
+        size (segments_at (find_object account container.now name.now))) (S.model shelf.old) result
+        (S.model shelf.new) }
 {
     match shelf.segments(container, name)? {
         Some(segments) => listed_bytes(shelf, alloc, segments.as_slice(), size, range),
@@ -224,7 +245,9 @@ fn listed_bytes<S: Shelf>(
     size: u64,
     range: Option<(u64, u64)>,
 ) -> Result<Option<Option<Bytes>>, StoreFault>
-    ensures reads { ShelfReads (λ account bytes. bytes ≡ option_map (parted range size) (joined (outer_bytes (find_object account)) segments.now)) (S.model shelf.old) result (S.model shelf.new) }
+    ensures reads { ShelfReads (λ account bytes. bytes ≡ option_map (parted range size)
+        (joined (outer_bytes (find_object account)) segments.now)) (S.model shelf.old) result
+        (S.model shelf.new) }
 {
     if !are_outer(shelf, segments)? {
         return Ok(None);
@@ -241,7 +264,9 @@ fn part_bytes<S: Shelf>(
     size: u64,
     range: Option<(u64, u64)>,
 ) -> Result<Option<Bytes>, StoreFault>
-    ensures reads { ShelfReads (λ account part. (bytes : List ℕ) → joined (outer_bytes (find_object account)) segments.now ≡ Some bytes → part ≡ parted range size bytes) (S.model shelf.old) result (S.model shelf.new) }
+    ensures reads { ShelfReads (λ account part. (bytes : List ℕ)
+        → joined (outer_bytes (find_object account)) segments.now ≡ Some bytes
+        → part ≡ parted range size bytes) (S.model shelf.old) result (S.model shelf.new) }
 {
     match bounds(range, size) {
         Some((from, end)) => {
@@ -260,7 +285,8 @@ fn get_manifest<S: Shelf>(
     container: &[u8],
     name: &[u8],
 ) -> Result<SwiftReply, StoreFault>
-    ensures reads { ShelfReads (IsReply (asked.GetManifest container.now name.now)) (S.model shelf.old) result (S.model shelf.new) }
+    ensures reads { ShelfReads (IsReply (asked.GetManifest container.now name.now))
+        (S.model shelf.old) result (S.model shelf.new) }
 {
     match shelf.segments(container, name)? {
         Some(segments) => Ok(SwiftReply::Manifest(segments)),
@@ -276,7 +302,9 @@ fn put_manifest<S: Shelf>(
     container: &[u8],
     segments: &[Segment],
 ) -> Result<SwiftReply, StoreFault>
-    ensures reads { ShelfReads (λ account reply. (name content_type : List ℕ) (meta : List (List ℕ)) → IsReply (asked.PutManifest container.now name content_type meta segments.now) account reply) (S.model shelf.old) result (S.model shelf.new) }
+    ensures reads { ShelfReads (λ account reply. (name content_type : List ℕ) (meta : List (List ℕ))
+        → IsReply (asked.PutManifest container.now name content_type meta segments.now) account
+        reply) (S.model shelf.old) result (S.model shelf.new) }
     ensures tags { IfOk result (TagsList segments.now) }
 {
     if shelf.container(container)?.is_some() {
@@ -293,7 +321,9 @@ fn put_listed<S: Shelf>(
     alloc: Global,
     segments: &[Segment],
 ) -> Result<SwiftReply, StoreFault>
-    ensures reads { ShelfReads (λ account reply. reply ≡ listed_reply (is_good_list (find_object account) segments.now) segments.now) (S.model shelf.old) result (S.model shelf.new) }
+    ensures reads { ShelfReads (λ account reply. reply ≡ listed_reply
+        (is_good_list (find_object account) segments.now) segments.now) (S.model shelf.old) result
+        (S.model shelf.new) }
     ensures tags { IfOk result (TagsList segments.now) }
 {
     if is_good_list(shelf, segments)? {

@@ -24,7 +24,9 @@ fn is_as_listed(segment: &Segment, head: &StoredHead) -> bool
 /// Whether the object of a segment lists segments, where it is there as the segment says.
 #[tactic(auto, using(crate::proofs::Listed::found_so, crate::proofs::Listed::found_other, crate::proofs::Listed::found_none))]
 fn found_lists<S: Shelf>(shelf: &mut S, segment: &Segment) -> Result<Option<bool>, StoreFault>
-    ensures reads { ShelfReads (λ account found. found ≡ found_lists (find_object account) segment.now) (S.model shelf.old) result (S.model shelf.new) }
+    ensures reads { ShelfReads
+        (λ account found. found ≡ found_lists (find_object account) segment.now) (S.model shelf.old)
+        result (S.model shelf.new) }
 {
     match shelf.head(segment.container.as_slice(), segment.name.as_slice())? {
         Some(head) => {
@@ -41,7 +43,8 @@ fn found_lists<S: Shelf>(shelf: &mut S, segment: &Segment) -> Result<Option<bool
 /// Whether a segment is there as it says, with bytes of its own.
 #[tactic(auto, using(crate::proofs::Listed::inner_by))]
 fn is_inner<S: Shelf>(shelf: &mut S, segment: &Segment) -> Result<bool, StoreFault>
-    ensures reads { ShelfReads (λ account is. is ≡ is_inner (find_object account) segment.now) (S.model shelf.old) result (S.model shelf.new) }
+    ensures reads { ShelfReads (λ account is. is ≡ is_inner (find_object account) segment.now)
+        (S.model shelf.old) result (S.model shelf.new) }
 {
     match found_lists(shelf, segment)? {
         Some(lists) => Ok(!lists),
@@ -51,7 +54,9 @@ fn is_inner<S: Shelf>(shelf: &mut S, segment: &Segment) -> Result<bool, StoreFau
 
 /// Whether each segment is there as it says, with bytes of its own.
 fn are_inner<S: Shelf>(shelf: &mut S, segments: &[Segment]) -> Result<bool, StoreFault>
-    ensures reads { ShelfReads (λ account are. are ≡ list_all (is_inner (find_object account)) segments.now) (S.model shelf.old) result (S.model shelf.new) }
+    ensures reads { ShelfReads
+        (λ account are. are ≡ list_all (is_inner (find_object account)) segments.now)
+        (S.model shelf.old) result (S.model shelf.new) }
 {
     for segment in segments {
         if !is_inner(shelf, segment)? {
@@ -63,7 +68,9 @@ fn are_inner<S: Shelf>(shelf: &mut S, segments: &[Segment]) -> Result<bool, Stor
 
 /// Whether what stands at a segment's place lists segments that are there, each with bytes of its own.
 fn lists_inner<S: Shelf>(shelf: &mut S, segment: &Segment) -> Result<bool, StoreFault>
-    ensures reads { ShelfReads (λ account are. are ≡ passes_in (is_inner (find_object account)) (segments_at (find_object account segment.now.container segment.now.name))) (S.model shelf.old) result (S.model shelf.new) }
+    ensures reads { ShelfReads (λ account are. are ≡ passes_in (is_inner (find_object account))
+        (segments_at (find_object account segment.now.container segment.now.name)))
+        (S.model shelf.old) result (S.model shelf.new) }
 {
     match shelf.segments(segment.container.as_slice(), segment.name.as_slice())? {
         Some(segments) => are_inner(shelf, segments.as_slice()),
@@ -73,7 +80,8 @@ fn lists_inner<S: Shelf>(shelf: &mut S, segment: &Segment) -> Result<bool, Store
 
 /// Whether a segment is there as it says, and each segment that it may list.
 fn is_outer<S: Shelf>(shelf: &mut S, segment: &Segment) -> Result<bool, StoreFault>
-    ensures reads { ShelfReads (λ account is. is ≡ is_outer (find_object account) segment.now) (S.model shelf.old) result (S.model shelf.new) }
+    ensures reads { ShelfReads (λ account is. is ≡ is_outer (find_object account) segment.now)
+        (S.model shelf.old) result (S.model shelf.new) }
 {
     match found_lists(shelf, segment)? {
         Some(true) => lists_inner(shelf, segment),
@@ -84,7 +92,9 @@ fn is_outer<S: Shelf>(shelf: &mut S, segment: &Segment) -> Result<bool, StoreFau
 
 /// Whether each segment is there as it says, and each segment that one of them lists.
 pub(crate) fn are_outer<S: Shelf>(shelf: &mut S, segments: &[Segment]) -> Result<bool, StoreFault>
-    ensures reads { ShelfReads (λ account are. are ≡ list_all (is_outer (find_object account)) segments.now) (S.model shelf.old) result (S.model shelf.new) }
+    ensures reads { ShelfReads
+        (λ account are. are ≡ list_all (is_outer (find_object account)) segments.now)
+        (S.model shelf.old) result (S.model shelf.new) }
 {
     for segment in segments {
         if !is_outer(shelf, segment)? {
@@ -97,7 +107,8 @@ pub(crate) fn are_outer<S: Shelf>(shelf: &mut S, segments: &[Segment]) -> Result
 /// Whether nothing at a segment's place lists segments.
 #[tactic(auto, using(crate::proofs::Listed::no_list_some, crate::proofs::Listed::no_list_none))]
 fn is_no_list<S: Shelf>(shelf: &mut S, segment: &Segment) -> Result<bool, StoreFault>
-    ensures reads { ShelfReads (λ account is. is ≡ is_no_list (find_object account) segment.now) (S.model shelf.old) result (S.model shelf.new) }
+    ensures reads { ShelfReads (λ account is. is ≡ is_no_list (find_object account) segment.now)
+        (S.model shelf.old) result (S.model shelf.new) }
 {
     match shelf.head(segment.container.as_slice(), segment.name.as_slice())? {
         Some(head) => Ok(!head.manifest),
@@ -107,7 +118,9 @@ fn is_no_list<S: Shelf>(shelf: &mut S, segment: &Segment) -> Result<bool, StoreF
 
 /// Whether none of these is a list.
 fn are_no_lists<S: Shelf>(shelf: &mut S, segments: &[Segment]) -> Result<bool, StoreFault>
-    ensures reads { ShelfReads (λ account are. are ≡ list_all (is_no_list (find_object account)) segments.now) (S.model shelf.old) result (S.model shelf.new) }
+    ensures reads { ShelfReads
+        (λ account are. are ≡ list_all (is_no_list (find_object account)) segments.now)
+        (S.model shelf.old) result (S.model shelf.new) }
 {
     for segment in segments {
         if !is_no_list(shelf, segment)? {
@@ -119,7 +132,9 @@ fn are_no_lists<S: Shelf>(shelf: &mut S, segments: &[Segment]) -> Result<bool, S
 
 /// Whether what stands at a segment's place lists segments, none of which is a list.
 fn lists_no_list<S: Shelf>(shelf: &mut S, segment: &Segment) -> Result<bool, StoreFault>
-    ensures reads { ShelfReads (λ account are. are ≡ passes_in (is_no_list (find_object account)) (segments_at (find_object account segment.now.container segment.now.name))) (S.model shelf.old) result (S.model shelf.new) }
+    ensures reads { ShelfReads (λ account are. are ≡ passes_in (is_no_list (find_object account))
+        (segments_at (find_object account segment.now.container segment.now.name)))
+        (S.model shelf.old) result (S.model shelf.new) }
 {
     match shelf.segments(segment.container.as_slice(), segment.name.as_slice())? {
         Some(segments) => are_no_lists(shelf, segments.as_slice()),
@@ -129,7 +144,8 @@ fn lists_no_list<S: Shelf>(shelf: &mut S, segment: &Segment) -> Result<bool, Sto
 
 /// Whether a segment may be listed by its place: it is there as it says, and lists no list.
 fn is_shallow<S: Shelf>(shelf: &mut S, segment: &Segment) -> Result<bool, StoreFault>
-    ensures reads { ShelfReads (λ account is. is ≡ is_shallow_there (find_object account) (found (find_object account) segment.now)) (S.model shelf.old) result (S.model shelf.new) }
+    ensures reads { ShelfReads (λ account is. is ≡ is_shallow_there (find_object account)
+        (found (find_object account) segment.now)) (S.model shelf.old) result (S.model shelf.new) }
 {
     match found_lists(shelf, segment)? {
         Some(true) => lists_no_list(shelf, segment),
@@ -140,7 +156,9 @@ fn is_shallow<S: Shelf>(shelf: &mut S, segment: &Segment) -> Result<bool, StoreF
 
 /// Whether a segment may be listed: it isn't empty, and it is there as it says, and lists no list.
 fn may_be_listed<S: Shelf>(shelf: &mut S, segment: &Segment) -> Result<bool, StoreFault>
-    ensures reads { ShelfReads (λ account may. may ≡ may_be_listed (find_object account) segment.now) (S.model shelf.old) result (S.model shelf.new) }
+    ensures reads { ShelfReads
+        (λ account may. may ≡ may_be_listed (find_object account) segment.now) (S.model shelf.old)
+        result (S.model shelf.new) }
 {
     let is_there = is_shallow(shelf, segment)?;
     Ok(0 < segment.size && is_there)
@@ -148,7 +166,9 @@ fn may_be_listed<S: Shelf>(shelf: &mut S, segment: &Segment) -> Result<bool, Sto
 
 /// Whether each of these may be listed.
 fn may_all_be_listed<S: Shelf>(shelf: &mut S, segments: &[Segment]) -> Result<bool, StoreFault>
-    ensures reads { ShelfReads (λ account may. may ≡ list_all (may_be_listed (find_object account)) segments.now) (S.model shelf.old) result (S.model shelf.new) }
+    ensures reads { ShelfReads
+        (λ account may. may ≡ list_all (may_be_listed (find_object account)) segments.now)
+        (S.model shelf.old) result (S.model shelf.new) }
 {
     for segment in segments {
         if !may_be_listed(shelf, segment)? {
@@ -185,7 +205,8 @@ pub(crate) fn is_good_list<S: Shelf>(
     shelf: &mut S,
     segments: &[Segment],
 ) -> Result<bool, StoreFault>
-    ensures reads { ShelfReads (λ account is. is ≡ is_good_list (find_object account) segments.now) (S.model shelf.old) result (S.model shelf.new) }
+    ensures reads { ShelfReads (λ account is. is ≡ is_good_list (find_object account) segments.now)
+        (S.model shelf.old) result (S.model shelf.new) }
     ensures sized { IfOk result (λ is. IsTrue is → IsSized segments.now) }
 {
     if is_counted(segments) {

@@ -53,7 +53,8 @@ fn serve_call<S: Shelf>(
 ) -> Result<(), StoreFault>
     requires fit { Fit call }
     ensures keeps { ShelfKeeps (S.model shelf.old) result (S.model shelf.new) }
-    ensures answers { Answers (S.model shelf.old).observable call (S.model shelf.old).account (S.model shelf.new).account out.old out.new result }
+    ensures answers { Answers (S.model shelf.old).observable call (S.model shelf.old).account
+        (S.model shelf.new).account out.old out.new result }
 {
     let (reply, ready) = ready_reply(alloc, shelf, &call, out)?;
     apply_ready(shelf, call, reply, ready, out)
@@ -66,7 +67,8 @@ fn ready_reply<S: Shelf>(
     call: &SwiftRequest,
     before: &Bytes,
 ) -> Result<(SwiftReply, Bytes), StoreFault>
-    ensures reads { ShelfReads (λ account found. IsReply call.now account found.0) (S.model shelf.old) result (S.model shelf.new) }
+    ensures reads { ShelfReads (λ account found. IsReply call.now account found.0)
+        (S.model shelf.old) result (S.model shelf.new) }
     ensures tags { IfOk result (λ found. TagsBody call.now found.0) }
     ensures text { IfOk result (λ found. found.1 ≡ before.now ++ answer_text call.now found.0) }
 {
@@ -88,7 +90,10 @@ fn apply_ready<S: Shelf>(
     requires tags { TagsBody call reply }
     requires ready { ready ≡ out.old ++ answer_text call reply }
     ensures keeps { ShelfKeeps (S.model shelf.old) result (S.model shelf.new) }
-    ensures effect { IsTrue (S.model shelf.old).observable → reply ≡ (swift_step call (S.model shelf.old).account).reply → Writes (S.model shelf.old).account (swift_step call (S.model shelf.old).account).tree (S.model shelf.new).account result }
+    ensures effect { IsTrue (S.model shelf.old).observable
+        → reply ≡ (swift_step call (S.model shelf.old).account).reply
+        → Writes (S.model shelf.old).account (swift_step call (S.model shelf.old).account).tree
+        (S.model shelf.new).account result }
     ensures text { IfOk result (λ done. out.new ≡ out.old ++ answer_text call reply) }
     ensures text_err { OnErr result (out.new ≡ out.old) }
 {
@@ -119,7 +124,8 @@ pub fn serve<S: Shelf>(
 ) -> Result<(), StoreFault>
     requires { IsPlace place.now }
     ensures keeps { ShelfKeeps (S.model shelf.old) result (S.model shelf.new) }
-    ensures served { Served (S.model shelf.old).observable place.now message (S.model shelf.old).account (S.model shelf.new).account out.old out.new result }
+    ensures served { Served (S.model shelf.old).observable place.now message
+        (S.model shelf.old).account (S.model shelf.new).account out.old out.new result }
 {
     if !has_token(place, &message) {
         *out = refused(alloc, out, 401)?;

@@ -59,7 +59,8 @@ pub(crate) fn is_same(one: &[u8], other: &[u8]) -> bool
 /// The entries of metadata, where their names ascend.
 #[tactic(auto, using(crate::proofs::Lists::meta_more))]
 pub(crate) fn meta_in(alloc: Global, values: &[Value]) -> Result<Meta, Memory>
-    ensures { IfOk result (λ meta. names_ascend (map pair_in (map view values.now)) ≡ true → meta ≡ map pair_in (map view values.now)) }
+    ensures { IfOk result (λ meta. names_ascend (map pair_in (map view values.now)) ≡ true
+        → meta ≡ map pair_in (map view values.now)) }
 {
     let mut meta = Meta::new(alloc);
     for value in values {
@@ -83,7 +84,8 @@ fn small(number: u64) -> u32
 
 /// The parts that a completion lists, where each keeps its limits.
 pub(crate) fn listed_in(alloc: Global, values: &[Value]) -> Result<List<Listed>, Memory>
-    ensures { IfOk result (λ list. list_all is_kept_part (map listed_in (map view values.now)) ≡ true → list ≡ map listed_in (map view values.now)) }
+    ensures { IfOk result (λ list. list_all is_kept_part
+        (map listed_in (map view values.now)) ≡ true → list ≡ map listed_in (map view values.now)) }
 {
     let mut list = List::new(alloc);
     for value in values {
@@ -94,7 +96,8 @@ pub(crate) fn listed_in(alloc: Global, values: &[Value]) -> Result<List<Listed>,
 
 #[tactic(auto, using(crate::proofs::Lists::kept_number))]
 fn one_listed(alloc: Global, value: &Value) -> Result<Listed, Memory>
-    ensures { IfOk result (λ listed. is_kept_part (listed_in (view value.now)) ≡ true → listed ≡ listed_in (view value.now)) }
+    ensures { IfOk result (λ listed. is_kept_part (listed_in (view value.now)) ≡ true
+        → listed ≡ listed_in (view value.now)) }
 {
     Ok(Listed {
         number: small(number_item(value, 0)),
@@ -104,7 +107,8 @@ fn one_listed(alloc: Global, value: &Value) -> Result<Listed, Memory>
 
 /// The parts of a sealed completion, where each keeps its limits.
 pub(crate) fn parts_in(alloc: Global, values: &[Value]) -> Result<List<SealedPart>, Memory>
-    ensures { IfOk result (λ list. list_all is_sealed_part (map part_in (map view values.now)) ≡ true → list ≡ map part_in (map view values.now)) }
+    ensures { IfOk result (λ list. list_all is_sealed_part
+        (map part_in (map view values.now)) ≡ true → list ≡ map part_in (map view values.now)) }
 {
     let mut list = List::new(alloc);
     for value in values {
@@ -115,7 +119,8 @@ pub(crate) fn parts_in(alloc: Global, values: &[Value]) -> Result<List<SealedPar
 
 #[tactic(auto, using(crate::proofs::Lists::sealed_number))]
 fn one_part(alloc: Global, value: &Value) -> Result<SealedPart, Memory>
-    ensures { IfOk result (λ part. is_sealed_part (part_in (view value.now)) ≡ true → part ≡ part_in (view value.now)) }
+    ensures { IfOk result (λ part. is_sealed_part (part_in (view value.now)) ≡ true
+        → part ≡ part_in (view value.now)) }
 {
     Ok(SealedPart {
         number: small(number_item(value, 0)),

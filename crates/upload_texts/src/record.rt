@@ -182,7 +182,8 @@ fn open_value(
     started: u64,
 ) -> Result<Value, Memory>
     requires { has_record_text (Open key.now content_type.now meta.now started) ≡ true }
-    ensures { IfOk result (λ value. view value ≡ open_value key.now content_type.now meta.now started) }
+    ensures { IfOk result
+        (λ value. view value ≡ open_value key.now content_type.now meta.now started) }
 {
     let meta = Value::Array(pair_values(alloc, meta.pairs())?);
     let key = text(key.as_slice());
@@ -197,7 +198,8 @@ fn open_object(
     meta: &Value,
     started: u64,
 ) -> Result<Value, Memory>
-    ensures { IfOk result (λ value. view value ≡ open_object started key.now (view meta.now) content_type.now) }
+    ensures { IfOk result
+        (λ value. view value ≡ open_object started key.now (view meta.now) content_type.now) }
 {
     let version = 1u64;
     Ok(
@@ -215,7 +217,8 @@ fn done_value(
     moment: Option<u64>,
 ) -> Result<Value, Memory>
     requires { has_record_text (Done key.now list.now etag.now started moment) ≡ true }
-    ensures { IfOk result (λ value. view value ≡ done_value key.now list.now etag.now started moment) }
+    ensures { IfOk result
+        (λ value. view value ≡ done_value key.now list.now etag.now started moment) }
 {
     let list = Value::Array(listed_values(alloc, list.as_slice())?);
     let key = text(key.as_slice());
@@ -233,7 +236,8 @@ fn undated_value(
     etag: &str,
     started: u64,
 ) -> Result<Value, Memory>
-    ensures { IfOk result (λ value. view value ≡ undated_value started etag.now key.now (view list.now)) }
+    ensures { IfOk result
+        (λ value. view value ≡ undated_value started etag.now key.now (view list.now)) }
 {
     let version = 1u64;
     Ok(
@@ -249,7 +253,8 @@ fn dated_value(
     started: u64,
     moment: u64,
 ) -> Result<Value, Memory>
-    ensures { IfOk result (λ value. view value ≡ dated_value started moment etag.now key.now (view list.now)) }
+    ensures { IfOk result
+        (λ value. view value ≡ dated_value started moment etag.now key.now (view list.now)) }
 {
     let version = 2u64;
     Ok(
@@ -259,7 +264,8 @@ fn dated_value(
 
 /// The record that stands in the places of a value, where that has a text.
 fn record_in(alloc: Global, value: &Value) -> Result<Record, Memory>
-    ensures { IfOk result (λ r. has_record_text (record_in (view value.now)) ≡ true → r ≡ record_in (view value.now)) }
+    ensures { IfOk result (λ r. has_record_text (record_in (view value.now)) ≡ true
+        → r ≡ record_in (view value.now)) }
 {
     if text_at(value, "state").as_bytes() == b"open".as_slice() {
         open_in(alloc, value)
@@ -270,7 +276,8 @@ fn record_in(alloc: Global, value: &Value) -> Result<Record, Memory>
 
 #[tactic(auto, using(crate::proofs::Limits::open_meta))]
 fn open_in(alloc: Global, value: &Value) -> Result<Record, Memory>
-    ensures { IfOk result (λ r. has_record_text (open_in (view value.now)) ≡ true → r ≡ open_in (view value.now)) }
+    ensures { IfOk result
+        (λ r. has_record_text (open_in (view value.now)) ≡ true → r ≡ open_in (view value.now)) }
 {
     Ok(Record::Open {
         key: Bytes::from_slice(alloc, text_at(value, "key").as_bytes())?,
@@ -282,7 +289,8 @@ fn open_in(alloc: Global, value: &Value) -> Result<Record, Memory>
 
 #[tactic(auto, using(crate::proofs::Limits::done_list))]
 fn done_in(alloc: Global, value: &Value) -> Result<Record, Memory>
-    ensures { IfOk result (λ r. has_record_text (done_in (view value.now)) ≡ true → r ≡ done_in (view value.now)) }
+    ensures { IfOk result
+        (λ r. has_record_text (done_in (view value.now)) ≡ true → r ≡ done_in (view value.now)) }
 {
     Ok(Record::Done {
         key: Bytes::from_slice(alloc, text_at(value, "key").as_bytes())?,

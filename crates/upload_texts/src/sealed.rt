@@ -162,7 +162,8 @@ fn object(
     started: u64,
     content_type: &str,
 ) -> Result<Value, Memory>
-    ensures { IfOk result (λ value. view value ≡ sealed_object moment bucket.now etag.now id.now key.now (view list.now) (view meta.now) started content_type.now) }
+    ensures { IfOk result (λ value. view value ≡ sealed_object moment bucket.now etag.now id.now
+        key.now (view list.now) (view meta.now) started content_type.now) }
 {
     let mut map = Map::new(alloc);
     put_names(&mut map, alloc, moment, bucket, etag, id, key)?;
@@ -179,7 +180,8 @@ fn put_names(
     id: &str,
     key: &str,
 ) -> Result<(), Memory>
-    ensures { OnOk result (members_view map.new.entries ≡ names_put moment bucket.now etag.now id.now key.now (members_view map.old.entries)) }
+    ensures { OnOk result (members_view map.new.entries ≡ names_put moment bucket.now etag.now
+        id.now key.now (members_view map.old.entries)) }
 {
     put_number(map, alloc, "at", moment)?;
     put_text(map, alloc, "bucket", bucket)?;
@@ -196,7 +198,8 @@ fn put_rest(
     started: u64,
     content_type: &str,
 ) -> Result<(), Memory>
-    ensures { OnOk result (members_view map.new.entries ≡ rest_put (view list.now) (view meta.now) started content_type.now (members_view map.old.entries)) }
+    ensures { OnOk result (members_view map.new.entries ≡ rest_put (view list.now) (view meta.now)
+        started content_type.now (members_view map.old.entries)) }
 {
     put_value(map, alloc, "list", list)?;
     put_value(map, alloc, "meta", meta)?;
@@ -211,7 +214,8 @@ fn put_text(
     key: &str,
     text: &str,
 ) -> Result<(), Memory>
-    ensures { OnOk result (members_view map.new.entries ≡ with_member key.now (string text.now) (members_view map.old.entries)) }
+    ensures { OnOk result (members_view map.new.entries ≡ with_member key.now (string text.now)
+        (members_view map.old.entries)) }
 {
     let value = text.to_value(alloc)?;
     put(map, alloc, key, value)?;
@@ -224,7 +228,8 @@ fn put_value(
     key: &str,
     value: &Value,
 ) -> Result<(), Memory>
-    ensures { OnOk result (members_view map.new.entries ≡ with_member key.now (view value.now) (members_view map.old.entries)) }
+    ensures { OnOk result (members_view map.new.entries ≡ with_member key.now (view value.now)
+        (members_view map.old.entries)) }
 {
     let value = value.to_value(alloc)?;
     put(map, alloc, key, value)?;
@@ -237,7 +242,8 @@ fn put_number(
     key: &str,
     count: u64,
 ) -> Result<(), Memory>
-    ensures { OnOk result (members_view map.new.entries ≡ with_member key.now (number (unsigned count)) (members_view map.old.entries)) }
+    ensures { OnOk result (members_view map.new.entries ≡ with_member key.now
+        (number (unsigned count)) (members_view map.old.entries)) }
 {
     put(map, alloc, key, Value::from(count))?;
     Ok(())
@@ -267,7 +273,8 @@ fn bytes_at(alloc: Global, value: &Value, field: &str) -> Result<Bytes, Memory>
 
 /// The sealed completion that stands in the places of a value, where that has a text.
 fn sealed_in(alloc: Global, value: &Value) -> Result<Sealed, Memory>
-    ensures { IfOk result (λ sealed. has_sealed_text (sealed_in (view value.now)) ≡ true → sealed ≡ sealed_in (view value.now)) }
+    ensures { IfOk result (λ sealed. has_sealed_text (sealed_in (view value.now)) ≡ true
+        → sealed ≡ sealed_in (view value.now)) }
 {
     let pairs = list_at(value, "meta");
     let parts = list_at(value, "list");

@@ -67,7 +67,8 @@ fn declared_text(bytes: &[u8]) -> Result<(&[u8], &[u8]), usize>
 // Whether `?>` stands at this place.
 fn is_declaration_end(bytes: &[u8], i: usize) -> bool
     requires { i < length bytes.now }
-    ensures { IsTrue result ↔ (slice_index bytes.now i ≡ 63) × (slice_index bytes.now (i + 1) ≡ 62) }
+    ensures { IsTrue result ↔ (slice_index bytes.now i ≡ 63)
+        × (slice_index bytes.now (i + 1) ≡ 62) }
 {
     let (_, rest) = bytes.split_at(i);
     rest.len() >= 2 && rest[0] == b'?' && rest[1] == b'>'

@@ -36,7 +36,8 @@ fn run_end(bytes: &[u8], class: Class, most: usize) -> usize
     ensures within { result ≤ length bytes.now }
     ensures short { result ≤ most }
     ensures passes { list_all (has class) (take result bytes.now) ≡ true }
-    ensures closed { result < length bytes.now → has class (slice_index bytes.now result) ≡ true → most ≤ result }
+    ensures closed { result < length bytes.now → has class (slice_index bytes.now result) ≡ true
+        → most ≤ result }
 {
     let mut end = 0;
     'bytes: while end < bytes.len() && end < most && class.has(bytes[end]) {
