@@ -5,6 +5,7 @@
 mod caller;
 mod copying;
 mod cuts;
+mod drops;
 mod faults;
 mod fields;
 mod line_memory;
@@ -21,6 +22,7 @@ mod wire_memory;
 pub use caller::Caller;
 pub use copying::Copying;
 pub use cuts::{cut, cut_last, first_place};
+pub use drops::drop;
 pub use faults::{Failed, Memory};
 pub use fields::{are_printable, is_field};
 pub use line_memory::MemLine;
