@@ -5,6 +5,10 @@ use Rattle.std.specs.Prelude.{ℕ, Bool, ◌&&◌, ◌||◌, ◌==◌, nat_le}
 abbrev pub is_digit : ℕ → Bool
 is_digit byte = nat_le 48 byte && nat_le byte 57
 
+-- `0` to `9`, `a` to `f`
+abbrev pub is_lower_hex : ℕ → Bool
+is_lower_hex byte = is_digit byte || (nat_le 97 byte && nat_le byte 102)
+
 -- `0` to `9`, `A` to `Z`, `a` to `z`
 abbrev pub is_letter_or_digit : ℕ → Bool
 is_letter_or_digit byte = (nat_le 48 byte && nat_le byte 57) || (nat_le 65 byte && nat_le byte 90) || (nat_le 97 byte && nat_le byte 122)
