@@ -118,20 +118,25 @@ def page():
     return "".join(text), missing
 
 
+def finish(path, text, complaints):
+    """Writes a page, or with `--check` looks whether it is what would be written; and prints what there is to complain of."""
+    if sys.argv[1:] == ["--check"]:
+        with open(path, encoding="utf-8") as file:
+            if file.read() != text:
+                complaints = complaints + [f"{path} is not what bench/{os.path.basename(sys.argv[0])} writes"]
+    else:
+        with open(path, "w", encoding="utf-8") as file:
+            file.write(text)
+    for complaint in complaints:
+        print(complaint)
+    sys.exit(1 if complaints else 0)
+
+
 def main():
     os.chdir(ROOT)
     text, missing = page()
-    if sys.argv[1:] != ["--check"]:
-        with open(PAGE, "w", encoding="utf-8") as file:
-            file.write(text)
-        return
-    with open(PAGE, encoding="utf-8") as file:
-        is_same = file.read() == text
-    for place in missing:
-        print(f"a word of a contract has no comment: {place}")
-    if not is_same:
-        print(f"{PAGE} is not what bench/definitions.py writes")
-    sys.exit(0 if is_same and not missing else 1)
+    finish(PAGE, text, [f"a word of a contract has no comment: {place}" for place in missing])
 
 
-main()
+if __name__ == "__main__":
+    main()
