@@ -9,7 +9,9 @@ name, or else the first, a public one before others and a constant last. One of 
 """
 import os
 import re
+import sys
 
+sys.dont_write_bytecode = True
 from definitions import ROOT, finish
 
 PAGE = "docs/FILES.md"
