@@ -110,11 +110,12 @@ fn whole(head: usize, body: u64) -> io::Result<usize> {
     }
 }
 
-/// Reads on until the answer has `size` bytes. One more is asked for, so that bytes behind it are found out.
+/// Reads on until the answer has `size` bytes. One more is asked for, so that bytes behind it are found out; room is taken for
+/// that one too, since an answer that grew beyond its room would take twice as much.
 fn receive_rest<S: Read>(stream: &mut S, answer: &mut Vec<u8>, size: usize) -> io::Result<()> {
     let mut came = answer.len();
     if came < size {
-        answer.reserve(size - came)?;
+        answer.reserve((size - came).saturating_add(1))?;
     }
     'pieces: while came < size {
         if came == answer.len() {
