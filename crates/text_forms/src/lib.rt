@@ -1,0 +1,12 @@
+//! What bytes are as text: digits, numbers in decimal, UTF-8.
+#![tactic(auto)]
+
+mod classes;
+mod digits;
+mod numbers;
+mod utf8;
+
+pub use classes::{all_digits, all_lower_hex, is_digit, is_lower_hex};
+pub use digits::{digits_value, short_value};
+pub use numbers::{append_decimal, is_decimal, is_number, number_of};
+pub use utf8::is_utf8;
