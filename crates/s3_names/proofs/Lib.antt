@@ -1,4 +1,3 @@
 pub mod QueryLemmas
 pub mod TargetLemmas
-pub mod Texts
 pub mod lemmas

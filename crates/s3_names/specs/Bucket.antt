@@ -4,6 +4,7 @@ use Rattle.std.specs.Prelude.{ℕ, Bool, false, not, ◌&&◌, ◌||◌, ◌==�
 use Rattle.std.specs.List.{list_all, slice_split}
 use Rattle.std.specs.Option.{option_map_or}
 use Rattle.gate_base.specs.Ascii.{is_digit}
+use Rattle.text_forms.specs.Numbers.{is_number}
 use Rattle.s3_names.specs.declared.fault.NameFault.{NameFault}
 use Rattle.s3_names.specs.declared.fault.NameFault.TheVariants.{BadBucket}
 
@@ -26,7 +27,7 @@ has_two_dots (a ∷ b ∷ bytes) = (a == 46 && b == 46) || has_two_dots (b ∷ b
 
 -- one to three digits
 abbrev pub is_short_number : List ℕ → Bool
-is_short_number text = nat_le 1 (length text) && nat_le (length text) 3 && list_all is_digit text
+is_short_number text = is_number 3 text
 
 abbrev pub is_dot : ℕ → Bool
 is_dot byte = byte == 46

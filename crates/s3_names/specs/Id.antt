@@ -1,13 +1,8 @@
 -- The ids of uploads and their texts (this profile).
-use Rattle.std.specs.Prelude.{ℕ, Bool, ◌&&◌, ◌||◌, nat_le, List, Option, Some, None, Result, Ok, Err}
+use Rattle.std.specs.Prelude.{ℕ, List, Option, Some, None, Result, Ok, Err}
 use Rattle.std.specs.Int.{w128, to_be_bytes, from_be_bytes}
 use Rattle.hex.specs.Hex.{encode_lower, decode_sized}
 use Rattle.hex.specs.declared.error.FromHexError.{FromHexError}
-use Rattle.gate_base.specs.Ascii.{is_digit}
-
--- `0` to `9` or `a` to `f`
-abbrev pub is_lower_hex : ℕ → Bool
-is_lower_hex byte = is_digit byte || (nat_le 97 byte && nat_le byte 102)
 
 -- an id in 32 hexadecimal digits, in lower case
 unfoldable pub id_digits : ℕ → List ℕ

@@ -8,6 +8,7 @@ use crate::NameFault;
 use gate_base::{Bytes, Copying, Memory, first_place};
 use std::alloc::Global;
 use std::marker::Model;
+use text_forms::is_number;
 
 /// A bucket name (Amazon S3 User Guide, "General purpose bucket naming rules"). Contracts see it as its bytes.
 #[derive(Debug, Drop)]
@@ -120,22 +121,10 @@ fn two_dots(name: &[u8]) -> bool
     false
 }
 
-fn digit(byte: u8) -> bool
-    ensures { result ≡ is_digit byte }
-{
-    byte.is_ascii_digit()
-}
-
-fn all_digits(text: &[u8]) -> bool
-    ensures { result ≡ list_all is_digit text.now }
-{
-    text.iter().all(|byte| digit(*byte))
-}
-
 fn short_number(text: &[u8]) -> bool
     ensures { result ≡ is_short_number text.now }
 {
-    1 <= text.len() && text.len() <= 3 && all_digits(text)
+    is_number(text, 3)
 }
 
 fn dot(byte: u8) -> bool

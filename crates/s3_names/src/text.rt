@@ -1,18 +1,7 @@
 ghost use Rattle.std.specs.Prelude.{◌≡◌};
-ghost use Rattle.std.specs.Str.{is_utf8};
 ghost use Rattle.s3_names.specs.Text.{has_zero, is_text};
 
-use std::str;
-
-#[tactic(auto, using(crate::proofs::Texts::is_utf8_where, crate::proofs::Texts::is_utf8_unless))]
-fn is_utf8(bytes: &[u8]) -> bool
-    ensures { result ≡ is_utf8 bytes.now }
-{
-    match str::from_utf8(bytes) {
-        Ok(_) => true,
-        Err(_) => false,
-    }
-}
+use text_forms::is_utf8;
 
 fn has_zero(bytes: &[u8]) -> bool
     ensures { result ≡ has_zero bytes.now }

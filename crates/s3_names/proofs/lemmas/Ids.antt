@@ -7,7 +7,8 @@ use Rattle.std.proofs.lemmas.Bool.{and_from}
 use Rattle.std.proofs.lemmas.List.Sums.{AllPass-from_list_all}
 use Rattle.hex.specs.Hex.{lower_digits, encode_with, encode_lower, IsBytes}
 use Rattle.hex.proofs.HexLemmas.{length-encode_with, decode_sized-encode_lower}
-use Rattle.s3_names.specs.Id.{is_lower_hex, id_digits, id_from, id_of}
+use Rattle.gate_base.specs.Ascii.{is_lower_hex}
+use Rattle.s3_names.specs.Id.{id_digits, id_from, id_of}
 use Rattle.s3_names.specs.Laws.{IdReadsBack}
 
 bytes_sum : (q0 q1 q2 q3 q4 q5 q6 q7 q8 q9 q10 q11 q12 q13 q14 q15 r0 r1 r2 r3 r4 r5 r6 r7 r8 r9 r10 r11 r12 r13 r14 r15 : ℕ)
