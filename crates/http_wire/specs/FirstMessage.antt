@@ -1,11 +1,9 @@
 -- What stands first in the bytes that are left of a connection: a request, nothing, a head that was cut short, or what is
 -- refused (RFC 9112, sections 2, 3, 5 and 6, and this profile's limits). Each is said of the whole list of these bytes.
-use Rattle.std.specs.Prelude.{◌≡◌, ℕ, ◌+◌, ◌<◌, ◌≤◌, nat_lt, nat_le, Bool, false, not, ◌&&◌, ◌==◌, if◌then◌else◌}
+use Rattle.std.specs.Prelude.{◌≡◌, ℕ, ◌+◌, ◌<◌, ◌≤◌, nat_lt, Bool, false, not, ◌&&◌, ◌==◌, if◌then◌else◌}
 use Rattle.std.specs.Prelude.{List, [], ◌∷◌, ◌++◌, length, take, drop, map, codes, bytes_eq, Result, Ok, Err}
-use Rattle.std.specs.List.{list_all}
 use Rattle.std.specs.Char.{to_ascii_lowercase}
 use Rattle.std.specs.Str.Parse.{digits_value}
-use Rattle.gate_base.specs.Ascii.{is_digit}
 use Rattle.gate_base.specs.declared.page.Pair.{Pair}
 use Rattle.http_wire.specs.declared.judge.TheConstants.{BODY_LIMIT}
 use Rattle.http_wire.specs.declared.advance.TheConstants.{HEAD_LIMIT}
@@ -14,6 +12,7 @@ use Rattle.http_wire.specs.declared.message.Kind.{Kind}
 use Rattle.http_wire.specs.declared.message.Kind.TheVariants.{BadHead, LongHead, ManyHeaders, NoLength, BadLength, LongBody, Transfer, ShortBody}
 use Rattle.httparse.specs.Ascii.{line_feed, carriage_return, space}
 use Rattle.httparse.specs.Grammar.{IsToken, AllPass, LineEnd, print_blank, Field, field_value, RequestHead, print_request, ReadsRequest, NeverHasRequest}
+use Rattle.text_forms.specs.Numbers.{is_number}
 use Rattle.http_wire.specs.Headers.{has_header, values_of}
 
 -- the first of what stands in the bytes
@@ -63,7 +62,7 @@ message_of h = record { method = h.method; target = h.target; old = h.minor == 0
 
 -- a length as it is taken: 1 to 19 digits (RFC 9110, section 8.6, and this profile)
 abbrev pub is_length : List ℕ → Bool
-is_length value = nat_lt 0 (length value) && (nat_le (length value) 19 && list_all is_digit value)
+is_length value = is_number 19 value
 
 -- how many bytes of body a length asks for, at most 16,777,216, or why it is refused (this profile)
 abbrev pub value_judged : List ℕ → Result ℕ Kind

@@ -1,14 +1,12 @@
 //! Whether a whole head is accepted, and how long its body is.
-ghost use Rattle.std.specs.Prelude.{◌≡◌, ◌≤◌, length, IsTrue, IfOk, codes, nat_lt};
-ghost use Rattle.std.specs.List.{list_all};
-ghost use Rattle.std.specs.Str.Parse.{digits_value};
+ghost use Rattle.std.specs.Prelude.{◌≡◌, ◌≤◌, length, IfOk, codes, nat_lt};
 ghost use Rattle.http_wire.specs.Headers.{values_of};
-ghost use Rattle.gate_base.specs.Ascii.{is_digit};
-ghost use Rattle.http_wire.specs.FirstMessage.{is_length, is_put, value_judged, length_judged, judge};
+ghost use Rattle.http_wire.specs.FirstMessage.{is_put, value_judged, length_judged, judge};
 
 use crate::headers::{count, first_value, has_header};
 use crate::{Kind, Message};
 use gate_base::Pair;
+use text_forms::{digits_value, is_number};
 
 const LENGTH: &[u8] = b"content-length";
 
@@ -68,43 +66,13 @@ fn judge_value(value: &[u8]) -> Result<usize, Kind>
     ensures value { result ≡ value_judged value.now }
     ensures within { IfOk result (λ size. size ≤ BODY_LIMIT) }
 {
-    if !is_length(value) {
+    if !is_number(value, DIGITS) {
         return Err(Kind::BadLength);
     }
-    let size = number_of(value);
+    let size = digits_value(value) as usize;
     if size > BODY_LIMIT {
         Err(Kind::LongBody)
     } else {
         Ok(size)
     }
-}
-
-fn is_length(value: &[u8]) -> bool
-    ensures { result ≡ is_length value.now }
-{
-    0 < value.len() && (value.len() <= DIGITS && are_digits(value))
-}
-
-fn are_digits(value: &[u8]) -> bool
-    ensures { result ≡ list_all is_digit value.now }
-{
-    value.iter().all(|byte| is_digit(*byte))
-}
-
-fn is_digit(byte: u8) -> bool
-    ensures { result ≡ is_digit byte }
-{
-    b'0' <= byte && byte <= b'9'
-}
-
-/// The number that digits write.
-fn number_of(digits: &[u8]) -> usize
-    requires { IsTrue (is_length digits.now) }
-    ensures { result ≡ digits_value 10 digits.now }
-{
-    let mut number = 0usize;
-    for digit in digits {
-        number = number * 10 + usize::from(*digit - b'0');
-    }
-    number
 }

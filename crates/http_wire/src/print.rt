@@ -1,11 +1,11 @@
-ghost use Rattle.std.specs.Prelude.{◌≡◌, ◌++◌, flat_map, IfOk, OnOk, decimal};
+ghost use Rattle.std.specs.Prelude.{◌≡◌, ◌++◌, flat_map, IfOk, OnOk};
 ghost use Rattle.std.specs.List.{list_any};
 ghost use Rattle.http_wire.specs.Print.{IsReplyStatus, page_text, memory_reply, status_line, header_line, length_line, closing_line, sent_body, is_bodiless, names_length, phrase_of};
 
 use gate_base::{Bytes, Memory, Page, Pair};
 use http::StatusCode;
-use itoa::Buffer;
 use std::alloc::Global;
+use text_forms::append_decimal;
 
 /// Room for the head of most replies, so that no body is moved as its text grows.
 const HEAD_ROOM: usize = 1024;
@@ -62,13 +62,6 @@ fn append_phrase(text: &mut Bytes, status: u16) -> Result<(), Memory>
         },
         Err(_) => Ok(()),
     }
-}
-
-fn append_decimal(text: &mut Bytes, number: u64) -> Result<(), Memory>
-    ensures { OnOk result (text.new ≡ text.old ++ decimal number) }
-{
-    let mut buffer = Buffer::new();
-    text.append(buffer.format(number).as_bytes())
 }
 
 fn append_headers(text: &mut Bytes, headers: &[Pair]) -> Result<(), Memory>
