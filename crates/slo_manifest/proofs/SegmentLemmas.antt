@@ -7,16 +7,17 @@ use Rattle.std.proofs.lemmas.Bool.Decides.{nat_tests}
 use Rattle.std.proofs.lemmas.Str.{is_utf8-from_IsUtf8, IsUtf8-from_ascii}
 use Rattle.std.proofs.lemmas.Str.Ascii.{IsAscii-nil, IsAscii-cons}
 use Rattle.gate_base.specs.Ascii.{is_slash}
-use Rattle.slo_manifest.specs.Segments.{is_lower_hex_digit, is_etag, is_filled, is_proper, is_listable, is_segment, is_manifest}
+use Rattle.gate_base.specs.Ascii.{is_lower_hex}
+use Rattle.slo_manifest.specs.Segments.{is_etag, is_filled, is_proper, is_listable, is_segment, is_manifest}
 use Rattle.slo_manifest.specs.declared.Segment.{Segment}
 
-digit_is_ascii : (byte : ℕ) → is_lower_hex_digit byte ≡ true → byte < 128
+digit_is_ascii : (byte : ℕ) → is_lower_hex byte ≡ true → byte < 128
 digit_is_ascii byte h = grind (arith, nat_tests)
 
-digits_are_ascii : (text : List ℕ) → list_all is_lower_hex_digit text ≡ true → IsAscii text
+digits_are_ascii : (text : List ℕ) → list_all is_lower_hex text ≡ true → IsAscii text
 digits_are_ascii [] h = IsAscii-nil
 digits_are_ascii (byte ∷ rest) h =
-    let both = and_parts (is_lower_hex_digit byte) (list_all is_lower_hex_digit rest) h in
+    let both = and_parts (is_lower_hex byte) (list_all is_lower_hex rest) h in
     IsAscii-cons byte rest (digit_is_ascii byte both.0) (digits_are_ascii rest both.1)
 
 etag_text_is_utf8 : (text : List ℕ) → is_etag text ≡ true → is_utf8 text ≡ true

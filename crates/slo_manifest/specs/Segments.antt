@@ -1,18 +1,14 @@
 -- Which segments a manifest may list. Source: Object Storage API v1, "Static large objects": at most 1000 segments,
 -- each with the MD5 of its object and a size above 0. That a size is below 2^63 is this profile.
-use Rattle.std.specs.Prelude.{ℕ, ◌^◌, Bool, not, ◌&&◌, ◌||◌, ◌==◌, nat_le, nat_lt, List, length}
+use Rattle.std.specs.Prelude.{ℕ, ◌^◌, Bool, not, ◌&&◌, ◌==◌, nat_le, nat_lt, List, length}
 use Rattle.std.specs.List.{list_all, list_any}
 use Rattle.std.specs.Str.{is_utf8}
-use Rattle.gate_base.specs.Ascii.{is_slash}
+use Rattle.gate_base.specs.Ascii.{is_lower_hex, is_slash}
 use Rattle.slo_manifest.specs.declared.Segment.{Segment}
-
--- `0` to `9` and `a` to `f`
-abbrev pub is_lower_hex_digit : ℕ → Bool
-is_lower_hex_digit byte = (nat_le 48 byte && nat_le byte 57) || (nat_le 97 byte && nat_le byte 102)
 
 -- 32 lower-case hexadecimal digits
 unfoldable pub is_etag : List ℕ → Bool
-is_etag text = (length text == 32) && list_all is_lower_hex_digit text
+is_etag text = (length text == 32) && list_all is_lower_hex text
 
 abbrev pub is_filled : List ℕ → Bool
 is_filled text = nat_lt 0 (length text)

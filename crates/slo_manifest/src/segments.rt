@@ -1,12 +1,11 @@
 ghost use Rattle.std.specs.Prelude.{◌≡◌};
 ghost use Rattle.std.specs.List.{list_all, list_any};
-ghost use Rattle.std.specs.Str.{is_utf8};
 ghost use Rattle.gate_base.specs.Ascii.{is_slash};
-ghost use Rattle.slo_manifest.specs.Segments.{is_lower_hex_digit, is_etag, is_filled, is_proper, is_listable, is_segment, is_manifest};
+ghost use Rattle.slo_manifest.specs.Segments.{is_etag, is_filled, is_proper, is_listable, is_segment, is_manifest};
 
 use crate::Segment;
 use crate::manifest::MOST_SEGMENTS;
-use std::str;
+use text_forms::{all_lower_hex, is_utf8};
 
 /// The bytes of an ETag that a store gives: the hexadecimal text of an MD5.
 const ETAG_BYTES: usize = 32;
@@ -20,18 +19,6 @@ fn slash(byte: u8) -> bool
     byte == b'/'
 }
 
-fn lower_hex_digit(byte: u8) -> bool
-    ensures { result ≡ is_lower_hex_digit byte }
-{
-    byte.is_ascii_digit() || (b'a' <= byte && byte <= b'f')
-}
-
-fn all_lower_hex_digits(text: &[u8]) -> bool
-    ensures { result ≡ list_all is_lower_hex_digit text.now }
-{
-    text.iter().all(|byte| lower_hex_digit(*byte))
-}
-
 fn has_slash(text: &[u8]) -> bool
     ensures { result ≡ list_any is_slash text.now }
 {
@@ -43,23 +30,13 @@ fn has_slash(text: &[u8]) -> bool
 fn is_etag(text: &[u8]) -> bool
     ensures { result ≡ is_etag text.now }
 {
-    text.len() == ETAG_BYTES && all_lower_hex_digits(text)
+    text.len() == ETAG_BYTES && all_lower_hex(text)
 }
 
 fn is_filled(text: &[u8]) -> bool
     ensures { result ≡ is_filled text.now }
 {
     0 < text.len()
-}
-
-#[tactic(auto, using(crate::proofs::Texts::is_utf8_where, crate::proofs::Texts::is_utf8_unless))]
-fn is_utf8(bytes: &[u8]) -> bool
-    ensures { result ≡ is_utf8 bytes.now }
-{
-    match str::from_utf8(bytes) {
-        Ok(_) => true,
-        Err(_) => false,
-    }
 }
 
 /// Whether the fields of an entry are those of a segment, whatever its size is otherwise.
