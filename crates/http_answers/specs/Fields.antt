@@ -15,7 +15,7 @@ use Rattle.std.specs.Prelude.{
 }
 use Rattle.std.specs.Str.Parse.{digits_value}
 use Rattle.gate_base.specs.declared.page.Pair.{Pair}
-use Rattle.http_wire.specs.FirstMessage.{is_length}
+use Rattle.text_forms.specs.Numbers.{is_number, number_of}
 use Rattle.http_wire.specs.Headers.{values_of}
 
 -- none of the values or the one that there is; nothing where there are more
@@ -36,20 +36,16 @@ needed (Some value) = value
 abbrev pub only : List ℕ → List Pair → Option (List ℕ)
 only name headers = needed (field name headers)
 
--- a number of 1 to 19 digits
-abbrev pub number_in : List ℕ → Option ℕ
-number_in text = if is_length text then Some (digits_value 10 text) else None
-
--- the same without leading zeros
+-- a number of 1 to 19 digits without leading zeros
 abbrev pub plain_number : List ℕ → Option ℕ
-plain_number text = if is_length text && bytes_eq text (decimal (digits_value 10 text)) then Some (digits_value 10 text) else None
+plain_number text = if is_number 19 text && bytes_eq text (decimal (digits_value 10 text)) then Some (digits_value 10 text) else None
 
 -- ---- sizes
 
 abbrev pub size_from : Option (Option (List ℕ)) → Option ℕ
 size_from None = None
 size_from (Some None) = None
-size_from (Some (Some value)) = number_in value
+size_from (Some (Some value)) = number_of 19 value
 
 -- the one Content-Length, of 1 to 19 digits (RFC 9110, section 8.6)
 abbrev pub size_in : List Pair → Option ℕ

@@ -3,9 +3,10 @@ ghost use Rattle.std.specs.Prelude.{◌≡◌, option_map};
 ghost use Rattle.std.specs.Option.{option_copied};
 ghost use Rattle.http_answers.specs.Fields.{field, only, size_in};
 
-use crate::numbers::number_in;
+use crate::numbers::DIGITS;
 use gate_base::Pair;
 use http_wire::{first_value, has_header, has_one};
+use text_forms::number_of;
 
 /// The value of a header that may be absent: `None` where it is given more than once.
 pub fn field<'a>(headers: &'a [Pair], name: &[u8]) -> Option<Option<&'a [u8]>>
@@ -35,5 +36,5 @@ pub fn only<'a>(headers: &'a [Pair], name: &[u8]) -> Option<&'a [u8]>
 pub fn size_in(headers: &[Pair]) -> Option<u64>
     ensures { result ≡ size_in headers.now }
 {
-    number_in(only(headers, b"content-length")?)
+    number_of(only(headers, b"content-length")?, DIGITS)
 }

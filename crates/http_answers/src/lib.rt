@@ -11,4 +11,4 @@ pub use announced::{Announced, read_front};
 pub use fields::{field, only, size_in};
 pub use framing::{End, answer_end, expected};
 pub use head::{Front, HEAD_LIMIT, Head, find_head};
-pub use numbers::{append_decimal, number_in, plain_number};
+pub use numbers::plain_number;
