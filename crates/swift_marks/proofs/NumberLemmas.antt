@@ -1,53 +1,21 @@
--- Numbers in decimal and their digits.
-use Rattle.std.proofs.Common.{◌≡◌, ℕ, ◌+◌, ◌-◌, ◌*◌, ◌^◌, ◌<◌, ◌≤◌, Bool, true, false, cond, leb, List, ◌++◌, length, take, drop, get_or, refl, ap, sym, ◌∙◌, arith, rules, length-take, take-append-drop}
+-- Numbers in decimal, as marks have them.
+use Rattle.std.proofs.Common.{◌≡◌, ℕ, ◌^◌, ◌<◌, Bool, true, false, cond, leb, List, ◌++◌, length, take, drop, refl, ap, sym, ◌∙◌, arith, take-append-drop}
 use Rattle.std.specs.Prelude.{decimal, ◌&&◌}
 use Rattle.std.specs.List.{list_all}
 use Rattle.std.specs.Str.Parse.{digits_value}
-use Rattle.std.specs.Char.{digit_value}
 use Rattle.std.proofs.lemmas.Bool.{and_parts, and_from}
 use Rattle.std.proofs.lemmas.Bool.Decides.{nat_tests}
-use Rattle.std.proofs.lemmas.List.{take_all}
 use Rattle.std.proofs.lemmas.List.Folds.{list_all-append}
-use Rattle.std.proofs.lemmas.Str.Parse.{IsNumeralModel, IsDigitsTest, numerals_by_value, digits_value_short, digit_at}
-use Rattle.std.proofs.lemmas.Int.Digits.{digits_value_more}
-use Rattle.std.proofs.lemmas.Fmt.{length-decimal-le, digits_decimal, digits_value-decimal}
+use Rattle.std.proofs.lemmas.Str.Parse.{digits_value_short}
+use Rattle.std.proofs.lemmas.Fmt.{length-decimal-le}
 use Rattle.gate_base.specs.Ascii.{is_digit}
+use Rattle.text_forms.proofs.lemmas.Decimals.{decimal_digits, decimal_value, digits_model}
 use Rattle.swift_marks.specs.Number.{number_of}
-
-tells : IsDigitsTest (λ ds. list_all is_digit ds ≡ true)
-tells = search rules
-
-pub own : IsNumeralModel (λ ds. list_all is_digit ds ≡ true) (digits_value 10)
-own = numerals_by_value _ tells
 
 pub front_passes : (test : ℕ → Bool) (text : List ℕ) (i : ℕ) → list_all test text ≡ true → list_all test (take i text) ≡ true
 front_passes test text i h =
     let parts : list_all test (take i text ++ drop i text) ≡ true = ap (list_all test) (take-append-drop i text) ∙ h in
     (and_parts _ (list_all test (drop i text)) (sym (list_all-append test (take i text) (drop i text)) ∙ parts)).0
-
-front_is_small : (text : List ℕ) (i : ℕ) → leb (length text) 19 ≡ true → list_all is_digit text ≡ true → i < length text → digits_value 10 (take i text) < 10 ^ 18
-front_is_small text i short digits within =
-    let few : length (take i text) ≤ 18 = grind (arith, nat_tests, length-take i text) in
-    digits_value_short own (take i text) 18 (front_passes is_digit text i digits) few
-
-pub digit_is : (text : List ℕ) (i : ℕ) → list_all is_digit text ≡ true → i < length text → (48 ≤ get_or text i 0) × (get_or text i 0 ≤ 57)
-digit_is text i digits within = let found = digit_at text i (own.to text digits) within in (found.0, found.1)
-
-pub next_fits : (text : List ℕ) (i n : ℕ) → n ≡ digits_value 10 (take i text) → leb (length text) 19 ≡ true → list_all is_digit text ≡ true → i < length text → n * 10 + 9 < 2 ^ 64
-next_fits text i n same short digits within = omega (arith, front_is_small text i short digits within)
-
-value_of_digit : (c : ℕ) → 48 ≤ c → c ≤ 57 → digit_value c ≡ c - 48
-value_of_digit c low high = grind (arith, nat_tests)
-
-pub next_value : (text : List ℕ) (i n : ℕ) → n ≡ digits_value 10 (take i text) → list_all is_digit text ≡ true → i < length text → n * 10 + (get_or text i 0 - 48) ≡ digits_value 10 (take (i + 1) text)
-next_value text i n same digits within =
-    let found = digit_is text i digits within in
-    let more = digits_value_more 10 text i within in
-    let last = value_of_digit (get_or text i 0) found.0 found.1 in
-    omega (arith, more, last, same)
-
-pub all_of_it : (text : List ℕ) (i n : ℕ) → n ≡ digits_value 10 (take i text) → length text ≤ i → n ≡ digits_value 10 text
-all_of_it text i n same past = same ∙ ap (digits_value 10) (take_all i text past)
 
 -- a number in decimal is read as the number
 pub number_of_decimal : (n : ℕ) → n < 10 ^ 19 → number_of (decimal n) ≡ n
@@ -55,17 +23,14 @@ unfolding number_of
 number_of_decimal n small =
     let fits : n < 2 ^ 64 = omega arith in
     let short : leb (length (decimal n)) 19 ≡ true = grind (arith, nat_tests, length-decimal-le 19 n (omega arith) small fits) in
-    let digits : list_all is_digit (decimal n) ≡ true = digits_decimal own n fits in
-    ap (λ b. cond b (digits_value 10 (decimal n)) 0) (and_from _ _ short digits) ∙ digits_value-decimal own n fits
+    let digits : list_all is_digit (decimal n) ≡ true = decimal_digits n fits in
+    ap (λ b. cond b (digits_value 10 (decimal n)) 0) (and_from _ _ short digits) ∙ decimal_value n fits
 
 pub number_is_below : (text : List ℕ) → number_of text < 10 ^ 19
 unfolding number_of
 number_is_below text = by_test (leb (length text) 19) (list_all is_digit text) refl refl
   where
     by_test : (a b : Bool) → leb (length text) 19 ≡ a → list_all is_digit text ≡ b → cond (a && b) (digits_value 10 text) 0 < 10 ^ 19
-    by_test true true short digits = digits_value_short own text 19 digits (grind (arith, nat_tests))
+    by_test true true short digits = digits_value_short digits_model text 19 digits (grind (arith, nat_tests))
     by_test true false short digits = omega arith
     by_test false b short digits = omega arith
-
-pub decimal_has_digits : (n : ℕ) → n < 2 ^ 64 → list_all is_digit (decimal n) ≡ true
-decimal_has_digits n fits = digits_decimal own n fits

@@ -3,7 +3,7 @@ use Rattle.std.specs.Prelude.{◌≡◌, ◌≤◌, ℕ, true, List, ◌++◌, l
 use Rattle.std.specs.List.{list_all}
 use Rattle.gate_base.specs.Fields.{is_field}
 use Rattle.gate_base.specs.declared.page.Pair.{Pair}
-use Rattle.s3_names.specs.Id.{is_lower_hex}
+use Rattle.gate_base.specs.Ascii.{is_lower_hex}
 use Rattle.swift_marks.specs.Limits.{is_kept_metadata}
 use Rattle.swift_marks.specs.Tag.{is_etag, has_text, tag_text, read_tag}
 use Rattle.swift_marks.specs.Pack.{has_pack, pack_of, unpacked}

@@ -7,7 +7,8 @@ use Rattle.std.specs.Str.{bytes_eq}
 use Rattle.gate_base.specs.Fields.{is_field}
 use Rattle.gate_base.specs.Told.{moment_limit}
 use Rattle.swift_marks.specs.declared.forms.TheConstants.{LONGEST_TYPE, MOST_PARTS}
-use Rattle.s3_names.specs.Id.{is_lower_hex, id_of}
+use Rattle.gate_base.specs.Ascii.{is_lower_hex}
+use Rattle.s3_names.specs.Id.{id_of}
 use Rattle.swift_marks.specs.Number.{number_of, id_text, fits_id}
 use Rattle.swift_marks.specs.declared.tag.Stamp.{Stamp}
 use Rattle.swift_marks.specs.declared.tag.Tag.{Tag}

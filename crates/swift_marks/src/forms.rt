@@ -1,11 +1,10 @@
 //! The forms of content types and ETags.
-ghost use Rattle.std.specs.Prelude.{◌≡◌, decimal};
-ghost use Rattle.std.specs.Str.{bytes_eq};
+ghost use Rattle.std.specs.Prelude.{◌≡◌};
 ghost use Rattle.swift_marks.specs.Tag.{is_content_type, is_part_count, is_parts_suffix, is_etag};
 
-use crate::number::{all_lower_hex, number_of};
+use crate::number::number_of;
 use gate_base::is_field;
-use itoa::Buffer;
+use text_forms::{all_lower_hex, is_decimal};
 
 /// The longest content type, in bytes.
 pub(crate) const LONGEST_TYPE: usize = 256;
@@ -46,12 +45,4 @@ fn is_part_count(text: &[u8]) -> bool
 {
     let count = number_of(text);
     1 <= count && count <= MOST_PARTS && is_decimal(text, count)
-}
-
-/// The text is the number in decimal, without leading zeros.
-fn is_decimal(text: &[u8], number: u64) -> bool
-    ensures { result ≡ bytes_eq text.now (decimal number) }
-{
-    let mut buffer = Buffer::new();
-    text == buffer.format(number).as_bytes()
 }

@@ -6,11 +6,12 @@ ghost use Rattle.s3_names.specs.Meta.{names_ascend};
 ghost use Rattle.swift_marks.specs.Pack.{entry_text, bracketed, pieces_of, pack_of, inside, first_entry, other_entries, entries_of, is_behind, ReadsEntries, unpacked, Unpacks};
 
 use crate::MarkFault;
-use crate::number::{append_decimal, number_of};
+use crate::number::number_of;
 use gate_base::{Bytes, List, Memory, Pair, cut};
 use s3_names::Meta;
 use std::alloc::Global;
 use std::cmp::Ordering;
+use text_forms::append_decimal;
 
 /// The most bytes that a piece has between its brackets.
 const PIECE: u64 = 254;

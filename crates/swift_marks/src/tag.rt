@@ -2,10 +2,11 @@ ghost use Rattle.std.specs.Prelude.{◌≡◌, true, IfOk};
 
 use crate::MarkFault;
 use crate::forms::{is_content_type, is_etag};
-use crate::number::{append_decimal, append_id, fits_id, number_of};
+use crate::number::{append_id, fits_id, number_of};
 use gate_base::{Bytes, Copying, MOMENT_LIMIT, Memory, cut, cut_last};
 use s3_names::id_of;
 use std::alloc::Global;
+use text_forms::append_decimal;
 
 /// What the content type of a stored object tells of the object: its own content type, its ETag in hexadecimal, the
 /// moment in seconds since 1970 at which it was put, and the id of the upload that it is of, where it is of one.

@@ -14,14 +14,14 @@ use Rattle.std.proofs.Math.Seq.{get_or-append_right}
 use Rattle.gate_base.specs.declared.page.Pair.{Pair}
 use Rattle.gate_base.specs.Told.{moment_limit}
 use Rattle.swift_marks.specs.Limits.{counted_name, counted_size, is_within_limits, is_printable_entry, is_kept_metadata}
-use Rattle.gate_base.specs.Ascii.{is_digit}
+use Rattle.gate_base.specs.Ascii.{is_digit, is_lower_hex}
 use Rattle.gate_base.specs.Fields.{is_field, is_printable}
-use Rattle.s3_names.specs.Id.{is_lower_hex}
 use Rattle.swift_marks.specs.Number.{number_of, id_text, fits_id}
 use Rattle.swift_marks.specs.Pack.{entry_text, cut_in, bracketed, pack_of}
 use Rattle.swift_marks.specs.Tag.{is_content_type, is_part_count, is_parts_suffix, is_etag, has_text, tag_text}
 use Rattle.swift_marks.specs.declared.tag.Tag.{Tag}
-use Rattle.swift_marks.proofs.NumberLemmas.{number_of_decimal, decimal_has_digits, front_passes}
+use Rattle.text_forms.proofs.lemmas.Decimals.{decimal_digits}
+use Rattle.swift_marks.proofs.NumberLemmas.{number_of_decimal, front_passes}
 use Rattle.swift_marks.proofs.IdLemmas.{length_of_id}
 use Rattle.swift_marks.proofs.lemmas.TagLaws.{is_word, weaken, etag_has_words, number_has_words, id_has_words}
 
@@ -183,8 +183,8 @@ entry_prints : (entry : Pair) → counted_size entry ≤ 2048 → is_printable_e
 entry_prints entry h prints =
     let name = short_name entry.name in
     let parts = and_parts (list_all is_printable entry.name) (list_all is_printable entry.value) prints in
-    let n = weaken is_digit is_printable digit_is_printable (decimal (length entry.name)) (decimal_has_digits (length entry.name) (omega arith)) in
-    let v = weaken is_digit is_printable digit_is_printable (decimal (length entry.value)) (decimal_has_digits (length entry.value) (omega arith)) in
+    let n = weaken is_digit is_printable digit_is_printable (decimal (length entry.name)) (decimal_digits (length entry.name) (omega arith)) in
+    let v = weaken is_digit is_printable digit_is_printable (decimal (length entry.value)) (decimal_digits (length entry.value) (omega arith)) in
     all_six is_printable (decimal (length entry.name)) (46 ∷ []) (decimal (length entry.value)) (46 ∷ []) entry.name entry.value n refl v refl parts.0 parts.1
 
 entries_print : (entries : List Pair) → sum_by counted_size entries ≤ 2048 → list_all is_printable_entry entries ≡ true → list_all is_printable (flat_map entry_text entries) ≡ true

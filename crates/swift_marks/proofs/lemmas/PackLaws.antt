@@ -14,7 +14,8 @@ use Rattle.swift_marks.specs.Number.{number_of}
 use Rattle.swift_marks.specs.Tag.{is_dot}
 use Rattle.swift_marks.specs.Pack.{entry_text, cut_in, bracketed, pieces_of, pack_of, inside, first_entry, other_entries, entries_in, entries_of, name_size, value_size, entry_body, is_short, has_pack, packed_entries, unpacked}
 use Rattle.swift_marks.proofs.Cuts.{before_first_at, after_first_at}
-use Rattle.swift_marks.proofs.NumberLemmas.{number_of_decimal, number_is_below, decimal_has_digits}
+use Rattle.text_forms.proofs.lemmas.Decimals.{decimal_digits}
+use Rattle.swift_marks.proofs.NumberLemmas.{number_of_decimal, number_is_below}
 use Rattle.swift_marks.proofs.PackLemmas.{entries_from}
 use Rattle.swift_marks.proofs.lemmas.TagLaws.{kept, weaken}
 
@@ -41,7 +42,7 @@ digit_is_no_dot : (byte : ℕ) → is_digit byte ≡ true → not (is_dot byte) 
 digit_is_no_dot byte h = grind (arith, nat_tests)
 
 undotted : (n : ℕ) → n < 10 ^ 19 → list_all (λ byte. not (is_dot byte)) (decimal n) ≡ true
-undotted n small = weaken is_digit (λ byte. not (is_dot byte)) digit_is_no_dot (decimal n) (decimal_has_digits n (omega arith))
+undotted n small = weaken is_digit (λ byte. not (is_dot byte)) digit_is_no_dot (decimal n) (decimal_digits n (omega arith))
 
 regroup : (n v name value rest : List ℕ) → (((((n ++ 46 ∷ []) ++ v) ++ 46 ∷ []) ++ name) ++ value) ++ rest ≡ n ++ 46 ∷ (v ++ 46 ∷ (name ++ (value ++ rest)))
 regroup n v name value rest = simp append_assoc

@@ -8,13 +8,14 @@ use Rattle.std.proofs.lemmas.Bool.Decides.{nat_tests}
 use Rattle.std.proofs.lemmas.List.Folds.{list_all-append}
 use Rattle.std.proofs.lemmas.Slice.Eq.{bytes_eq-Decides}
 use Rattle.gate_base.specs.Told.{moment_limit}
-use Rattle.gate_base.specs.Ascii.{is_digit}
-use Rattle.s3_names.specs.Id.{is_lower_hex, id_digits, id_of}
+use Rattle.gate_base.specs.Ascii.{is_digit, is_lower_hex}
+use Rattle.s3_names.specs.Id.{id_digits, id_of}
 use Rattle.swift_marks.specs.Number.{number_of, id_text, fits_id}
 use Rattle.swift_marks.specs.Tag.{is_content_type, is_part_count, is_parts_suffix, is_etag, has_text, tag_text, tag_parts, read_tag, is_equals, is_semicolon, is_dot}
 use Rattle.swift_marks.specs.declared.tag.Tag.{Tag}
 use Rattle.swift_marks.proofs.Cuts.{before_first_at, after_first_at, before_last_at, after_last_at}
-use Rattle.swift_marks.proofs.NumberLemmas.{number_of_decimal, decimal_has_digits}
+use Rattle.text_forms.proofs.lemmas.Decimals.{decimal_digits}
+use Rattle.swift_marks.proofs.NumberLemmas.{number_of_decimal}
 use Rattle.s3_names.proofs.lemmas.Ids.{id_has_digits}
 use Rattle.swift_marks.proofs.IdLemmas.{id_of_text}
 
@@ -41,7 +42,7 @@ word_is_no_dot : (byte : ℕ) → is_word byte ≡ true → not (is_dot byte) �
 word_is_no_dot byte h = grind (arith, nat_tests)
 
 pub number_has_words : (n : ℕ) → n < 2 ^ 64 → list_all is_word (decimal n) ≡ true
-number_has_words n fits = weaken is_digit is_word digit_is_word (decimal n) (decimal_has_digits n fits)
+number_has_words n fits = weaken is_digit is_word digit_is_word (decimal n) (decimal_digits n fits)
 
 count_has_words : (text : List ℕ) → is_part_count text ≡ true → list_all is_word text ≡ true
 count_has_words text h =
