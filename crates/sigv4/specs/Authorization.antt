@@ -7,11 +7,9 @@ use Rattle.std.specs.Prelude.{
   true,
   not,
   ◌&&◌,
-  ◌||◌,
   ◌==◌,
   nat_eq,
   nat_lt,
-  nat_le,
   if◌then◌else◌,
   List,
   [],
@@ -32,7 +30,7 @@ use Rattle.std.specs.Ordering.{nat_cmp, is_lt}
 use Rattle.std.specs.Char.{is_ascii_uppercase}
 use Rattle.httparse.specs.Grammar.{is_token_byte}
 use Rattle.gate_base.specs.Ascii.{is_slash}
-use Rattle.gate_base.specs.Ascii.{is_digit}
+use Rattle.gate_base.specs.Ascii.{is_lower_hex}
 use Rattle.gate_base.specs.Ascii.{is_visible}
 use Rattle.sigv4.specs.Keys.{is_space}
 use Rattle.sigv4.specs.declared.authorization.Authorization.{Authorization}
@@ -74,13 +72,9 @@ are_ascending (name ∷ names) = stands_before name names && are_ascending names
 abbrev pub are_names : List (List ℕ) → Bool
 are_names names = nat_lt 0 (length names) && list_all is_name names && are_ascending names
 
--- `0` to `9`, `a` to `f`
-abbrev pub is_hex_digit : ℕ → Bool
-is_hex_digit byte = is_digit byte || (nat_le 97 byte && nat_le byte 102)
-
--- the 64 digits of 32 bytes
+-- the 64 hexadecimal digits of 32 bytes, in lower case
 abbrev pub is_hex : List ℕ → Bool
-is_hex text = length text == 64 && list_all is_hex_digit text
+is_hex text = length text == 64 && list_all is_lower_hex text
 
 -- each part has its form
 abbrev pub is_formed : Authorization → Bool

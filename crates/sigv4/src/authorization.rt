@@ -1,10 +1,11 @@
 ghost use Rattle.std.specs.Prelude.{◌≡◌, drop, IfOk};
 ghost use Rattle.std.specs.List.{list_all, starts_with, slice_split};
-ghost use Rattle.sigv4.specs.Authorization.{is_part_byte, is_part, is_name_byte, is_name, stands_before, are_ascending, are_names, is_hex_digit, is_hex, is_formed, is_semicolon, skip_spaces, algorithm_section, credential_section, names_section, signature_section, behind_service, credential_of, is_labelled, parts_of, authorization_of};
+ghost use Rattle.sigv4.specs.Authorization.{is_part_byte, is_part, is_name_byte, is_name, stands_before, are_ascending, are_names, is_hex, is_formed, is_semicolon, skip_spaces, algorithm_section, credential_section, names_section, signature_section, behind_service, credential_of, is_labelled, parts_of, authorization_of};
 
 use gate_base::{Bytes, List, Memory, cut, first_place};
 use httparse::is_header_name_token;
 use std::alloc::Global;
+use text_forms::all_lower_hex;
 
 /// The digits of a signature or of a hash.
 const DIGITS: usize = 64;
@@ -252,17 +253,5 @@ fn stands_before(name: &[u8], others: &[Bytes]) -> bool
 pub fn is_hex(text: &[u8]) -> bool
     ensures { result ≡ is_hex text.now }
 {
-    text.len() == DIGITS && all_hex_digits(text)
-}
-
-fn all_hex_digits(text: &[u8]) -> bool
-    ensures { result ≡ list_all is_hex_digit text.now }
-{
-    text.iter().all(|byte| is_hex_digit(*byte))
-}
-
-fn is_hex_digit(byte: u8) -> bool
-    ensures { result ≡ is_hex_digit byte }
-{
-    byte.is_ascii_digit() || (b'a' <= byte && byte <= b'f')
+    text.len() == DIGITS && all_lower_hex(text)
 }

@@ -1,12 +1,11 @@
 ghost use Rattle.std.specs.Prelude.{◌≡◌, [], ◌∷◌, ◌++◌, true, bytes_eq, IfOk, OnOk};
-ghost use Rattle.std.specs.List.{list_all};
-ghost use Rattle.gate_base.specs.Ascii.{is_digit};
 ghost use Rattle.sigv4.specs.Sign.{is_date_time, date_of, scope_of, string_to_sign, signing_key, signature_of, signed_of};
 
 use crate::hash::hmac;
 use gate_base::{Bytes, Memory};
 use sha2::{Digest, Sha256};
 use std::alloc::Global;
+use text_forms::all_digits;
 
 /// The bytes of a time `YYYYMMDDTHHMMSSZ`.
 const TIME: usize = 16;
@@ -67,18 +66,6 @@ pub fn is_date_time(text: &[u8]) -> bool
         && text[8] == b'T'
         && all_digits(&text[9..15])
         && text[15] == b'Z'
-}
-
-fn all_digits(text: &[u8]) -> bool
-    ensures { result ≡ list_all is_digit text.now }
-{
-    text.iter().all(|byte| is_digit(*byte))
-}
-
-fn is_digit(byte: u8) -> bool
-    ensures { result ≡ is_digit byte }
-{
-    byte.is_ascii_digit()
 }
 
 /// The date of a time.

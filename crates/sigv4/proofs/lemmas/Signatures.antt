@@ -10,7 +10,8 @@ use Rattle.hex.proofs.HexLemmas.{length-encode_with}
 use Rattle.sha2.specs.Sha256.{digest_bytes, final_hash, initial_hash_256, sha256}
 use Rattle.sha2.proofs.Facts256.{length-sha256}
 use Rattle.httparse.specs.Grammar.{is_token_byte}
-use Rattle.sigv4.specs.Authorization.{are_ascending, are_names, is_hex_digit, is_hex}
+use Rattle.gate_base.specs.Ascii.{is_lower_hex}
+use Rattle.sigv4.specs.Authorization.{are_ascending, are_names, is_hex}
 use Rattle.sigv4.specs.Hmac.{hmac}
 use Rattle.sigv4.specs.Sign.{signed_of}
 use Rattle.sigv4.proofs.CutLemmas.{all_joined}
@@ -18,10 +19,10 @@ use Rattle.sigv4.proofs.CutLemmas.{all_joined}
 abbrev is_byte : ℕ → Bool
 is_byte b = nat_lt b 256
 
-digit_of : (d : ℕ) → d < 16 → is_hex_digit (get_or lower_digits d 0) ≡ true
-digit_of d small = AllPass-from_list_all is_hex_digit lower_digits refl d 0 small
+digit_of : (d : ℕ) → d < 16 → is_lower_hex (get_or lower_digits d 0) ≡ true
+digit_of d small = AllPass-from_list_all is_lower_hex lower_digits refl d 0 small
 
-digits_of : (bytes : List ℕ) → list_all is_byte bytes ≡ true → list_all is_hex_digit (encode_lower bytes) ≡ true
+digits_of : (bytes : List ℕ) → list_all is_byte bytes ≡ true → list_all is_lower_hex (encode_lower bytes) ≡ true
 unfolding encode_with
 digits_of [] h = refl
 digits_of (byte ∷ bytes) h =
