@@ -1,7 +1,6 @@
 pub mod Checksums
 pub mod CompletionLemmas
 pub mod DeleteLemmas
-pub mod Digits
 pub mod ElementLemmas
 pub mod HexDigits
 pub mod KeyTexts

@@ -1,13 +1,11 @@
 //! The elements of a part, in the body of a CompleteMultipartUpload.
-ghost use Rattle.std.specs.Prelude.{◌≡◌, ◌≤◌, true, length};
-ghost use Rattle.std.specs.List.{list_all};
-ghost use Rattle.std.specs.Str.Parse.{digits_value};
-ghost use Rattle.gate_base.specs.Ascii.{is_digit};
+ghost use Rattle.std.specs.Prelude.{◌≡◌};
 ghost use Rattle.xml_forms.specs.Forms.{Reads};
 ghost use Rattle.xml_forms.specs.Readers.{ReadsRest, ReadsText, read_by};
 ghost use Rattle.xml_forms.specs.Runs.{Spaced};
 ghost use Rattle.s3_bodies.specs.Completion.{Checksum, ChecksumEnd, ChecksumName, ChecksumText, Etag, EtagText, Number, Quote, Quoted, QuotedEnd};
 
+use text_forms::short_value;
 use xml_forms::{Class, nearer, run, short_element, skip_space, word};
 
 /// A PartNumber behind white space.
@@ -21,20 +19,7 @@ fn bare_number(bytes: &[u8]) -> Result<(u32, &[u8]), usize>
     ensures { Reads Number bytes.now (read_by (λ n. n) result) }
 {
     let (digits, rest) = short_element(bytes, b"<PartNumber>", Class::Digit, 9, b"</PartNumber>")?;
-    Ok((value_of(digits), rest))
-}
-
-/// The number that at most nine digits write.
-pub(crate) fn value_of(digits: &[u8]) -> u32
-    requires short { length digits.now ≤ 9 }
-    requires digits { list_all is_digit digits.now ≡ true }
-    ensures { result ≡ digits_value 10 digits.now }
-{
-    let mut number = 0u32;
-    for digit in digits {
-        number = number * 10 + u32::from(*digit - b'0');
-    }
-    number
+    Ok((short_value(digits), rest))
 }
 
 /// An ETag behind white space.

@@ -11,7 +11,7 @@ ghost use Rattle.s3_bodies.specs.DeleteReaders.{ReadsPiece, SkipsPieces};
 ghost use Rattle.s3_bodies.specs.KeyText.{Angle, Decimal, Entity, Hexadecimal, InKey, KeyText, Number, Plain, QuoteMark, Reference};
 ghost use Rattle.s3_bodies.specs.declared.key_text.Piece.{Piece};
 
-use crate::elements::value_of;
+use text_forms::short_value;
 use xml_forms::{Class, nearer, short_element, word};
 
 /// A piece of a text.
@@ -110,7 +110,7 @@ fn decimal(bytes: &[u8]) -> Result<(Piece, &[u8]), usize>
     ensures { ReadsPiece Decimal bytes.now result }
 {
     let (digits, rest) = short_element(bytes, b"", Class::Digit, 7, b";")?;
-    Ok((Piece::Numbered(value_of(digits)), rest))
+    Ok((Piece::Numbered(short_value(digits)), rest))
 }
 
 fn hexadecimal(bytes: &[u8]) -> Result<(Piece, &[u8]), usize>

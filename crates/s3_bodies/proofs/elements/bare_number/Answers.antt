@@ -7,4 +7,4 @@ returns-in_err-digits c = let p = err_from_is_err_and c.from_residual.result c.f
     rw (p.1, p.2) (number_stops c.args.bytes.now _ c.in_err-digits.ensures)
 
 pub returns : goal.returns
-returns c = number_begins c.args.bytes.now _ _ _ c.value_of.ensures c.in_ok-digits.ensures
+returns c = number_begins c.args.bytes.now _ _ _ c.short_value.ensures c.in_ok-digits.ensures
