@@ -1,6 +1,5 @@
 pub mod Appends
 pub mod Back
-pub mod Digits
 pub mod Finds
 pub mod Given
 pub mod Made

@@ -5,26 +5,26 @@ use Rattle.std.specs.List.{list_all, flat_map}
 use Rattle.std.specs.Str.Parse.{digits_value}
 use Rattle.std.proofs.lemmas.Bool.{and_from, and_parts, eqb-true, ltb-true}
 use Rattle.std.proofs.lemmas.Bool.Decides.{nat_tests}
-use Rattle.std.proofs.lemmas.Fmt.{decimal_nonempty, length-decimal-le, decimal_is_IsNumeral}
 use Rattle.std.proofs.lemmas.List.Elements.{All-weaker}
 use Rattle.std.proofs.lemmas.List.Sums.{AllPass-from_list_all}
 use Rattle.std.specs.Str.{is_utf8}
 use Rattle.std.proofs.lemmas.Str.{IsUtf8-from_ascii, is_utf8-from_IsUtf8}
 use Rattle.std.proofs.lemmas.Str.Ascii.{IsAscii-from_all}
 use Rattle.hex.specs.Hex.{encode_lower}
-use Rattle.gate_base.specs.Ascii.{is_digit, is_letter_or_digit, is_slash}
+use Rattle.gate_base.specs.Ascii.{is_digit, is_letter_or_digit, is_lower_hex, is_slash}
 use Rattle.s3_names.specs.Text.{has_zero, is_text}
 use Rattle.s3_names.specs.Escapes.{is_unreserved, upper_digit, escaped_unless, escaped_all}
-use Rattle.sigv4.specs.Authorization.{is_part_byte, is_part, is_hex_digit, is_hex}
+use Rattle.sigv4.specs.Authorization.{is_part_byte, is_part, is_hex}
 use Rattle.sigv4.specs.Keys.{is_key}
 use Rattle.sigv4.specs.Moment.{is_time}
 use Rattle.sigv4.specs.Sign.{is_date_time, date_of, signed_of}
 use Rattle.sigv4.proofs.lemmas.Signatures.{signature_is_hex}
 use Rattle.sigv4.proofs.lemmas.Cuts.{is_free, all_joined, all_weaker, all_in_join}
-use Rattle.presign.specs.Claim.{is_number, is_span, span_of}
+use Rattle.text_forms.specs.Numbers.{is_number}
+use Rattle.text_forms.proofs.lemmas.Decimals.{decimal_digits, decimal_is_number, decimal_value}
+use Rattle.presign.specs.Claim.{is_span, span_of}
 use Rattle.presign.specs.Laws.{IsBytes}
 use Rattle.presign.specs.Url.{is_region_byte, is_region, credential_for}
-use Rattle.presign.proofs.Digits.{own}
 use Rattle.presign.proofs.Times.{time_has_form}
 
 -- ASCII but byte 0
@@ -74,10 +74,10 @@ region_is_part b h = grind (arith, nat_tests)
 part_is_free : (b : ℕ) → is_part_byte b ≡ true → not (is_slash b) ≡ true
 part_is_free b h = grind (arith, nat_tests)
 
-hex_is_plain : (b : ℕ) → is_hex_digit b ≡ true → is_plain b ≡ true
+hex_is_plain : (b : ℕ) → is_lower_hex b ≡ true → is_plain b ≡ true
 hex_is_plain b h = grind (arith, nat_tests)
 
-hex_is_unreserved : (b : ℕ) → is_hex_digit b ≡ true → is_unreserved b ≡ true
+hex_is_unreserved : (b : ℕ) → is_lower_hex b ≡ true → is_unreserved b ≡ true
 hex_is_unreserved b h = grind (arith, nat_tests)
 
 -- ---- a part of a credential
@@ -181,22 +181,15 @@ pub credential_plain : (id date region : List ℕ) → IsPart id → IsPart date
 credential_plain id date region one two three =
     all_in_join is_plain 47 (id ∷ date ∷ region ∷ codes "s3" ∷ codes "aws4_request" ∷ []) refl (and_from _ _ one.plain (and_from _ _ two.plain (and_from _ _ three.plain refl)))
 
-decimal_digits : (n : ℕ) → n ≤ 604800 → list_all is_digit (decimal n) ≡ true
-decimal_digits n most = own.from (decimal n) (decimal_is_IsNumeral n (omega arith)).0.1
-
 pub seconds_plain : (n : ℕ) → n ≤ 604800 → list_all is_plain (decimal n) ≡ true
-seconds_plain n most = digits_are_plain (decimal n) (decimal_digits n most)
+seconds_plain n most = digits_are_plain (decimal n) (decimal_digits n (omega (arith, most)))
 
 -- the seconds are read back
 pub span_back : (n : ℕ) → 1 ≤ n → n ≤ 604800 → span_of (decimal n) ≡ Some n
 unfolding span_of
 span_back n least most =
-    let value : digits_value 10 (decimal n) ≡ n = (decimal_is_IsNumeral n (omega arith)).1 in
-    let some : 0 < length (decimal n) = decimal_nonempty n (omega arith) in
-    let few : length (decimal n) ≤ 6 = length-decimal-le 6 n (omega arith) (omega arith) (omega arith) in
-    let front : nat_le 1 (length (decimal n)) ≡ true = grind (arith, nat_tests) in
-    let back : nat_le (length (decimal n)) 6 ≡ true = grind (arith, nat_tests) in
-    let number : is_number (decimal n) ≡ true = and_from _ _ (and_from _ _ front back) (decimal_digits n most) in
+    let value : digits_value 10 (decimal n) ≡ n = decimal_value n (omega (arith, most)) in
+    let number : is_number 6 (decimal n) ≡ true = decimal_is_number 6 n (omega arith) (omega (arith, most)) (omega (arith, most)) in
     let low : nat_le 1 n ≡ true = grind (arith, nat_tests) in
     let high : nat_le n 604800 ≡ true = grind (arith, nat_tests) in
     let span : is_span n ≡ true = and_from (nat_le 1 n) (nat_le n 604800) low high in
@@ -222,9 +215,9 @@ pub signature_form : (secret time region text : List ℕ) → IsSignature (encod
 signature_form secret time region text =
     let signature : List ℕ = encode_lower (signed_of secret time region text).signature in
     let hex = signature_is_hex secret time region text in
-    let digits = (and_parts (nat_eq (length signature) 64) (list_all is_hex_digit signature) hex).1 in
+    let digits = (and_parts (nat_eq (length signature) 64) (list_all is_lower_hex signature) hex).1 in
     record {
       hex = hex;
-      plain = all_weaker is_hex_digit is_plain hex_is_plain signature digits;
-      itself = unescaped_text signature (all_weaker is_hex_digit is_unreserved hex_is_unreserved signature digits);
+      plain = all_weaker is_lower_hex is_plain hex_is_plain signature digits;
+      itself = unescaped_text signature (all_weaker is_lower_hex is_unreserved hex_is_unreserved signature digits);
     }

@@ -5,6 +5,7 @@ use Rattle.std.specs.List.{list_all, before_first, slice_split}
 use Rattle.std.specs.Str.Parse.{digits_value}
 use Rattle.gate_base.specs.Ascii.{is_digit, is_slash}
 use Rattle.gate_base.specs.declared.page.Pair.{Pair}
+use Rattle.text_forms.specs.Numbers.{is_number}
 use Rattle.http_wire.specs.Headers.{has_header}
 use Rattle.sigv4.specs.Authorization.{is_semicolon, behind_id, behind_date, behind_region, behind_service, is_formed}
 use Rattle.sigv4.specs.Moment.{is_time}
@@ -13,17 +14,13 @@ use Rattle.sigv4.specs.declared.authorization.Authorization.{Authorization}
 use Rattle.presign.specs.declared.claim.Claim.{Claim}
 use Rattle.presign.specs.Parameters.{has_each_once, parameter}
 
--- 1 to 6 digits, leading zeros among them
-abbrev pub is_number : List ℕ → Bool
-is_number text = nat_le 1 (length text) && nat_le (length text) 6 && list_all is_digit text
-
 -- a second to a week
 abbrev pub is_span : ℕ → Bool
 is_span seconds = nat_le 1 seconds && nat_le seconds 604_800
 
 -- the seconds that a text writes, where it writes so many in so few digits
 unfoldable pub span_of : List ℕ → Option ℕ
-span_of text = if is_number text && is_span (digits_value 10 text) then Some (digits_value 10 text) else None
+span_of text = if is_number 6 text && is_span (digits_value 10 text) then Some (digits_value 10 text) else None
 
 -- id "/" date "/" region "/" service "/aws4_request"
 abbrev pub credential_in : List Pair → List ℕ
