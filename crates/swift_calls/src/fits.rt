@@ -1,5 +1,5 @@
 //! Whether a call is within the limits of a store.
-ghost use Rattle.std.specs.Prelude.{◌≡◌, ◌≤◌, ◌↔◌, length, IsTrue, IfSome, IsUtf8, Contains};
+ghost use Rattle.std.specs.Prelude.{◌≡◌, ◌≤◌, ◌↔◌, length, IsTrue, IfSome, Contains};
 ghost use Rattle.std.specs.List.{All, list_all};
 ghost use Rattle.gate_base.specs.Fields.{is_field};
 ghost use Rattle.swift_calls.specs.Limits.{IsText, IsObjectName, IsMarker, IsLimit, IsRange, is_content_type, is_meta, most_body, most_segments};
@@ -9,18 +9,10 @@ ghost use Rattle.swift_calls.specs.declared.calls.SwiftRequest.TheVariants as as
 use crate::SwiftRequest;
 use gate_base::{Bytes, List, is_field};
 use slo_manifest::{MOST_SEGMENTS, Segment, is_segment};
+use text_forms::is_utf8;
 
 /// The greatest body that a call puts, in bytes: 16 MiB.
 pub const MOST_BODY: usize = 16_777_216;
-
-fn is_utf8(text: &[u8]) -> bool
-    ensures { IsTrue result ↔ IsUtf8 text.now }
-{
-    match str::from_utf8(text) {
-        Ok(_) => true,
-        Err(_) => false,
-    }
-}
 
 fn has_no_zero(text: &[u8]) -> bool
     ensures { IsTrue result ↔ ¬ (Contains text.now 0) }
