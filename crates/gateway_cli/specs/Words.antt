@@ -10,7 +10,8 @@ use Rattle.clap.specs.Faults.{fault_of}
 use Rattle.clap.specs.declared.error.kind.ErrorKind.{ErrorKind}
 use Rattle.clap.specs.declared.error.kind.ErrorKind.TheVariants.{OutOfMemory}
 use Rattle.clap.specs.declared.parser.matches.ArgMatches.{ArgMatches}
-use Rattle.gate_base.specs.Ascii.{is_digit, is_letter_or_digit}
+use Rattle.gate_base.specs.Ascii.{is_letter_or_digit}
+use Rattle.text_forms.specs.Numbers.{is_number}
 use Rattle.gateway_cli.specs.Description.{gate_app}
 use Rattle.gateway_cli.specs.declared.command.Command.{Command}
 use Rattle.gateway_cli.specs.declared.command.Command.TheVariants.{Session, Serve, Sign, Presign, Recover}
@@ -31,17 +32,13 @@ is_region text = nat_le 1 (length text) && nat_le (length text) 32 && list_all i
 abbrev pub is_key_id : List ℕ → Bool
 is_key_id text = nat_le 1 (length text) && nat_le (length text) 128 && list_all is_letter_or_digit text
 
--- 1 to 20 decimal digits
-abbrev pub is_number : List ℕ → Bool
-is_number text = nat_le 1 (length text) && nat_le (length text) 20 && list_all is_digit text
-
 -- 1 to `most`
 abbrev pub is_within : ℕ → ℕ → Bool
 is_within most n = nat_le 1 n && nat_le n most
 
 -- the number that a text writes, where it is 1 to `most`; none where the text writes no such number
 abbrev pub number_in : ℕ → List ℕ → Option ℕ
-number_in most text = if is_number text && is_within most (digits_value 10 text) then Some (digits_value 10 text) else None
+number_in most text = if is_number 20 text && is_within most (digits_value 10 text) then Some (digits_value 10 text) else None
 
 -- the number of connections that is given, or the usual one; none where what is given isn't 1 to 1000000000
 abbrev pub count_of : Option (List ℕ) → Option ℕ

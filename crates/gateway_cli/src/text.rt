@@ -1,7 +1,9 @@
 ghost use Rattle.std.specs.Prelude.{◌≡◌};
 ghost use Rattle.std.specs.List.{list_all};
-ghost use Rattle.gate_base.specs.Ascii.{is_digit, is_letter_or_digit};
-ghost use Rattle.gateway_cli.specs.Words.{is_key_id, is_number, is_region, is_region_byte, is_within, number_in};
+ghost use Rattle.gate_base.specs.Ascii.{is_letter_or_digit};
+ghost use Rattle.gateway_cli.specs.Words.{is_key_id, is_region, is_region_byte, is_within, number_in};
+
+use text_forms::is_number;
 
 /// The longest name of a region, in bytes.
 const LONGEST_REGION: usize = 32;
@@ -52,7 +54,7 @@ fn is_letter_or_digit(byte: u8) -> bool
 pub(crate) fn number_in(text: &str, most: u64) -> Option<u64>
     ensures { result ≡ number_in most text.now }
 {
-    if !is_number(text.as_bytes()) {
+    if !is_number(text.as_bytes(), LONGEST_NUMBER) {
         return None;
     }
     match text.parse::<u64>() {
@@ -65,22 +67,4 @@ fn is_within(number: u64, most: u64) -> bool
     ensures { result ≡ is_within most number }
 {
     1 <= number && number <= most
-}
-
-fn is_number(text: &[u8]) -> bool
-    ensures { result ≡ is_number text.now }
-{
-    1 <= text.len() && text.len() <= LONGEST_NUMBER && all_digits(text)
-}
-
-fn all_digits(text: &[u8]) -> bool
-    ensures { result ≡ list_all is_digit text.now }
-{
-    text.iter().all(|byte| is_digit(*byte))
-}
-
-fn is_digit(byte: u8) -> bool
-    ensures { result ≡ is_digit byte }
-{
-    byte.is_ascii_digit()
 }
