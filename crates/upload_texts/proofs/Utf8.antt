@@ -15,7 +15,8 @@ use Rattle.json.proofs.Printed.Utf8.{are_ascii, IsUtf8-are_ascii}
 use Rattle.gate_base.specs.declared.page.Pair.{Pair}
 use Rattle.gate_base.specs.Fields.{is_printable}
 use Rattle.s3_names.specs.Bucket.{is_bucket}
-use Rattle.s3_names.specs.Id.{id_digits, is_lower_hex}
+use Rattle.gate_base.specs.Ascii.{is_lower_hex}
+use Rattle.s3_names.specs.Id.{id_digits}
 use Rattle.s3_names.specs.Key.{is_key}
 use Rattle.s3_names.specs.Text.{is_text}
 use Rattle.s3_names.proofs.lemmas.BucketLemmas.{bucket_is_ascii}
@@ -23,7 +24,7 @@ use Rattle.s3_names.proofs.lemmas.Ids.{id_has_digits}
 use Rattle.s3_names.proofs.lemmas.KeyLemmas.{text_is_utf8}
 use Rattle.s3_machine.specs.Limits.{is_content_type, is_lower_token_byte, is_meta_name, is_meta_value, is_own_name, is_kept_header, is_proper_pair}
 use Rattle.s3_machine.specs.declared.operation.Listed.{Listed}
-use Rattle.slo_manifest.specs.Segments.{is_etag, is_lower_hex_digit}
+use Rattle.slo_manifest.specs.Segments.{is_etag}
 use Rattle.swift_marks.specs.Number.{number_of}
 use Rattle.swift_marks.specs.Tag as mark
 use Rattle.upload_texts.specs.Places.{is_part_number}
@@ -47,9 +48,6 @@ utf8_by test small text h = is_utf8-from_IsUtf8 text (IsUtf8-from_ascii text (as
 
 printable_small : (byte : ℕ) → is_printable byte ≡ true → byte < 128
 printable_small byte h = grind (arith, nat_tests)
-
-digit_small : (byte : ℕ) → is_lower_hex_digit byte ≡ true → byte < 128
-digit_small byte h = grind (arith, nat_tests)
 
 hex_small : (byte : ℕ) → is_lower_hex byte ≡ true → byte < 128
 hex_small byte h = grind (arith, nat_tests)
@@ -121,7 +119,7 @@ value_is_utf8 pair h = utf8_by is_printable printable_small pair.value (and_part
 
 etag_is_utf8 : (etag : List ℕ) → is_etag etag ≡ true → is_utf8 etag ≡ true
 unfolding is_etag
-etag_is_utf8 etag h = utf8_by is_lower_hex_digit digit_small etag (and_parts (length etag == 32) _ h).1
+etag_is_utf8 etag h = utf8_by is_lower_hex hex_small etag (and_parts (length etag == 32) _ h).1
 
 pub kept_etag_is_utf8 : (l : Listed) → is_kept_part l ≡ true → is_utf8 l.etag ≡ true
 kept_etag_is_utf8 l h = etag_is_utf8 l.etag (and_parts (is_part_number l.number) (is_etag l.etag) h).1

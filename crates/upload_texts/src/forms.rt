@@ -2,7 +2,7 @@
 ghost use Rattle.std.specs.Prelude.{◌≡◌, ◌&&◌, length, nat_lt};
 ghost use Rattle.std.specs.List.{list_all};
 ghost use Rattle.gate_base.specs.Told.{moment_limit};
-ghost use Rattle.slo_manifest.specs.Segments.{is_etag, is_lower_hex_digit};
+ghost use Rattle.slo_manifest.specs.Segments.{is_etag};
 ghost use Rattle.upload_texts.specs.Places.{is_part_count, is_part_number};
 ghost use Rattle.upload_texts.specs.Records.{is_dated, is_kept_content, is_kept_list, is_kept_part};
 ghost use Rattle.upload_texts.specs.Sealed.{is_sealed_list, is_sealed_part};
@@ -13,6 +13,7 @@ use s3_machine::{
     GREATEST_PART_NUMBER, Listed, MOST_BODY_BYTES, MOST_PARTS, is_content_type, is_proper_meta,
 };
 use s3_names::Meta;
+use text_forms::all_lower_hex;
 
 pub(crate) fn is_moment(moment: u64) -> bool
     ensures { result ≡ nat_lt moment moment_limit }
@@ -52,24 +53,12 @@ fn is_part_count(count: usize) -> bool
     1 <= count && count <= MOST_PARTS
 }
 
-fn is_digit(byte: u8) -> bool
-    ensures { result ≡ is_lower_hex_digit byte }
-{
-    (b'0' <= byte && byte <= b'9') || (b'a' <= byte && byte <= b'f')
-}
-
-fn are_digits(text: &[u8]) -> bool
-    ensures { result ≡ list_all is_lower_hex_digit text.now }
-{
-    text.iter().all(|byte| is_digit(*byte))
-}
-
 /// The ETag of a part: 32 hexadecimal digits in lower case.
 #[tactic(auto, unfolding(slo_manifest::specs::Segments::is_etag))]
 fn is_part_etag(etag: &[u8]) -> bool
     ensures { result ≡ is_etag etag.now }
 {
-    etag.len() == 32 && are_digits(etag)
+    etag.len() == 32 && all_lower_hex(etag)
 }
 
 fn is_kept_part(listed: &Listed) -> bool
