@@ -14,7 +14,7 @@ use Rattle.md5.proofs.StandardFacts.{length-md5}
 use Rattle.md5.specs.Md5.{md5}
 use Rattle.s3_names.proofs.lemmas.BucketLemmas.{bucket_length}
 use Rattle.s3_names.specs.Bucket.{is_bucket}
-use Rattle.s3_names.specs.Id.{is_lower_hex}
+use Rattle.gate_base.specs.Ascii.{is_lower_hex}
 use Rattle.s3_names.specs.declared.acl.Acl.{Acl}
 use Rattle.s3_machine.specs.ETag.{body_etag}
 use Rattle.s3_machine.specs.State.{Bucket}

@@ -8,7 +8,7 @@ use Rattle.md5.specs.Md5.{md5}
 use Rattle.md5.proofs.StandardFacts.{length-md5}
 use Rattle.hex.specs.Hex.{encode_lower, lower_digits}
 use Rattle.hex.proofs.HexLemmas.{length-encode_with}
-use Rattle.s3_names.specs.Id.{is_lower_hex}
+use Rattle.gate_base.specs.Ascii.{is_lower_hex}
 use Rattle.s3_machine.specs.ETag.{body_etag}
 use Rattle.s3_machine.specs.Uploads.{digest_in, upload_etag}
 use Rattle.slo_manifest.specs.Segments as slo

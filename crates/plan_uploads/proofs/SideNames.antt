@@ -11,7 +11,8 @@ use Rattle.std.proofs.lemmas.List.Sums.{AllPass-from_list_all}
 use Rattle.std.proofs.lemmas.Str.{IsUtf8-from_ascii}
 use Rattle.std.proofs.lemmas.Str.Ascii.{IsAscii-from_all}
 use Rattle.s3_names.specs.Bucket.{is_bucket, is_bucket_byte}
-use Rattle.s3_names.specs.Id.{id_digits, is_lower_hex}
+use Rattle.gate_base.specs.Ascii.{is_lower_hex}
+use Rattle.s3_names.specs.Id.{id_digits}
 use Rattle.s3_names.proofs.lemmas.BucketLemmas.{bucket_length, bucket_bytes}
 use Rattle.s3_names.proofs.lemmas.Ids.{id_has_digits, length-id_digits}
 use Rattle.s3_machine.specs.Uploads.{greatest_part, IsPartNumber}

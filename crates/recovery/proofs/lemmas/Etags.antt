@@ -14,7 +14,7 @@ use Rattle.hex.specs.Hex.{lower_digits, encode_with, encode_lower}
 use Rattle.hex.proofs.HexLemmas.{length-encode_with}
 use Rattle.s3_machine.specs.ETag.{body_etag}
 use Rattle.swift_calls.specs.Bodies.{etag_text}
-use Rattle.s3_names.specs.Id.{is_lower_hex}
+use Rattle.gate_base.specs.Ascii.{is_lower_hex}
 use Rattle.swift_marks.specs.Tag.{is_etag}
 use Rattle.swift_marks.proofs.lemmas.FieldLaws.{etag_of_one}
 

@@ -9,13 +9,13 @@ use Rattle.std.proofs.lemmas.List.Elements.{All-cons, All-nil}
 use Rattle.std.proofs.lemmas.List.Folds.{list_any-append}
 use Rattle.std.proofs.lemmas.List.Sums.{sum_by-cons}
 use Rattle.std.proofs.lemmas.Str.{is_utf8-from_IsUtf8}
-use Rattle.gate_base.specs.Ascii.{is_slash}
+use Rattle.gate_base.specs.Ascii.{is_lower_hex, is_slash}
 use Rattle.gate_base.specs.Told.{moment_limit}
 use Rattle.gate_base.specs.declared.page.Pair.{Pair}
 use Rattle.hex.specs.Hex.{encode_lower}
 use Rattle.md5.specs.Md5.{md5}
 use Rattle.s3_names.specs.Bucket.{is_bucket}
-use Rattle.s3_names.specs.Id.{id_digits, is_lower_hex}
+use Rattle.s3_names.specs.Id.{id_digits}
 use Rattle.s3_names.specs.Key.{is_key}
 use Rattle.s3_names.specs.Meta.{names_ascend}
 use Rattle.s3_names.proofs.lemmas.BucketLemmas.{bucket_has_no_slash}

@@ -16,7 +16,8 @@ use Rattle.gate_base.specs.Fields.{is_printable}
 use Rattle.gate_base.specs.Told.{moment_limit}
 use Rattle.gate_base.specs.declared.page.Pair.{Pair}
 use Rattle.s3_names.specs.Bucket.{is_bucket}
-use Rattle.s3_names.specs.Id.{id_digits, is_lower_hex}
+use Rattle.gate_base.specs.Ascii.{is_lower_hex}
+use Rattle.s3_names.specs.Id.{id_digits}
 use Rattle.s3_names.specs.Key.{is_key}
 use Rattle.s3_names.specs.Meta.{names_ascend}
 use Rattle.s3_names.proofs.lemmas.BucketLemmas.{bucket_length}
