@@ -3,9 +3,9 @@ use Rattle.std.proofs.Common.{◌≡◌, ℕ, zero, suc, ◌+◌, ◌^◌, ◌<�
 use Rattle.std.proofs.Common.{Vec, Global}
 use Rattle.std.specs.List.{list_all}
 use Rattle.std.specs.Str.{IsUtf8, is_utf8}
-use Rattle.std.proofs.lemmas.Bool.{and_parts, false_from_ne_true, ltb-true}
+use Rattle.std.proofs.lemmas.Bool.{and_parts, ltb-true}
 use Rattle.std.proofs.lemmas.List.{take_more, map-append}
-use Rattle.std.proofs.lemmas.Str.{is_utf8-from_IsUtf8, IsUtf8-from_is_utf8}
+use Rattle.std.proofs.lemmas.Str.{IsUtf8-from_is_utf8}
 use Rattle.serde_json.specs.Data.{Data, array}
 use Rattle.serde_json.specs.View.{view, items_of}
 use Rattle.serde_json.specs.Written.{has_float, items_have_float, compact_text}
@@ -13,14 +13,6 @@ use Rattle.serde_json.specs.declared.value.Value.{Value, Array}
 use Rattle.serde_json.proofs.Views.{view-Array}
 use Rattle.swift_calls.specs.declared.heads.NameItem.{NameItem}
 use Rattle.swift_replies.specs.AnswerText.{list_text, container_value, item_value, is_item}
-
--- ---- UTF-8 as a fact and as a test
-
-pub is_utf8_where : (bytes : List ℕ) → IsUtf8 bytes → is_utf8 bytes ≡ true
-is_utf8_where bytes h = is_utf8-from_IsUtf8 bytes h
-
-pub is_utf8_unless : (bytes : List ℕ) → ¬ (IsUtf8 bytes) → is_utf8 bytes ≡ false
-is_utf8_unless bytes h = false_from_ne_true (is_utf8 bytes) (λ valid. h (IsUtf8-from_is_utf8 bytes valid))
 
 -- bytes that pass the test aren't refused
 pub utf8_after_all : (bytes : List ℕ) → is_utf8 bytes ≡ true → ¬ (IsUtf8 bytes) → ⊥

@@ -5,10 +5,11 @@ ghost use Rattle.http_answers.specs.Fields.{field};
 ghost use Rattle.swift_replies.specs.Fields.{readers_by, moment_in, created_in, meta_name, meta_in};
 
 use gate_base::{Bytes, List, MOMENT_LIMIT, Memory, Pair};
-use http_answers::{append_decimal, field, plain_number};
+use http_answers::{field, plain_number};
 use http_wire::has_header;
 use std::alloc::Global;
 use swift_calls::ReadList;
+use text_forms::append_decimal;
 
 /// The most pieces of metadata.
 const MOST_PIECES: u64 = 11;

@@ -4,8 +4,8 @@ ghost use Rattle.http1.specs.Head.{print_header, print_headers, status_digits};
 ghost use Rattle.swift_replies.specs.AnswerText.{error_phrase, phrase_of, status_line, created_fields, meta_fields, readers_text};
 
 use gate_base::{Bytes, Memory};
-use http_answers::append_decimal;
 use swift_calls::ReadList;
+use text_forms::append_decimal;
 
 /// Adds a status line.
 pub(crate) fn append_status(text: &mut Bytes, status: u16) -> Result<(), Memory>

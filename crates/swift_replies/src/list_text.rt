@@ -10,6 +10,7 @@ use serde_json::{Value, json};
 use std::alloc::{AllocError, Global};
 use std::str;
 use swift_calls::NameItem;
+use text_forms::is_utf8;
 
 /// The text of a listing of containers; none where a name isn't UTF-8.
 pub(crate) fn containers_text(alloc: Global, names: &[Bytes]) -> Result<Option<Bytes>, Memory>
@@ -60,16 +61,6 @@ fn is_whole(size: u64) -> bool
     ensures { result ≡ nat_lt size (2 ^ 64) }
 {
     true
-}
-
-#[tactic(auto, using(crate::proofs::ListTextLemmas::is_utf8_where, crate::proofs::ListTextLemmas::is_utf8_unless))]
-fn is_utf8(bytes: &[u8]) -> bool
-    ensures { result ≡ is_utf8 bytes.now }
-{
-    match str::from_utf8(bytes) {
-        Ok(_) => true,
-        Err(_) => false,
-    }
 }
 
 /// Bytes that are UTF-8, as text.

@@ -12,11 +12,12 @@ use crate::header_text::{
 use crate::list_text::{containers_text, items_text};
 use crate::values::is_tag;
 use gate_base::{Bytes, MOMENT_LIMIT, Memory};
-use http_answers::{HEAD_LIMIT, append_decimal};
+use http_answers::HEAD_LIMIT;
 use httparse::{is_header_value, is_space_or_tab};
 use slo_manifest::{Form, Segment, is_manifest, write};
 use std::alloc::Global;
 use swift_calls::{NameItem, ReadList, StoredHead, SwiftReply, SwiftRequest};
+use text_forms::append_decimal;
 
 /// Room for most heads, so that no body is moved as its text grows.
 const HEAD_ROOM: usize = 1024;

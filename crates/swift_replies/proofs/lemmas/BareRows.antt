@@ -8,6 +8,7 @@ use Rattle.http1.specs.Head.{are_headers, is_status_line, section_text}
 use Rattle.swift_calls.specs.declared.calls.SwiftRequest.{SwiftRequest}
 use Rattle.swift_calls.specs.declared.calls.SwiftReply.{SwiftReply}
 use Rattle.swift_calls.specs.declared.calls.SwiftReply.TheVariants.{Gone, NotFound}
+use Rattle.text_forms.specs.Numbers.{number_of}
 use Rattle.http_answers.specs.Framing.{expected, is_bodiless}
 use Rattle.swift_replies.specs.Answers.{asks_head, reply_of, SpellsAnswer}
 use Rattle.swift_replies.specs.AnswerText.{Field, bare, head_text, length_field, phrase_of, refusal, status_line}
@@ -32,6 +33,7 @@ same_if true = refl
 same_if false = refl
 
 no_body : (head : Bool) (status : ℕ) → expected head status (map lowered (length_field 0 ∷ [])) ≡ no_size
+unfolding number_of
 no_body head status = ap (λ v. expected head status (map lowered (zero_field v))) zero_text ∙ same_if (is_bodiless head status)
 
 abbrev IsShort : ℕ → Type 0

@@ -14,7 +14,7 @@ use Rattle.httparse.specs.Grammar.{is_token, is_token_byte, is_value_byte, is_ow
 use Rattle.gate_base.specs.Fields.{is_field, is_printable}
 use Rattle.swift_replies.specs.AnswerText.{meta_fields}
 use Rattle.swift_replies.proofs.lemmas.CutLemmas.{weaker}
-use Rattle.http_answers.proofs.lemmas.NumberLemmas.{decimal_digits}
+use Rattle.text_forms.proofs.lemmas.Decimals.{decimal_digits}
 
 -- ---- values without white space at an end
 

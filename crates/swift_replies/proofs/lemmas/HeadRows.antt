@@ -21,11 +21,12 @@ use Rattle.http_answers.specs.Framing.{expected, is_bodiless}
 use Rattle.swift_replies.specs.Answers.{Said, asks_head, bytes_from, is_part, reply_of, SpellsAnswer}
 use Rattle.swift_replies.specs.AnswerText.{Sent, answer_text, bytes_by, head_by, head_text, is_head, is_spelled, phrase_of, range_text, sent_text, text_by, within_limit}
 use Rattle.swift_replies.proofs.lemmas.CutLemmas.{Lacks, after_at, weaker}
-use Rattle.http_answers.proofs.lemmas.NumberLemmas.{decimal_digits}
+use Rattle.text_forms.proofs.lemmas.Decimals.{decimal_digits}
+use Rattle.http_answers.proofs.lemmas.NumberLemmas.{plain_decimal}
 use Rattle.swift_replies.proofs.SentLemmas.{part_fits}
 use Rattle.swift_replies.proofs.lemmas.HeadFields.{expected_back, fields, head_back, is_range, length_back, part_fields, range_given, sendable, size_fits, whole_fields}
 use Rattle.swift_replies.proofs.lemmas.ReadBack.{lowered, written_spells}
-use Rattle.swift_replies.proofs.lemmas.ValueRows.{decimal_trimmed, limit_of, plain_back}
+use Rattle.swift_replies.proofs.lemmas.ValueRows.{decimal_trimmed, limit_of}
 
 -- ---- an answer with the headers of an object
 
@@ -106,7 +107,7 @@ size_read first count size low high small =
     let places = places_text first (first + count - 1) in
     let lacks : Lacks is_slash places = places_pass (λ b. not (is_slash b)) digit_no_slash refl refl first (first + count - 1) low high in
     ap size_behind (append_assoc places (codes "/") (decimal size)) ∙ ap plain_number (after_at is_slash places (decimal size) 47 refl lacks)
-    ∙ plain_back size small
+    ∙ plain_decimal size small
 
 starts_front : (front back : List ℕ) → 0 < length front → starts_visible front ≡ true → starts_visible (front ++ back) ≡ true
 starts_front [] back some fine = absurd (omega (arith, some))

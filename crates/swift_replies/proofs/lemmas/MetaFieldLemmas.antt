@@ -16,7 +16,8 @@ use Rattle.swift_replies.specs.AnswerText.{header_pair}
 use Rattle.http_answers.specs.Fields.{at_most_one}
 use Rattle.swift_replies.specs.Fields.{meta_name, meta_by, meta_from, meta_in}
 use Rattle.swift_replies.proofs.lemmas.GivenLemmas.{given, given-append, given_step, given_other}
-use Rattle.http_answers.proofs.lemmas.NumberLemmas.{same_bytes, decimal_digits}
+use Rattle.text_forms.proofs.lemmas.Decimals.{decimal_digits}
+use Rattle.http_answers.proofs.lemmas.NumberLemmas.{same_bytes}
 use Rattle.swift_replies.proofs.SentLemmas.{piece_field}
 
 -- digits are the same in lower case

@@ -13,16 +13,17 @@ use Rattle.swift_calls.specs.declared.calls.SwiftReply.{SwiftReply}
 use Rattle.swift_calls.specs.declared.calls.SwiftReply.TheVariants.{Readers}
 use Rattle.swift_replies.specs.Fields.{before_limit, moment_in, readers_by}
 use Rattle.http_answers.specs.Framing.{expected}
+use Rattle.http_answers.proofs.lemmas.NumberLemmas.{plain_decimal}
 use Rattle.swift_replies.specs.Answers.{SpellsAnswer, both, reply_of}
 use Rattle.swift_replies.specs.AnswerText.{Sent, created_fields, head_text, is_created, length_field, readers_fields, readers_sent, readers_text, status_line, text_by}
 use Rattle.swift_replies.proofs.lemmas.BareRows.{zero_text}
 use Rattle.swift_replies.proofs.lemmas.ReadBack.{lowered, said_by, written_spells}
-use Rattle.swift_replies.proofs.lemmas.ValueRows.{decimal_trimmed, plain_back}
+use Rattle.swift_replies.proofs.lemmas.ValueRows.{decimal_trimmed}
 
 pub moment_back : (moment : ℕ) → nat_lt moment moment_limit ≡ true → moment_in (decimal moment) ≡ Some moment
 moment_back moment fine =
     let below : moment < 253402300800 = ltb-true moment moment_limit fine in
-    ap (option_and_then before_limit) (plain_back moment (omega (arith, below))) ∙ ap (λ b. if b then Some moment else None) fine
+    ap (option_and_then before_limit) (plain_decimal moment (omega (arith, below))) ∙ ap (λ b. if b then Some moment else None) fine
 
 pub readers_back : (readers : ReadList) → readers_by (readers_text readers) ≡ Some readers
 readers_back Nobody = refl

@@ -5,21 +5,19 @@ use Rattle.std.specs.List.{list_all}
 use Rattle.std.specs.Str.Parse.{digits_value}
 use Rattle.std.proofs.lemmas.Bool.{and_parts, and_from, leb-true, lt-ltb, le-leb, false≢true}
 use Rattle.std.proofs.lemmas.Bool.Decides.{nat_tests}
-use Rattle.std.proofs.lemmas.Fmt.{length-decimal-le, decimal_nonempty, digits_decimal, digits_value-decimal}
 use Rattle.std.proofs.lemmas.List.Elements.{All-head, All-weaker}
 use Rattle.std.proofs.lemmas.List.Sums.{AllPass-from_list_all, list_all-from_AllPass}
 use Rattle.std.proofs.lemmas.Slice.Eq.{bytes_eq-Decides}
-use Rattle.std.proofs.lemmas.Str.Parse.{IsNumeralModel, IsDigitsTest, numerals_by_value}
 use Rattle.gate_base.specs.Ascii.{is_digit}
 use Rattle.httparse.specs.Grammar.{AllPass, is_ows, is_value_byte, is_token_byte}
 use Rattle.httparse.proofs.TrimLemmas.{AllPass-reverse}
 use Rattle.http1.specs.Head.{are_headers, is_trimmed_value, starts_visible}
-use Rattle.http_wire.specs.FirstMessage.{is_length}
 use Rattle.slo_manifest.specs.declared.Segment.{Segment}
 use Rattle.swift_calls.specs.declared.calls.SwiftRequest.{SwiftRequest}
 use Rattle.swift_calls.specs.declared.calls.SwiftRequest.TheVariants.{PutObject, PutManifest}
 use Rattle.swift_calls.specs.declared.calls.SwiftReply.TheVariants.{Stored}
-use Rattle.http_answers.specs.Fields.{number_in, plain_number}
+use Rattle.text_forms.specs.Numbers.{number_of}
+use Rattle.text_forms.proofs.lemmas.Decimals.{decimal_digits, number_of_decimal}
 use Rattle.swift_replies.specs.Fields.{is_tag_byte, is_quoted, tag_in, tag_only}
 use Rattle.http_answers.specs.Framing.{expected}
 use Rattle.swift_replies.specs.Answers.{SpellsAnswer, asks_head, reply_of}
@@ -48,38 +46,16 @@ trimmed text all =
 
 -- ---- numbers
 
-tells : IsDigitsTest (λ ds. list_all is_digit ds ≡ true)
-tells = search rules
-
-own : IsNumeralModel (λ ds. list_all is_digit ds ≡ true) (digits_value 10)
-own = numerals_by_value _ tells
-
 digit_visible : (b : ℕ) → is_digit b ≡ true → is_visible b ≡ true
 digit_visible b digit = grind (arith, nat_tests)
 
 pub decimal_trimmed : (n : ℕ) → n < 2 ^ 64 → is_trimmed_value (decimal n) ≡ true
 decimal_trimmed n fits =
     trimmed (decimal n)
-    (All-weaker (λ b. is_digit b ≡ true) (λ b. is_visible b ≡ true) digit_visible (decimal n) (AllPass-from_list_all is_digit (decimal n) (digits_decimal own n fits)))
+    (All-weaker (λ b. is_digit b ≡ true) (λ b. is_visible b ≡ true) digit_visible (decimal n) (AllPass-from_list_all is_digit (decimal n) (decimal_digits n fits)))
 
-pub decimal_length : (n : ℕ) → n < 10 ^ 19 → is_length (decimal n) ≡ true
-decimal_length n small =
-    let fits : n < 2 ^ 64 = omega (arith, small) in
-    and_from _ _ (lt-ltb 0 (length (decimal n)) (decimal_nonempty n fits))
-    (and_from _ _ (le-leb (length (decimal n)) 19 (length-decimal-le 19 n (omega arith) small fits)) (digits_decimal own n fits))
-
-pub number_back : (n : ℕ) → n < 10 ^ 19 → number_in (decimal n) ≡ Some n
-number_back n small =
-    let fits : n < 2 ^ 64 = omega (arith, small) in
-    ap (λ b. if b then Some (digits_value 10 (decimal n)) else None) (decimal_length n small) ∙ ap (λ v. Some v) (digits_value-decimal own n fits)
-
-pub plain_back : (n : ℕ) → n < 10 ^ 19 → plain_number (decimal n) ≡ Some n
-plain_back n small =
-    let fits : n < 2 ^ 64 = omega (arith, small) in
-    let value : digits_value 10 (decimal n) ≡ n = digits_value-decimal own n fits in
-    let same : bytes_eq (decimal n) (decimal (digits_value 10 (decimal n))) ≡ true =
-    (bytes_eq-Decides (decimal n) (decimal (digits_value 10 (decimal n)))).1 (sym (ap decimal value)) in
-    ap (λ b. if b then Some (digits_value 10 (decimal n)) else None) (and_from _ _ (decimal_length n small) same) ∙ ap (λ v. Some v) value
+pub number_back : (n : ℕ) → n < 10 ^ 19 → number_of 19 (decimal n) ≡ Some n
+number_back n small = number_of_decimal 19 n (omega arith) small (omega (arith, small))
 
 -- ---- ETags
 
@@ -116,6 +92,7 @@ stored_headers etag fine =
     ap (λ v. are_headers ((codes "Content-Length", v) ∷ etag_field etag ∷ [])) zero_text ∙ ap (λ b. b && true) (tag_trimmed etag fine)
 
 stored_size : (etag : List ℕ) → expected false 201 (map lowered (length_field 0 ∷ etag_field etag ∷ [])) ≡ Some 0
+unfolding number_of
 stored_size etag = ap (λ v. expected false 201 (map lowered ((codes "Content-Length", v) ∷ etag_field etag ∷ []))) zero_text
 
 -- to a call that isn't sent with HEAD
