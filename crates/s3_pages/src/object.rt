@@ -9,6 +9,7 @@ use crate::texts;
 use gate_base::{Bytes, List, Memory, Page, Pair};
 use s3_machine::{Label, ObjectHead};
 use std::alloc::Global;
+use text_forms::append_decimal;
 
 /// The page of an object, or of a part of it.
 pub(crate) fn object(
@@ -137,10 +138,10 @@ fn content_range(alloc: Global, from: u64, length: u64, size: u64) -> Result<Byt
     ensures { IfOk result (λ text. text ≡ range_text from length size) }
 {
     let mut text = Bytes::from_slice(alloc, b"bytes ")?;
-    texts::append_decimal(&mut text, from)?;
+    append_decimal(&mut text, from)?;
     text.append(b"-")?;
-    texts::append_decimal(&mut text, from + length - 1)?;
+    append_decimal(&mut text, from + length - 1)?;
     text.append(b"/")?;
-    texts::append_decimal(&mut text, size)?;
+    append_decimal(&mut text, size)?;
     Ok(text)
 }

@@ -1,5 +1,5 @@
 //! Texts of numbers and moments.
-ghost use Rattle.std.specs.Prelude.{◌≡◌, ◌<◌, ◌++◌, decimal, IfOk, OnOk};
+ghost use Rattle.std.specs.Prelude.{◌≡◌, ◌<◌, decimal, IfOk};
 ghost use Rattle.gate_base.specs.Told.{moment_limit};
 ghost use Rattle.httpdate.specs.Date.{date_text};
 ghost use Rattle.httpdate.specs.declared.date.HttpDate.{HttpDate as Date};
@@ -111,11 +111,4 @@ pub fn decimal(alloc: Global, number: u64) -> Result<Bytes, Memory>
 {
     let mut buffer = Buffer::new();
     Bytes::from_slice(alloc, buffer.format(number).as_bytes())
-}
-
-pub fn append_decimal(text: &mut Bytes, number: u64) -> Result<(), Memory>
-    ensures { OnOk result (text.new ≡ text.old ++ decimal number) }
-{
-    let mut buffer = Buffer::new();
-    text.append(buffer.format(number).as_bytes())
 }

@@ -21,6 +21,7 @@ use gate_base::{Bytes, Memory};
 use itoa::Buffer;
 use s3_names::encode_path;
 use std::alloc::Global;
+use text_forms::append_decimal;
 
 /// A document that is being written. Of one whose writing ran out of memory nothing is known.
 #[derive(Drop)]
@@ -204,7 +205,7 @@ impl Xml {
             b'"' => self.tags(b"&quot;"),
             0..=31 => {
                 self.tags(b"&#")?;
-                texts::append_decimal(&mut self.text, u64::from(byte))?;
+                append_decimal(&mut self.text, u64::from(byte))?;
                 self.tags(b";")
             }
             _ => self.text.push(byte),
