@@ -1,4 +1,3 @@
-pub mod Digits
 pub mod Entries
 pub mod ProperCopies
 pub mod ProperReads

@@ -9,7 +9,7 @@ use Rattle.std.proofs.lemmas.Bool.{and_parts, leb-true}
 use Rattle.std.proofs.lemmas.Bool.Decides.{nat_tests}
 use Rattle.std.proofs.lemmas.Str.Parse.{digits_value_short}
 use Rattle.hex.specs.Hex.{decode_of}
-use Rattle.gate_base.specs.Ascii.{is_digit}
+use Rattle.gate_base.specs.Ascii.{is_digit, is_lower_hex}
 use Rattle.gate_base.specs.declared.page.Pair.{Pair}
 use Rattle.http_wire.specs.Headers.{text_of}
 use Rattle.s3_machine.specs.declared.reading.Range.{Range}
@@ -18,13 +18,13 @@ use Rattle.s3_machine.specs.declared.limits.TheConstants.{GREATEST_PART_NUMBER}
 use Rattle.s3_machine.specs.Limits.{is_listing_text, most_items, range_limit}
 use Rattle.s3_machine.specs.Step.{IsProperAsked, IsProperRange, IsProperUploads}
 use Rattle.s3_machine.specs.Uploads.{greatest_part, IsPartNumber}
-use Rattle.s3_requests.specs.Numbers.{is_number, number_of}
+use Rattle.text_forms.specs.Numbers.{is_number, number_of}
 use Rattle.s3_requests.specs.Ranges.{is_dash, place_of, between, range_by, range_behind, range_of, given_range}
 use Rattle.s3_requests.specs.Query.{text_at}
 use Rattle.s3_requests.specs.Rows.{is_asked}
 use Rattle.s3_requests.specs.Uploads.{of_part, part_of, given_part}
-use Rattle.s3_requests.specs.Listings.{most_by, capped, count_of, is_lower_hex, listing_text, token_of, given_token, has_long_text, first_asked, second_asked}
-use Rattle.s3_requests.proofs.Digits.{own}
+use Rattle.s3_requests.specs.Listings.{most_by, capped, count_of, listing_text, token_of, given_token, has_long_text, first_asked, second_asked}
+use Rattle.text_forms.proofs.lemmas.Decimals.{digits_model}
 
 -- ---- ranges
 
@@ -36,7 +36,7 @@ number_small text h =
     let parts = and_parts _ (list_all is_digit text) h in
     let few = (and_parts _ (nat_le (length text) 18) parts.0).1 in
     let short : length text ≤ 18 = grind (arith, nat_tests) in
-    let small : digits_value 10 text < 10 ^ 18 = digits_value_short own text 18 parts.1 short in
+    let small : digits_value 10 text < 10 ^ 18 = digits_value_short digits_model text 18 parts.1 short in
     omega (arith, small)
 
 place_small : (text : List ℕ) → IfSome (place_of text) IsSmall

@@ -11,7 +11,7 @@ use Rattle.std.proofs.Math.Seq.{drop-append-add}
 use Rattle.gate_base.specs.Ascii.{is_digit}
 use Rattle.s3_machine.specs.declared.reading.Range.{Range}
 use Rattle.s3_machine.specs.declared.reading.Range.TheVariants.{FromTo, From, Last}
-use Rattle.s3_requests.specs.Numbers.{is_number, number_of}
+use Rattle.text_forms.specs.Numbers.{is_number, number_of}
 use Rattle.s3_requests.specs.Ranges.{is_dash, place_of, between, range_by, range_behind, range_of, AsksFor}
 
 abbrev unit : List ℕ

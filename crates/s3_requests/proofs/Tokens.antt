@@ -8,7 +8,8 @@ use Rattle.std.proofs.lemmas.List.Sums.{AllPass-from_list_all}
 use Rattle.hex.specs.Hex.{decode_of, encode_lower, encode_with, lower_digits, IsBytes}
 use Rattle.hex.proofs.HexLemmas.{decode_of-encode_lower}
 use Rattle.s3_machine.specs.Limits.{is_listing_text}
-use Rattle.s3_requests.specs.Listings.{is_lower_hex, listing_text, token_of}
+use Rattle.gate_base.specs.Ascii.{is_lower_hex}
+use Rattle.s3_requests.specs.Listings.{listing_text, token_of}
 
 lower_at : (digit : ℕ) → digit < 16 → is_lower_hex (slice_index lower_digits digit) ≡ true
 lower_at digit small = AllPass-from_list_all is_lower_hex lower_digits refl digit 0 small

@@ -6,7 +6,6 @@ pub mod Headers
 pub mod Laws
 pub mod Listings
 pub mod Meaning
-pub mod Numbers
 pub mod Proper
 pub mod Query
 pub mod Ranges

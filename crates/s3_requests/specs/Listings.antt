@@ -4,11 +4,11 @@ use Rattle.std.specs.Prelude.{ℕ, Bool, false, not, ◌&&◌, ◌||◌, nat_le,
 use Rattle.std.specs.List.{list_all}
 use Rattle.std.specs.Result.{result_ok}
 use Rattle.hex.specs.Hex.{decode_of}
-use Rattle.gate_base.specs.Ascii.{is_digit}
+use Rattle.gate_base.specs.Ascii.{is_lower_hex}
 use Rattle.gate_base.specs.declared.page.Pair.{Pair}
 use Rattle.s3_machine.specs.declared.items.Asked.{Asked}
 use Rattle.s3_machine.specs.Limits.{is_listing_text, most_items}
-use Rattle.s3_requests.specs.Numbers.{number_of}
+use Rattle.text_forms.specs.Numbers.{number_of}
 use Rattle.s3_requests.specs.Query.{text_at}
 use Rattle.s3_requests.specs.Rows.{is_asked}
 
@@ -35,10 +35,6 @@ abbrev pub most_keys : List Pair → ℕ
 most_keys query = most_by (codes "max-keys") query
 
 -- ---- tokens
-
--- `0` to `9` or `a` to `f`
-abbrev pub is_lower_hex : ℕ → Bool
-is_lower_hex byte = is_digit byte || (nat_le 97 byte && nat_le byte 102)
 
 abbrev pub listing_text : Option (List ℕ) → Option (List ℕ)
 listing_text None = None

@@ -7,7 +7,7 @@ use Rattle.gate_base.specs.declared.page.Pair.{Pair}
 use Rattle.http_wire.specs.Headers.{text_of}
 use Rattle.s3_machine.specs.declared.reading.Range.{Range}
 use Rattle.s3_machine.specs.declared.reading.Range.TheVariants.{FromTo, From, Last}
-use Rattle.s3_requests.specs.Numbers.{number_of}
+use Rattle.text_forms.specs.Numbers.{number_of}
 
 abbrev pub is_dash : ℕ → Bool
 is_dash byte = byte == 45

@@ -12,7 +12,7 @@ use Rattle.s3_bodies.specs.Listed.{listed_in}
 use Rattle.s3_requests.specs.declared.rows.Row.{Row}
 use Rattle.s3_requests.specs.declared.rows.Row.TheVariants.{CompleteMultipartUpload}
 use Rattle.s3_requests.specs.Listings.{count_of, has_bad_count, most_by}
-use Rattle.s3_requests.specs.Numbers.{number_of}
+use Rattle.text_forms.specs.Numbers.{number_of}
 use Rattle.s3_requests.specs.Query.{text_at}
 use Rattle.s3_requests.specs.Rows.{is_asked}
 

@@ -10,7 +10,6 @@ mod headers;
 mod laws;
 mod listings;
 mod meant;
-mod numbers;
 mod query;
 mod ranges;
 mod rows;

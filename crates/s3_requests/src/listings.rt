@@ -1,17 +1,16 @@
 //! What a listing of objects asks for, and the counts and texts that any listing may be given.
 ghost use Rattle.std.specs.Prelude.{◌≡◌, ◌≤◌, IfOk, IfSome};
-ghost use Rattle.std.specs.List.{list_all};
 ghost use Rattle.std.specs.Result.{result_ok};
 ghost use Rattle.hex.specs.Hex.{decode_of};
 ghost use Rattle.s3_requests.specs.Query.{text_at};
-ghost use Rattle.s3_requests.specs.Listings.{up_to_greatest, count_of, capped, most_by, most_keys, is_lower_hex, listing_text, token_of, given_token, has_other, has_bad_flag, has_bad_count, has_bad_text, has_bad_token, has_bad_word, has_long_text, first_asked, second_asked};
+ghost use Rattle.s3_requests.specs.Listings.{up_to_greatest, count_of, capped, most_by, most_keys, listing_text, token_of, given_token, has_other, has_bad_flag, has_bad_count, has_bad_text, has_bad_token, has_bad_word, has_long_text, first_asked, second_asked};
 
-use crate::numbers::number_of;
 use crate::query::{is_asked, text_at};
 use gate_base::{Bytes, Memory, Pair};
 use hex::FromHexError;
 use s3_machine::{Asked, MOST_ITEMS, is_listing_text};
 use std::alloc::Global;
+use text_forms::{all_lower_hex, number_of};
 
 /// The greatest count that is read.
 const GREATEST: u64 = 2_147_483_647;
@@ -55,18 +54,6 @@ fn most_keys(query: &[Pair]) -> u32
     ensures { result ≡ most_keys query.now }
 {
     most_by(query, b"max-keys")
-}
-
-fn is_lower_hex(byte: u8) -> bool
-    ensures { result ≡ is_lower_hex byte }
-{
-    byte.is_ascii_digit() || (b'a' <= byte && byte <= b'f')
-}
-
-fn all_lower_hex(text: &[u8]) -> bool
-    ensures { result ≡ list_all is_lower_hex text.now }
-{
-    text.iter().all(|byte| is_lower_hex(*byte))
 }
 
 /// The bytes that hexadecimal digits write, of either case.

@@ -3,11 +3,11 @@ ghost use Rattle.std.specs.Prelude.{◌≡◌, IfOk, option_map};
 ghost use Rattle.std.specs.List.{list_any};
 ghost use Rattle.s3_requests.specs.Ranges.{is_dash, place_of, between, range_by, range_behind, range_of, given_range};
 
-use crate::numbers::number_of;
 use gate_base::{Memory, Pair, cut};
 use http_wire::text_of;
 use s3_machine::Range;
 use std::alloc::Global;
+use text_forms::number_of;
 
 /// The most digits of a place or a length.
 const DIGITS: usize = 18;

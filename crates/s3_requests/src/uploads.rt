@@ -6,13 +6,13 @@ ghost use Rattle.s3_requests.specs.Query.{text_at};
 ghost use Rattle.s3_requests.specs.Uploads.{given_upload, of_part, part_of, given_part, given_marker, has_bad_part, has_bad_number, uploads_asked, parts_asked, taken_list};
 
 use crate::listings::{copy_at, count_of, has_bad_count, most_by};
-use crate::numbers::number_of;
 use crate::query::{is_asked, text_at};
 use crate::rows::Row;
 use gate_base::{Bytes, List, Memory, Pair};
 use s3_bodies::{BodyFault, read_completion};
 use s3_machine::{GREATEST_PART_NUMBER, Listed, Op};
 use std::alloc::Global;
+use text_forms::number_of;
 
 /// The most digits of the number of a part.
 const DIGITS: usize = 9;
