@@ -33,7 +33,7 @@ ghost use Rattle.recovery.specs.declared.fault.PlanFault.TheVariants as fault;
 
 use crate::state::ask;
 use crate::{PlanFault, Settled};
-use gate_base::{Bytes, Copying, List, MOMENT_LIMIT, Memory};
+use gate_base::{Bytes, Copying, List, MOMENT_LIMIT, Memory, drop};
 use s3_machine::BucketItem;
 use s3_names::is_bucket;
 use std::alloc::Global;
@@ -56,6 +56,7 @@ fn page<W: Swift>(state: &mut Settled<'_, W>, marker: &Bytes) -> Result<List<Byt
         limit: MOST_NAMES,
     };
     if !is_fit(&request) {
+        drop(request);
         return Err(PlanFault::Inconsistent);
     }
     let reply = ask(state.store, request)?;

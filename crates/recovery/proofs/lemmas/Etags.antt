@@ -1,5 +1,5 @@
--- The ETag of a body is one that a tag can have, and the one that a store gives of the body.
-use Rattle.std.proofs.Common.{◌≡◌, ℕ, zero, suc, ◌<◌, ◌*◌, ◌/◌, ◌%◌, Bool, true, List, [], ◌∷◌, length, get_or, nat_lt, refl, ap, ◌∙◌, arith}
+-- The ETag of a body is one that a tag and a list of segments can have, and the one that a store gives of the body.
+use Rattle.std.proofs.Common.{◌≡◌, ℕ, zero, suc, ◌<◌, ◌*◌, ◌/◌, ◌%◌, ◌==◌, Bool, true, List, [], ◌∷◌, length, get_or, nat_lt, refl, ap, ◌∙◌, arith}
 use Rattle.std.specs.Int.{w32, to_le_bytes, bytes_low_first, byte_at}
 use Rattle.std.specs.List.{list_all}
 use Rattle.std.proofs.lemmas.Bool.{and_from, and_parts, ltb-true}
@@ -9,10 +9,12 @@ use Rattle.std.proofs.lemmas.Slice.Eq.{bytes_eq-Decides}
 use Rattle.std.proofs.lemmas.List.{length-append}
 use Rattle.std.proofs.lemmas.List.Folds.{list_all-append}
 use Rattle.std.proofs.lemmas.List.Sums.{AllPass-from_list_all}
+use Rattle.md5.proofs.StandardFacts.{length-md5}
 use Rattle.md5.specs.Md5.{md5, digest_bytes, hash_after, padded_message}
 use Rattle.hex.specs.Hex.{lower_digits, encode_with, encode_lower}
 use Rattle.hex.proofs.HexLemmas.{length-encode_with}
 use Rattle.s3_machine.specs.ETag.{body_etag}
+use Rattle.slo_manifest.specs.Segments as slo
 use Rattle.swift_calls.specs.Bodies.{etag_text}
 use Rattle.gate_base.specs.Ascii.{is_lower_hex}
 use Rattle.swift_marks.specs.Tag.{is_etag}
@@ -66,3 +68,19 @@ same_etag body = refl
 
 pub etag_agrees : (body : List ℕ) → bytes_eq (etag_text body) (body_etag body) ≡ true
 etag_agrees body = (bytes_eq-Decides (etag_text body) (body_etag body)).1 (same_etag body)
+
+-- ---- the same for the list of a file's segments
+
+pub etag_length : (body : List ℕ) → length (body_etag body) ≡ 32
+unfolding body_etag
+etag_length body = length-encode_with lower_digits (md5 body) ∙ ap (λ n. 2 * n) (length-md5 body)
+
+pub etag_digits : (body : List ℕ) → list_all is_lower_hex (body_etag body) ≡ true
+unfolding body_etag md5
+etag_digits body =
+    let h = hash_after (padded_message body) (length (padded_message body) / 64) in
+    digits_of (digest_bytes h 4) (digest_is_bytes h 4)
+
+pub part_etag : (body : List ℕ) → slo.is_etag (body_etag body) ≡ true
+unfolding slo.is_etag
+part_etag body = and_from _ _ (ap (λ n. n == 32) (etag_length body)) (etag_digits body)
