@@ -1,59 +1,17 @@
 //! The copies of objects in the machine's running form.
-ghost use Rattle.std.specs.Prelude.{◌≡◌, ◌≤◌, IfOk, IfSome, OnErr, true};
+ghost use Rattle.std.specs.Prelude.{◌≡◌, IfOk, IfSome, OnErr};
 ghost use Rattle.s3_machine.specs.declared.operation.Op.TheVariants.{CopyObject, CopyPart};
-ghost use Rattle.s3_machine.specs.Copies.{copied, copied_span, has_last, is_onto_itself};
+ghost use Rattle.s3_machine.specs.Copies.{copied};
 ghost use Rattle.s3_machine.specs.Step.{IsProper, IsProperCopyRange, S3Step};
 
 use crate::native::{Native, NativeObject, put_object};
 use crate::upload::NativePart;
 use crate::uploads::put_part;
 use gate_base::{Bytes, Copying, Memory};
-use s3_machine::{Body, Code, Label, MOST_BODY_BYTES, Op, Replaced, Reply, Span};
+use s3_machine::{
+    Body, Code, Label, MOST_BODY_BYTES, Op, Replaced, Reply, copied_span, has_last, is_onto_itself,
+};
 use s3_names::{Acl, Meta};
-
-/// Whether an object would be copied onto itself, and nothing of it replaced.
-fn is_onto_itself(
-    bucket: &[u8],
-    key: &[u8],
-    from_bucket: &[u8],
-    from_key: &[u8],
-    replaced: &Option<Replaced>,
-) -> bool
-    ensures { result ≡ is_onto_itself bucket.now key.now from_bucket.now from_key.now replaced.now }
-{
-    match replaced {
-        None => bucket == from_bucket && key == from_key,
-        Some(_) => false,
-    }
-}
-
-/// Whether an object of this size has the last byte of the range.
-fn has_last(range: Option<(u64, u64)>, size: u64) -> bool
-    ensures { result ≡ has_last range size }
-{
-    match range {
-        None => true,
-        Some((_, last)) => last < size,
-    }
-}
-
-/// The bytes of a range that an object of this size has; without one all of them.
-fn copied_span(range: Option<(u64, u64)>, size: u64) -> Span
-    requires rises { IfSome range IsProperCopyRange }
-    requires within { has_last range size ≡ true }
-    ensures { result ≡ copied_span range size }
-{
-    match range {
-        None => Span {
-            from: 0,
-            length: size,
-        },
-        Some((first, last)) => Span {
-            from: first,
-            length: last + 1 - first,
-        },
-    }
-}
 
 impl NativeObject {
     /// Its copy, with its content type and metadata or those in their place.
@@ -159,13 +117,7 @@ impl Native {
         let Some(object) = source.object(from_key.as_slice()) else {
             return Ok(Reply::Refused(Code::NoSuchKey));
         };
-        if is_onto_itself(
-            bucket.as_slice(),
-            key.as_slice(),
-            from_bucket.as_slice(),
-            from_key.as_slice(),
-            replaced,
-        ) {
+        if is_onto_itself(bucket, key, from_bucket, from_key, replaced) {
             return Ok(Reply::Refused(Code::InvalidRequest));
         }
         let copied = object.copied(replaced, label.moment)?;
