@@ -15,10 +15,10 @@ ghost use Rattle.recovery.specs.declared.state.Known.TheVariants as known;
 ghost use Rattle.many_keys.specs.Copies.{IsFoundBucket, IsFoundSource, IsProperHead, IsReadSource, is_source_body};
 
 use crate::listed::copy_listed;
-use crate::source::{content_of, head_source, is_onto_itself, read_source};
+use crate::source::{content_of, head_source, read_source};
 use gate_base::Bytes;
 use recovery::{PlanFault, Settled, head_bucket, put_object};
-use s3_machine::{Code, Label, ObjectHead, Replaced, Reply, is_other_acl};
+use s3_machine::{Code, Label, ObjectHead, Replaced, Reply, is_onto_itself, is_other_acl};
 use s3_names::Acl;
 use std::alloc::Global;
 use swift_calls::Swift;

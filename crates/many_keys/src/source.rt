@@ -1,6 +1,5 @@
 //! The source of a copy, and what the copy is put with.
 ghost use Rattle.std.specs.Prelude.{◌≡◌, ◌≤◌, true, length, None, Some, IfOk, IfSome};
-ghost use Rattle.s3_machine.specs.Copies.{is_onto_itself};
 ghost use Rattle.s3_machine.specs.Step.{IsPlace, IsProperReplaced};
 ghost use Rattle.upload_records.specs.Native.{IsSettled};
 ghost use Rattle.recovery.specs.Calls.{always, Asks, Given, Tells, TellsBytes, TellsObject};
@@ -114,24 +113,6 @@ fn is_source_body(head: &ObjectHead, body: &Body) -> bool
 {
     let size = body.as_slice().len() as u64;
     size == head.size && size <= MOST_BODY_BYTES && head.etag.as_slice() == body.etag().as_slice()
-}
-
-/// Whether an object would be copied onto itself, and nothing of it replaced.
-pub(crate) fn is_onto_itself(
-    bucket: &Bytes,
-    key: &Bytes,
-    from_bucket: &Bytes,
-    from_key: &Bytes,
-    replaced: &Option<Replaced>,
-) -> bool
-    ensures { result ≡ is_onto_itself bucket.now key.now from_bucket.now from_key.now replaced.now }
-{
-    match replaced {
-        Some(_) => false,
-        None => {
-            bucket.as_slice() == from_bucket.as_slice() && key.as_slice() == from_key.as_slice()
-        }
-    }
 }
 
 /// What a copy is put with: what is given in place of the source's content type and metadata, or these. They are moved, and nothing
