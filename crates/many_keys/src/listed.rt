@@ -157,11 +157,11 @@ fn copy_cut<W: Swift>(
         state,
         bucket,
         key,
-        from_bucket,
-        from_key,
+        &from_bucket,
+        &from_key,
         replaced,
         head,
-        cut,
+        &cut,
         id,
         label,
     )
@@ -173,36 +173,37 @@ fn copy_under<W: Swift>(
     state: &mut Settled<'_, W>,
     bucket: Bytes,
     key: Bytes,
-    from_bucket: Bytes,
-    from_key: Bytes,
+    from_bucket: &Bytes,
+    from_key: &Bytes,
     replaced: Option<Replaced>,
     head: ObjectHead,
-    cut: List<Piece>,
+    cut: &List<Piece>,
     id: u128,
     label: &Label,
 ) -> Result<Reply, PlanFault>
     requires place { IsPlace bucket key }
-    requires source { IsPlace from_bucket from_key }
+    requires source { IsPlace from_bucket.now from_key.now }
     requires replaced { IfSome replaced IsProperReplaced }
     requires moment { label.now.moment < moment_limit }
     requires head { IsProperHead head }
     requires of_parts { 32 < length head.etag }
-    requires cut { is_cut head.size cut ≡ true }
+    requires cut { is_cut head.size cut.now ≡ true }
     ensures stays { Stays state.old state.new }
     ensures plans { (acl : Option Acl) (list : Acl) → is_other_acl acl list ≡ false
-        → is_onto_itself bucket key from_bucket from_key replaced ≡ false
-        → Plans (always (2 * length cut + 1)) (W.history state.old.store.now)
+        → is_onto_itself bucket key from_bucket.now from_key.now replaced ≡ false
+        → Plans (always (2 * length cut.now + 1)) (W.history state.old.store.now)
         (W.history state.new.store.now) state.old.settings.now
-        (GivenOf (MayFill bucket list id from_bucket from_key head))
-        (CopyObject bucket key acl from_bucket from_key replaced) label.now known.Settled result }
+        (GivenOf (MayFill bucket list id from_bucket.now from_key.now head))
+        (CopyObject bucket key acl from_bucket.now from_key.now replaced) label.now known.Settled
+        result }
 {
     let parts = copy_segments(
         alloc,
         state,
         &bucket,
         id,
-        &from_bucket,
-        &from_key,
+        from_bucket,
+        from_key,
         &head,
         cut.as_slice(),
         label.moment,

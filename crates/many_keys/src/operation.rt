@@ -10,7 +10,7 @@ ghost use Rattle.recovery.specs.Plan.{reply_of, Plans, Answered};
 
 use crate::copies::copy_object;
 use crate::deletions::delete_objects;
-use gate_base::{Bytes, List};
+use gate_base::{Bytes, List, drop};
 use plan_uploads::copy_part;
 use recovery::{PlanFault, Settled};
 use s3_machine::{Code, Label, Op, Reply};
@@ -35,7 +35,9 @@ pub fn answer<W: Swift>(alloc: Global, state: &mut Settled<'_, W>, op: Op, label
         label.now known.Settled result }
 {
     let mut op = op;
-    reply_to(plan(alloc, state, &mut op, label))
+    let end = plan(alloc, state, &mut op, label);
+    drop(op);
+    reply_to(end)
 }
 
 /// Makes the calls of an operation's plan, which takes of it what it needs; the operation is dropped by its owner alone. Any other

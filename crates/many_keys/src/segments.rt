@@ -13,7 +13,7 @@ ghost use Rattle.recovery.specs.declared.fault.PlanFault.TheVariants as fault;
 ghost use Rattle.many_keys.specs.CopiedLists.{AreOfCut, CopiesFirst, CopiesPiece, IsUnnamed, MayCopy, PutsSegment, TellsPiece, is_cut, is_piece, piece_in, sized_due};
 
 use crate::cut::Piece;
-use gate_base::{Bytes, Copying, List};
+use gate_base::{Bytes, Copying, List, drop};
 use plan_uploads::part_request;
 use recovery::{PlanFault, Settled, get_object};
 use s3_machine::{ObjectHead, body_etag};
@@ -186,12 +186,21 @@ fn put_segment<W: Swift>(
     };
     let request = part_request(alloc, bucket, id, number, body, &etag, moment)?;
     let reply = state.call(request)?;
-    stored_in(&reply, &etag)?;
+    stored_in(reply, &etag)?;
     Ok(part)
 }
 
 /// The answer to PUT of a file whose bytes have this ETag: the store has them with the same.
-fn stored_in(reply: &SwiftReply, etag: &[u8]) -> Result<(), PlanFault>
+fn stored_in(reply: SwiftReply, etag: &[u8]) -> Result<(), PlanFault>
+    ensures due { result ≡ stored_due etag.now reply }
+    ensures own { result ≢ Err fault.Failed }
+{
+    let stored = stored_by(&reply, etag);
+    drop(reply);
+    stored
+}
+
+fn stored_by(reply: &SwiftReply, etag: &[u8]) -> Result<(), PlanFault>
     ensures due { result ≡ stored_due etag.now reply.now }
     ensures own { result ≢ Err fault.Failed }
 {

@@ -2,7 +2,7 @@ use Rattle.many_keys.proofs.CopyPlans.{copy_goes_on, copy_in_vain, cut_is_well, 
 use Rattle.many_keys.proofs.listed.copy_under.Goals as goal
 
 pub returns-in_err-parts-clause-plans : goal.returns-in_err-parts-clause-plans
-returns-in_err-parts-clause-plans g c = λ acl list other onto. copy_in_vain c.args.cut c.as_slice.ensures c.in_err-parts.ensures.asks _ c.from_residual.ensures.1
+returns-in_err-parts-clause-plans g c = λ acl list other onto. copy_in_vain c.args.cut.now c.as_slice.ensures c.in_err-parts.ensures.asks _ c.from_residual.ensures.1
 
 pub put_listed-requires : goal.put_listed-requires
 put_listed-requires g c =
@@ -13,5 +13,5 @@ put_listed-requires g c =
 
 pub returns-clause-plans : goal.returns-clause-plans
 returns-clause-plans g c = λ acl list other onto.
-    copy_goes_on _ _ c.args.from_bucket c.args.from_key acl list c.args.replaced c.args.head c.args.label.now other onto
-    c.args.cut c.in_ok-parts.parts c.as_slice.ensures c.copy_segments.ensures.stays.settings c.in_ok-parts.ensures.asks c.copy_as-sealed.ensures.copy c.put_listed.ensures.plans
+    copy_goes_on _ _ c.args.from_bucket.now c.args.from_key.now acl list c.args.replaced c.args.head c.args.label.now other onto
+    c.args.cut.now c.in_ok-parts.parts c.as_slice.ensures c.copy_segments.ensures.stays.settings c.in_ok-parts.ensures.asks c.copy_as-sealed.ensures.copy c.put_listed.ensures.plans
