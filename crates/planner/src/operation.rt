@@ -12,6 +12,7 @@ use crate::acls::{get_bucket_acl, get_object_acl, put_bucket_acl};
 use crate::buckets::{create_bucket, delete_bucket, get_location, list_buckets, show_bucket};
 use crate::listing::list_objects;
 use crate::objects::{delete_object, get_object, head_object, put_object};
+use gate_base::drop;
 use recovery::{PlanFault, Settled};
 use s3_machine::{Code, Label, Op, Reply};
 use std::alloc::Global;
@@ -52,7 +53,9 @@ fn plan<W: Swift>(
     if is_put(&op) {
         plan_put(alloc, state, op, label)
     } else if is_lent(&op) {
-        plan_lent(alloc, state, &op, label)
+        let end = plan_lent(alloc, state, &op, label);
+        drop(op);
+        end
     } else if is_of_bucket(&op) {
         plan_of_bucket(alloc, state, op, label)
     } else {
@@ -116,7 +119,10 @@ fn plan_put<W: Swift>(
             body,
             label,
         ),
-        _ => Err(PlanFault::Memory),
+        _ => {
+            drop(op);
+            Err(PlanFault::Memory)
+        }
     }
 }
 
@@ -166,7 +172,10 @@ fn plan_of_bucket<W: Swift>(
         Op::CreateBucket { bucket, acl } => create_bucket(alloc, state, bucket, acl, label),
         Op::DeleteBucket { bucket } => delete_bucket(state, bucket),
         Op::PutBucketAcl { bucket, acl } => put_bucket_acl(state, bucket, acl),
-        _ => Err(PlanFault::Memory),
+        _ => {
+            drop(op);
+            Err(PlanFault::Memory)
+        }
     }
 }
 
@@ -193,7 +202,10 @@ fn plan_of_key<W: Swift>(
             conditions,
         } => get_object(alloc, state, bucket, key, range, &conditions, label),
         Op::DeleteObject { bucket, key } => delete_object(state, bucket, key),
-        _ => Err(PlanFault::Memory),
+        _ => {
+            drop(op);
+            Err(PlanFault::Memory)
+        }
     }
 }
 

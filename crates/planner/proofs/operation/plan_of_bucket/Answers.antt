@@ -10,5 +10,5 @@ returns-in-DeleteBucket-clause-plans g c = rw c.in-DeleteBucket.is (c.delete_buc
 pub returns-in-PutBucketAcl-clause-plans : goal.returns-in-PutBucketAcl-clause-plans
 returns-in-PutBucketAcl-clause-plans g c = rw c.in-PutBucketAcl.is (c.put_bucket_acl.ensures.plans c.args.label.now)
 
-pub returns : goal.returns
-returns g c = record { stays = record { store = refl; settings = refl }; plans = out_of_memory _ (Err Memory) refl }
+pub returns-in_default : goal.returns-in_default
+returns-in_default g c = record { stays = record { store = refl; settings = refl }; plans = out_of_memory _ (Err Memory) refl }
