@@ -11,7 +11,7 @@ use crate::reply::reply_to;
 use crate::resolve::resolve;
 use crate::write::{Written, write_reply};
 use crate::{Ended, Service};
-use gate_base::{Clock, Draws, Line};
+use gate_base::{Clock, Draws, Line, drop};
 use recovery::Known;
 use std::alloc::Global;
 use swift_calls::Swift;
@@ -53,6 +53,7 @@ pub fn handle_request<N: Line<W>, W: Swift, C: Clock, D: Draws>(
     let next = next_label(clock, draws);
     let resolved = resolve(alloc, service, &mut received, next.moment);
     let label = sent_by(resolved.caller, next);
+    let end = resolved.end;
     let reply = reply_to(
         alloc,
         store,
@@ -69,10 +70,21 @@ pub fn handle_request<N: Line<W>, W: Swift, C: Clock, D: Draws>(
         &label,
         resolved.method,
         resolved.resource,
-        resolved.end.is_some(),
+        end.is_some(),
     ) {
-        Written::Whole => Handled::Served(resolved.end),
-        Written::Memory => Handled::Served(Some(Ended::Memory)),
-        Written::Failed => Handled::Broken,
+        Written::Whole => {
+            drop(received);
+            Handled::Served(end)
+        }
+        Written::Memory => {
+            drop(end);
+            drop(received);
+            Handled::Served(Some(Ended::Memory))
+        }
+        Written::Failed => {
+            drop(end);
+            drop(received);
+            Handled::Broken
+        }
     }
 }

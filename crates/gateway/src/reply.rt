@@ -19,6 +19,7 @@ ghost use Rattle.gateway.specs.Request.{Request};
 ghost use Rattle.gateway.specs.Exchange.{store_cursor, Operated, RepliesBy, RepliesExpected, Where};
 ghost use Rattle.gateway.specs.Stands.{Stands};
 
+use gate_base::drop;
 use plan_uploads::Replied;
 use recovery::{Known, SettleFault, Settled, Unsure, is_many, is_upload};
 use s3_machine::{Code, Label, Op, Reply, Settings};
@@ -84,7 +85,10 @@ fn operate<W: Swift>(
         Known::Settled => {}
         Known::Unsure => match settle(alloc, store, settings) {
             Ok(()) => *known = Known::Settled,
-            Err(fault) => return unsettled(fault),
+            Err(fault) => {
+                drop(op);
+                return unsettled(fault);
+            }
         },
     }
     let answer = perform(alloc, store, settings, op, label);

@@ -21,7 +21,7 @@ use crate::keys::read_keys;
 use crate::recover::recover;
 use crate::session::session;
 use crate::status::{RunOutcome, Status, Told};
-use gate_base::{Bytes, Clock, Draws, Line};
+use gate_base::{Bytes, Clock, Draws, Line, drop};
 use gateway::Service;
 use gateway_cli::{Command, WordsFault, read_words};
 use presign_cmd::{Presigning, presign_first};
@@ -110,9 +110,18 @@ fn perform<N: Line<W>, W: Swift, C: Clock, D: Draws>(
                 expires,
             } => presign(alloc, &keys, &key, &region, expires, line, store, clock),
         },
-        Err(KeysFault::BadLine(_)) => RunOutcome::Plain(Status::Usage),
-        Err(KeysFault::Twice(_)) => RunOutcome::Plain(Status::Usage),
-        Err(KeysFault::Memory) => RunOutcome::Plain(Status::Memory),
+        Err(KeysFault::BadLine(_)) => {
+            drop(command);
+            RunOutcome::Plain(Status::Usage)
+        }
+        Err(KeysFault::Twice(_)) => {
+            drop(command);
+            RunOutcome::Plain(Status::Usage)
+        }
+        Err(KeysFault::Memory) => {
+            drop(command);
+            RunOutcome::Plain(Status::Memory)
+        }
     }
 }
 
