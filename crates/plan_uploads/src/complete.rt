@@ -18,7 +18,7 @@ use crate::chosen::{chosen_parts, has_small};
 use crate::completed::{Opened, ToComplete, find_completion};
 use crate::listed_parts::list_parts;
 use crate::seal::seal_and_finish;
-use gate_base::{Bytes, Copying, List, Memory};
+use gate_base::{Bytes, Copying, List, Memory, drop};
 use recovery::{Known, PlanFault, Settled};
 use s3_machine::{Code, Label, Listed, MOST_ITEMS, PartItem, Reply, rises, upload_etag};
 use std::alloc::Global;
@@ -159,7 +159,9 @@ fn complete_by<W: Swift>(
         return Ok(refused(Code::EntityTooSmall));
     }
     let sealed = sealed_of(alloc, bucket, key, opened, chosen, list, label.moment)?;
-    complete_sealed(alloc, state, &sealed)
+    let completing = complete_sealed(alloc, state, &sealed);
+    drop(sealed);
+    completing
 }
 
 /// The completion of an upload by parts that are there.

@@ -1,5 +1,5 @@
 //! The listing of the parts of an upload.
-ghost use Rattle.std.specs.Prelude.{◌≡◌, ◌≤◌, ◌<◌, ◌+◌, true, length, IfOk, IfSome, OnOk};
+ghost use Rattle.std.specs.Prelude.{◌≡◌, ◌≤◌, ◌<◌, ◌+◌, true, length, map, IfOk, IfSome, OnOk};
 ghost use Rattle.std.specs.List.{All, list_all};
 ghost use Rattle.std.specs.Str.Parse.{digits_value};
 ghost use Rattle.gate_base.specs.Ascii.{is_digit};
@@ -10,12 +10,13 @@ ghost use Rattle.s3_machine.specs.Shown.{IsShownPart};
 ghost use Rattle.s3_machine.specs.Uploads.{cut};
 ghost use Rattle.swift_calls.specs.History.{budget, present};
 ghost use Rattle.swift_calls.specs.Limits.{IsMarker};
+ghost use Rattle.list_pages.specs.Listing.{name_in, IsPageOf};
 ghost use Rattle.upload_records.specs.Layout.{segments_name, segments_prefix};
 ghost use Rattle.recovery.specs.Answers.{named_by, pages};
-ghost use Rattle.recovery.specs.Calls.{always, by_account, Asks, GivenOf};
+ghost use Rattle.recovery.specs.Calls.{always, by_account, Any, Asks, GivenOf};
 ghost use Rattle.recovery.specs.Lent.{Stays};
 ghost use Rattle.recovery.specs.Listing.{TellsOf};
-ghost use Rattle.plan_uploads.specs.Listing.{digits_in, number_in, part_due, Adds, ReadsPart, TellsNext};
+ghost use Rattle.plan_uploads.specs.Listing.{digits_in, number_in, part_due, Adds, ReadsPart, TellsNext, TellsPage};
 ghost use Rattle.plan_uploads.specs.Records.{InBucket, TellsParts};
 
 use crate::pages::{next_marker, page};
@@ -110,6 +111,34 @@ fn add_parts(
     Ok(())
 }
 
+/// A page of the names of a bucket's segments.
+fn segments_page<W: Swift>(
+    alloc: Global,
+    state: &mut Settled<'_, W>,
+    bucket: &Bytes,
+    prefix: &Bytes,
+    marker: &Bytes,
+) -> Result<List<NameItem>, PlanFault>
+    requires name { is_bucket bucket.now ≡ true }
+    requires prefix { IsMarker prefix.now }
+    requires marker { IsMarker marker.now }
+    ensures stays { Stays state.old state.new }
+    ensures counted { IfOk result (λ _. (W.history state.old.store.now).called < budget
+        × ((W.history state.new.store.now).called ≡ (W.history state.old.store.now).called + 1)) }
+    ensures page { IfOk result (λ items. IsPageOf prefix.now marker.now (map name_in items)) }
+    ensures asks { Asks (always 1) (W.history state.old.store.now) (W.history state.new.store.now)
+        Any (TellsOf (TellsPage (segments_name bucket.now) prefix.now marker.now)) result }
+{
+    let folder = segments_container(alloc, bucket.as_slice())?;
+    page(
+        alloc,
+        state,
+        folder.as_slice(),
+        prefix.as_slice(),
+        marker.as_slice(),
+    )
+}
+
 /// Adds a page of parts. What is told is the marker of the next page, and `None` after the last one.
 fn next_parts<W: Swift>(
     alloc: Global,
@@ -131,15 +160,8 @@ fn next_parts<W: Swift>(
         (part_due (segments_prefix (id_digits id))) (segments_name bucket.now)
         (segments_prefix (id_digits id)) marker.now parts.old parts.new)) result }
 {
-    let folder = segments_container(alloc, bucket.as_slice())?;
     let prefix = segments_prefix(alloc, id)?;
-    let page = page(
-        alloc,
-        state,
-        folder.as_slice(),
-        prefix.as_slice(),
-        marker.as_slice(),
-    )?;
+    let page = segments_page(alloc, state, bucket, &prefix, marker)?;
     add_parts(alloc, prefix.as_slice(), parts, page.as_slice())?;
     Ok(next_marker(page.as_slice())?)
 }

@@ -304,7 +304,28 @@ pub(crate) fn list_uploads<W: Swift>(
         key_marker: key_marker.copy()?,
         id_marker: id_marker.copy()?,
     };
-    let rows = listed_rows(alloc, state, bucket, &asked)?;
+    list_asked(alloc, state, bucket, &asked, max)
+}
+
+/// The same by what is asked, of more than none.
+fn list_asked<W: Swift>(
+    alloc: Global,
+    state: &mut Settled<'_, W>,
+    bucket: &Bytes,
+    asked: &AskedUploads,
+    max: u32,
+) -> Result<(List<UploadItem>, bool), PlanFault>
+    requires { is_bucket bucket.now ≡ true }
+    ensures stays { Stays state.old state.new }
+    ensures dated { IfOk result (λ told. All IsShownUpload told.0) }
+    ensures asks { Asks (by_account (pages
+        (records_of (present (W.history state.old.store.now)) bucket.now) + records_of
+        (present (W.history state.old.store.now)) bucket.now)) (W.history state.old.store.now)
+        (W.history state.new.store.now) (GivenOf (InBucket bucket.now))
+        (Tells (TellsUploads bucket.now asked.now.prefix asked.now.key_marker
+        asked.now.id_marker max)) result }
+{
+    let rows = listed_rows(alloc, state, bucket, asked)?;
     let items = items_in(alloc, &rows)?;
     Ok(cut_to(items, max))
 }

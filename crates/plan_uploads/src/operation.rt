@@ -15,9 +15,12 @@ use crate::complete::{Completing, complete_upload};
 use crate::create::create_upload;
 use crate::part::upload_part;
 use crate::uploads::{show_parts, show_uploads};
+use gate_base::{Bytes, drop};
 use recovery::{Known, PlanFault, Settled};
-use s3_machine::{Code, Label, Op, Reply};
+use s3_machine::{Body, Code, Label, Op, Reply};
+use s3_names::Meta;
 use std::alloc::Global;
+use std::mem::replace;
 use swift_calls::Swift;
 
 /// What an operation is answered, and whether a completion may be sealed then.
@@ -44,39 +47,24 @@ pub fn answer<W: Swift>(alloc: Global, state: &mut Settled<'_, W>, op: Op, label
         (W.history state.old.store.now) (W.history state.new.store.now) state.old.settings.now op
         label.now result.known result.reply }
 {
-    if is_completion(&op) {
-        complete(alloc, state, &op, label)
-    } else {
-        answer_settled(alloc, state, op, label)
-    }
+    let mut op = op;
+    let replied = answer_lent(alloc, state, &mut op, label);
+    drop(op);
+    replied
 }
 
-/// Answers an operation after which nothing is sealed: any but a completion.
-fn answer_settled<W: Swift>(
+/// Answers an operation that its owner lends, and takes of it what the reply is made of.
+fn answer_lent<W: Swift>(
     alloc: Global,
     state: &mut Settled<'_, W>,
-    op: Op,
+    op: &mut Op,
     label: &Label,
 ) -> Replied
-    requires proper { IsProper op label.now }
+    requires proper { IsProper op.old label.now }
     ensures stays { Stays state.old state.new }
-    ensures answered { Answered (most_calls op (present (W.history state.old.store.now)))
-        (W.history state.old.store.now) (W.history state.new.store.now) state.old.settings.now op
-        label.now result.known result.reply }
-{
-    Replied {
-        reply: reply_to(plan(alloc, state, op, label)),
-        known: Known::Settled,
-    }
-}
-
-/// Answers a completion; any other operation ends as where memory ran out, without a call.
-fn complete<W: Swift>(alloc: Global, state: &mut Settled<'_, W>, op: &Op, label: &Label) -> Replied
-    requires proper { IsProper op.now label.now }
-    ensures stays { Stays state.old state.new }
-    ensures answered { Answered (most_calls op.now (present (W.history state.old.store.now)))
+    ensures answered { Answered (most_calls op.old (present (W.history state.old.store.now)))
         (W.history state.old.store.now) (W.history state.new.store.now) state.old.settings.now
-        op.now label.now result.known result.reply }
+        op.old label.now result.known result.reply }
 {
     match op {
         Op::CompleteUpload {
@@ -86,7 +74,7 @@ fn complete<W: Swift>(alloc: Global, state: &mut Settled<'_, W>, op: &Op, label:
             list,
         } => completed(complete_upload(alloc, state, bucket, key, id, list, label)),
         _ => Replied {
-            reply: Reply::Memory,
+            reply: reply_to(plan(alloc, state, op, label)),
             known: Known::Settled,
         },
     }
@@ -109,62 +97,21 @@ fn completed(end: Result<Completing, PlanFault>) -> Replied
     }
 }
 
-fn is_completion(op: &Op) -> bool {
-    matches!(op, Op::CompleteUpload { .. })
-}
-
-/// Makes the calls of an operation's plan. Which function has the plan is asked first, so that each owns few kinds of
-/// operation, or none.
+/// Makes the calls of the plan of any operation on uploads but a completion. It takes of the operation what it needs, and the
+/// operation is dropped by its owner alone. A completion, and an operation on anything else, ends as where memory ran out,
+/// without a call.
 fn plan<W: Swift>(
     alloc: Global,
     state: &mut Settled<'_, W>,
-    op: Op,
+    op: &mut Op,
     label: &Label,
 ) -> Result<Reply, PlanFault>
-    requires { IsProper op label.now }
+    requires { IsProper op.old label.now }
     ensures stays { Stays state.old state.new }
-    ensures plans { Plans (most_calls op (present (W.history state.old.store.now)))
+    ensures plans { Plans (most_calls op.old (present (W.history state.old.store.now)))
         (W.history state.old.store.now) (W.history state.new.store.now) state.old.settings.now
-        (Given Any) op label.now known.Settled result }
-    ensures beside { LeavesBeside (beside_of op) label.now (W.history state.old.store.now)
-        (W.history state.new.store.now) (Given Any) result }
-{
-    if is_create(&op) {
-        plan_create(alloc, state, op, label)
-    } else if is_part(&op) {
-        plan_part(alloc, state, op, label)
-    } else if is_abort(&op) {
-        plan_abort(alloc, state, &op, label)
-    } else {
-        plan_listing(alloc, state, op, label)
-    }
-}
-
-fn is_create(op: &Op) -> bool {
-    matches!(op, Op::CreateUpload { .. })
-}
-
-fn is_part(op: &Op) -> bool {
-    matches!(op, Op::UploadPart { .. })
-}
-
-fn is_abort(op: &Op) -> bool {
-    matches!(op, Op::AbortUpload { .. })
-}
-
-/// The plan of CreateUpload. It is asked for no other operation; one ends as where memory ran out, without a call.
-fn plan_create<W: Swift>(
-    alloc: Global,
-    state: &mut Settled<'_, W>,
-    op: Op,
-    label: &Label,
-) -> Result<Reply, PlanFault>
-    requires { IsProper op label.now }
-    ensures stays { Stays state.old state.new }
-    ensures plans { Plans (most_calls op (present (W.history state.old.store.now)))
-        (W.history state.old.store.now) (W.history state.new.store.now) state.old.settings.now
-        (Given Any) op label.now known.Settled result }
-    ensures beside { LeavesBeside (beside_of op) label.now (W.history state.old.store.now)
+        (Given Any) op.old label.now known.Settled result }
+    ensures beside { LeavesBeside (beside_of op.old) label.now (W.history state.old.store.now)
         (W.history state.new.store.now) (Given Any) result }
 {
     match op {
@@ -174,91 +121,72 @@ fn plan_create<W: Swift>(
             acl,
             content_type,
             meta,
-        } => create_upload(alloc, state, bucket, key, acl, content_type, meta, label),
-        _ => Err(PlanFault::Memory),
-    }
-}
-
-/// The plan of UploadPart; any other operation ends as where memory ran out, without a call.
-fn plan_part<W: Swift>(
-    alloc: Global,
-    state: &mut Settled<'_, W>,
-    op: Op,
-    label: &Label,
-) -> Result<Reply, PlanFault>
-    requires { IsProper op label.now }
-    ensures stays { Stays state.old state.new }
-    ensures plans { Plans (most_calls op (present (W.history state.old.store.now)))
-        (W.history state.old.store.now) (W.history state.new.store.now) state.old.settings.now
-        (Given Any) op label.now known.Settled result }
-    ensures beside { LeavesBeside (beside_of op) label.now (W.history state.old.store.now)
-        (W.history state.new.store.now) (Given Any) result }
-{
-    match op {
+        } => create_upload(
+            alloc,
+            state,
+            taken(alloc, bucket),
+            taken(alloc, key),
+            *acl,
+            taken(alloc, content_type),
+            replace(meta, Meta::new(alloc)),
+            label,
+        ),
         Op::UploadPart {
             bucket,
             key,
             id,
             number,
             body,
-        } => upload_part(alloc, state, &bucket, &key, &id, number, body, label),
-        _ => Err(PlanFault::Memory),
-    }
-}
-
-/// The plan of AbortUpload; any other operation ends as where memory ran out, without a call.
-fn plan_abort<W: Swift>(
-    alloc: Global,
-    state: &mut Settled<'_, W>,
-    op: &Op,
-    label: &Label,
-) -> Result<Reply, PlanFault>
-    requires { IsProper op.now label.now }
-    ensures stays { Stays state.old state.new }
-    ensures plans { Plans (most_calls op.now (present (W.history state.old.store.now)))
-        (W.history state.old.store.now) (W.history state.new.store.now) state.old.settings.now
-        (Given Any) op.now label.now known.Settled result }
-    ensures beside { LeavesBeside (beside_of op.now) label.now (W.history state.old.store.now)
-        (W.history state.new.store.now) (Given Any) result }
-{
-    match op {
+        } => upload_part(
+            alloc,
+            state,
+            bucket,
+            key,
+            id,
+            *number,
+            replace(body, Body::new(Bytes::new(alloc))),
+            label,
+        ),
         Op::AbortUpload { bucket, key, id } => abort_upload(alloc, state, bucket, key, id),
-        _ => Err(PlanFault::Memory),
-    }
-}
-
-/// The plan of a listing; any other operation ends as where memory ran out, without a call.
-fn plan_listing<W: Swift>(
-    alloc: Global,
-    state: &mut Settled<'_, W>,
-    op: Op,
-    label: &Label,
-) -> Result<Reply, PlanFault>
-    requires { IsProper op label.now }
-    ensures stays { Stays state.old state.new }
-    ensures plans { Plans (most_calls op (present (W.history state.old.store.now)))
-        (W.history state.old.store.now) (W.history state.new.store.now) state.old.settings.now
-        (Given Any) op label.now known.Settled result }
-    ensures beside { LeavesBeside (beside_of op) label.now (W.history state.old.store.now)
-        (W.history state.new.store.now) (Given Any) result }
-{
-    match op {
         Op::ListUploads {
             bucket,
             prefix,
             key_marker,
             id_marker,
             max,
-        } => show_uploads(alloc, state, bucket, prefix, key_marker, id_marker, max),
+        } => show_uploads(
+            alloc,
+            state,
+            taken(alloc, bucket),
+            taken(alloc, prefix),
+            taken(alloc, key_marker),
+            taken(alloc, id_marker),
+            *max,
+        ),
         Op::ListParts {
             bucket,
             key,
             id,
             marker,
             max,
-        } => show_parts(alloc, state, bucket, key, &id, marker, max),
+        } => show_parts(
+            alloc,
+            state,
+            taken(alloc, bucket),
+            taken(alloc, key),
+            id,
+            *marker,
+            *max,
+        ),
         _ => Err(PlanFault::Memory),
     }
+}
+
+/// Takes a text of an operation, and leaves an empty one there. It takes no memory.
+fn taken(alloc: Global, text: &mut Bytes) -> Bytes
+    ensures { result ≡ text.old }
+{
+    replace(text, Bytes::new(alloc))
 }
 
 /// The reply by the end of a plan.

@@ -12,7 +12,7 @@ ghost use Rattle.plan_uploads.specs.Completing.{CompletesBy, LeavesUnsureOnly, S
 
 use crate::complete::Completing;
 use crate::records::stored_in;
-use gate_base::{Bytes, List, Memory};
+use gate_base::{Bytes, List, Memory, drop};
 use recovery::{Known, PlanFault, Settled};
 use s3_machine::{Reply, body_etag};
 use std::alloc::Global;
@@ -82,10 +82,13 @@ pub(crate) fn seal_and_finish<W: Swift>(
 {
     match seal(alloc, state, sealed) {
         Ok(()) => completing_by(state.finish(alloc, sealed), reply),
-        Err(fault) => Completing {
-            end: Err(fault),
-            known: Known::Unsure,
-        },
+        Err(fault) => {
+            drop(reply);
+            Completing {
+                end: Err(fault),
+                known: Known::Unsure,
+            }
+        }
     }
 }
 
@@ -98,10 +101,13 @@ fn completing_by(finished: Result<(), PlanFault>, reply: Reply) -> Completing
             end: Ok(reply),
             known: Known::Settled,
         },
-        Err(PlanFault::Inconsistent) => Completing {
-            end: Err(PlanFault::Inconsistent),
-            known: Known::Unsure,
-        },
+        Err(PlanFault::Inconsistent) => {
+            drop(reply);
+            Completing {
+                end: Err(PlanFault::Inconsistent),
+                known: Known::Unsure,
+            }
+        }
         Err(_) => Completing {
             end: Ok(reply),
             known: Known::Unsure,

@@ -31,4 +31,4 @@ returns-clause-plans g c = λ text.
     (λ tree sound has. may_complete tree c.args.bucket.now c.args.key.now c.args.opened c.args.parts.now sound c.requires.place.named text has c.args.state.now.settings.now c.args.list.now c.args.label.now c.requires.ascends
     c.in-Some.chosen (listed_as c.args.parts.now c.as_slice.ensures c.in_ok-chosen.ensures (Some c.in-Some.chosen) c.in-Some.is) (small_as c.settings.ensures c.as_slice-2.ensures c.has_small.ensures false c.if-has_small.false)
     c.requires.place c.requires.list c.requires.moment fits)
-    (seals_same text c.args.list.now c.args.label.now _ _ c.in_ok-sealed.ensures.sealed (c.complete_sealed.ensures.plans text c.args.list.now c.args.label.now))
+    (seals_same text c.args.list.now c.args.label.now _ _ c.in_ok-sealed.ensures.sealed (c.complete_sealed-completing.ensures.plans text c.args.list.now c.args.label.now))

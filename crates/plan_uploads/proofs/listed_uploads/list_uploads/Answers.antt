@@ -1,6 +1,6 @@
 use Rattle.std.proofs.Common.{false, ap}
 use Rattle.recovery.proofs.lemmas.One.{not_asked}
-use Rattle.plan_uploads.proofs.UploadsListed.{asked_as, none_asked, shown_items, told}
+use Rattle.plan_uploads.proofs.UploadsListed.{none_asked}
 use Rattle.plan_uploads.proofs.listed_uploads.list_uploads.Goals as goal
 
 pub returns-then-max-eq0-clause-asks : goal.returns-then-max-eq0-clause-asks
@@ -16,10 +16,5 @@ returns-in_err-copy-2-clause-asks g c = not_asked _ _ _ c.from_residual-in_err-c
 pub returns-in_err-copy-3-clause-asks : goal.returns-in_err-copy-3-clause-asks
 returns-in_err-copy-3-clause-asks g c = not_asked _ _ _ c.from_residual-in_err-copy-3.ensures.1
 
-pub returns-clause-dated : goal.returns-clause-dated
-returns-clause-dated g c = c.cut_to.ensures.dated (shown_items c.in_ok-rows.rows c.in_ok-items.items c.in_ok-rows.ensures.dated c.in_ok-items.ensures)
-
 pub returns-clause-asks : goal.returns-clause-asks
-returns-clause-asks g c =
-    told c.args.bucket.now c.requires.name c.args.prefix.now c.args.key_marker.now c.args.id_marker.now c.args.max _
-    (asked_as c.in_ok-copy.ensures c.in_ok-copy-2.ensures c.in_ok-copy-3.ensures) c.in_ok-rows.ensures.asks c.in_ok-items.items c.in_ok-items.ensures c.cut_to.result c.cut_to.ensures.cut
+returns-clause-asks g c = rw (c.in_ok-copy.ensures, c.in_ok-copy-2.ensures, c.in_ok-copy-3.ensures) at c.list_asked.ensures.asks
