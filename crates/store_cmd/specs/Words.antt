@@ -12,7 +12,8 @@ use Rattle.clap.specs.declared.builder.action.ArgAction.TheVariants.{Set}
 use Rattle.clap.specs.declared.error.kind.ErrorKind.{ErrorKind}
 use Rattle.clap.specs.declared.error.kind.ErrorKind.TheVariants.{OutOfMemory}
 use Rattle.clap.specs.declared.parser.matches.ArgMatches.{ArgMatches}
-use Rattle.gate_base.specs.Ascii.{is_digit, is_letter_or_digit}
+use Rattle.gate_base.specs.Ascii.{is_letter_or_digit}
+use Rattle.text_forms.specs.Numbers.{is_number}
 use Rattle.store_cmd.specs.declared.words.Asked.{Asked}
 use Rattle.store_cmd.specs.declared.words.WordsFault.{WordsFault}
 use Rattle.store_cmd.specs.declared.words.WordsFault.TheVariants.{Refused, Memory}
@@ -41,16 +42,12 @@ is_name_byte byte = is_letter_or_digit byte || (byte == 95)
 abbrev pub is_name : List ℕ → Bool
 is_name text = nat_le 1 (length text) && nat_le (length text) 64 && list_all is_name_byte text
 
--- 1 to 20 decimal digits
-abbrev pub is_number : List ℕ → Bool
-is_number text = nat_le 1 (length text) && nat_le (length text) 20 && list_all is_digit text
-
 -- 1 to 1000000000
 abbrev pub is_count : ℕ → Bool
 is_count n = nat_le 1 n && nat_le n 1000000000
 
 abbrev pub count_in : List ℕ → Option ℕ
-count_in text = if is_number text && is_count (digits_value 10 text) then Some (digits_value 10 text) else None
+count_in text = if is_number 20 text && is_count (digits_value 10 text) then Some (digits_value 10 text) else None
 
 -- ---- what they ask for
 

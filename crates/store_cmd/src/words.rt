@@ -3,16 +3,16 @@ ghost use Rattle.std.specs.Prelude.{◌≡◌, false, codes, map, option_and_the
 ghost use Rattle.std.specs.List.{list_all};
 ghost use Rattle.clap.specs.Words.{app_of, found_of, kind_of, rows_of, rule_of};
 ghost use Rattle.clap.specs.Simple.{new_app, on_top, with_rule};
-ghost use Rattle.gate_base.specs.Ascii.{is_digit};
 ghost use Rattle.swift_requests.specs.Place.{IsPlace};
 ghost use Rattle.store_cmd.specs.Run.{place_by};
-ghost use Rattle.store_cmd.specs.Words.{FaultOf, Parses, ReadsWords, asked_by, asked_in, asked_of, asked_with, count_in, is_count, is_name, is_name_byte, is_number, needed_rule, store_app, with_settings};
+ghost use Rattle.store_cmd.specs.Words.{FaultOf, Parses, ReadsWords, asked_by, asked_in, asked_of, asked_with, count_in, is_count, is_name, is_name_byte, needed_rule, store_app, with_settings};
 ghost use Rattle.store_cmd.specs.declared.words.WordsFault.TheVariants as faults;
 
 use clap::error::ErrorKind;
 use clap::{Arg, ArgAction, ArgMatches, Command, Error};
 use gate_base::{Bytes, Memory};
 use std::alloc::{AllocError, Global};
+use text_forms::is_number;
 
 /// The longest token or account, in bytes.
 const LONGEST_NAME: usize = 64;
@@ -207,7 +207,7 @@ fn is_name_byte(byte: u8) -> bool
 fn count_in(text: &str) -> Option<u64>
     ensures { result ≡ count_in text.now }
 {
-    if !is_number(text.as_bytes()) {
+    if !is_number(text.as_bytes(), LONGEST_NUMBER) {
         return None;
     }
     match text.parse::<u64>() {
@@ -220,22 +220,4 @@ fn is_count(count: u64) -> bool
     ensures { result ≡ is_count count }
 {
     1 <= count && count <= MOST_CONNECTIONS
-}
-
-fn is_number(text: &[u8]) -> bool
-    ensures { result ≡ is_number text.now }
-{
-    1 <= text.len() && text.len() <= LONGEST_NUMBER && all_digits(text)
-}
-
-fn all_digits(text: &[u8]) -> bool
-    ensures { result ≡ list_all is_digit text.now }
-{
-    text.iter().all(|byte| is_digit(*byte))
-}
-
-fn is_digit(byte: u8) -> bool
-    ensures { result ≡ is_digit byte }
-{
-    byte.is_ascii_digit()
 }

@@ -51,7 +51,8 @@ use Rattle.swift_replies.proofs.lemmas.MetaFieldLemmas.{meta_read}
 use Rattle.swift_replies.proofs.lemmas.SegmentRows.{segments_back}
 use Rattle.swift_requests.proofs.ManifestLemmas.{manifest_fits}
 use Rattle.swift_requests.proofs.PathLemmas.{no_question, no_question_path, account_path, container_path, whole_path, path_bare, query_bare, path_asked, query_asked}
-use Rattle.http_answers.proofs.lemmas.NumberLemmas.{same_bytes, decimal_digits, plain_decimal}
+use Rattle.text_forms.proofs.lemmas.Decimals.{decimal_digits}
+use Rattle.http_answers.proofs.lemmas.NumberLemmas.{same_bytes, plain_decimal}
 use Rattle.swift_requests.proofs.QueryLemmas.{account_query, container_query, account_values, container_values, itself, last_is}
 use Rattle.swift_replies.proofs.lemmas.Sizes.{few}
 

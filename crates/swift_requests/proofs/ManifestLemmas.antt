@@ -10,7 +10,8 @@ use Rattle.json.specs.Print.{escape_byte, escape_letter, escape, quoted}
 use Rattle.serde_json.specs.View.{items_of}
 use Rattle.serde_json.specs.Written.{comma_if, compact_text, items_text}
 use Rattle.slo_manifest.specs.Path.{path_of}
-use Rattle.slo_manifest.specs.Segments.{is_etag, is_filled, is_proper, is_listable, is_segment, is_lower_hex_digit, is_manifest}
+use Rattle.gate_base.specs.Ascii.{is_lower_hex}
+use Rattle.slo_manifest.specs.Segments.{is_etag, is_filled, is_proper, is_listable, is_segment, is_manifest}
 use Rattle.slo_manifest.specs.Text.{entry_value, manifest_text}
 use Rattle.slo_manifest.specs.declared.Segment.{Segment}
 use Rattle.slo_manifest.specs.declared.manifest.Form.TheVariants.{Put}
@@ -71,7 +72,7 @@ segment_sizes s is =
     let proper = (and_parts (is_proper s.container s.name s.etag s.size) (is_listable s.container s.name s.size) is).0 in
     let parts = and_parts (is_filled s.container && is_filled s.name && is_etag s.etag) (nat_lt s.size (2 ^ 63)) proper in
     let tag = (and_parts (is_filled s.container && is_filled s.name) (is_etag s.etag) parts.0).1 in
-    (eqb-true (length s.etag) 32 (and_parts (length s.etag == 32) (list_all is_lower_hex_digit s.etag) tag).0, ltb-true s.size (2 ^ 63) parts.1)
+    (eqb-true (length s.etag) 32 (and_parts (length s.etag == 32) (list_all is_lower_hex s.etag) tag).0, ltb-true s.size (2 ^ 63) parts.1)
 
 path_size : (s : Segment) → IsSegmentPlace s → length (path_of s.container s.name) ≤ 1282
 path_size s place = omega (arith, place.container.within, place.name.1.within, length-append s.container (47 ∷ s.name))

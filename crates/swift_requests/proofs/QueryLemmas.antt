@@ -11,7 +11,8 @@ use Rattle.s3_names.specs.Query.{is_ampersand, is_equals}
 use Rattle.swift_requests.specs.Paths.{unescaped, has_more, value_named, first_value, last_value, values_named}
 use Rattle.swift_replies.proofs.lemmas.CutLemmas.{IsByte, Lacks, weaker, Lacks-append, before_at, after_at, any_none, any_at}
 use Rattle.swift_requests.proofs.PathLemmas.{unescaped_all, no_ampersand}
-use Rattle.http_answers.proofs.lemmas.NumberLemmas.{decimal_digits, same_bytes}
+use Rattle.text_forms.proofs.lemmas.Decimals.{decimal_digits}
+use Rattle.http_answers.proofs.lemmas.NumberLemmas.{same_bytes}
 
 -- ---- texts that are escaped to themselves
 

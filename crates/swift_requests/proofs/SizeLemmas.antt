@@ -40,7 +40,7 @@ use Rattle.swift_requests.proofs.AcceptLemmas.{fields_good, body_small}
 use Rattle.swift_replies.proofs.lemmas.Sizes.{few, decimal_size, header_size, headers_size, meta_size, value_most}
 use Rattle.swift_requests.proofs.CallLemmas.{account_bytes, name_bytes, text_bytes}
 use Rattle.swift_replies.proofs.lemmas.CutLemmas.{IsByte, weaker}
-use Rattle.http_answers.proofs.lemmas.NumberLemmas.{decimal_digits}
+use Rattle.text_forms.proofs.lemmas.Decimals.{decimal_digits}
 use Rattle.swift_requests.proofs.TextLemmas.{last_header, head_is}
 
 -- ---- the request line

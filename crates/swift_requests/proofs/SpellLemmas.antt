@@ -4,7 +4,6 @@ use Rattle.std.specs.Prelude.{codes, decimal, nat_lt}
 use Rattle.std.specs.Str.Parse.{digits_value}
 use Rattle.std.proofs.lemmas.Bool.{cond-true, cond-false}
 use Rattle.std.proofs.lemmas.Bool.Decides.{nat_tests}
-use Rattle.std.proofs.lemmas.Fmt.{digits_value-decimal}
 use Rattle.std.proofs.Math.Seq.{drop-append_seam}
 use Rattle.std.proofs.lemmas.List.{take_all}
 use Rattle.http_wire.proofs.lemmas.UniqueLemmas.{one_spelling}
@@ -28,7 +27,8 @@ use Rattle.swift_requests.proofs.AcceptLemmas.{fields_good, body_small}
 use Rattle.swift_requests.proofs.CallLemmas.{call_read}
 use Rattle.swift_replies.proofs.lemmas.GivenLemmas.{given, given_step}
 use Rattle.swift_requests.proofs.HeaderLemmas.{has_token, has_length, has_no_coding}
-use Rattle.http_answers.proofs.lemmas.NumberLemmas.{own, decimal_length}
+use Rattle.text_forms.proofs.lemmas.Decimals.{decimal_value}
+use Rattle.http_answers.proofs.lemmas.NumberLemmas.{decimal_length}
 use Rattle.swift_requests.proofs.SizeLemmas.{accepted, head_size, fields_count}
 
 -- ---- the headers of the message
@@ -58,7 +58,7 @@ no_header name (h ∷ fields) none = by_test (has_name name (header_pair h)) (sy
 value_taken : (n : ℕ) → n ≤ 16777216 → value_judged (decimal n) ≡ Ok n
 value_taken n small =
     let fits : n < 2 ^ 64 = omega (arith, small) in
-    let value : digits_value 10 (decimal n) ≡ n = digits_value-decimal own n fits in
+    let value : digits_value 10 (decimal n) ≡ n = decimal_value n fits in
     let test : nat_lt 16777216 (digits_value 10 (decimal n)) ≡ false = grind (arith, nat_tests, value, small) in
     cond-true (is_length (decimal n)) _ _ (decimal_length n (omega (arith, small)))
     ∙ cond-false (nat_lt 16777216 (digits_value 10 (decimal n))) _ _ test ∙ ap (λ k. Ok k) value

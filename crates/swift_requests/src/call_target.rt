@@ -5,10 +5,10 @@ ghost use Rattle.swift_requests.specs.CallText.{account_text, container_text, ob
 
 use crate::Place;
 use gate_base::{Bytes, Memory};
-use http_answers::append_decimal;
 use s3_names::{encode_all, encode_path};
 use std::alloc::Global;
 use swift_calls::SwiftRequest;
+use text_forms::append_decimal;
 
 /// Adds the target of a call.
 pub(crate) fn append_target(

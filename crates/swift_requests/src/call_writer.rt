@@ -11,10 +11,10 @@ use crate::Place;
 use crate::call_target::append_target;
 use crate::laws::law_call_reads_back;
 use gate_base::{Bytes, List, Memory};
-use http_answers::append_decimal;
 use slo_manifest::{Form, write};
 use std::alloc::Global;
 use swift_calls::{ReadList, SwiftRequest};
+use text_forms::append_decimal;
 
 /// Room for most heads, so that no body is moved as its text grows.
 const HEAD_ROOM: usize = 1024;
