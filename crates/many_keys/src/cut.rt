@@ -16,6 +16,7 @@ use s3_machine::{GREATEST_PART_NUMBER, MOST_BODY_BYTES, MOST_PARTS, ObjectHead};
 use slo_manifest::Segment;
 use std::alloc::Global;
 use swift_calls::{Swift, SwiftReply, SwiftRequest};
+use text_forms::all_digits;
 use upload_records::{law_listing_found, law_object_listed};
 
 /// A segment of an object: the number at the end of its name, and its size in bytes.
@@ -117,7 +118,7 @@ fn digits_number(text: &[u8]) -> u32
     ensures { result ≡ digits_number text.now }
 {
     match text {
-        [a, b, c, d, e] if are_digits(text) => {
+        [a, b, c, d, e] if all_digits(text) => {
             digit(*a) * 10000 + digit(*b) * 1000 + digit(*c) * 100 + digit(*d) * 10 + digit(*e)
         }
         _ => 0,
@@ -130,18 +131,6 @@ fn digit(byte: u8) -> u32
     ensures small { result ≤ 9 }
 {
     u32::from(byte - b'0')
-}
-
-fn are_digits(text: &[u8]) -> bool
-    ensures { result ≡ list_all is_digit text.now }
-{
-    text.iter().all(|byte| is_digit(*byte))
-}
-
-fn is_digit(byte: u8) -> bool
-    ensures { result ≡ is_digit byte }
-{
-    byte.is_ascii_digit()
 }
 
 /// Whether pieces make so many bytes, as the parts of an object.

@@ -1,18 +1,14 @@
 -- Numbers of five digits, and the names of the parts of an upload in the order of their numbers.
-use Rattle.std.proofs.Common.{◌≡◌, ℕ, ◌+◌, ◌-◌, ◌*◌, ◌/◌, ◌%◌, ◌<◌, ◌≤◌, true, cond, bytes_eq, List, [], ◌∷◌, ◌++◌, length, take, drop, get_or, Some, None, refl, ap, sym, ◌∙◌, arith, rules, length-take, take-append-drop, append_assoc}
+use Rattle.std.proofs.Common.{◌≡◌, ℕ, ◌+◌, ◌-◌, ◌*◌, ◌/◌, ◌%◌, ◌<◌, ◌≤◌, true, cond, bytes_eq, List, [], ◌∷◌, ◌++◌, length, drop, Some, None, refl, ap, sym, ◌∙◌, arith, append_assoc}
 use Rattle.std.specs.List.{list_all}
 use Rattle.std.specs.Str.Parse.{digits_value}
 use Rattle.std.specs.Char.{digit_value}
 use Rattle.std.specs.declared.cmp.Ordering.TheVariants.{Less}
 use Rattle.std.specs.Ordering.{nat_cmp, ordering_reverse}
 use Rattle.std.specs.Cmp.{tied_itself}
-use Rattle.std.proofs.lemmas.Bool.{and_parts, and_from}
+use Rattle.std.proofs.lemmas.Bool.{and_from}
 use Rattle.std.proofs.lemmas.Bool.Decides.{nat_tests}
-use Rattle.std.proofs.lemmas.List.{take_all}
-use Rattle.std.proofs.lemmas.List.Folds.{list_all-append}
 use Rattle.std.proofs.lemmas.Slice.Eq.{bytes_eq-Decides}
-use Rattle.std.proofs.lemmas.Str.Parse.{IsNumeralModel, IsDigitsTest, numerals_by_value, digits_value_short, digit_at}
-use Rattle.std.proofs.lemmas.Int.Digits.{digits_value_more}
 use Rattle.std.proofs.Math.Seq.{take-append_seam}
 use Rattle.gate_base.specs.Ascii.{is_digit}
 use Rattle.gate_base.specs.Maps.{name_cmp}
@@ -22,40 +18,8 @@ use Rattle.list_pages.proofs.lemmas.Rolling.{common}
 use Rattle.upload_records.specs.Layout.{five_digits, segments_prefix, segment_name}
 use Rattle.plan_uploads.specs.Listing.{digits_in, number_in}
 
--- ---- the value of digits
-
-tells : IsDigitsTest (λ ds. list_all is_digit ds ≡ true)
-tells = search rules
-
-own : IsNumeralModel (λ ds. list_all is_digit ds ≡ true) (digits_value 10)
-own = numerals_by_value _ tells
-
-front_passes : (text : List ℕ) (i : ℕ) → list_all is_digit text ≡ true → list_all is_digit (take i text) ≡ true
-front_passes text i h =
-    let parts : list_all is_digit (take i text ++ drop i text) ≡ true = ap (list_all is_digit) (take-append-drop i text) ∙ h in
-    (and_parts _ (list_all is_digit (drop i text)) (sym (list_all-append is_digit (take i text) (drop i text)) ∙ parts)).0
-
-pub digit_is : (text : List ℕ) (i : ℕ) → list_all is_digit text ≡ true → i < length text → (48 ≤ get_or text i 0) × (get_or text i 0 ≤ 57)
-digit_is text i digits within = let found = digit_at text i (own.to text digits) within in (found.0, found.1)
-
-pub next_fits : (text : List ℕ) (i n : ℕ) → n ≡ digits_value 10 (take i text) → length text ≡ 5 → list_all is_digit text ≡ true → i < length text → n * 10 + 9 < 100000
-next_fits text i n is five digits within =
-    let few : length (take i text) ≤ 4 = omega (arith, length-take i text, five, within) in
-    let small = digits_value_short own (take i text) 4 (front_passes text i digits) few in
-    omega (arith, small, is)
-
 value_of_digit : (c : ℕ) → 48 ≤ c → c ≤ 57 → digit_value c ≡ c - 48
 value_of_digit c low high = grind (arith, nat_tests)
-
-pub next_value : (text : List ℕ) (i n : ℕ) → n ≡ digits_value 10 (take i text) → list_all is_digit text ≡ true → i < length text → n * 10 + (get_or text i 0 - 48) ≡ digits_value 10 (take (i + 1) text)
-next_value text i n is digits within =
-    let found = digit_is text i digits within in
-    let more = digits_value_more 10 text i within in
-    let last = value_of_digit (get_or text i 0) found.0 found.1 in
-    omega (arith, more, last, is)
-
-pub all_of_it : (text : List ℕ) (i n : ℕ) → n ≡ digits_value 10 (take i text) → length text ≤ i → n ≡ digits_value 10 text
-all_of_it text i n is past = is ∙ ap (digits_value 10) (take_all i text past)
 
 -- ---- five digits
 

@@ -21,7 +21,7 @@ use crate::found::{Found, find_upload};
 use crate::parts::put_part;
 use gate_base::Bytes;
 use recovery::{PlanFault, Settled, get_object, head_bucket, head_object};
-use s3_machine::{Body, Code, Label, MOST_BODY_BYTES, ObjectHead, Reply};
+use s3_machine::{Body, Code, Label, MOST_BODY_BYTES, ObjectHead, Reply, has_last};
 use std::alloc::Global;
 use swift_calls::Swift;
 
@@ -204,16 +204,6 @@ fn copy_of<W: Swift>(
         wanted,
         label,
     )
-}
-
-/// Whether an object of this size has the last byte of the range; where none is given, all is meant.
-fn has_last(range: Option<(u64, u64)>, size: u64) -> bool
-    ensures { result ≡ has_last range size }
-{
-    match range {
-        None => true,
-        Some((_, last)) => last < size,
-    }
 }
 
 /// How many bytes of an object of this size are wanted.

@@ -1,8 +1,6 @@
 //! The listing of the parts of an upload.
 ghost use Rattle.std.specs.Prelude.{◌≡◌, ◌≤◌, ◌<◌, ◌+◌, true, length, map, IfOk, IfSome, OnOk};
-ghost use Rattle.std.specs.List.{All, list_all};
-ghost use Rattle.std.specs.Str.Parse.{digits_value};
-ghost use Rattle.gate_base.specs.Ascii.{is_digit};
+ghost use Rattle.std.specs.List.{All};
 ghost use Rattle.s3_names.specs.Bucket.{is_bucket};
 ghost use Rattle.s3_names.specs.Id.{id_digits};
 ghost use Rattle.s3_machine.specs.Limits.{most_items};
@@ -26,6 +24,7 @@ use s3_machine::{GREATEST_PART_NUMBER, PartItem};
 use std::alloc::Global;
 use swift_calls::{NameItem, Swift};
 use swift_marks::Stamp;
+use text_forms::{all_digits, short_value};
 use upload_records::{segment_name, segments_container, segments_prefix};
 
 /// The number that five digits write.
@@ -33,34 +32,10 @@ fn digits_in(text: &[u8]) -> Option<u32>
     ensures { result ≡ digits_in text.now }
 {
     if text.len() == 5 && all_digits(text) {
-        Some(value_of(text))
+        Some(short_value(text))
     } else {
         None
     }
-}
-
-fn value_of(text: &[u8]) -> u32
-    requires five { length text.now ≡ 5 }
-    requires digits { list_all is_digit text.now ≡ true }
-    ensures { result ≡ digits_value 10 text.now }
-{
-    let mut number = 0u32;
-    for byte in text {
-        number = number * 10 + u32::from(*byte - b'0');
-    }
-    number
-}
-
-fn all_digits(text: &[u8]) -> bool
-    ensures { result ≡ list_all is_digit text.now }
-{
-    text.iter().all(|byte| is_digit(*byte))
-}
-
-fn is_digit(byte: u8) -> bool
-    ensures { result ≡ is_digit byte }
-{
-    byte.is_ascii_digit()
 }
 
 /// The number whose five digits stand behind a prefix.

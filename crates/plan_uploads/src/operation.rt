@@ -148,6 +148,26 @@ fn plan<W: Swift>(
             label,
         ),
         Op::AbortUpload { bucket, key, id } => abort_upload(alloc, state, bucket, key, id),
+        _ => plan_listing(alloc, state, op, label),
+    }
+}
+
+/// The plan of a listing; any other operation ends as where memory ran out, without a call.
+fn plan_listing<W: Swift>(
+    alloc: Global,
+    state: &mut Settled<'_, W>,
+    op: &mut Op,
+    label: &Label,
+) -> Result<Reply, PlanFault>
+    requires { IsProper op.old label.now }
+    ensures stays { Stays state.old state.new }
+    ensures plans { Plans (most_calls op.old (present (W.history state.old.store.now)))
+        (W.history state.old.store.now) (W.history state.new.store.now) state.old.settings.now
+        (Given Any) op.old label.now known.Settled result }
+    ensures beside { LeavesBeside (beside_of op.old) label.now (W.history state.old.store.now)
+        (W.history state.new.store.now) (Given Any) result }
+{
+    match op {
         Op::ListUploads {
             bucket,
             prefix,

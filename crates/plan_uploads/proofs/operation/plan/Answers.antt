@@ -1,19 +1,4 @@
-use Rattle.std.specs.Prelude.{Err}
-use Rattle.std.proofs.Common.{refl}
-use Rattle.recovery.specs.declared.fault.PlanFault.TheVariants.{Memory}
-use Rattle.recovery.proofs.lemmas.Ends.{out_of_memory}
-use Rattle.plan_uploads.proofs.Beside.{beside_none}
 use Rattle.plan_uploads.proofs.operation.plan.Goals as goal
 
 pub returns-in-AbortUpload-clause-plans : goal.returns-in-AbortUpload-clause-plans
 returns-in-AbortUpload-clause-plans g c = rw c.in-AbortUpload.is (c.abort_upload.ensures.plans c.args.label.now)
-
-pub returns-in-ListUploads-clause-plans : goal.returns-in-ListUploads-clause-plans
-returns-in-ListUploads-clause-plans g c = rw c.in-ListUploads.is
-    (rw (c.taken-in-ListUploads.ensures, c.taken-in-ListUploads-2.ensures, c.taken-in-ListUploads-3.ensures, c.taken-in-ListUploads-4.ensures) at (c.show_uploads.ensures.plans c.args.label.now))
-
-pub returns-in-ListParts-clause-plans : goal.returns-in-ListParts-clause-plans
-returns-in-ListParts-clause-plans g c = rw c.in-ListParts.is (rw (c.taken-in-ListParts.ensures, c.taken-in-ListParts-2.ensures) at (c.show_parts.ensures.plans c.args.label.now))
-
-pub returns-in_default : goal.returns-in_default
-returns-in_default g c = record { stays = record { store = refl; settings = refl }; plans = out_of_memory _ (Err Memory) refl; beside = beside_none _ _ _ _ (Err Memory) refl }

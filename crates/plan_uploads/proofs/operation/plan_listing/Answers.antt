@@ -1,0 +1,16 @@
+use Rattle.std.specs.Prelude.{Err}
+use Rattle.std.proofs.Common.{refl}
+use Rattle.recovery.specs.declared.fault.PlanFault.TheVariants.{Memory}
+use Rattle.recovery.proofs.lemmas.Ends.{out_of_memory}
+use Rattle.plan_uploads.proofs.Beside.{beside_none}
+use Rattle.plan_uploads.proofs.operation.plan_listing.Goals as goal
+
+pub returns-in-ListUploads-clause-plans : goal.returns-in-ListUploads-clause-plans
+returns-in-ListUploads-clause-plans g c = rw c.in-ListUploads.is
+    (rw (c.taken.ensures, c.taken-2.ensures, c.taken-3.ensures, c.taken-4.ensures) at (c.show_uploads.ensures.plans c.args.label.now))
+
+pub returns-in-ListParts-clause-plans : goal.returns-in-ListParts-clause-plans
+returns-in-ListParts-clause-plans g c = rw c.in-ListParts.is (rw (c.taken-in-ListParts.ensures, c.taken-in-ListParts-2.ensures) at (c.show_parts.ensures.plans c.args.label.now))
+
+pub returns-in_default : goal.returns-in_default
+returns-in_default g c = record { stays = record { store = refl; settings = refl }; plans = out_of_memory _ (Err Memory) refl; beside = beside_none _ _ _ _ (Err Memory) refl }
