@@ -25,8 +25,8 @@ use Rattle.upload_records.specs.Layout.{segment_name, segments_name}
 use Rattle.upload_records.specs.Native.{part_at, part_by, part_bytes, part_of, parts_of, sealed_bytes}
 use Rattle.upload_records.specs.Consistent.{AreSealedParts, IsConsistent, IsSegment, IsThere, is_part}
 use Rattle.upload_records.specs.Laws as laws
+use Rattle.recovery.proofs.lemmas.Etags.{part_etag}
 use Rattle.plan_uploads.proofs.ChosenParts.{Chooses, Names, Row, part_in, sealed_in}
-use Rattle.plan_uploads.proofs.SealedTexts.{part_etag}
 
 -- a part of a number stands in a file
 pub record Stands (segments : maps.Names SwiftObject) (id : List ℕ) (number : ℕ) (p : Part) : Type 0 where

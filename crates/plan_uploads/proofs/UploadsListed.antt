@@ -179,12 +179,6 @@ listed_of {a = a} {b = b} asked bucket is first r then = listed asked bucket (su
 
 -- ---- what is told of the state
 
-abbrev asks_of : List ℕ → List ℕ → List ℕ → AskedUploads
-asks_of prefix key_marker id_marker = record { prefix = prefix; key_marker = key_marker; id_marker = id_marker }
-
-pub asked_as : {p q k l i j : List ℕ} → p ≡ q → k ≡ l → i ≡ j → asks_of p k i ≡ asks_of q l j
-asked_as first then last = λ n. asks_of (first n) (then n) (last n)
-
 module _ {most : Bound} {a b : History} (bucket : List ℕ) (is : is_bucket bucket ≡ true) (prefix key_marker id_marker : List ℕ) (max : ℕ) (asked : AskedUploads)
     (same : asked ≡ record { prefix = prefix; key_marker = key_marker; id_marker = id_marker }) where
   pub told : {rows : Names UploadItem} → Asks most a b (GivenOf (InBucket bucket)) (TellsOf (TellsListed asked bucket)) (Ok rows) → (items : List UploadItem) → items ≡ map (λ row. row.1) (entries rows)

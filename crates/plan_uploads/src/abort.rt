@@ -38,8 +38,8 @@ pub(crate) fn abort_upload<W: Swift>(
     ensures stays { Stays state.old state.new }
     ensures plans { (label : Label)
         → Plans (by_account (3 + pages
-        (named_by (present (W.history state.old.store.now)) bucket.now text.now) + named_by
-        (present (W.history state.old.store.now)) bucket.now text.now))
+        (named_by (present (W.history state.old.store.now)) bucket.now text.now)
+        + named_by (present (W.history state.old.store.now)) bucket.now text.now))
         (W.history state.old.store.now) (W.history state.new.store.now) state.old.settings.now
         (Given Any) (AbortUpload bucket.now key.now text.now) label known.Settled result }
     ensures beside { (label : Label) → LeavesBeside (clears bucket.now text.now) label
@@ -64,8 +64,8 @@ fn abort_open<W: Swift>(
     ensures stays { Stays state.old state.new }
     ensures plans { (key text : List ℕ) (label : Label)
         → Plans (by_account (1 + pages
-        (named_by (present (W.history state.old.store.now)) bucket.now (id_digits id)) + named_by
-        (present (W.history state.old.store.now)) bucket.now (id_digits id)))
+        (named_by (present (W.history state.old.store.now)) bucket.now (id_digits id))
+        + named_by (present (W.history state.old.store.now)) bucket.now (id_digits id)))
         (W.history state.old.store.now) (W.history state.new.store.now) state.old.settings.now
         (GivenOf (IsOpenUpload bucket.now key text id)) (AbortUpload bucket.now key text) label
         known.Settled result }
@@ -93,8 +93,8 @@ fn drop_and_purge<W: Swift>(
     ensures stays { Stays state.old state.new }
     ensures plans { (key text : List ℕ) (label : Label)
         → Plans (by_account (1 + pages
-        (named_by (present (W.history state.old.store.now)) bucket.now (id_digits id)) + named_by
-        (present (W.history state.old.store.now)) bucket.now (id_digits id)))
+        (named_by (present (W.history state.old.store.now)) bucket.now (id_digits id))
+        + named_by (present (W.history state.old.store.now)) bucket.now (id_digits id)))
         (W.history state.old.store.now) (W.history state.new.store.now) state.old.settings.now
         (GivenOf (IsOpenUpload bucket.now key text id)) (AbortUpload bucket.now key text) label
         known.Settled result }

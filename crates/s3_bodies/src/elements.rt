@@ -1,5 +1,4 @@
 //! The elements of a part, in the body of a CompleteMultipartUpload.
-ghost use Rattle.std.specs.Prelude.{◌≡◌};
 ghost use Rattle.xml_forms.specs.Forms.{Reads};
 ghost use Rattle.xml_forms.specs.Readers.{ReadsRest, ReadsText, read_by};
 ghost use Rattle.xml_forms.specs.Runs.{Spaced};

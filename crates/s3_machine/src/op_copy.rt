@@ -132,7 +132,21 @@ fn copy_on_upload(op: &Op) -> Result<Op, Memory>
             from_key,
             range,
         } => copy_copy_part(bucket, key, id, *number, from_bucket, from_key, *range),
-        _ => Err(Memory),
+        Op::ListBuckets
+        | Op::CreateBucket { .. }
+        | Op::DeleteBucket { .. }
+        | Op::HeadBucket { .. }
+        | Op::GetLocation { .. }
+        | Op::GetBucketAcl { .. }
+        | Op::PutBucketAcl { .. }
+        | Op::ListObjects { .. }
+        | Op::PutObject { .. }
+        | Op::GetObject { .. }
+        | Op::HeadObject { .. }
+        | Op::DeleteObject { .. }
+        | Op::GetObjectAcl { .. }
+        | Op::DeleteObjects { .. }
+        | Op::CopyObject { .. } => Err(Memory),
     }
 }
 

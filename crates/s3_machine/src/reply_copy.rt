@@ -81,7 +81,16 @@ fn copy_large(reply: &Reply) -> Result<Reply, Memory>
             etag: etag.copy()?,
             modified: *modified,
         }),
-        _ => Err(Memory),
+        Reply::Refused(_)
+        | Reply::Memory
+        | Reply::Done
+        | Reply::Gone
+        | Reply::NotModified(_)
+        | Reply::Buckets(_)
+        | Reply::Made { .. }
+        | Reply::Location { .. }
+        | Reply::AclOf(_)
+        | Reply::Stored { .. } => Err(Memory),
     }
 }
 

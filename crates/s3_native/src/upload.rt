@@ -285,8 +285,7 @@ impl NativeUpload {
     ) -> Result<(Bytes, NativeObject, NativeKept), Memory>
         ensures { IfOk result (λ made. made ≡ (
           upload_etag (map etag_listed list.now),
-          joined_by
-              self.now list.now moment,
+          joined_by self.now list.now moment,
           kept_by self.now list.now moment,
         )) }
     {

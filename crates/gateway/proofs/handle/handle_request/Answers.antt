@@ -23,8 +23,8 @@ returns-in-Memory-clause-serves g c = record {
       c.sent_by-label.ensures (c.next_label-next.ensures.effect told.clock told.draws) c.reply_to-reply.ensures.out_of_memory (c.reply_to-reply.ensures.effect all met) (c.in-Memory.ensures.effect told.line);
 }
 
-pub returns-clause-serves : goal.returns-clause-serves
-returns-clause-serves g c = record {
+pub returns-in-Failed-clause-serves : goal.returns-in-Failed-clause-serves
+returns-in-Failed-clause-serves g c = record {
   on = record { line = c.in-Failed.ensures.writes.serves.observable; store = c.reply_to-reply.ensures.goes_on; clock = c.next_label-next.ensures.clock_observable; draws = c.next_label-next.ensures.draws_observable };
   knows = λ known. c.reply_to-reply.ensures.knows;
   stands = c.reply_to-reply.ensures.stands;

@@ -12,8 +12,8 @@ returns-in-Err-BadLine-clause-does g c = does_none _ c.args.keys.now _ _ _ _ _ (
 pub returns-in-Err-Twice-clause-does : goal.returns-in-Err-Twice-clause-does
 returns-in-Err-Twice-clause-does g c = does_none _ c.args.keys.now _ _ _ _ _ (keys_refused refl (rw c.in-Err-Twice.field-0-is at c.in-Err-Twice.ensures))
 
-pub returns-clause-does : goal.returns-clause-does
-returns-clause-does g c = does_none _ c.args.keys.now _ _ _ _ _ (out_of_memory refl)
+pub returns-in-Err-Memory-clause-does : goal.returns-in-Err-Memory-clause-does
+returns-in-Err-Memory-clause-does g c = does_none _ c.args.keys.now _ _ _ _ _ (out_of_memory refl)
 
 pub returns-in-Session-clause-does : goal.returns-in-Session-clause-does
 returns-in-Session-clause-does g c = rw c.in-Session.is
