@@ -32,8 +32,8 @@ returns-in-Serve-clause-fits g c = subst (λ command. Fits (task_of (Some comman
 pub returns-in-Sign-clause-fits : goal.returns-in-Sign-clause-fits
 returns-in-Sign-clause-fits g c = subst (λ command. Fits (task_of (Some command)) c.sign.result) (sym c.in-Sign.is) (c.sign.ensures.fits c.in-Sign.key c.in-Sign.region)
 
-pub returns-in-Ok-clause-fits : goal.returns-in-Ok-clause-fits
-returns-in-Ok-clause-fits g c = subst (λ command. Fits (task_of (Some command)) c.presign.result) (sym c.in-Presign.is) (c.presign.ensures.fits c.in-Presign.key c.in-Presign.region c.in-Presign.expires)
+pub returns-in-Presign-clause-fits : goal.returns-in-Presign-clause-fits
+returns-in-Presign-clause-fits g c = subst (λ command. Fits (task_of (Some command)) c.presign.result) (sym c.in-Presign.is) (c.presign.ensures.fits c.in-Presign.key c.in-Presign.region c.in-Presign.expires)
 
 pub returns-in-Recover-clause-fits : goal.returns-in-Recover-clause-fits
 returns-in-Recover-clause-fits g c = subst (λ command. Fits (task_of (Some command)) c.recover.result) (sym c.in-Recover.is) c.recover.ensures.fits
