@@ -7,5 +7,4 @@ pub mod ReadLemmas
 pub mod RoundTrip
 pub mod SegmentLemmas
 pub mod TextLemmas
-pub mod Texts
 pub mod Utf8Lemmas

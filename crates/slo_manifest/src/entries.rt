@@ -1,5 +1,5 @@
 ghost use Rattle.std.specs.Prelude.{◌≡◌, option_map, IfOk, true};
-ghost use Rattle.std.specs.Str.{IsUtf8, is_utf8};
+ghost use Rattle.std.specs.Str.{IsUtf8};
 ghost use Rattle.serde_json.specs.Find.{get, as_str, as_u64};
 ghost use Rattle.serde_json.specs.View.{view};
 ghost use Rattle.slo_manifest.specs.Segments.{is_segment};
@@ -13,7 +13,7 @@ use crate::segments::is_proper;
 use gate_base::{Bytes, Memory};
 use serde_json::{Value, json};
 use std::alloc::{AllocError, Global};
-use std::str;
+use text_forms::text_of;
 
 /// Why an entry gives no segment.
 #[derive(Clone, Copy, Debug, PartialEq, Eq)]
@@ -115,28 +115,16 @@ fn read_fields(alloc: Global, etag: &[u8], path: &[u8], size: u64) -> Result<Seg
     })
 }
 
-/// Bytes that are UTF-8, as text.
-#[tactic(auto, using(crate::proofs::Texts::utf8_after_all))]
-fn text(bytes: &[u8]) -> &str
-    requires { is_utf8 bytes.now ≡ true }
-    ensures { result.now ≡ bytes.now }
-{
-    match str::from_utf8(bytes) {
-        Ok(text) => text,
-        Err(_) => unreachable!(),
-    }
-}
-
 /// The entry of a segment, as JSON.
 #[tactic(auto, using(crate::proofs::SegmentLemmas::container_is_utf8, crate::proofs::SegmentLemmas::name_is_utf8, crate::proofs::SegmentLemmas::etag_is_utf8))]
 pub fn entry_value(alloc: Global, segment: &Segment, form: Form) -> Result<Value, AllocError>
     requires { is_segment segment.now ≡ true }
     ensures { IfOk result (λ value. view value ≡ entry_value form segment.now) }
 {
-    let container = text(segment.container.as_slice());
-    let name = text(segment.name.as_slice());
+    let container = text_of(segment.container.as_slice());
+    let name = text_of(segment.name.as_slice());
     let path = path_of(alloc, container, name)?;
-    let etag = text(segment.etag.as_slice());
+    let etag = text_of(segment.etag.as_slice());
     match form {
         Form::Put => put_value(alloc, etag, path.as_str(), segment.size),
         Form::Got => got_value(alloc, etag, path.as_str(), segment.size),

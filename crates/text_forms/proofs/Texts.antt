@@ -9,3 +9,7 @@ is_utf8_where bytes h = is_utf8-from_IsUtf8 bytes h
 
 pub is_utf8_unless : (bytes : List ℕ) → ¬ (IsUtf8 bytes) → is_utf8 bytes ≡ false
 is_utf8_unless bytes h = false_from_ne_true (is_utf8 bytes) (λ valid. h (IsUtf8-from_is_utf8 bytes valid))
+
+-- bytes that pass the test aren't refused
+pub utf8_after_all : (bytes : List ℕ) → is_utf8 bytes ≡ true → ¬ (IsUtf8 bytes) → ⊥
+utf8_after_all bytes passes not_utf8 = not_utf8 (IsUtf8-from_is_utf8 bytes passes)

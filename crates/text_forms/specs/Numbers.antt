@@ -1,5 +1,5 @@
--- Numbers in decimal, as headers and queries have them. Source: RFC 9110, section 14.1.2 (1*DIGIT); how many digits are
--- read is this profile's.
+-- Numbers in decimal, as headers, queries, bodies and command lines have them. Source: RFC 9110, section 14.1.2 (1*DIGIT); how
+-- many digits are read is this profile's.
 use Rattle.std.specs.Prelude.{ℕ, Bool, ◌&&◌, nat_le, if◌then◌else◌, List, length, Option, Some, None}
 use Rattle.std.specs.List.{list_all}
 use Rattle.std.specs.Str.Parse.{digits_value}

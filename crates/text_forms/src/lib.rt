@@ -1,4 +1,5 @@
-//! What bytes are as text: digits, numbers in decimal, UTF-8.
+//! What bytes are as text: digits, hexadecimal digits in lower case, the numbers that digits write, numbers in decimal that
+//! are read and written, and UTF-8.
 #![tactic(auto)]
 
 mod classes;
@@ -9,4 +10,4 @@ mod utf8;
 pub use classes::{all_digits, all_lower_hex, is_digit, is_lower_hex};
 pub use digits::{digits_value, short_value};
 pub use numbers::{append_decimal, is_decimal, is_number, number_of};
-pub use utf8::is_utf8;
+pub use utf8::{is_utf8, text_of};

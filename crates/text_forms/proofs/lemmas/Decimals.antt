@@ -1,6 +1,6 @@
 -- A number in decimal is digits, and is read back.
-use Rattle.std.proofs.Common.{◌≡◌, ℕ, ◌^◌, ◌<◌, ◌≤◌, true, leb, List, length, ap, ◌∙◌, arith, rules}
-use Rattle.std.specs.Prelude.{decimal, Option, Some, None}
+use Rattle.std.proofs.Common.{◌≡◌, ℕ, ◌^◌, ◌<◌, true, leb, length, ap, ◌∙◌, arith, rules}
+use Rattle.std.specs.Prelude.{decimal, Some, None}
 use Rattle.std.specs.List.{list_all}
 use Rattle.std.specs.Str.Parse.{digits_value}
 use Rattle.std.proofs.lemmas.Bool.{and_from, cond-true}
