@@ -7,7 +7,7 @@ use Rattle.std.proofs.lemmas.List.{take_all, drop_all}
 use Rattle.std.proofs.lemmas.List.Sums.{passes_at_first}
 use Rattle.std.proofs.lemmas.Str.{IsUtf8-nil, IsUtf8-take, IsUtf8-drop, is_utf8-from_IsUtf8, IsCharBoundary-before_ascii, IsCharBoundary-after_ascii}
 use Rattle.gate_base.specs.Ascii.{is_slash}
-use Rattle.slo_manifest.specs.Segments.{is_proper, is_listable, is_segment}
+use Rattle.slo_manifest.specs.Segments.{is_proper_entry, is_listable, is_segment}
 use Rattle.slo_manifest.specs.Path.{relative, container_in, name_in}
 use Rattle.slo_manifest.specs.Entry.{segment}
 
@@ -43,7 +43,7 @@ before_has_no_slash [] = refl
 before_has_no_slash (byte ∷ rest) = before_at byte rest (is_slash byte) refl (before_has_no_slash rest)
 
 -- the segment that a path in UTF-8 gives may be listed
-pub segment_listed : (etag path : List ℕ) (size : ℕ) → IsUtf8 path → is_proper (container_in path) (name_in path) etag size ≡ true → 0 < size → is_segment (segment etag path size) ≡ true
+pub segment_listed : (etag path : List ℕ) (size : ℕ) → IsUtf8 path → is_proper_entry (container_in path) (name_in path) etag size ≡ true → 0 < size → is_segment (segment etag path size) ≡ true
 unfolding is_segment is_listable
 segment_listed etag path size utf8 proper some =
     let cut = cut_is_utf8 (relative path) (relative_is_utf8 path utf8) in

@@ -5,7 +5,7 @@ use Rattle.std.proofs.lemmas.Bool.{and_parts, or_parts}
 use Rattle.std.proofs.lemmas.List.{take_all, take-append-le}
 use Rattle.serde_json.specs.View.{items_of}
 use Rattle.gate_base.specs.Ascii.{is_slash}
-use Rattle.slo_manifest.specs.Segments.{is_proper, is_segment}
+use Rattle.slo_manifest.specs.Segments.{is_proper_entry, is_segment}
 use Rattle.slo_manifest.specs.Path.{path_of, container_in, name_in}
 use Rattle.slo_manifest.specs.Entry.{Entry, whole, segment, segment_of, entry_of}
 use Rattle.slo_manifest.specs.Text.{entry_value}
@@ -50,8 +50,8 @@ segment_back : (s : Segment) → is_segment s ≡ true → segment_of s.etag (pa
 unfolding segment_of
 segment_back s h =
     let parts = parts_of s h in
-    let proper : is_proper (container_in (path_of s.container s.name)) (name_in (path_of s.container s.name)) s.etag s.size ≡ true =
-    ap₂ (λ (container name : List ℕ). is_proper container name s.etag s.size) (container_back s.container s.name parts.no_slash) (name_back s.container s.name parts.no_slash) ∙ parts.proper in
+    let proper : is_proper_entry (container_in (path_of s.container s.name)) (name_in (path_of s.container s.name)) s.etag s.size ≡ true =
+    ap₂ (λ (container name : List ℕ). is_proper_entry container name s.etag s.size) (container_back s.container s.name parts.no_slash) (name_back s.container s.name parts.no_slash) ∙ parts.proper in
     let some : s.size ≡ 0 → ⊥ = λ e. absurd (omega (arith, e, parts.some)) in
     rw (proper, ne_eqb s.size 0 some) (ap whole (same_segment s h))
 

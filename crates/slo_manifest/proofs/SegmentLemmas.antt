@@ -8,7 +8,7 @@ use Rattle.std.proofs.lemmas.Str.{is_utf8-from_IsUtf8, IsUtf8-from_ascii}
 use Rattle.std.proofs.lemmas.Str.Ascii.{IsAscii-nil, IsAscii-cons}
 use Rattle.gate_base.specs.Ascii.{is_slash}
 use Rattle.gate_base.specs.Ascii.{is_lower_hex}
-use Rattle.slo_manifest.specs.Segments.{is_etag, is_filled, is_proper, is_listable, is_segment, is_manifest}
+use Rattle.slo_manifest.specs.Segments.{is_etag, is_filled, is_proper_entry, is_listable, is_segment, is_manifest}
 use Rattle.slo_manifest.specs.declared.Segment.{Segment}
 
 digit_is_ascii : (byte : ℕ) → is_lower_hex byte ≡ true → byte < 128
@@ -25,7 +25,7 @@ unfolding is_etag
 etag_text_is_utf8 text h = is_utf8-from_IsUtf8 text (IsUtf8-from_ascii text (digits_are_ascii text (and_parts (length text == 32) _ h).1))
 
 pub record Parts (s : Segment) : Type 0 where
-  pub proper : is_proper s.container s.name s.etag s.size ≡ true
+  pub proper : is_proper_entry s.container s.name s.etag s.size ≡ true
   pub etag : is_etag s.etag ≡ true
   pub small : s.size < 2 ^ 63
   pub some : 0 < s.size
@@ -34,9 +34,9 @@ pub record Parts (s : Segment) : Type 0 where
   pub name : is_utf8 s.name ≡ true
 
 pub parts_of : (s : Segment) → is_segment s ≡ true → Parts s
-unfolding is_segment is_proper is_listable
+unfolding is_segment is_proper_entry is_listable
 parts_of s h =
-    let both = and_parts (is_proper s.container s.name s.etag s.size) (is_listable s.container s.name s.size) h in
+    let both = and_parts (is_proper_entry s.container s.name s.etag s.size) (is_listable s.container s.name s.size) h in
     let a = and_parts (is_filled s.container && is_filled s.name && is_etag s.etag) (nat_lt s.size (2 ^ 63)) both.0 in
     let b = and_parts (is_filled s.container && is_filled s.name) (is_etag s.etag) a.0 in
     let c = and_parts (nat_lt 0 s.size && not (list_any is_slash s.container) && is_utf8 s.container) (is_utf8 s.name) both.1 in

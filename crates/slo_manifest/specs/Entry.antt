@@ -3,7 +3,7 @@
 use Rattle.std.specs.Prelude.{◌≡◌, ⊤, ℕ, ◌==◌, if◌then◌else◌, List, codes, Option, Some, None, option_and_then, Result, Ok, Err}
 use Rattle.serde_json.specs.Data.{Data}
 use Rattle.serde_json.specs.Find.{get, as_number, as_str, as_u64}
-use Rattle.slo_manifest.specs.Segments.{is_proper}
+use Rattle.slo_manifest.specs.Segments.{is_proper_entry}
 use Rattle.slo_manifest.specs.Path.{container_in, name_in}
 use Rattle.slo_manifest.specs.declared.Segment.{Segment}
 use Rattle.slo_manifest.specs.declared.manifest.Form.{Form}
@@ -43,7 +43,7 @@ segment etag path size = record { container = container_in path; name = name_in 
 -- what the three fields say
 unfoldable pub segment_of : List ℕ → List ℕ → ℕ → Entry
 segment_of etag path size =
-    if is_proper (container_in path) (name_in path) etag size
+    if is_proper_entry (container_in path) (name_in path) etag size
     then (if size == 0 then empty else whole (segment etag path size)) else bad
 
 -- what there is of the three fields says

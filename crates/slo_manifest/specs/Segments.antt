@@ -14,8 +14,8 @@ abbrev pub is_filled : List ℕ → Bool
 is_filled text = nat_lt 0 (length text)
 
 -- what the fields of an entry must be, whatever its size is otherwise
-unfoldable pub is_proper : List ℕ → List ℕ → List ℕ → ℕ → Bool
-is_proper container name etag size = is_filled container && is_filled name && is_etag etag && nat_lt size (2 ^ 63)
+unfoldable pub is_proper_entry : List ℕ → List ℕ → List ℕ → ℕ → Bool
+is_proper_entry container name etag size = is_filled container && is_filled name && is_etag etag && nat_lt size (2 ^ 63)
 
 -- what else a segment must be to be listed
 unfoldable pub is_listable : List ℕ → List ℕ → ℕ → Bool
@@ -23,7 +23,7 @@ is_listable container name size = nat_lt 0 size && not (list_any is_slash contai
 
 -- a segment that may be listed
 unfoldable pub is_segment : Segment → Bool
-is_segment s = is_proper s.container s.name s.etag s.size && is_listable s.container s.name s.size
+is_segment s = is_proper_entry s.container s.name s.etag s.size && is_listable s.container s.name s.size
 
 -- segments that have a text
 unfoldable pub is_manifest : List Segment → Bool

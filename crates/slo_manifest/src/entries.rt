@@ -9,7 +9,7 @@ ghost use Rattle.slo_manifest.specs.Text.{entry_value, put_value, got_value};
 use crate::Segment;
 use crate::manifest::Form;
 use crate::paths::{parts, path_of};
-use crate::segments::is_proper;
+use crate::segments::is_proper_entry;
 use gate_base::{Bytes, Memory};
 use serde_json::{Value, json};
 use std::alloc::{AllocError, Global};
@@ -101,7 +101,7 @@ fn read_fields(alloc: Global, etag: &[u8], path: &[u8], size: u64) -> Result<Seg
     ensures listed { IfOk result (λ segment. is_segment segment ≡ true) }
 {
     let (container, name) = parts(path);
-    if !is_proper(container, name, etag, size) {
+    if !is_proper_entry(container, name, etag, size) {
         return Err(EntryFault::Bad);
     }
     if size == 0 {

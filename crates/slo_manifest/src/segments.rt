@@ -1,7 +1,7 @@
 ghost use Rattle.std.specs.Prelude.{◌≡◌};
 ghost use Rattle.std.specs.List.{list_all, list_any};
 ghost use Rattle.gate_base.specs.Ascii.{is_slash};
-ghost use Rattle.slo_manifest.specs.Segments.{is_etag, is_filled, is_proper, is_listable, is_segment, is_manifest};
+ghost use Rattle.slo_manifest.specs.Segments.{is_etag, is_filled, is_proper_entry, is_listable, is_segment, is_manifest};
 
 use crate::Segment;
 use crate::manifest::MOST_SEGMENTS;
@@ -40,9 +40,9 @@ fn is_filled(text: &[u8]) -> bool
 }
 
 /// Whether the fields of an entry are those of a segment, whatever its size is otherwise.
-#[tactic(auto, unfolding(crate::specs::Segments::is_proper))]
-pub fn is_proper(container: &[u8], name: &[u8], etag: &[u8], size: u64) -> bool
-    ensures { result ≡ is_proper container.now name.now etag.now size }
+#[tactic(auto, unfolding(crate::specs::Segments::is_proper_entry))]
+pub fn is_proper_entry(container: &[u8], name: &[u8], etag: &[u8], size: u64) -> bool
+    ensures { result ≡ is_proper_entry container.now name.now etag.now size }
 {
     is_filled(container) && is_filled(name) && is_etag(etag) && size < SIZE_LIMIT
 }
@@ -62,7 +62,7 @@ pub fn is_segment(segment: &Segment) -> bool
 {
     let container = segment.container.as_slice();
     let name = segment.name.as_slice();
-    is_proper(container, name, segment.etag.as_slice(), segment.size)
+    is_proper_entry(container, name, segment.etag.as_slice(), segment.size)
         && is_listable(container, name, segment.size)
 }
 

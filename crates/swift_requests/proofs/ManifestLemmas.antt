@@ -11,7 +11,7 @@ use Rattle.serde_json.specs.View.{items_of}
 use Rattle.serde_json.specs.Written.{comma_if, compact_text, items_text}
 use Rattle.slo_manifest.specs.Path.{path_of}
 use Rattle.gate_base.specs.Ascii.{is_lower_hex}
-use Rattle.slo_manifest.specs.Segments.{is_etag, is_filled, is_proper, is_listable, is_segment, is_manifest}
+use Rattle.slo_manifest.specs.Segments.{is_etag, is_filled, is_proper_entry, is_listable, is_segment, is_manifest}
 use Rattle.slo_manifest.specs.Text.{entry_value, manifest_text}
 use Rattle.slo_manifest.specs.declared.Segment.{Segment}
 use Rattle.slo_manifest.specs.declared.manifest.Form.TheVariants.{Put}
@@ -67,9 +67,9 @@ member_size later key text rest =
     )
 
 segment_sizes : (s : Segment) → is_segment s ≡ true → (length s.etag ≡ 32) × (s.size < 2 ^ 63)
-unfolding is_segment is_proper is_etag
+unfolding is_segment is_proper_entry is_etag
 segment_sizes s is =
-    let proper = (and_parts (is_proper s.container s.name s.etag s.size) (is_listable s.container s.name s.size) is).0 in
+    let proper = (and_parts (is_proper_entry s.container s.name s.etag s.size) (is_listable s.container s.name s.size) is).0 in
     let parts = and_parts (is_filled s.container && is_filled s.name && is_etag s.etag) (nat_lt s.size (2 ^ 63)) proper in
     let tag = (and_parts (is_filled s.container && is_filled s.name) (is_etag s.etag) parts.0).1 in
     (eqb-true (length s.etag) 32 (and_parts (length s.etag == 32) (list_all is_lower_hex s.etag) tag).0, ltb-true s.size (2 ^ 63) parts.1)

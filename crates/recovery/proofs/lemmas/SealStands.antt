@@ -22,7 +22,7 @@ use Rattle.s3_names.proofs.lemmas.BucketLemmas.{bucket_has_no_slash}
 use Rattle.s3_machine.specs.ETag.{body_etag}
 use Rattle.s3_machine.specs.Limits.{is_content_type, is_proper_meta, most_body_bytes}
 use Rattle.s3_machine.specs.Uploads.{digest_in, greatest_part, most_parts, rises, rises_from, upload_etag, IsPartNumber}
-use Rattle.slo_manifest.specs.Segments.{is_etag, is_filled, is_listable, is_proper, is_segment}
+use Rattle.slo_manifest.specs.Segments.{is_etag, is_filled, is_listable, is_proper_entry, is_segment}
 use Rattle.slo_manifest.specs.declared.Segment.{Segment}
 use Rattle.swift_calls.specs.Account.{SwiftAccount, files, find_object}
 use Rattle.swift_calls.specs.Bodies.{as_segment, is_good_list, is_shallow, is_shallow_there, may_be_listed}
@@ -137,7 +137,7 @@ no_slash bucket is = list_any-append is_slash bucket (codes "+segments") ∙ ap 
 
 listable : (bucket : List ℕ) (id : ℕ) (p : SealedPart) → is_bucket bucket ≡ true → IsPartNumber p.number → is_etag p.etag ≡ true → p.size ≤ most_body_bytes → nat_lt 0 p.size ≡ true
     → is_segment (part_segment (segments_name bucket) (id_digits id) p) ≡ true
-unfolding is_segment is_proper is_listable
+unfolding is_segment is_proper_entry is_listable
 listable bucket id p is counted tagged sized some =
     let folder = segments_fits bucket is in
     let name = segment_fits id p.number counted in
