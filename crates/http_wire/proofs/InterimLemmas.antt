@@ -6,7 +6,6 @@ use Rattle.httparse.specs.declared.spans.HeaderSpan.{HeaderSpan}
 use Rattle.httparse.specs.declared.spans.RequestSpans.{RequestSpans}
 use Rattle.httparse.specs.Grammar.{RequestHead}
 use Rattle.httparse.specs.Spans.{IsRequestAt}
-use Rattle.http_wire.specs.declared.message.Message.{Message}
 use Rattle.http_wire.specs.declared.message.ReadFault.{ReadFault}
 use Rattle.http_wire.specs.declared.message.ReadFault.TheVariants.{Failed, Memory}
 use Rattle.http_wire.specs.declared.advance.Found.TheVariants.{Head}

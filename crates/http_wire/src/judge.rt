@@ -69,10 +69,10 @@ fn judge_value(value: &[u8]) -> Result<usize, Kind>
     if !is_number(value, DIGITS) {
         return Err(Kind::BadLength);
     }
-    let size = digits_value(value) as usize;
-    if size > BODY_LIMIT {
+    let size = digits_value(value);
+    if size > BODY_LIMIT as u64 {
         Err(Kind::LongBody)
     } else {
-        Ok(size)
+        Ok(size as usize)
     }
 }

@@ -16,7 +16,7 @@ use crate::interim::offer;
 use crate::judge::judge;
 use crate::message::message_at;
 use crate::{Kind, Message, ReadFault};
-use gate_base::{Bytes, Counted, Line};
+use gate_base::{Bytes, Counted, Line, drop};
 use httparse::spans::{HeaderSpan, RequestSpans};
 use std::alloc::AllocError;
 use std::mem::replace;
@@ -70,10 +70,15 @@ pub(crate) fn take_message<N: Line<C>, C: Counted>(
     let mut message = message_at(alloc, window(pending), lines, spans)?;
     let size = match judge(&message) {
         Ok(size) => size,
-        Err(kind) => return Ok(not_taken(kind, &message)),
+        Err(kind) => return Ok(not_taken(kind, message)),
     };
-    if !take_offered(pending, partial, &message, spans.len, size, line, store)? {
-        return Ok(not_taken(Kind::ShortBody, &message));
+    match take_offered(pending, partial, &message, spans.len, size, line, store) {
+        Ok(true) => {}
+        Ok(false) => return Ok(not_taken(Kind::ShortBody, message)),
+        Err(fault) => {
+            drop(message);
+            return Err(fault);
+        }
     }
     message.body = Bytes::from_vec(replace(partial, Vec::new(alloc)));
     Ok(Taken::Whole {
@@ -83,12 +88,12 @@ pub(crate) fn take_message<N: Line<C>, C: Counted>(
 }
 
 /// The request of this head is refused.
-fn not_taken(kind: Kind, message: &Message) -> Taken
-    ensures { result ≡ Not kind (is_head message.now.method) }
+fn not_taken(kind: Kind, message: Message) -> Taken
+    ensures { result ≡ Not kind (is_head message.method) }
 {
     Taken::Not {
         kind,
-        head: is_head(message),
+        head: is_head(&message),
     }
 }
 

@@ -1,23 +1,15 @@
 -- The headers of a message, by the spans of a head; and the length that they give.
-use Rattle.std.proofs.Common.{◌≡◌, ℕ, ◌+◌, ◌-◌, ◌*◌, ◌^◌, ◌<◌, ◌≤◌, Bool, true, false, List, [], ◌∷◌, ◌++◌, length, take, drop, map, refl, sym, ap, ◌∙◌, IsTrue, Ok, Err, get_or, rules, arith, length-take, take-append-drop}
-use Rattle.std.specs.Prelude.{Result, count_by, nat_lt, nat_le, if◌then◌else◌}
-use Rattle.std.specs.Char.{to_ascii_lowercase, digit_value}
-use Rattle.std.specs.List.{list_all}
-use Rattle.std.specs.Str.Parse.{digits_value}
-use Rattle.std.proofs.lemmas.Bool.{cond-false, cond-true, and_parts, leb-true}
-use Rattle.std.proofs.lemmas.Bool.Decides.{nat_tests}
-use Rattle.std.proofs.lemmas.List.{take_all}
-use Rattle.std.proofs.lemmas.List.Folds.{list_all-append}
-use Rattle.std.proofs.lemmas.Str.Parse.{IsNumeralModel, IsDigitsTest, numerals_by_value, digits_value_short, digit_at}
-use Rattle.std.proofs.lemmas.Int.Digits.{digits_value_more}
+use Rattle.std.proofs.Common.{◌≡◌, ℕ, ◌<◌, Bool, true, false, List, [], ◌∷◌, length, take, map, refl, sym, ap, ◌∙◌, Ok, Err, arith}
+use Rattle.std.specs.Prelude.{Result, count_by, if◌then◌else◌}
+use Rattle.std.specs.Char.{to_ascii_lowercase}
+use Rattle.std.proofs.lemmas.Bool.{cond-false, cond-true}
 use Rattle.gate_base.specs.declared.page.Pair.{Pair}
 use Rattle.httparse.specs.declared.spans.HeaderSpan.{HeaderSpan}
 use Rattle.httparse.specs.Grammar.{Field}
 use Rattle.httparse.specs.Spans.{AreFieldsAt, header_bytes, name_and_value}
 use Rattle.http_wire.specs.declared.message.Kind.{Kind}
 use Rattle.http_wire.specs.declared.message.Kind.TheVariants.{BadLength, NoLength}
-use Rattle.gate_base.specs.Ascii.{is_digit}
-use Rattle.http_wire.specs.FirstMessage.{header_of, is_length, value_judged, length_judged}
+use Rattle.http_wire.specs.FirstMessage.{header_of, value_judged, length_judged}
 use Rattle.http_wire.specs.Headers.{has_name, first_value, values_of, header_at}
 use Rattle.http_wire.proofs.lemmas.HeadersLemmas.{count_values, one_value, none_given}
 

@@ -1,6 +1,4 @@
-use Rattle.std.proofs.Common.{arith, length-take, subst, sym, ap, ◌∙◌}
-use Rattle.httparse.specs.Spans.{IsRequestAt}
-use Rattle.http_wire.specs.Seen.{window}
+use Rattle.std.proofs.Common.{arith, length-take}
 use Rattle.http_wire.proofs.take.take_message.Goals as goal
 
 pub take_offered-requires-clause-within : goal.take_offered-requires-clause-within
