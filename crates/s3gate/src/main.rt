@@ -171,12 +171,12 @@ fn run_over<N: Line<W>, W: Swift>(
 fn key_text(rt: &HostRuntime) -> Result<String, SetupFault> {
     match variable(rt, KEYS)? {
         Some(path) if path.is_empty() => Err(SetupFault::Variable(KEYS, Why::Empty)),
-        Some(path) => read_keys(rt, path.as_str()),
+        Some(path) => read_key_file(rt, path.as_str()),
         None => Ok(String::new(rt.alloc())),
     }
 }
 
-fn read_keys(rt: &HostRuntime, path: &str) -> Result<String, SetupFault> {
+fn read_key_file(rt: &HostRuntime, path: &str) -> Result<String, SetupFault> {
     match fs::read_to_string(rt, path) {
         Ok(text) => Ok(text),
         Err(error) if error.kind() == ErrorKind::OutOfMemory => Err(SetupFault::Memory),
