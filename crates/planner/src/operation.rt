@@ -6,15 +6,15 @@ ghost use Rattle.recovery.specs.Answers.{is_upload, most_calls};
 ghost use Rattle.recovery.specs.declared.state.Known.TheVariants as known;
 ghost use Rattle.recovery.specs.Calls.{Any, Given};
 ghost use Rattle.recovery.specs.Lent.{Stays};
-ghost use Rattle.recovery.specs.Plan.{reply_of, Plans, Answered};
+ghost use Rattle.recovery.specs.Plan.{Plans, Answered};
 
 use crate::acls::{get_bucket_acl, get_object_acl, put_bucket_acl};
 use crate::buckets::{create_bucket, delete_bucket, get_location, list_buckets, show_bucket};
 use crate::listing::list_objects;
 use crate::objects::{delete_object, get_object, head_object, put_object};
 use gate_base::drop;
-use recovery::{PlanFault, Settled};
-use s3_machine::{Code, Label, Op, Reply};
+use recovery::{PlanFault, Settled, reply_of};
+use s3_machine::{Label, Op, Reply};
 use std::alloc::Global;
 use swift_calls::Swift;
 
@@ -33,7 +33,7 @@ pub fn answer<W: Swift>(alloc: Global, state: &mut Settled<'_, W>, op: Op, label
         (W.history state.old.store.now) (W.history state.new.store.now) state.old.settings.now op
         label.now known.Settled result }
 {
-    reply_to(plan(alloc, state, op, label))
+    reply_of(plan(alloc, state, op, label))
 }
 
 /// Makes the calls of an operation's plan. Which function has the plan is asked first, so that each owns few kinds of
@@ -206,17 +206,5 @@ fn plan_of_key<W: Swift>(
             drop(op);
             Err(PlanFault::Memory)
         }
-    }
-}
-
-/// The reply by the end of a plan.
-fn reply_to(end: Result<Reply, PlanFault>) -> Reply
-    ensures { result ≡ reply_of end }
-{
-    match end {
-        Ok(reply) => reply,
-        Err(PlanFault::Failed) => Reply::Refused(Code::ServiceUnavailable),
-        Err(PlanFault::Memory) => Reply::Memory,
-        Err(PlanFault::Inconsistent) => Reply::Refused(Code::InconsistentStore),
     }
 }

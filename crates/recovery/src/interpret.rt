@@ -129,8 +129,8 @@ fn unchanged(
     Ok(Some(body))
 }
 
-/// The answer to PUT of an object's file whose bytes have this ETag: the store has them with the same.
-pub(crate) fn stored_in(reply: &SwiftReply, etag: &[u8]) -> Result<(), PlanFault>
+/// The answer to PUT of a file whose bytes have this ETag: the store has them with the same.
+pub fn stored_in(reply: &SwiftReply, etag: &[u8]) -> Result<(), PlanFault>
     ensures due { result ≡ stored_due etag.now reply.now }
     ensures own { result ≢ Err fault.Failed }
 {
@@ -140,8 +140,8 @@ pub(crate) fn stored_in(reply: &SwiftReply, etag: &[u8]) -> Result<(), PlanFault
     }
 }
 
-/// The answer to DELETE of an object's file.
-pub(crate) fn gone_in(reply: &SwiftReply) -> Result<(), PlanFault>
+/// The answer to DELETE of a file, which may have been missing.
+pub fn gone_in(reply: &SwiftReply) -> Result<(), PlanFault>
     ensures due { result ≡ gone_due reply.now }
     ensures own { result ≢ Err fault.Failed }
 {

@@ -1,7 +1,10 @@
+//! Which operations have plans of their own, and the reply to an operation by the end of its plan.
 ghost use Rattle.std.specs.Prelude.{◌≡◌};
 ghost use Rattle.recovery.specs.Answers.{is_many, is_upload};
+ghost use Rattle.recovery.specs.Plan.{reply_of};
 
-use s3_machine::Op;
+use crate::PlanFault;
+use s3_machine::{Code, Op, Reply};
 
 /// The operation is one on uploads in parts, which have plans of their own.
 pub fn is_upload(op: &Op) -> bool
@@ -41,4 +44,16 @@ pub fn is_many(op: &Op) -> bool
         op,
         Op::DeleteObjects { .. } | Op::CopyObject { .. } | Op::CopyPart { .. }
     )
+}
+
+/// The reply to an operation by the end of its plan.
+pub fn reply_of(end: Result<Reply, PlanFault>) -> Reply
+    ensures { result ≡ reply_of end }
+{
+    match end {
+        Ok(reply) => reply,
+        Err(PlanFault::Failed) => Reply::Refused(Code::ServiceUnavailable),
+        Err(PlanFault::Memory) => Reply::Memory,
+        Err(PlanFault::Inconsistent) => Reply::Refused(Code::InconsistentStore),
+    }
 }
