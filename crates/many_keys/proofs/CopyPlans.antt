@@ -28,7 +28,7 @@ use Rattle.upload_texts.specs.Sealed.{is_sealed_part}
 use Rattle.upload_texts.specs.declared.sealed.Sealed.{Sealed}
 use Rattle.upload_texts.specs.declared.sealed.SealedPart.{SealedPart}
 use Rattle.upload_records.specs.Consistent.{AreSealedParts}
-use Rattle.upload_records.specs.Laws.{UnusedAbandoned}
+use Rattle.upload_records.specs.Laws.{UnusedIsAbandoned}
 use Rattle.upload_records.specs.Layout.{segments_name}
 use Rattle.upload_records.specs.Native.{listed_of, object_at, s3_state, sealed_bytes}
 use Rattle.recovery.specs.Answers.{listed_by, records_of, segments_of}
@@ -150,7 +150,7 @@ module _ (bucket key : List ℕ) (acl : Acl) (id : ℕ) (from_bucket from_key : 
 -- ---- the id
 
 -- the source and its bucket's list are given, and a free id is told
-pub asks_unnamed : {bucket from_bucket from_key : List ℕ} {acl : Acl} {head : ObjectHead} {draw : ℕ} → UnusedAbandoned → is_bucket bucket ≡ true → {n : Bound} {a b : History} {id : ℕ} → Asks n a b (GivenOf (InBucket bucket)) (TellsOf (TellsFree bucket draw)) (Ok id)
+pub asks_unnamed : {bucket from_bucket from_key : List ℕ} {acl : Acl} {head : ObjectHead} {draw : ℕ} → UnusedIsAbandoned → is_bucket bucket ≡ true → {n : Bound} {a b : History} {id : ℕ} → Asks n a b (GivenOf (InBucket bucket)) (TellsOf (TellsFree bucket draw)) (Ok id)
     → Asks n a b (Given (IsFoundSource bucket acl from_bucket from_key head)) (TellsOf (λ tree id. IsUnnamed bucket id tree)) (Ok id)
 asks_unnamed {bucket = bucket} {acl = acl} law is {id = id} asks =
     asks_told {Q = λ tree id. IsUnnamed bucket id tree} (λ tree has. record { settled = has.settled; is = bucket_there tree bucket acl is has.settled has.is.listed }) id
@@ -214,7 +214,7 @@ module _ {bucket from_bucket from_key : List ℕ} {list : Acl} {head : ObjectHea
       asked_in_vain (by_account n) within (λ met. record { observable = met.observable; sound = met.sound; has = record { settled = met.has.settled; is = bucket_there _ bucket list is met.has.settled met.has.is.listed } }) asks end same
 
   -- the segments are to be copied under it
-  pub id_goes_on : {draw n m id : ℕ} {a b c : History} {now : Settings} {end : Result Reply PlanFault} → UnusedAbandoned → is_bucket bucket ≡ true → now ≡ settings
+  pub id_goes_on : {draw n m id : ℕ} {a b c : History} {now : Settings} {end : Result Reply PlanFault} → UnusedIsAbandoned → is_bucket bucket ≡ true → now ≡ settings
       → Asks (by_account n) a b (GivenOf (InBucket bucket)) (TellsOf (TellsFree bucket draw)) (Ok id) → Plans (always m) b c now (GivenOf (MayFill bucket list id from_bucket from_key head)) op label Settled end
       → Plans (by_account (n + m)) a c settings (Given (IsFoundSource bucket list from_bucket from_key head)) op label Settled end
   id_goes_on law is kept asks plans =
@@ -249,7 +249,7 @@ module _ (bucket key from_bucket from_key : List ℕ) (acl : Option Acl) (list :
       (λ fill told. filled_may_put bucket key list id from_bucket from_key replaced head parts label.moment _ _ told.1 fill told.0) (omega (arith, ap length same))
 
   -- an empty copy is put under the id
-  pub id_puts : {draw n id : ℕ} {a b c : History} {now : Settings} {s : Sealed} (parts : List SealedPart) {end : Result Reply PlanFault} → UnusedAbandoned → is_bucket bucket ≡ true → now ≡ settings
+  pub id_puts : {draw n id : ℕ} {a b c : History} {now : Settings} {s : Sealed} (parts : List SealedPart) {end : Result Reply PlanFault} → UnusedIsAbandoned → is_bucket bucket ≡ true → now ≡ settings
       → Asks (by_account n) a b (GivenOf (InBucket bucket)) (TellsOf (TellsFree bucket draw)) (Ok id) → head.size ≡ 0 → parts ≡ []
       → s ≡ copy_as bucket key id replaced head parts label.moment → PutsListed b c now end s
       → Plans (by_account (n + 1)) a c settings (Given (IsFoundSource bucket list from_bucket from_key head)) (CopyObject bucket key acl from_bucket from_key replaced) label Settled end

@@ -33,7 +33,7 @@ use s3_names::Acl;
 use std::alloc::Global;
 use swift_calls::{Swift, SwiftRequest};
 use swift_marks::{Tag, pack};
-use upload_records::law_unused_abandoned;
+use upload_records::law_unused_is_abandoned;
 use upload_texts::{Sealed, SealedPart};
 
 /// The rest of CopyObject, of a source that was completed from parts: GET of the list of its segments, the search of an id that is
@@ -114,7 +114,7 @@ fn copy_empty<W: Swift>(
         (Given (IsFoundSource bucket list from_bucket from_key head))
         (CopyObject bucket key acl from_bucket from_key replaced) label.now known.Settled result }
 {
-    law_unused_abandoned();
+    law_unused_is_abandoned();
     let id = free_id(alloc, state, &bucket, label.draw)?;
     let parts = List::new(alloc);
     let sealed = copy_as(bucket, key, id, replaced, head, parts, label.moment);
@@ -150,7 +150,7 @@ fn copy_cut<W: Swift>(
         (Given (IsFoundSource bucket list from_bucket from_key head))
         (CopyObject bucket key acl from_bucket from_key replaced) label.now known.Settled result }
 {
-    law_unused_abandoned();
+    law_unused_is_abandoned();
     let id = free_id(alloc, state, &bucket, label.draw)?;
     copy_under(
         alloc,

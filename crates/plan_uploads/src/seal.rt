@@ -81,7 +81,7 @@ pub(crate) fn seal_and_finish<W: Swift>(
     ensures unsure { LeavesUnsureOnly (Ok result) }
 {
     match seal(alloc, state, sealed) {
-        Ok(()) => completing_by(state.finish(alloc, sealed), reply),
+        Ok(()) => completing_by(state.roll_forward(alloc, sealed), reply),
         Err(fault) => {
             drop(reply);
             Completing {

@@ -42,15 +42,15 @@ abbrev pub agrees_parts : StoredHead → Tag → Bool
 agrees_parts head tag = nat_lt 32 (length tag.etag) && (head.manifest || (head.size == 0)) && nat_lt head.size (2 ^ 63)
 
 -- whether a file is what its tag says
-abbrev pub agrees : StoredHead → Tag → Bool
-agrees head tag = cond (is_none tag.id) (agrees_whole head tag) (agrees_parts head tag)
+abbrev pub agrees_with_tag : StoredHead → Tag → Bool
+agrees_with_tag head tag = cond (is_none tag.id) (agrees_whole head tag) (agrees_parts head tag)
 
 -- the head of an object, by what its tag and its pack read as
 abbrev pub head_by : StoredHead → Option Tag → Option (List Pair) → Option ObjectHead
 head_by head None meta = None
 head_by head (Some tag) None = None
 head_by head (Some tag) (Some meta) =
-    cond (agrees head tag) (Some (record { etag = tag.etag; modified = tag.moment; size = head.size; content_type = tag.content_type; meta = meta })) None
+    cond (agrees_with_tag head tag) (Some (record { etag = tag.etag; modified = tag.moment; size = head.size; content_type = tag.content_type; meta = meta })) None
 
 -- what the head of a file says of the object
 abbrev pub head_from : StoredHead → Option ObjectHead
@@ -74,7 +74,7 @@ head_due _ = Err fault.Inconsistent
 -- whether a file with this tag is what the tag says, of an object with this ETag and this size
 abbrev pub unchanged_by : List ℕ → ℕ → StoredHead → Option Tag → Bool
 unchanged_by etag size head None = false
-unchanged_by etag size head (Some tag) = agrees head tag && bytes_eq tag.etag etag && (head.size == size)
+unchanged_by etag size head (Some tag) = agrees_with_tag head tag && bytes_eq tag.etag etag && (head.size == size)
 
 abbrev pub is_unchanged : List ℕ → ℕ → StoredHead → Bool
 is_unchanged etag size head = unchanged_by etag size head (read_tag head.content_type)
@@ -86,12 +86,12 @@ bytes_due etag size Unsatisfiable = Ok None
 bytes_due etag size NotFound = Ok None
 bytes_due etag size _ = Err fault.Inconsistent
 
--- PUT of an object's file whose bytes have this ETag: the store has them with the same
+-- PUT of a file whose bytes have this ETag: the store has them with the same
 abbrev pub stored_due : List ℕ → SwiftReply → Result (Unit {0}) PlanFault
 stored_due etag (Stored stored) = cond (bytes_eq stored etag) (Ok tt) (Err fault.Inconsistent)
 stored_due etag _ = Err fault.Inconsistent
 
--- DELETE of an object's file: also one that isn't there is gone
+-- DELETE of a file: also one that isn't there is gone
 abbrev pub gone_due : SwiftReply → Result (Unit {0}) PlanFault
 gone_due Gone = Ok tt
 gone_due NotFound = Ok tt

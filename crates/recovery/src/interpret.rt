@@ -1,6 +1,6 @@
 //! What an answer of the store comes to.
 ghost use Rattle.std.specs.Prelude.{◌≡◌, ◌≢◌, Err, IfOk};
-ghost use Rattle.recovery.specs.Interpret.{Gives, agrees, agrees_parts, agrees_whole, bucket_due, bytes_due, dropped_due, gone_due, head_due, head_from, known, IsShownHead, made_due, set_due, stored_due};
+ghost use Rattle.recovery.specs.Interpret.{Gives, agrees_with_tag, agrees_parts, agrees_whole, bucket_due, bytes_due, dropped_due, gone_due, head_due, head_from, known, IsShownHead, made_due, set_due, stored_due};
 ghost use Rattle.swift_calls.specs.declared.calls.SwiftReply.TheVariants as answer;
 ghost use Rattle.recovery.specs.declared.fault.PlanFault.TheVariants as fault;
 
@@ -54,7 +54,7 @@ fn read_head(alloc: Global, head: &StoredHead) -> Result<Option<ObjectHead>, Pla
 {
     let tag = Tag::read(alloc, head.content_type.as_slice())?;
     let meta = unpack(alloc, head.meta.as_slice())?;
-    if !agrees(head, &tag) {
+    if !agrees_with_tag(head, &tag) {
         return Err(PlanFault::Inconsistent);
     }
     Ok(Some(ObjectHead {
@@ -67,8 +67,8 @@ fn read_head(alloc: Global, head: &StoredHead) -> Result<Option<ObjectHead>, Pla
 }
 
 /// The file is what its tag says: put in one piece, or of an upload.
-fn agrees(head: &StoredHead, tag: &Tag) -> bool
-    ensures { result ≡ agrees head.now tag.now }
+fn agrees_with_tag(head: &StoredHead, tag: &Tag) -> bool
+    ensures { result ≡ agrees_with_tag head.now tag.now }
 {
     if tag.id.is_none() {
         agrees_whole(head, tag)
@@ -123,7 +123,7 @@ fn unchanged(
     ensures own { result ≢ Err fault.Failed }
 {
     let tag = Tag::read(alloc, head.content_type.as_slice())?;
-    if !agrees(head, &tag) || tag.etag.as_slice() != etag || head.size != size {
+    if !agrees_with_tag(head, &tag) || tag.etag.as_slice() != etag || head.size != size {
         return Err(PlanFault::Inconsistent);
     }
     Ok(Some(body))
@@ -140,7 +140,7 @@ pub fn stored_in(reply: &SwiftReply, etag: &[u8]) -> Result<(), PlanFault>
     }
 }
 
-/// The answer to DELETE of a file, which may have been missing.
+/// The answer to DELETE of a file: also one that wasn't there is gone.
 pub fn gone_in(reply: &SwiftReply) -> Result<(), PlanFault>
     ensures due { result ≡ gone_due reply.now }
     ensures own { result ≢ Err fault.Failed }

@@ -12,8 +12,8 @@ mod laws;
 mod listing;
 mod object;
 mod plans;
-mod rolling;
 mod sealed;
+mod settling;
 mod state;
 
 pub use beside::{make_beside, purge};
@@ -26,6 +26,6 @@ pub use laws::{law_answered_fault_free, law_never_unavailable};
 pub use listing::list_buckets;
 pub use object::{delete_object, get_object, head_object, put_object};
 pub use plans::{is_many, is_upload, reply_of};
-pub use rolling::roll_forward;
 pub use sealed::{kept_in, object_request};
+pub use settling::roll_forward;
 pub use state::{Known, SettleFault, Settled, Unsure};

@@ -71,7 +71,7 @@ pub fn object_request(alloc: Global, sealed: &Sealed) -> Result<SwiftRequest, Me
     let meta = pack(alloc, &sealed.meta)?;
     let container = sealed.bucket.copy()?;
     let name = sealed.key.copy()?;
-    let segments = listing(alloc, sealed)?;
+    let segments = sealed_listing(alloc, sealed)?;
     Ok(put_of(alloc, container, name, content_type, meta, segments))
 }
 
@@ -120,7 +120,7 @@ fn object_type(alloc: Global, sealed: &Sealed) -> Result<Bytes, Memory>
 }
 
 /// The segments that a completed object lists.
-fn listing(alloc: Global, sealed: &Sealed) -> Result<List<Segment>, Memory>
+fn sealed_listing(alloc: Global, sealed: &Sealed) -> Result<List<Segment>, Memory>
     requires { has_sealed_text sealed.now ≡ true }
     ensures { IfOk result (λ segments. segments ≡ sealed_listing sealed.now) }
 {
@@ -141,13 +141,13 @@ fn segments_in(
 {
     let mut segments = List::new(alloc);
     for part in parts {
-        add_segment(alloc, &mut segments, folder, id, part)?;
+        add_sealed_segment(alloc, &mut segments, folder, id, part)?;
     }
     Ok(segments)
 }
 
 /// Adds the segment of a part that isn't empty.
-fn add_segment(
+fn add_sealed_segment(
     alloc: Global,
     segments: &mut List<Segment>,
     folder: &Bytes,
@@ -179,7 +179,7 @@ fn segment(alloc: Global, folder: &Bytes, id: u128, part: &SealedPart) -> Result
 }
 
 /// The text of the record of a completed upload, with the moment of its completion.
-pub(crate) fn done_text(alloc: Global, sealed: &Sealed) -> Result<Bytes, Memory>
+pub(crate) fn sealed_record_text(alloc: Global, sealed: &Sealed) -> Result<Bytes, Memory>
     requires { has_sealed_text sealed.now ≡ true }
     ensures text { IfOk result (λ text. text ≡ record_text (sealed_record sealed.now)) }
     ensures reads { IfOk result (λ text. read_record text ≡ Some (sealed_record sealed.now)) }

@@ -1,4 +1,4 @@
-//! The store as an operation finds it: a completion may be sealed on it, or none is.
+//! `Unsure`, a store on which a completion may be sealed, and `Settled`, one that was settled, over which operations are answered.
 ghost use Rattle.std.specs.Prelude.{◌≡◌, map, true, IfOk, IsTrue};
 ghost use Rattle.list_pages.specs.Listing.{name_in, page_request, AsksPage, IsPageOf};
 ghost use Rattle.swift_calls.specs.History.{Calls, present};
@@ -11,7 +11,7 @@ ghost use Rattle.recovery.specs.Rolls.{IsSealed, KeepsGateway, Leaves, LeavesCle
 ghost use Rattle.recovery.specs.Settling.{IsNamedFault, Settles};
 
 use crate::PlanFault;
-use crate::rolling::{roll_forward, settle_store};
+use crate::settling::{roll_forward, settle_store};
 use gate_base::{Bytes, List};
 use list_pages::{PageFault, names};
 use s3_machine::Settings;
@@ -148,9 +148,9 @@ impl<'a, W: Swift> Settled<'a, W> {
         ask(self.store, request)
     }
 
-    /// Finishes a sealed completion ([`roll_forward`]), for a plan that sealed it. After a fault it may be sealed still, so that the
+    /// Finishes a sealed completion, as the function of the same name does, for a plan that sealed it. After a fault it may be sealed still, so that the
     /// store isn't known to be settled.
-    pub fn finish(&mut self, alloc: Global, sealed: &Sealed) -> Result<(), PlanFault>
+    pub fn roll_forward(&mut self, alloc: Global, sealed: &Sealed) -> Result<(), PlanFault>
         requires { has_sealed_text sealed.now ≡ true }
         ensures stays { Stays self.old self.new }
         ensures asks { Asks (always 3) (W.history self.old.store.now) (W.history self.new.store.now)

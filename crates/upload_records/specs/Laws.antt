@@ -223,8 +223,8 @@ OrphanPut = (tree : SwiftAccount) (bucket name content_type : List ℕ) (meta : 
     → PutsOrphan tree (PutObject (segments_name bucket) name content_type meta body) bucket (id_digits part.id) name (file_put content_type meta body)
 
 -- nothing names the segments of an id under which nothing stands: those that an object lists are there
-abbrev pub UnusedAbandoned : Type 0
-UnusedAbandoned = (tree : SwiftAccount) (bucket id : List ℕ) → is_bucket bucket ≡ true → IsUnused tree bucket id → IsConsistent tree → IsAbandoned tree bucket id
+abbrev pub UnusedIsAbandoned : Type 0
+UnusedIsAbandoned = (tree : SwiftAccount) (bucket id : List ℕ) → is_bucket bucket ≡ true → IsUnused tree bucket id → IsConsistent tree → IsAbandoned tree bucket id
 
 -- an account after which an object is put
 pub record PutsFile (tree : SwiftAccount) (bucket key : List ℕ) (o : Object) (new : SwiftAccount) : Type 0 where

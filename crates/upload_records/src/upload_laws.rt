@@ -1,5 +1,6 @@
-//! Laws on the records and the parts of uploads, each the contract of a function that does nothing.
-ghost use Rattle.upload_records.specs.Laws.{CompletedStands, CompletionSealed, FilePut, GatewayMade, ListingFound, ListingStands, ObjectListed, ObjectProper, ObjectRolled, OrphanGone, OrphanPut, PartPut, RecordRolled, SealGone, SideFileGone, SideMade, UnusedAbandoned, UploadAbandoned, UploadDropped, UploadOpened};
+//! Laws on uploads, each the contract of a function that does nothing: on their records and segments, on the containers beside a
+//! bucket, on objects that list segments, and on a completion that is sealed in the gateway's own container.
+ghost use Rattle.upload_records.specs.Laws.{CompletedStands, CompletionSealed, FilePut, GatewayMade, ListingFound, ListingStands, ObjectListed, ObjectProper, ObjectRolled, OrphanGone, OrphanPut, PartPut, RecordRolled, SealGone, SideFileGone, SideMade, UnusedIsAbandoned, UploadAbandoned, UploadDropped, UploadOpened};
 
 /// Where no completion is sealed, the PUT of a part's file under an upload that is open puts the part in place of the one
 /// of its number; it leaves the account consistent, and the gateway's own container as it was.
@@ -48,8 +49,8 @@ pub fn law_orphan_put()
 {}
 
 /// Nothing names the segments of an id under which nothing stands.
-pub fn law_unused_abandoned()
-    ensures { UnusedAbandoned }
+pub fn law_unused_is_abandoned()
+    ensures { UnusedIsAbandoned }
 {}
 
 /// Where no completion is sealed, the PUT of a file that is an object of a bucket, of whose list no upload is open, puts the object

@@ -15,4 +15,4 @@ put_listed-requires g c =
 pub returns-clause-plans : goal.returns-clause-plans
 returns-clause-plans g c = λ acl list from_bucket from_key other onto.
     id_puts _ _ from_bucket from_key acl list c.args.replaced c.args.head c.args.label.now other onto
-    _ c.law_unused_abandoned.ensures c.requires.place.named c.free_id.ensures.stays.settings c.in_ok-id.ensures.asks c.requires.empty c.new-parts.ensures c.copy_as-sealed.ensures.copy c.put_listed.ensures.plans
+    _ c.law_unused_is_abandoned.ensures c.requires.place.named c.free_id.ensures.stays.settings c.in_ok-id.ensures.asks c.requires.empty c.new-parts.ensures c.copy_as-sealed.ensures.copy c.put_listed.ensures.plans

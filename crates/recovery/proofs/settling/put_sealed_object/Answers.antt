@@ -2,7 +2,7 @@ use Rattle.std.proofs.Common.{inr}
 use Rattle.recovery.proofs.RollCalls.{object_keeps, puts_object}
 use Rattle.recovery.proofs.lemmas.One.{not_asked}
 use Rattle.recovery.proofs.lemmas.Quiet.{quiet_in_vain, quieted}
-use Rattle.recovery.proofs.rolling.put_sealed_object.Goals as goal
+use Rattle.recovery.proofs.settling.put_sealed_object.Goals as goal
 
 pub returns-in_err-request-clause-asks : goal.returns-in_err-request-clause-asks
 returns-in_err-request-clause-asks g c = not_asked _ _ _ c.from_residual.ensures.1

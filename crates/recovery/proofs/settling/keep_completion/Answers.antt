@@ -1,6 +1,6 @@
 use Rattle.std.proofs.Common.{lit≤}
 use Rattle.recovery.proofs.lemmas.Quiet.{asks_failed, asks_then}
-use Rattle.recovery.proofs.rolling.keep.Goals as goal
+use Rattle.recovery.proofs.settling.keep_completion.Goals as goal
 
 pub returns-in_err-put_sealed_record-clause-asks : goal.returns-in_err-put_sealed_record-clause-asks
 returns-in_err-put_sealed_record-clause-asks g c = asks_failed (lit≤ tt) c.in_err-put_sealed_record.ensures.asks _ c.from_residual.ensures.1

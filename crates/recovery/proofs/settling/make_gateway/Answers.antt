@@ -1,7 +1,7 @@
 use Rattle.std.proofs.Common.{inr}
 use Rattle.recovery.proofs.Settling.{gateway_put_there, puts_gateway}
 use Rattle.recovery.proofs.lemmas.Quiet.{quiet_in_vain, quieted}
-use Rattle.recovery.proofs.rolling.put_gateway.Goals as goal
+use Rattle.recovery.proofs.settling.make_gateway.Goals as goal
 
 pub returns-in_err-reply-clause-asks : goal.returns-in_err-reply-clause-asks
 returns-in_err-reply-clause-asks g c = quiet_in_vain (puts_gateway c.in_ok-gateway_container.ensures) c.in_err-reply.ensures _ c.from_residual-in_err-reply.ensures.1

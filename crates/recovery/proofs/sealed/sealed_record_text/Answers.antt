@@ -7,7 +7,7 @@ use Rattle.upload_texts.specs.declared.record.Record.TheVariants.{Done}
 use Rattle.upload_texts.specs.declared.sealed.Sealed.{Sealed}
 use Rattle.upload_records.specs.Native.{listed_of, sealed_record}
 use Rattle.recovery.proofs.lemmas.SealStands.{record_has_text}
-use Rattle.recovery.proofs.sealed.done_text.Goals as goal
+use Rattle.recovery.proofs.sealed.sealed_record_text.Goals as goal
 
 made : (s : Sealed) (key : List ℕ) (list : List Listed) (etag : List ℕ) → key ≡ s.key → list ≡ map listed_of s.list → etag ≡ s.etag → Done key list etag s.started (Some s.moment) ≡ sealed_record s
 made s key list etag keyed listed tagged = λ i. Done (keyed i) (listed i) (tagged i) s.started (Some s.moment)

@@ -4,7 +4,7 @@ use Rattle.recovery.specs.Interpret.{stored_due}
 use Rattle.recovery.proofs.RollCalls.{puts_record, record_keeps, written_by}
 use Rattle.recovery.proofs.lemmas.One.{not_asked}
 use Rattle.recovery.proofs.lemmas.Quiet.{quiet_in_vain, quieted}
-use Rattle.recovery.proofs.rolling.put_sealed_record.Goals as goal
+use Rattle.recovery.proofs.settling.put_sealed_record.Goals as goal
 
 pub returns-in_err-text-clause-asks : goal.returns-in_err-text-clause-asks
 returns-in_err-text-clause-asks g c = not_asked _ _ _ c.from_residual.ensures.1

@@ -9,7 +9,7 @@ ghost use Rattle.recovery.specs.Rolls.{HasGateway, HasObject, HasRecord, IsSeale
 use crate::PlanFault;
 use crate::beside::placed_in;
 use crate::interpret::{gone_in, stored_in};
-use crate::sealed::{done_text, kept_in, object_request, record_request, sealed_in};
+use crate::sealed::{kept_in, object_request, record_request, sealed_in, sealed_record_text};
 use crate::state::ask;
 use s3_machine::body_etag;
 use std::alloc::Global;
@@ -24,13 +24,13 @@ pub(crate) fn settle_store<W: Swift>(alloc: Global, store: &mut W) -> Result<(),
     ensures done { IsTrue (W.history store.old).observable → result ≡ Ok tt
         → IsSettled (present (W.history store.new)) }
 {
-    put_gateway(alloc, store)?;
+    make_gateway(alloc, store)?;
     settle_made(alloc, store)
 }
 
 /// Makes the gateway's own container, which may be there, by PUT of it (Object Storage API v1, "Create container").
 #[tactic(auto, using(crate::proofs::Settling::gateway_is_container))]
-fn put_gateway<W: Swift>(alloc: Global, store: &mut W) -> Result<(), PlanFault>
+fn make_gateway<W: Swift>(alloc: Global, store: &mut W) -> Result<(), PlanFault>
     ensures asks { Asks (always 1) (W.history store.old) (W.history store.new) Any
         (Leaves HasGateway) result }
     ensures there { IsTrue (W.history store.old).observable → result ≡ Ok tt
@@ -99,7 +99,7 @@ pub fn roll_forward<W: Swift>(
     ensures done { LeavesClear tt (W.history store.old) (W.history store.new) result }
 {
     put_sealed_object(alloc, store, sealed)?;
-    keep(alloc, store, sealed)
+    keep_completion(alloc, store, sealed)
 }
 
 /// Puts the object of a sealed completion (Object Storage API v1, "Static large objects" and "Create or replace object").
@@ -119,7 +119,7 @@ fn put_sealed_object<W: Swift>(
 }
 
 /// Puts the record of a sealed completion whose object is there, and deletes what is sealed.
-fn keep<W: Swift>(alloc: Global, store: &mut W, sealed: &Sealed) -> Result<(), PlanFault>
+fn keep_completion<W: Swift>(alloc: Global, store: &mut W, sealed: &Sealed) -> Result<(), PlanFault>
     requires { has_sealed_text sealed.now ≡ true }
     ensures asks { Asks (always 2) (W.history store.old) (W.history store.new)
         (HasObject sealed.now) (Leaves IsSettled) result }
@@ -141,7 +141,7 @@ fn put_sealed_record<W: Swift>(
         (HasObject sealed.now) (Leaves (HasRecord sealed.now)) result }
     ensures keeps { KeepsGateway (W.history store.old) (W.history store.new) }
 {
-    let text = done_text(alloc, sealed)?;
+    let text = sealed_record_text(alloc, sealed)?;
     let etag = body_etag(text.as_slice());
     let request = record_request(alloc, sealed, text)?;
     let reply = ask(store, request)?;

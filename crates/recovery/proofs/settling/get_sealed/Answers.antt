@@ -1,7 +1,7 @@
 use Rattle.recovery.proofs.RollCalls.{gets_sealed, got_none}
 use Rattle.recovery.proofs.lemmas.One.{not_asked}
 use Rattle.recovery.proofs.lemmas.Quiet.{quiet_in_vain, quieted}
-use Rattle.recovery.proofs.rolling.get_sealed.Goals as goal
+use Rattle.recovery.proofs.settling.get_sealed.Goals as goal
 
 pub returns-in_err-container-clause-asks : goal.returns-in_err-container-clause-asks
 returns-in_err-container-clause-asks g c = not_asked _ _ _ c.from_residual.ensures.1

@@ -1,7 +1,7 @@
 use Rattle.std.proofs.Common.{lit≤}
 use Rattle.recovery.proofs.RollCalls.{found_none, found_sealed}
 use Rattle.recovery.proofs.lemmas.Quiet.{asks_failed, asks_left, asks_then}
-use Rattle.recovery.proofs.rolling.settle_made.Goals as goal
+use Rattle.recovery.proofs.settling.settle_made.Goals as goal
 
 pub returns-in_err-sealed-clause-asks : goal.returns-in_err-sealed-clause-asks
 returns-in_err-sealed-clause-asks g c = asks_failed (lit≤ tt) c.in_err-sealed.ensures.asks _ c.from_residual.ensures.1
