@@ -15,9 +15,9 @@ is_after moment None = false
 is_after moment (Some since) = nat_lt since moment
 
 -- the moment is the one that is given, or before it
-abbrev pub is_up_to : ℕ → Option ℕ → Bool
-is_up_to moment None = false
-is_up_to moment (Some since) = nat_le moment since
+abbrev pub is_not_after : ℕ → Option ℕ → Bool
+is_not_after moment None = false
+is_not_after moment (Some since) = nat_le moment since
 
 -- whether a condition fails: If-Match, and without it If-Unmodified-Since
 abbrev pub fails_by : ETags → Option ℕ → List ℕ → ℕ → Bool
@@ -27,7 +27,7 @@ fails_by (Listed etags) unmodified etag modified = not (is_among etags etag)
 
 -- whether the client has the object as it is: by If-None-Match, and without it by If-Modified-Since
 abbrev pub is_known_by : ETags → Option ℕ → List ℕ → ℕ → Bool
-is_known_by Absent since etag modified = is_up_to modified since
+is_known_by Absent since etag modified = is_not_after modified since
 is_known_by Any since etag modified = true
 is_known_by (Listed etags) since etag modified = is_among etags etag
 

@@ -9,6 +9,7 @@ use crate::Listed;
 use gate_base::{Bytes, Memory};
 use md5::{Digest, Md5};
 use std::alloc::Global;
+use text_forms::append_decimal;
 
 /// Whether the numbers of a list ascend strictly (Amazon S3 API Reference, "CompleteMultipartUpload"). It takes no memory.
 pub fn rises(list: &[Listed]) -> bool
@@ -63,8 +64,7 @@ pub fn upload_etag(alloc: Global, list: &[Listed]) -> Result<Bytes, Memory>
     let text = hex::encode(alloc, digest_of(list).as_slice())?;
     let mut etag = Bytes::from_vec(text.into_bytes());
     etag.append(b"-")?;
-    let mut buffer = itoa::Buffer::new();
-    etag.append(buffer.format(list.len() as u64).as_bytes())?;
+    append_decimal(&mut etag, list.len() as u64)?;
     Ok(etag)
 }
 

@@ -1,6 +1,6 @@
 //! What a GET or a HEAD of an object may ask for: which of its bytes, and under which conditions.
 ghost use Rattle.std.specs.Prelude.{◌≡◌, ◌+◌, min};
-ghost use Rattle.s3_machine.specs.Conditions.{fails, is_after, is_among, is_known, is_up_to, no_conditions};
+ghost use Rattle.s3_machine.specs.Conditions.{fails, is_after, is_among, is_known, is_not_after, no_conditions};
 ghost use Rattle.s3_machine.specs.Ranges.{between, span_of};
 ghost use Rattle.s3_machine.specs.Reading.{judged, ranged};
 
@@ -177,7 +177,7 @@ fn is_known(conditions: &Conditions, etag: &[u8], modified: u64) -> bool
     ensures { result ≡ is_known conditions.now etag.now modified }
 {
     match &conditions.unmatched {
-        ETags::Absent => is_up_to(modified, conditions.modified),
+        ETags::Absent => is_not_after(modified, conditions.modified),
         ETags::Any => true,
         ETags::Listed(etags) => is_among(etags.as_slice(), etag),
     }
@@ -192,8 +192,8 @@ fn is_after(moment: u64, since: Option<u64>) -> bool
     }
 }
 
-fn is_up_to(moment: u64, since: Option<u64>) -> bool
-    ensures { result ≡ is_up_to moment since }
+fn is_not_after(moment: u64, since: Option<u64>) -> bool
+    ensures { result ≡ is_not_after moment since }
 {
     match since {
         Some(since) => moment <= since,
