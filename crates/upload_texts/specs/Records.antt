@@ -3,7 +3,7 @@
 use Rattle.std.specs.Prelude.{◌≡◌, ⊤, ℕ, Bool, true, ◌&&◌, ◌==◌, ◌||◌, nat_lt, cond, List, map, length, bytes_eq, Option, None, Some, codes, Result, Ok, Err}
 use Rattle.std.specs.Option.{option_map_or}
 use Rattle.std.specs.List.{list_all}
-use Rattle.serde_json.specs.Data.{Data, object, number, unsigned, string, no_members, member, Members}
+use Rattle.serde_json.specs.Data.{Data, object, number, unsigned, string, no_members, member, Members, put as with_member}
 use Rattle.serde_json.specs.Find.{get}
 use Rattle.serde_json.specs.View.{view}
 use Rattle.serde_json.specs.declared.value.Value.{Value}
@@ -56,11 +56,23 @@ open_object started key meta content_type =
 abbrev pub open_value : List ℕ → List ℕ → List Pair → ℕ → Data
 open_value key content_type meta started = open_object started key (array_of pair_value meta) content_type
 
+-- the members behind the moment, put one after another
+abbrev pub open_put : List ℕ → Data → List ℕ → Members → Members
+open_put key meta content_type ms =
+    with_member (codes "v") (number (unsigned 1)) (with_member (codes "type") (string content_type) (with_member (codes "state") (string (codes "open"))
+    (with_member (codes "meta") meta (with_member (codes "key") (string key) ms))))
+
 -- what stands behind the moment, in each version
 abbrev pub done_members : List ℕ → List ℕ → Data → ℕ → Members
 done_members etag key list version =
     member (codes "etag") (string etag) (member (codes "key") (string key) (member (codes "list") list
     (member (codes "state") (string (codes "done")) (member (codes "v") (number (unsigned version)) no_members))))
+
+-- these members, put one after another
+abbrev pub done_put : List ℕ → List ℕ → Data → ℕ → Members → Members
+done_put etag key list version ms =
+    with_member (codes "v") (number (unsigned version)) (with_member (codes "state") (string (codes "done"))
+    (with_member (codes "list") list (with_member (codes "key") (string key) (with_member (codes "etag") (string etag) ms))))
 
 -- a completion whose moment isn't known, and one whose moment is
 abbrev pub undated_value : ℕ → List ℕ → List ℕ → Data → Data
@@ -78,6 +90,7 @@ abbrev pub record_value : Record → Data
 record_value (Open key content_type meta started) = open_value key content_type meta started
 record_value (Done key list etag started moment) = done_value key list etag started moment
 
+-- the one text of a record
 unfoldable pub record_text : Record → List ℕ
 record_text r = compact_text (record_value r)
 

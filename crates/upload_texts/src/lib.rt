@@ -4,6 +4,7 @@
 
 mod forms;
 mod laws;
+mod members;
 mod places;
 mod reading;
 mod record;

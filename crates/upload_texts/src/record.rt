@@ -1,19 +1,20 @@
 //! Records of uploads.
-ghost use Rattle.std.specs.Prelude.{◌≡◌, IfOk, None, Ok, Some, true};
-ghost use Rattle.serde_json.specs.View.{view};
+ghost use Rattle.std.specs.Prelude.{◌≡◌, IfOk, None, Ok, OnOk, Some, true};
+ghost use Rattle.serde_json.specs.View.{members_view, view};
 ghost use Rattle.slo_manifest.specs.Manifest.{json_of};
 ghost use Rattle.upload_texts.specs.Places.{version_in};
 ghost use Rattle.upload_texts.specs.declared.record.Record.TheVariants.{Done, Open};
-ghost use Rattle.upload_texts.specs.Records.{done_in, done_value, has_record_text, moment_in, open_in, open_object, open_value, read_record, record_in, record_text, record_value, undated_value, dated_value, is_known_version, unless_known, ReadsRecord};
+ghost use Rattle.upload_texts.specs.Records.{done_in, done_put, done_value, has_record_text, moment_in, open_in, open_object, open_put, open_value, read_record, record_in, record_text, record_value, undated_value, dated_value, is_known_version, unless_known, ReadsRecord};
 
 use crate::forms::{is_dated, is_kept_content, is_kept_list, is_moment};
+use crate::members::{put_number, put_text, put_value};
 use crate::places::{list_at, number_at, text_at, version_at};
 use crate::reading::{is_same, listed_in, meta_in, parse, unless_known};
 use crate::values::{listed_values, pair_values, text};
 use gate_base::{Bytes, Copying, List, Memory};
 use s3_machine::Listed;
 use s3_names::{Meta, is_key};
-use serde_json::{Value, json};
+use serde_json::{Map, Value};
 use std::alloc::Global;
 use swift_marks::is_etag;
 
@@ -201,10 +202,28 @@ fn open_object(
     ensures { IfOk result
         (λ value. view value ≡ open_object started key.now (view meta.now) content_type.now) }
 {
-    let version = 1u64;
-    Ok(
-        json!(in alloc; {"at": started, "key": key, "meta": meta, "state": "open", "type": content_type, "v": version})?,
-    )
+    let mut map = Map::new(alloc);
+    put_number(&mut map, alloc, "at", started)?;
+    put_open(&mut map, alloc, key, meta, content_type)?;
+    Ok(Value::Object(map))
+}
+
+/// What stands behind the moment of an open upload.
+fn put_open(
+    map: &mut Map<String, Value>,
+    alloc: Global,
+    key: &str,
+    meta: &Value,
+    content_type: &str,
+) -> Result<(), Memory>
+    ensures { OnOk result (members_view map.new.entries ≡ open_put key.now (view meta.now)
+        content_type.now (members_view map.old.entries)) }
+{
+    put_text(map, alloc, "key", key)?;
+    put_value(map, alloc, "meta", meta)?;
+    put_text(map, alloc, "state", "open")?;
+    put_text(map, alloc, "type", content_type)?;
+    put_number(map, alloc, "v", 1)
 }
 
 #[tactic(auto, using(crate::proofs::Limits::done_key, crate::proofs::Limits::done_list, crate::proofs::Limits::done_etag))]
@@ -239,10 +258,10 @@ fn undated_value(
     ensures { IfOk result
         (λ value. view value ≡ undated_value started etag.now key.now (view list.now)) }
 {
-    let version = 1u64;
-    Ok(
-        json!(in alloc; {"at": started, "etag": etag, "key": key, "list": list, "state": "done", "v": version})?,
-    )
+    let mut map = Map::new(alloc);
+    put_number(&mut map, alloc, "at", started)?;
+    put_done(&mut map, alloc, etag, key, list, 1)?;
+    Ok(Value::Object(map))
 }
 
 fn dated_value(
@@ -256,10 +275,30 @@ fn dated_value(
     ensures { IfOk result
         (λ value. view value ≡ dated_value started moment etag.now key.now (view list.now)) }
 {
-    let version = 2u64;
-    Ok(
-        json!(in alloc; {"at": started, "done": moment, "etag": etag, "key": key, "list": list, "state": "done", "v": version})?,
-    )
+    let mut map = Map::new(alloc);
+    put_number(&mut map, alloc, "at", started)?;
+    put_number(&mut map, alloc, "done", moment)?;
+    put_done(&mut map, alloc, etag, key, list, 2)?;
+    Ok(Value::Object(map))
+}
+
+/// What stands behind the moments of a completion, in each version.
+fn put_done(
+    map: &mut Map<String, Value>,
+    alloc: Global,
+    etag: &str,
+    key: &str,
+    list: &Value,
+    version: u64,
+) -> Result<(), Memory>
+    ensures { OnOk result (members_view map.new.entries ≡ done_put etag.now key.now
+        (view list.now) version (members_view map.old.entries)) }
+{
+    put_text(map, alloc, "etag", etag)?;
+    put_text(map, alloc, "key", key)?;
+    put_value(map, alloc, "list", list)?;
+    put_text(map, alloc, "state", "done")?;
+    put_number(map, alloc, "v", version)
 }
 
 /// The record that stands in the places of a value, where that has a text.

@@ -1,6 +1,5 @@
 //! A completion that is sealed.
 ghost use Rattle.std.specs.Prelude.{◌≡◌, ◌^◌, nat_lt, IfOk, None, OnOk, Some, true};
-ghost use Rattle.serde_json.specs.Data.{number, put as with_member, string, unsigned};
 ghost use Rattle.serde_json.specs.Find.{get};
 ghost use Rattle.serde_json.specs.View.{members_view, view};
 ghost use Rattle.slo_manifest.specs.Manifest.{json_of};
@@ -10,13 +9,14 @@ ghost use Rattle.s3_machine.specs.Uploads.{id_value};
 ghost use Rattle.upload_texts.specs.Sealed.{has_sealed_text, read_sealed, sealed_in, sealed_text, sealed_value, sealed_object, names_put, rest_put, is_first_version, ReadsSealed};
 
 use crate::forms::{is_kept_content, is_moment, is_sealed_list};
+use crate::members::{put_number, put_text, put_value};
 use crate::places::{list_at, number_at, text_at, version_at};
 use crate::reading::{is_same, meta_in, parse, parts_in, unless_first};
 use crate::record::RecordFault;
 use crate::values::{pair_values, part_values, text};
 use gate_base::{Bytes, Copying, List, Memory};
 use s3_names::{Meta, id_digits, id_of, is_bucket, is_key};
-use serde_json::{Map, ToValue, Value, put};
+use serde_json::{Map, Value};
 use std::alloc::Global;
 use swift_marks::is_etag;
 
@@ -206,47 +206,6 @@ fn put_rest(
     put_number(map, alloc, "started", started)?;
     put_text(map, alloc, "type", content_type)?;
     put_number(map, alloc, "v", 1)
-}
-
-fn put_text(
-    map: &mut Map<String, Value>,
-    alloc: Global,
-    key: &str,
-    text: &str,
-) -> Result<(), Memory>
-    ensures { OnOk result (members_view map.new.entries ≡ with_member key.now (string text.now)
-        (members_view map.old.entries)) }
-{
-    let value = text.to_value(alloc)?;
-    put(map, alloc, key, value)?;
-    Ok(())
-}
-
-fn put_value(
-    map: &mut Map<String, Value>,
-    alloc: Global,
-    key: &str,
-    value: &Value,
-) -> Result<(), Memory>
-    ensures { OnOk result (members_view map.new.entries ≡ with_member key.now (view value.now)
-        (members_view map.old.entries)) }
-{
-    let value = value.to_value(alloc)?;
-    put(map, alloc, key, value)?;
-    Ok(())
-}
-
-fn put_number(
-    map: &mut Map<String, Value>,
-    alloc: Global,
-    key: &str,
-    count: u64,
-) -> Result<(), Memory>
-    ensures { OnOk result (members_view map.new.entries ≡ with_member key.now
-        (number (unsigned count)) (members_view map.old.entries)) }
-{
-    put(map, alloc, key, Value::from(count))?;
-    Ok(())
 }
 
 /// Every id has its digits: it has 128 bits.
