@@ -1,13 +1,10 @@
--- Values as they are written and read: numbers, ETags, read lists; and the rows of an ETag and of a read list.
-use Rattle.std.proofs.Common.{◌≡◌, ℕ, ◌-◌, ◌^◌, ◌<◌, ◌≤◌, Bool, true, false, List, [], ◌∷◌, length, map, reverse, Some, None, refl, sym, ap, ◌∙◌, rules, arith}
-use Rattle.std.specs.Prelude.{◌&&◌, ◌==◌, not, codes, decimal, nat_le, nat_lt, bytes_eq, slice_index, slice_range, option_map, is_some, if◌then◌else◌}
-use Rattle.std.specs.List.{list_all}
-use Rattle.std.specs.Str.Parse.{digits_value}
-use Rattle.std.proofs.lemmas.Bool.{and_parts, and_from, leb-true, lt-ltb, le-leb, false≢true}
+-- Values as they are written and read: numbers and ETags; and the row of an ETag.
+use Rattle.std.proofs.Common.{◌≡◌, ℕ, ◌-◌, ◌^◌, ◌<◌, ◌≤◌, Bool, true, false, List, [], ◌∷◌, length, map, reverse, Some, None, refl, ap, ◌∙◌, arith}
+use Rattle.std.specs.Prelude.{◌&&◌, ◌==◌, not, codes, decimal, nat_le, nat_lt, slice_index, slice_range, option_map, is_some, if◌then◌else◌}
+use Rattle.std.proofs.lemmas.Bool.{and_parts, and_from, leb-true, false≢true}
 use Rattle.std.proofs.lemmas.Bool.Decides.{nat_tests}
 use Rattle.std.proofs.lemmas.List.Elements.{All-head, All-weaker}
 use Rattle.std.proofs.lemmas.List.Sums.{AllPass-from_list_all, list_all-from_AllPass}
-use Rattle.std.proofs.lemmas.Slice.Eq.{bytes_eq-Decides}
 use Rattle.gate_base.specs.Ascii.{is_digit}
 use Rattle.httparse.specs.Grammar.{AllPass, is_ows, is_value_byte, is_token_byte}
 use Rattle.httparse.proofs.TrimLemmas.{AllPass-reverse}
