@@ -8,9 +8,8 @@ ghost use Rattle.swift_replies.specs.AnswerText.{list_text, container_value, ite
 use gate_base::{Bytes, Memory};
 use serde_json::{Value, json};
 use std::alloc::{AllocError, Global};
-use std::str;
 use swift_calls::NameItem;
-use text_forms::is_utf8;
+use text_forms::{is_utf8, text_of};
 
 /// The text of a listing of containers; none where a name isn't UTF-8.
 pub(crate) fn containers_text(alloc: Global, names: &[Bytes]) -> Result<Option<Bytes>, Memory>
@@ -61,18 +60,6 @@ fn is_whole(size: u64) -> bool
     ensures { result ≡ nat_lt size (2 ^ 64) }
 {
     true
-}
-
-/// Bytes that are UTF-8, as text.
-#[tactic(auto, using(crate::proofs::ListTextLemmas::utf8_after_all))]
-fn text_of(bytes: &[u8]) -> &str
-    requires { is_utf8 bytes.now ≡ true }
-    ensures { result.now ≡ bytes.now }
-{
-    match str::from_utf8(bytes) {
-        Ok(text) => text,
-        Err(_) => unreachable!(),
-    }
 }
 
 #[tactic(auto, using(crate::proofs::ListTextLemmas::passes, crate::proofs::ListTextLemmas::map_more))]

@@ -10,13 +10,14 @@ use crate::forms::{is_dated, is_kept_content, is_kept_list, is_moment};
 use crate::members::{put_number, put_text, put_value};
 use crate::places::{list_at, number_at, text_at, version_at};
 use crate::reading::{is_same, listed_in, meta_in, parse, unless_known};
-use crate::values::{listed_values, pair_values, text};
+use crate::values::{listed_values, pair_values};
 use gate_base::{Bytes, Copying, List, Memory};
 use s3_machine::Listed;
 use s3_names::{Meta, is_key};
 use serde_json::{Map, Value};
 use std::alloc::Global;
 use swift_marks::is_etag;
+use text_forms::text_of;
 
 /// What is kept of an upload beside its bucket, under its id. ETags stand without quotes; times are seconds since the
 /// beginning of 1970.
@@ -187,8 +188,8 @@ fn open_value(
         (λ value. view value ≡ open_value key.now content_type.now meta.now started) }
 {
     let meta = Value::Array(pair_values(alloc, meta.pairs())?);
-    let key = text(key.as_slice());
-    let content_type = text(content_type.as_slice());
+    let key = text_of(key.as_slice());
+    let content_type = text_of(content_type.as_slice());
     open_object(alloc, key, content_type, &meta, started)
 }
 
@@ -240,8 +241,8 @@ fn done_value(
         (λ value. view value ≡ done_value key.now list.now etag.now started moment) }
 {
     let list = Value::Array(listed_values(alloc, list.as_slice())?);
-    let key = text(key.as_slice());
-    let etag = text(etag.as_slice());
+    let key = text_of(key.as_slice());
+    let etag = text_of(etag.as_slice());
     match moment {
         Some(moment) => dated_value(alloc, key, &list, etag, started, moment),
         None => undated_value(alloc, key, &list, etag, started),

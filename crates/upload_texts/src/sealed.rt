@@ -13,12 +13,13 @@ use crate::members::{put_number, put_text, put_value};
 use crate::places::{list_at, number_at, text_at, version_at};
 use crate::reading::{is_same, meta_in, parse, parts_in, unless_first};
 use crate::record::RecordFault;
-use crate::values::{pair_values, part_values, text};
+use crate::values::{pair_values, part_values};
 use gate_base::{Bytes, Copying, List, Memory};
 use s3_names::{Meta, id_digits, id_of, is_bucket, is_key};
 use serde_json::{Map, Value};
 use std::alloc::Global;
 use swift_marks::is_etag;
+use text_forms::text_of;
 
 /// A part as a completion lists it: its number, its ETag without quotes and its size in bytes.
 #[derive(Debug, Drop)]
@@ -129,11 +130,11 @@ impl Sealed {
         let list = Value::Array(part_values(alloc, self.list.as_slice())?);
         let meta = Value::Array(pair_values(alloc, self.meta.pairs())?);
         let id = id_digits(self.id);
-        let bucket = text(self.bucket.as_slice());
-        let etag = text(self.etag.as_slice());
-        let key = text(self.key.as_slice());
-        let content_type = text(self.content_type.as_slice());
-        let id = text(&id);
+        let bucket = text_of(self.bucket.as_slice());
+        let etag = text_of(self.etag.as_slice());
+        let key = text_of(self.key.as_slice());
+        let content_type = text_of(self.content_type.as_slice());
+        let id = text_of(&id);
         let (started, moment) = (self.started, self.moment);
         object(
             alloc,

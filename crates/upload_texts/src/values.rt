@@ -1,7 +1,6 @@
 //! Values of JSON for what is kept.
 ghost use Rattle.std.specs.Prelude.{◌≡◌, map, true, IfOk};
 ghost use Rattle.std.specs.List.{list_all};
-ghost use Rattle.std.specs.Str.{is_utf8};
 ghost use Rattle.serde_json.specs.View.{view};
 ghost use Rattle.s3_machine.specs.Limits.{is_proper_pair};
 ghost use Rattle.upload_texts.specs.Places.{listed_value, pair_value};
@@ -13,19 +12,7 @@ use gate_base::{Memory, Pair};
 use s3_machine::Listed;
 use serde_json::{Value, json};
 use std::alloc::Global;
-use std::str;
-
-/// Bytes that are UTF-8, as text.
-#[tactic(auto, using(crate::proofs::Utf8::utf8_after_all))]
-pub(crate) fn text(bytes: &[u8]) -> &str
-    requires { is_utf8 bytes.now ≡ true }
-    ensures { result.now ≡ bytes.now }
-{
-    match str::from_utf8(bytes) {
-        Ok(text) => text,
-        Err(_) => unreachable!(),
-    }
-}
+use text_forms::text_of;
 
 /// `[NAME,VALUE]` for each entry of metadata.
 #[tactic(auto, using(crate::proofs::Lists::map_more, crate::proofs::Lists::pair_there))]
@@ -45,8 +32,8 @@ fn pair_value(alloc: Global, pair: &Pair) -> Result<Value, Memory>
     requires { is_proper_pair pair.now ≡ true }
     ensures { IfOk result (λ value. view value ≡ pair_value pair.now) }
 {
-    let name = text(pair.name.as_slice());
-    let value = text(pair.value.as_slice());
+    let name = text_of(pair.name.as_slice());
+    let value = text_of(pair.value.as_slice());
     Ok(json!(in alloc; [name, value])?)
 }
 
@@ -69,7 +56,7 @@ fn listed_value(alloc: Global, listed: &Listed) -> Result<Value, Memory>
     ensures { IfOk result (λ value. view value ≡ listed_value listed.now) }
 {
     let number = u64::from(listed.number);
-    let etag = text(listed.etag.as_slice());
+    let etag = text_of(listed.etag.as_slice());
     Ok(json!(in alloc; [number, etag])?)
 }
 
@@ -92,7 +79,7 @@ fn part_value(alloc: Global, part: &SealedPart) -> Result<Value, Memory>
     ensures { IfOk result (λ value. view value ≡ part_value part.now) }
 {
     let number = u64::from(part.number);
-    let etag = text(part.etag.as_slice());
+    let etag = text_of(part.etag.as_slice());
     let size = part.size;
     Ok(json!(in alloc; [number, etag, size])?)
 }
