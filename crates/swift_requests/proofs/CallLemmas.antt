@@ -37,7 +37,7 @@ use Rattle.swift_calls.specs.declared.calls.SwiftRequest.TheVariants.{
 use Rattle.swift_replies.specs.AnswerText.{readers_text, meta_fields, header_pair}
 use Rattle.swift_replies.specs.Answers.{both, segments_in}
 use Rattle.swift_requests.specs.CallText.{account_text, container_text, object_text, listing_text, target_text, call_fields, call_message}
-use Rattle.swift_requests.specs.Calls.{is_dash, place_of, places_of, range_of, limit_of, up_to, containers_listing, names_listing, unasked, is_word, asks_manifest, put_listed, put_manifest, listed_by, put_object, bare_object_call, call_at, call_within, account_in, call_of, account_names, container_names}
+use Rattle.swift_requests.specs.Calls.{is_dash, byte_place, places_of, range_of, limit_of, up_to, containers_listing, names_listing, unasked, is_word, asks_manifest, put_listed, put_manifest, listed_by, put_object, bare_object_call, call_at, call_within, account_in, call_of, account_names, container_names}
 use Rattle.swift_replies.specs.Fields.{before_limit, moment_in, readers_by, meta_in}
 use Rattle.http_answers.specs.Fields.{needed, at_most_one}
 use Rattle.swift_requests.specs.Paths.{path_of, last_value, values_named}
@@ -201,7 +201,7 @@ readers_read : (readers : ReadList) → readers_by (readers_text readers) ≡ So
 readers_read Nobody = refl
 readers_read Everybody = refl
 
-place_read : (byte : ℕ) → byte < 9223372036854775808 → place_of (decimal byte) ≡ Some byte
+place_read : (byte : ℕ) → byte < 9223372036854775808 → byte_place (decimal byte) ≡ Some byte
 place_read byte low =
     let test : nat_le byte 9223372036854775807 ≡ true = grind (arith, nat_tests) in
     ap (option_and_then (up_to 9223372036854775807)) (plain_decimal byte (omega (arith, low)))
@@ -213,7 +213,7 @@ digit_no_dash b h = grind (arith, nat_tests)
 places_read : (first last : ℕ) → first < 9223372036854775808 → last < 9223372036854775808 → places_of (decimal first ++ 45 ∷ decimal last) ≡ Some (first, last)
 places_read first last low high =
     let lacks : Lacks is_dash (decimal first) = weaker is_digit (λ b. not (is_dash b)) digit_no_dash (decimal first) (decimal_digits first (omega (arith, low))) in
-    ap₂ (λ x y. both (λ f l. (f, l)) (place_of x) (place_of y)) (before_at is_dash (decimal first) (decimal last) 45 refl lacks)
+    ap₂ (λ x y. both (λ f l. (f, l)) (byte_place x) (byte_place y)) (before_at is_dash (decimal first) (decimal last) 45 refl lacks)
     (after_at is_dash (decimal first) (decimal last) 45 refl lacks)
     ∙ ap₂ (both (λ f l. (f, l))) (place_read first low) (place_read last high)
 

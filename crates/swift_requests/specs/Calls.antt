@@ -79,12 +79,12 @@ abbrev pub is_dash : ℕ → Bool
 is_dash byte = byte == 45
 
 -- the place of a byte, below 2^63
-abbrev pub place_of : List ℕ → Option ℕ
-place_of text = option_and_then (up_to 9223372036854775807) (plain_number text)
+abbrev pub byte_place : List ℕ → Option ℕ
+byte_place text = option_and_then (up_to 9223372036854775807) (plain_number text)
 
 -- `FROM-TO`
 abbrev pub places_of : List ℕ → Option (ℕ × ℕ)
-places_of text = both (λ first last. (first, last)) (place_of (before_first is_dash text)) (place_of (after_first is_dash text))
+places_of text = both (λ first last. (first, last)) (byte_place (before_first is_dash text)) (byte_place (after_first is_dash text))
 
 -- `bytes=FROM-TO`
 abbrev pub range_of : List ℕ → Option (ℕ × ℕ)

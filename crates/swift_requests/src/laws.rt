@@ -19,7 +19,7 @@ pub fn law_call_reads_back()
 }
 
 /// The head that is written for a call is within what a store reads: less than 16,384 bytes, fewer than 100 fields.
-pub fn law_call_head_is_small()
+pub fn law_call_head_fits()
     ensures bytes { (place : Place) (call : SwiftRequest) → IsPlace place → Fit call
         → length (call_head place call) < 16384 }
     ensures fields { (place : Place) (call : SwiftRequest) → Fit call

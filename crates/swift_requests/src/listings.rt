@@ -1,5 +1,5 @@
 //! The queries of listings.
-ghost use Rattle.std.specs.Prelude.{◌≡◌, IfOk, option_and_then, option_map};
+ghost use Rattle.std.specs.Prelude.{◌≡◌, ◌∷◌, [], IfOk, option_and_then, option_map};
 ghost use Rattle.swift_requests.specs.Paths.{has_more, value_named, first_value, last_value, values_named};
 ghost use Rattle.swift_requests.specs.Calls.{account_names, container_names, containers_listing, names_listing, is_json, limit_of};
 
@@ -59,17 +59,36 @@ pub(crate) fn names_listing(
     let Some(prefix) = last_value(alloc, rest, b"prefix")? else {
         return Ok(None);
     };
-    if !is_json(format.as_slice()) {
-        return Ok(None);
+    Ok(names_asked(
+        container,
+        format.as_slice(),
+        limit.as_slice(),
+        marker,
+        prefix,
+    ))
+}
+
+/// The listing that the values of its query ask for.
+fn names_asked(
+    container: Bytes,
+    format: &[u8],
+    limit: &[u8],
+    marker: Bytes,
+    prefix: Bytes,
+) -> Option<SwiftRequest>
+    ensures { result ≡ names_listing container (format.now ∷ limit.now ∷ marker ∷ prefix ∷ []) }
+{
+    if !is_json(format) {
+        return None;
     }
-    match limit_of(limit.as_slice()) {
-        Some(limit) => Ok(Some(SwiftRequest::ListNames {
+    match limit_of(limit) {
+        Some(limit) => Some(SwiftRequest::ListNames {
             container,
             prefix,
             marker,
             limit,
-        })),
-        None => Ok(None),
+        }),
+        None => None,
     }
 }
 

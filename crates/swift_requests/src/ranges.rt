@@ -1,6 +1,6 @@
 //! The range of a GET.
 ghost use Rattle.std.specs.Prelude.{◌≡◌};
-ghost use Rattle.swift_requests.specs.Calls.{place_of, places_of, range_of, range_in};
+ghost use Rattle.swift_requests.specs.Calls.{byte_place, places_of, range_of, range_in};
 
 use gate_base::{Pair, cut};
 use http_answers::{field, plain_number};
@@ -38,14 +38,14 @@ fn places_of(text: &[u8]) -> Option<(u64, u64)>
     ensures { result ≡ places_of text.now }
 {
     let (first, last) = cut(text, b'-');
-    let first = place_of(first)?;
-    let last = place_of(last)?;
+    let first = byte_place(first)?;
+    let last = byte_place(last)?;
     Some((first, last))
 }
 
 /// The place of a byte, below 2^63.
-fn place_of(text: &[u8]) -> Option<u64>
-    ensures { result ≡ place_of text.now }
+fn byte_place(text: &[u8]) -> Option<u64>
+    ensures { result ≡ byte_place text.now }
 {
     match plain_number(text) {
         Some(place) if place <= LAST_PLACE => Some(place),
