@@ -31,7 +31,7 @@ fn joined(alloc: Global, before: &Bytes, text: Bytes) -> Result<Bytes, Memory>
 }
 
 /// What is written so far with the answer of a call behind it.
-fn answered(
+fn with_answer(
     alloc: Global,
     before: &Bytes,
     call: &SwiftRequest,
@@ -73,7 +73,7 @@ fn ready_reply<S: Shelf>(
     ensures text { IfOk result (λ found. found.1 ≡ before.now ++ answer_text call.now found.0) }
 {
     let reply = reply_to(alloc, shelf, call)?;
-    let ready = answered(alloc, before, call, &reply)?;
+    let ready = with_answer(alloc, before, call, &reply)?;
     Ok((reply, ready))
 }
 
@@ -103,7 +103,7 @@ fn apply_ready<S: Shelf>(
 }
 
 /// What is written so far with an answer behind it that says its status alone.
-fn refused(alloc: Global, before: &Bytes, status: u16) -> Result<Bytes, Memory>
+fn with_refusal(alloc: Global, before: &Bytes, status: u16) -> Result<Bytes, Memory>
     ensures { IfOk result (λ all. all ≡ before.now ++ refusal status) }
 {
     let text = refusal(alloc, status)?;
@@ -128,13 +128,13 @@ pub fn serve<S: Shelf>(
         (S.model shelf.old).account (S.model shelf.new).account out.old out.new result }
 {
     if !has_token(place, &message) {
-        *out = refused(alloc, out, 401)?;
+        *out = with_refusal(alloc, out, 401)?;
         return Ok(());
     }
     match read_call(alloc, place, message) {
         Ok(call) => serve_call(alloc, shelf, call, out),
         Err(WireFault::NotACall) => {
-            *out = refused(alloc, out, 400)?;
+            *out = with_refusal(alloc, out, 400)?;
             Ok(())
         }
         Err(WireFault::Memory) => Err(StoreFault::Memory),
