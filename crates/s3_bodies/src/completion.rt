@@ -28,7 +28,7 @@ fn all_listed(alloc: Global, bytes: &[u8]) -> Result<List<Listed>, BodyFault>
     if parts.len() > MOST_PARTS {
         return Err(BodyFault::TooMany);
     }
-    Ok(listed(alloc, parts.as_slice())?)
+    Ok(owned_parts(alloc, parts.as_slice())?)
 }
 
 fn completion_parts(alloc: Global, bytes: &[u8]) -> Result<List<(u32, &[u8])>, BodyFault>
@@ -63,7 +63,8 @@ fn parts(alloc: Global, bytes: &[u8]) -> Result<(List<(u32, &[u8])>, &[u8], usiz
     }
 }
 
-fn listed(alloc: Global, parts: &[(u32, &[u8])]) -> Result<List<Listed>, Memory>
+// The parts as a list that owns its ETags, which the body lends.
+fn owned_parts(alloc: Global, parts: &[(u32, &[u8])]) -> Result<List<Listed>, Memory>
     ensures { IfOk result (λ list. list ≡ map (λ part. listed_of (part_of part)) parts.now) }
 {
     let mut list = List::new(alloc);

@@ -1,4 +1,4 @@
-//! The body of a DeleteObjects.
+//! `Deletes`, what the body of a DeleteObjects asks for: the keys to delete, and whether its reply is quiet.
 ghost use Rattle.std.specs.Prelude.{IfOk};
 ghost use Rattle.s3_bodies.specs.Delete.{AnswersDelete};
 ghost use Rattle.s3_bodies.specs.DeleteReaders.{AddsObjects, AnswersTexts, SkipsInside, texts_of};
@@ -74,18 +74,19 @@ fn inside(alloc: Global, bytes: &[u8]) -> Result<(List<&[u8]>, bool, &[u8], usiz
     ensures { IfOk result
         (λ found. SkipsInside bytes.now (texts_of found.0, found.1) found.2.now found.3) }
 {
-    let (before, rest, left) = objects(List::new(alloc), bytes)?;
+    let (before, rest, left) = add_objects(List::new(alloc), bytes)?;
     match quiet(rest) {
         Ok((quiet, after)) => {
-            let (all, rest, left) = objects(before, after)?;
+            let (all, rest, left) = add_objects(before, after)?;
             Ok((all, quiet, rest, left))
         }
         Err(other) => Ok((before, false, rest, left.min(other))),
     }
 }
 
-// Adds all objects that can be read; with the bytes behind them, and how many were left where no further one could be read.
-fn objects<'a>(
+// Adds the texts of all objects that can be read to those that are there; with the bytes behind the objects, and how many were left
+// where no further one could be read.
+fn add_objects<'a>(
     have: List<&'a [u8]>,
     bytes: &'a [u8],
 ) -> Result<(List<&'a [u8]>, &'a [u8], usize), Memory>

@@ -10,5 +10,5 @@ returns c = (
   map part_of c.in_ok-parts.parts,
   c.in_ok-parts.ensures,
   omega (arith, length-map c.in_ok-parts.parts part_of, c.len.ensures, c.if-len-gt-MOST_PARTS.false),
-  c.in_ok-listed.ensures ∙ ap (map (λ part. listed_of (part_of part))) c.as_slice.ensures ∙ listed_all c.in_ok-parts.parts,
+  c.in_ok-owned_parts.ensures ∙ ap (map (λ part. listed_of (part_of part))) c.as_slice.ensures ∙ listed_all c.in_ok-parts.parts,
 )

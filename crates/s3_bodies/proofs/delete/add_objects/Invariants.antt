@@ -1,6 +1,6 @@
 use Rattle.std.proofs.Common.{length}
 use Rattle.s3_bodies.proofs.DeleteLemmas.{Grows}
-use Rattle.s3_bodies.proofs.delete.objects.Given as goal
+use Rattle.s3_bodies.proofs.delete.add_objects.Given as goal
 
 abbrev pub invariant-objects : goal.invariant-objects
 invariant-objects l = Grows l.fn.have l.bytes l.texts l.rest

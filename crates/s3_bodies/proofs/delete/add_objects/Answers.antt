@@ -1,6 +1,6 @@
 use Rattle.std.proofs.Common.{subst, sym}
 use Rattle.s3_bodies.proofs.DeleteLemmas.{Grows, grows_last, grows_next}
-use Rattle.s3_bodies.proofs.delete.objects.Goals as goal
+use Rattle.s3_bodies.proofs.delete.add_objects.Goals as goal
 
 pub objects-preserved : goal.objects-preserved
 objects-preserved c =
