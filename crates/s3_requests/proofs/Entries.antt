@@ -8,7 +8,7 @@ use Rattle.gate_base.specs.declared.page.Pair.{Pair}
 use Rattle.s3_names.specs.Meta.{names_ascend, has_name, with_pair}
 use Rattle.s3_names.proofs.lemmas.MetaLemmas.{with_pair_ascends, with_pair_keeps, with_pair_has, with_pair_only, nowhere, is_one}
 use Rattle.s3_machine.specs.Limits.{is_kept_header}
-use Rattle.s3_requests.specs.Content.{is_own_header, is_entry, entry_name, entered, given_meta}
+use Rattle.s3_requests.specs.Content.{is_own_header, is_entry, meta_entry_name, entered, given_meta}
 use Rattle.http_wire.specs.Headers.{text_of}
 use Rattle.s3_requests.specs.Laws.{entry_of, Makes, HasMade}
 
@@ -40,7 +40,7 @@ same_if true false a b own also h k same = absurd (apart a b own k same)
 same_if false true a b own also h k same = absurd (apart b a also h (sym same))
 same_if false false a b own also h k same = same
 
-same_name : (a b : List ℕ) → is_entry a ≡ true → is_entry b ≡ true → entry_name a ≡ entry_name b → a ≡ b
+same_name : (a b : List ℕ) → is_entry a ≡ true → is_entry b ≡ true → meta_entry_name a ≡ meta_entry_name b → a ≡ b
 same_name a b h k same = same_if (is_own_header a) (is_own_header b) a b refl refl h k same
 
 -- ---- one more header
@@ -54,11 +54,11 @@ keeps_if : (b : Bool) (name value : List ℕ) (meta : List Pair) (pair : Pair) �
 keeps_if true name value meta pair c = with_pair_keeps name value meta pair c
 keeps_if false name value meta pair c = c
 
-sound_if : (entry has : Bool) (headers meta : List Pair) (header : Pair) → is_entry header.name ≡ entry → has_name (entry_name header.name) meta ≡ has → Contains headers header → Sound headers meta
-    → Sound headers (cond (entry && not has) (with_pair (entry_name header.name) (text_of header.name headers) meta) meta)
+sound_if : (entry has : Bool) (headers meta : List Pair) (header : Pair) → is_entry header.name ≡ entry → has_name (meta_entry_name header.name) meta ≡ has → Contains headers header → Sound headers meta
+    → Sound headers (cond (entry && not has) (with_pair (meta_entry_name header.name) (text_of header.name headers) meta) meta)
 sound_if true false headers meta header e f given sound = record {
-  ascends = with_pair_ascends (entry_name header.name) (text_of header.name headers) meta sound.ascends f;
-  made = λ entry c. of entry (with_pair_only (entry_name header.name) (text_of header.name headers) meta entry c);
+  ascends = with_pair_ascends (meta_entry_name header.name) (text_of header.name headers) meta sound.ascends f;
+  made = λ entry c. of entry (with_pair_only (meta_entry_name header.name) (text_of header.name headers) meta entry c);
 }
   where
     of : (entry : Pair) → (entry ≡ entry_of headers header) ⊎ Contains meta entry → Makes headers entry
@@ -91,17 +91,17 @@ found name (pair ∷ pairs) h = of (found name pairs) (either (bytes_eq pair.nam
         let rest = others e in
         record { pair = rest.pair; there = Contains-append_right (pair ∷ []) pairs rest.pair rest.there; named = rest.named }
 
-has_if : (has : Bool) (headers meta : List Pair) (header : Pair) → is_entry header.name ≡ true → has_name (entry_name header.name) meta ≡ has → Sound headers meta
-    → Contains (cond (is_entry header.name && not has) (with_pair (entry_name header.name) (text_of header.name headers) meta) meta) (entry_of headers header)
+has_if : (has : Bool) (headers meta : List Pair) (header : Pair) → is_entry header.name ≡ true → has_name (meta_entry_name header.name) meta ≡ has → Sound headers meta
+    → Contains (cond (is_entry header.name && not has) (with_pair (meta_entry_name header.name) (text_of header.name headers) meta) meta) (entry_of headers header)
 has_if false headers meta header e f sound =
-    subst (λ b. Contains (cond (b && true) (with_pair (entry_name header.name) (text_of header.name headers) meta) meta) (entry_of headers header)) (sym e)
-    (with_pair_has (entry_name header.name) (text_of header.name headers) meta)
+    subst (λ b. Contains (cond (b && true) (with_pair (meta_entry_name header.name) (text_of header.name headers) meta) meta) (entry_of headers header)) (sym e)
+    (with_pair_has (meta_entry_name header.name) (text_of header.name headers) meta)
 has_if true headers meta header e f sound =
-    let one = found (entry_name header.name) meta f in
+    let one = found (meta_entry_name header.name) meta f in
     let by = sound.made one.pair one.there in
     let name : by.header.name ≡ header.name = same_name by.header.name header.name by.makes e (sym (ap (λ p. p.name) by.is) ∙ one.named) in
-    let same : one.pair ≡ entry_of headers header = by.is ∙ ap (λ n. (let p : Pair = record { name = entry_name n; value = text_of n headers } in p)) name in
-    subst (λ b. Contains (cond (b && false) (with_pair (entry_name header.name) (text_of header.name headers) meta) meta) (entry_of headers header)) (sym e)
+    let same : one.pair ≡ entry_of headers header = by.is ∙ ap (λ n. (let p : Pair = record { name = meta_entry_name n; value = text_of n headers } in p)) name in
+    subst (λ b. Contains (cond (b && false) (with_pair (meta_entry_name header.name) (text_of header.name headers) meta) meta) (entry_of headers header)) (sym e)
     (subst (λ p. Contains meta p) same one.there)
 
 -- ---- all of them
@@ -110,10 +110,10 @@ all_keep : (headers rest meta : List Pair) (pair : Pair) → Contains meta pair 
 all_keep headers [] meta pair c = c
 all_keep headers (header ∷ rest) meta pair c =
     all_keep headers rest (entered headers meta header) pair
-    (keeps_if (is_entry header.name && not (has_name (entry_name header.name) meta)) (entry_name header.name) (text_of header.name headers) meta pair c)
+    (keeps_if (is_entry header.name && not (has_name (meta_entry_name header.name) meta)) (meta_entry_name header.name) (text_of header.name headers) meta pair c)
 
 one_more : (headers meta : List Pair) (header : Pair) → Contains headers header → Sound headers meta → Sound headers (entered headers meta header)
-one_more headers meta header given sound = sound_if (is_entry header.name) (has_name (entry_name header.name) meta) headers meta header refl refl given sound
+one_more headers meta header given sound = sound_if (is_entry header.name) (has_name (meta_entry_name header.name) meta) headers meta header refl refl given sound
 
 all_sound : (headers rest meta : List Pair) → ((header : Pair) → Contains rest header → Contains headers header) → Sound headers meta → Sound headers (fold (entered headers) meta rest)
 all_sound headers [] meta part sound = sound
@@ -133,7 +133,7 @@ all_whole headers (first ∷ rest) meta part sound header c e =
         → Contains (first ∷ []) header ⊎ Contains rest header → Contains (fold (entered headers) (entered headers meta first) rest) (entry_of headers header)
     of others (inl one) =
         let is : header ≡ first = is_one first header one in
-        let put : Contains (entered headers meta first) (entry_of headers first) = has_if (has_name (entry_name first.name) meta) headers meta first (sym (ap (λ h. is_entry h.name) is) ∙ e) refl sound in
+        let put : Contains (entered headers meta first) (entry_of headers first) = has_if (has_name (meta_entry_name first.name) meta) headers meta first (sym (ap (λ h. is_entry h.name) is) ∙ e) refl sound in
         all_keep headers rest (entered headers meta first) (entry_of headers header) (subst (λ h. Contains (entered headers meta first) (entry_of headers h)) (sym is) put)
     of others (inr last) = others last e
 

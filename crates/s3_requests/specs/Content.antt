@@ -58,14 +58,14 @@ abbrev pub is_entry : List ℕ → Bool
 is_entry name = is_own_header name || is_kept_header name
 
 -- the name of the entry: `-` and what follows `x-amz-meta-`, or the header's own
-abbrev pub entry_name : List ℕ → List ℕ
-entry_name name = if is_own_header name then drop 10 name else name
+abbrev pub meta_entry_name : List ℕ → List ℕ
+meta_entry_name name = if is_own_header name then drop 10 name else name
 
 -- the entry of a header, with the text of all headers of its name, is put in its place where its name isn't there
 abbrev pub entered : List Pair → List Pair → Pair → List Pair
 entered headers meta header =
-    if is_entry header.name && not (has_name (entry_name header.name) meta)
-    then with_pair (entry_name header.name) (text_of header.name headers) meta
+    if is_entry header.name && not (has_name (meta_entry_name header.name) meta)
+    then with_pair (meta_entry_name header.name) (text_of header.name headers) meta
     else meta
 
 -- the entries of all headers

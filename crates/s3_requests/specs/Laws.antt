@@ -8,7 +8,7 @@ use Rattle.s3_names.specs.Key.{is_key}
 use Rattle.s3_names.specs.Meta.{names_ascend}
 use Rattle.s3_machine.specs.declared.reading.Range.{Range}
 use Rattle.s3_machine.specs.Limits.{is_listing_text}
-use Rattle.s3_requests.specs.Content.{is_entry, entry_name, given_meta}
+use Rattle.s3_requests.specs.Content.{is_entry, meta_entry_name, given_meta}
 use Rattle.s3_requests.specs.Copies.{without_slash, place_named}
 use Rattle.s3_requests.specs.Listings.{token_of}
 use Rattle.s3_requests.specs.Ranges.{AsksFor, range_of}
@@ -16,7 +16,7 @@ use Rattle.http_wire.specs.Headers.{text_of}
 
 -- the entry that a header makes: its value is the text of all headers of the header's name
 abbrev pub entry_of : List Pair → Pair → Pair
-entry_of headers header = record { name = entry_name header.name; value = text_of header.name headers }
+entry_of headers header = record { name = meta_entry_name header.name; value = text_of header.name headers }
 
 -- a header of the list makes this entry
 pub record Makes (headers : List Pair) (entry : Pair) : Type 0 where

@@ -20,11 +20,12 @@ is_foreign row pair = not (is_name_of pair.name row)
 abbrev pub has_foreign_name : Row → List Pair → Bool
 has_foreign_name row query = list_any (is_foreign row) (asked query)
 
-abbrev pub count_of : List ℕ → List Pair → ℕ
-count_of name query = count_by (λ pair. bytes_eq pair.name name) (asked query)
+-- how often a query has a name
+abbrev pub occurrences : List ℕ → List Pair → ℕ
+occurrences name query = count_by (λ pair. bytes_eq pair.name name) (asked query)
 
 abbrev pub is_given_twice : List Pair → Pair → Bool
-is_given_twice query pair = nat_lt 1 (count_of pair.name query)
+is_given_twice query pair = nat_lt 1 (occurrences pair.name query)
 
 -- a name that is given twice
 abbrev pub has_name_twice : List Pair → Bool

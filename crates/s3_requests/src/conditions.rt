@@ -3,7 +3,7 @@ ghost use Rattle.std.specs.Prelude.{◌≡◌, ◌-◌, ◌≤◌, ◌<◌, ◌+
 ghost use Rattle.std.specs.List.{prefix_len, suffix_len, slice_split};
 ghost use Rattle.std.specs.Option.{option_map_or};
 ghost use Rattle.http_wire.specs.Closing.{is_comma};
-ghost use Rattle.s3_requests.specs.Conditions.{is_space, is_quote, behind_spaces, before_spaces, without_weak, is_quoted, without_quotes, etag_of, etags_of, given_etags, date_of, given_date, given_conditions};
+ghost use Rattle.s3_requests.specs.Conditions.{is_tag_space, is_quote, behind_spaces, before_spaces, without_weak, is_quoted, without_quotes, etag_of, etags_of, given_etags, date_of, given_date, given_conditions};
 
 use gate_base::{Bytes, List, Memory, Pair};
 use http_wire::{has_header, text_of};
@@ -11,26 +11,26 @@ use httpdate::HttpDate;
 use s3_machine::{Conditions, ETags};
 use std::alloc::Global;
 
-fn is_space(byte: u8) -> bool
-    ensures { result ≡ is_space byte }
+fn is_tag_space(byte: u8) -> bool
+    ensures { result ≡ is_tag_space byte }
 {
     byte == b' '
 }
 
 fn first_spaces(text: &[u8]) -> usize
-    ensures is { result ≡ prefix_len is_space text.now }
+    ensures is { result ≡ prefix_len is_tag_space text.now }
     ensures within { result ≤ length text.now }
 {
-    text.iter().take_while(|byte| is_space(**byte)).count()
+    text.iter().take_while(|byte| is_tag_space(**byte)).count()
 }
 
 fn last_spaces(text: &[u8]) -> usize
-    ensures is { result ≡ suffix_len is_space text.now }
+    ensures is { result ≡ suffix_len is_tag_space text.now }
     ensures within { result ≤ length text.now }
 {
     text.iter()
         .rev()
-        .take_while(|byte| is_space(**byte))
+        .take_while(|byte| is_tag_space(**byte))
         .count()
 }
 

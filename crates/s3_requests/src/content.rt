@@ -8,7 +8,7 @@ ghost use Rattle.s3_machine.specs.Body.{IsDigestOf};
 ghost use Rattle.s3_machine.specs.Limits.{is_kept_header};
 ghost use Rattle.http_wire.specs.Headers.{has_header, text_of};
 ghost use Rattle.s3_requests.specs.Rows.{shape_of};
-ghost use Rattle.s3_requests.specs.Content.{is_digest, has_bad_digest, is_other_body, given_type, takes_content, taken_type, is_own_header, is_entry, entry_name, entered, given_meta, taken_meta, is_bad_entry, has_bad_entry, is_long_body, is_here, has_bad_location, has_other_location};
+ghost use Rattle.s3_requests.specs.Content.{is_digest, has_bad_digest, is_other_body, given_type, takes_content, taken_type, is_own_header, is_entry, meta_entry_name, entered, given_meta, taken_meta, is_bad_entry, has_bad_entry, is_long_body, is_here, has_bad_location, has_other_location};
 
 use crate::copies::replaces;
 use crate::rows::{Row, shape_of};
@@ -125,8 +125,8 @@ fn is_entry(name: &[u8]) -> bool
 }
 
 /// The name of the entry that a header makes: `-` and what follows `x-amz-meta-`, or the header's own.
-fn entry_name(name: &[u8]) -> &[u8]
-    ensures { result.now ≡ entry_name name.now }
+fn meta_entry_name(name: &[u8]) -> &[u8]
+    ensures { result.now ≡ meta_entry_name name.now }
 {
     if is_own_header(name) {
         &name[10..]
@@ -144,7 +144,7 @@ fn enter(alloc: Global, meta: &mut Meta, headers: &[Pair], header: &Pair) -> Res
         return Ok(());
     }
     let value = text_of(alloc, headers, name)?;
-    let _is_new = meta.add(entry_name(name), value.as_slice())?;
+    let _is_new = meta.add(meta_entry_name(name), value.as_slice())?;
     Ok(())
 }
 

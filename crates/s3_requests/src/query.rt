@@ -2,7 +2,7 @@
 ghost use Rattle.std.specs.Prelude.{◌≡◌, filter, find, bytes_eq};
 ghost use Rattle.std.specs.Option.{option_copied};
 ghost use Rattle.s3_requests.specs.Rows.{counts, is_asked};
-ghost use Rattle.s3_requests.specs.Query.{is_foreign, has_foreign_name, is_unknown, has_unknown_name, count_of, is_given_twice, has_name_twice, text_at};
+ghost use Rattle.s3_requests.specs.Query.{is_foreign, has_foreign_name, is_unknown, has_unknown_name, occurrences, is_given_twice, has_name_twice, text_at};
 
 use crate::rows::{Row, is_known, is_name_of};
 use gate_base::Pair;
@@ -61,8 +61,9 @@ pub fn has_foreign_name(row: Row, query: &[Pair]) -> bool
         .any(|pair| is_foreign(row, pair))
 }
 
-fn count_of(name: &[u8], query: &[Pair]) -> usize
-    ensures { result ≡ count_of name.now query.now }
+/// How often the query has the name.
+fn occurrences(name: &[u8], query: &[Pair]) -> usize
+    ensures { result ≡ occurrences name.now query.now }
 {
     query
         .iter()
@@ -74,7 +75,7 @@ fn count_of(name: &[u8], query: &[Pair]) -> usize
 fn is_given_twice(query: &[Pair], pair: &Pair) -> bool
     ensures { result ≡ is_given_twice query.now pair.now }
 {
-    1 < count_of(pair.name.as_slice(), query)
+    1 < occurrences(pair.name.as_slice(), query)
 }
 
 /// Whether the query has a name twice.
