@@ -1,9 +1,9 @@
 -- What the query of a presigned request says. Source: Amazon S3 API Reference, "Authenticating requests: using query
 -- parameters"; which bytes the parts may have is this profile.
-use Rattle.std.specs.Prelude.{ℕ, Bool, not, ◌&&◌, nat_le, if◌then◌else◌, List, length, codes, bytes_eq, Option, Some, None}
-use Rattle.std.specs.List.{list_all, before_first, slice_split}
+use Rattle.std.specs.Prelude.{ℕ, Bool, not, ◌&&◌, nat_le, if◌then◌else◌, List, codes, bytes_eq, Option, Some, None}
+use Rattle.std.specs.List.{before_first, slice_split}
 use Rattle.std.specs.Str.Parse.{digits_value}
-use Rattle.gate_base.specs.Ascii.{is_digit, is_slash}
+use Rattle.gate_base.specs.Ascii.{is_slash}
 use Rattle.gate_base.specs.declared.page.Pair.{Pair}
 use Rattle.text_forms.specs.Numbers.{is_number}
 use Rattle.http_wire.specs.Headers.{has_header}
