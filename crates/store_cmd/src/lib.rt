@@ -11,4 +11,4 @@ mod status;
 mod words;
 
 pub use command::run_store;
-pub use laws::{law_failed_is_counted, law_no_more_than_faults};
+pub use laws::{law_failed_is_counted, law_unavailable_within_faults};
