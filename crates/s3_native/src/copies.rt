@@ -1,17 +1,18 @@
 //! The copies of objects in the machine's running form.
-ghost use Rattle.std.specs.Prelude.{◌≡◌, IfOk, IfSome, OnErr};
+ghost use Rattle.std.specs.Prelude.{◌≡◌, length, nat_lt, true, IfOk, IfSome, OnErr};
 ghost use Rattle.s3_machine.specs.declared.operation.Op.TheVariants.{CopyObject, CopyPart};
-ghost use Rattle.s3_machine.specs.Copies.{copied};
+ghost use Rattle.s3_machine.specs.Copies.{copied, copied_span, has_last};
+ghost use Rattle.s3_machine.specs.Limits.{most_body_bytes};
+ghost use Rattle.s3_machine.specs.Reading.{taken};
 ghost use Rattle.s3_machine.specs.Step.{IsProper, IsProperCopyRange, S3Step};
 
 use crate::native::{Native, NativeObject, put_object};
-use crate::upload::NativePart;
-use crate::uploads::put_part;
 use gate_base::{Bytes, Copying, Memory};
 use s3_machine::{
     Body, Code, Label, MOST_BODY_BYTES, Op, Replaced, Reply, copied_span, has_last, is_onto_itself,
 };
 use s3_names::{Acl, Meta};
+use std::alloc::Global;
 
 impl NativeObject {
     /// Its copy, with its content type and metadata or those in their place.
@@ -45,6 +46,34 @@ impl NativeObject {
             meta: meta.copy()?,
             modified: moment,
         })
+    }
+
+    /// Whether it has the last byte of the range.
+    fn has_last(&self, range: Option<(u64, u64)>) -> bool
+        ensures { result ≡ has_last range (length self.now.bytes) }
+    {
+        has_last(range, self.bytes.len() as u64)
+    }
+
+    /// Whether the range has more bytes than a part.
+    fn is_too_large(&self, range: Option<(u64, u64)>) -> bool
+        requires rises { IfSome range IsProperCopyRange }
+        requires within { has_last range (length self.now.bytes) ≡ true }
+        ensures { result
+            ≡ nat_lt most_body_bytes (copied_span range (length self.now.bytes)).length }
+    {
+        MOST_BODY_BYTES < copied_span(range, self.bytes.len() as u64).length
+    }
+
+    /// The body of a part that is copied of it.
+    fn part_body(&self, alloc: Global, range: Option<(u64, u64)>) -> Result<Body, Memory>
+        requires rises { IfSome range IsProperCopyRange }
+        requires within { has_last range (length self.now.bytes) ≡ true }
+        ensures { IfOk result
+            (λ body. body ≡ taken (copied_span range (length self.now.bytes)) self.now.bytes) }
+    {
+        let span = copied_span(range, self.bytes.len() as u64);
+        Ok(Body::new(self.taken(alloc, span)?))
     }
 }
 
@@ -164,24 +193,14 @@ impl Native {
         let Some(object) = source.object(from_key.as_slice()) else {
             return Ok(Reply::Refused(Code::NoSuchKey));
         };
-        let size = object.bytes.len() as u64;
-        if !has_last(range, size) {
+        if !object.has_last(range) {
             return Ok(Reply::Refused(Code::InvalidRange));
         }
-        let span = copied_span(range, size);
-        if MOST_BODY_BYTES < span.length {
+        if object.is_too_large(range) {
             return Ok(Reply::Refused(Code::EntityTooLarge));
         }
-        let body = Body::new(object.taken(self.alloc, span)?);
-        let part = NativePart::new(self.alloc, label.moment, &body)?;
-        let etag = part.etag()?;
-        put_part(
-            &mut self.buckets,
-            bucket.as_slice(),
-            id.as_slice(),
-            number,
-            part,
-        )?;
+        let body = object.part_body(self.alloc, range)?;
+        let etag = self.put_body(bucket, id, number, &body, label.moment)?;
         Ok(Reply::Copied {
             part: true,
             etag,

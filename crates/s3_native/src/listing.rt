@@ -101,7 +101,7 @@ fn items_behind(
 }
 
 /// The items of a listing of these objects, and whether one is left over.
-pub(crate) fn listed(
+pub(crate) fn listed_items(
     objects: &Table<NativeObject>,
     alloc: Global,
     asked: &Asked,

@@ -21,7 +21,7 @@ ghost use Rattle.s3_machine.specs.declared.operation.Op.TheVariants.{
 ghost use Rattle.s3_machine.specs.Step.{IsProper, S3Step, bucket_items, drop_object, drop_objects, is_other_acl, may_read, put_object, with_acl};
 
 use crate::kept::NativeKept;
-use crate::listing::listed;
+use crate::listing::listed_items;
 use crate::upload::NativeUpload;
 use gate_base::{Bytes, Caller, Copying, List, Memory};
 use name_table::Table;
@@ -246,7 +246,7 @@ impl NativeBucket {
     fn listing(&self, alloc: Global, asked: &Asked) -> Result<(List<Item>, bool), Memory>
         ensures { IfOk result (λ listed. listed ≡ shown (listing asked.now self.now.objects)) }
     {
-        listed(&self.objects, alloc, asked)
+        listed_items(&self.objects, alloc, asked)
     }
 
     fn put(&mut self, key: &[u8], object: NativeObject) -> Result<(), Memory>

@@ -202,7 +202,7 @@ impl NativeUpload {
     }
 
     /// The first parts above the marker, and whether one is left over.
-    pub(crate) fn listed(
+    pub(crate) fn listed_parts(
         &self,
         alloc: Global,
         marker: u32,

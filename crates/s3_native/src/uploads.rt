@@ -11,6 +11,7 @@ ghost use Rattle.s3_machine.specs.declared.operation.Op.TheVariants.{
   CompleteUpload,
   AbortUpload,
 };
+ghost use Rattle.s3_machine.specs.ETag.{body_etag};
 ghost use Rattle.s3_machine.specs.State.{Bucket};
 ghost use Rattle.s3_machine.specs.Step.{IsNewId, S3Step};
 ghost use Rattle.s3_machine.specs.Uploads.{
@@ -20,6 +21,7 @@ ghost use Rattle.s3_machine.specs.Uploads.{
   is_upload_after,
   is_upload_listed,
   kept_as,
+  new_part,
   on_upload,
   open_upload,
   upload_place,
@@ -136,7 +138,7 @@ fn rows_after(
 }
 
 /// The first uploads of a listing, and whether one is left over.
-fn uploads_listed(
+fn listed_uploads(
     uploads: &Table<NativeUpload>,
     alloc: Global,
     prefix: &[u8],
@@ -274,7 +276,7 @@ fn open_upload(
 }
 
 /// Puts a part into an upload of a bucket. Where memory runs out, all is as before.
-pub(crate) fn put_part(
+fn put_part(
     buckets: &mut Table<NativeBucket>,
     bucket: &[u8],
     id: &[u8],
@@ -383,7 +385,7 @@ impl Native {
         let Some(found) = self.buckets.get(bucket.as_slice()) else {
             return Ok(Reply::Refused(Code::NoSuchBucket));
         };
-        let (items, truncated) = uploads_listed(
+        let (items, truncated) = listed_uploads(
             &found.uploads,
             self.alloc,
             prefix.as_slice(),
@@ -464,7 +466,26 @@ impl Native {
         if !upload.is_of(key.as_slice()) {
             return Ok(Reply::Refused(Code::NoSuchUpload));
         }
-        let part = NativePart::new(self.alloc, label.moment, body)?;
+        let etag = self.put_body(bucket, id, number, body, label.moment)?;
+        Ok(Reply::Stored { etag })
+    }
+
+    /// Puts a part of these bytes into an upload, and gives its ETag. Where memory runs out, the state is as before.
+    pub(crate) fn put_body(
+        &mut self,
+        bucket: &Bytes,
+        id: &Bytes,
+        number: u32,
+        body: &Body,
+        moment: u64,
+    ) -> Result<Bytes, Memory>
+        ensures settings { self.new.settings ≡ self.old.settings }
+        ensures etag { IfOk result (λ etag. etag ≡ body_etag body.now) }
+        ensures ok { OnOk result (self.new.state ≡ adjust bucket.now
+            (on_upload id.now (with_part number (new_part moment body.now))) self.old.state) }
+        ensures err { OnErr result (self.new.state ≡ self.old.state) }
+    {
+        let part = NativePart::new(self.alloc, moment, body)?;
         let etag = part.etag()?;
         put_part(
             &mut self.buckets,
@@ -473,7 +494,7 @@ impl Native {
             number,
             part,
         )?;
-        Ok(Reply::Stored { etag })
+        Ok(etag)
     }
 
     fn list_parts(
@@ -497,7 +518,7 @@ impl Native {
         if !upload.is_of(key.as_slice()) {
             return Ok(Reply::Refused(Code::NoSuchUpload));
         }
-        let (items, truncated) = upload.listed(self.alloc, marker, max)?;
+        let (items, truncated) = upload.listed_parts(self.alloc, marker, max)?;
         Ok(Reply::Parts {
             bucket: bucket.copy()?,
             key: key.copy()?,

@@ -6,7 +6,7 @@ use Rattle.s3_machine.specs.declared.items.Item.{Item}
 use Rattle.s3_machine.specs.Items.{behind, row_of, with_prefix}
 use Rattle.s3_machine.specs.Step.{item_of, listed_key, marker_of}
 use Rattle.s3_native.proofs.Listings.{Row, cut, pair}
-use Rattle.s3_native.proofs.listing.listed.Goals as goal
+use Rattle.s3_native.proofs.listing.listed_items.Goals as goal
 
 pub returns : goal.returns
 returns c =
