@@ -18,7 +18,7 @@ pub mod Put
 pub mod RollCalls
 pub mod SealedVersions
 pub mod Segments
-pub mod Settling
+pub mod SettleCalls
 pub mod Taken
 pub mod Unchanged
 pub mod lemmas

@@ -29,7 +29,7 @@ pub(crate) fn settle_store<W: Swift>(alloc: Global, store: &mut W) -> Result<(),
 }
 
 /// Makes the gateway's own container, which may be there, by PUT of it (Object Storage API v1, "Create container").
-#[tactic(auto, using(crate::proofs::Settling::gateway_is_container))]
+#[tactic(auto, using(crate::proofs::SettleCalls::gateway_is_container))]
 fn make_gateway<W: Swift>(alloc: Global, store: &mut W) -> Result<(), PlanFault>
     ensures asks { Asks (always 1) (W.history store.old) (W.history store.new) Any
         (Leaves HasGateway) result }
@@ -61,7 +61,7 @@ fn settle_made<W: Swift>(alloc: Global, store: &mut W) -> Result<(), PlanFault>
 
 /// The completion that is sealed, and `None` where none is, by GET of its file (Object Storage API v1, "Get object content and
 /// metadata").
-#[tactic(auto, using(crate::proofs::Settling::gateway_is_container, crate::proofs::Settling::sealed_is_object))]
+#[tactic(auto, using(crate::proofs::SettleCalls::gateway_is_container, crate::proofs::SettleCalls::sealed_is_object))]
 fn get_sealed<W: Swift>(alloc: Global, store: &mut W) -> Result<Option<Sealed>, PlanFault>
     ensures asks { Asks (always 1) (W.history store.old) (W.history store.new) HasGateway
         TellsSealed result }
@@ -149,7 +149,7 @@ fn put_sealed_record<W: Swift>(
 }
 
 /// Deletes what is sealed, whose object and record are there (Object Storage API v1, "Delete object").
-#[tactic(auto, using(crate::proofs::Settling::gateway_is_container, crate::proofs::Settling::sealed_is_object))]
+#[tactic(auto, using(crate::proofs::SettleCalls::gateway_is_container, crate::proofs::SettleCalls::sealed_is_object))]
 fn delete_sealed<W: Swift>(alloc: Global, store: &mut W, sealed: &Sealed) -> Result<(), PlanFault>
     ensures asks { Asks (always 1) (W.history store.old) (W.history store.new)
         (HasRecord sealed.now) (Leaves IsSettled) result }

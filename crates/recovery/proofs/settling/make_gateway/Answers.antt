@@ -1,5 +1,5 @@
 use Rattle.std.proofs.Common.{inr}
-use Rattle.recovery.proofs.Settling.{gateway_put_there, puts_gateway}
+use Rattle.recovery.proofs.SettleCalls.{gateway_put_there, puts_gateway}
 use Rattle.recovery.proofs.lemmas.Quiet.{quiet_in_vain, quieted}
 use Rattle.recovery.proofs.settling.make_gateway.Goals as goal
 

@@ -1,5 +1,5 @@
 use Rattle.std.proofs.Common.{refl}
-use Rattle.recovery.proofs.Settling.{settles_done, settles_fault}
+use Rattle.recovery.proofs.SettleCalls.{settles_done, settles_fault}
 use Rattle.recovery.proofs.state.Unsure.settle.Goals as goal
 
 pub returns-in-Ok-clause-settles : goal.returns-in-Ok-clause-settles
