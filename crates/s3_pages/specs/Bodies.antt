@@ -146,12 +146,12 @@ acl_body acl =
 
 -- ---- objects
 
-abbrev pub is_second : Asked → Bool
-is_second asked = nat_eq asked.version 2
+abbrev pub is_version_2 : Asked → Bool
+is_version_2 asked = nat_eq asked.version 2
 
 -- the owner of each object is told in version 1, and in version 2 where that is asked for
 abbrev pub tells_owner : Asked → Bool
-tells_owner asked = not (is_second asked) || asked.owner
+tells_owner asked = not (is_version_2 asked) || asked.owner
 
 -- an object of a listing
 unfoldable pub contents : Asked → List ℕ → ItemHead → List ℕ
@@ -228,7 +228,7 @@ objects_body bucket asked items truncated =
     declaration
     ++ root (codes "ListBucketResult")
     ++ element (codes "Name") bucket
-    ++ by_version (is_second asked) asked items truncated
+    ++ by_version (is_version_2 asked) asked items truncated
     ++ flat_map (contents_of asked) items
     ++ flat_map (prefix_of asked) items
     ++ end_of (codes "ListBucketResult")

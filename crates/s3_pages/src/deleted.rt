@@ -33,14 +33,14 @@ fn deleted_body(alloc: Global, keys: &[Bytes], quiet: bool) -> Result<Bytes, Mem
 {
     let mut xml = Xml::new(alloc)?;
     xml.root(b"DeleteResult")?;
-    xml.deleted_where(!quiet, keys)?;
+    xml.deleted_if(!quiet, keys)?;
     xml.end(b"DeleteResult")?;
     Ok(xml.text)
 }
 
 impl Xml {
     /// Appends the keys that were deleted, where the test is true.
-    fn deleted_where(&mut self, test: bool, keys: &[Bytes]) -> Result<(), Memory>
+    fn deleted_if(&mut self, test: bool, keys: &[Bytes]) -> Result<(), Memory>
         ensures { OnOk result (self.new.text ≡ self.old.text
             ++ where_true test (flat_map deleted_element keys.now)) }
     {

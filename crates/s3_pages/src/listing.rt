@@ -11,7 +11,7 @@ ghost use Rattle.s3_pages.specs.Bodies.{
   contents_of,
   first_version,
   is_filled,
-  is_second,
+  is_version_2,
   limits,
   next_text,
   objects_body,
@@ -74,8 +74,8 @@ fn objects_body(
 }
 
 /// Whether version 2 was asked for.
-fn is_second(asked: &Asked) -> bool
-    ensures { result ≡ is_second asked.now }
+fn is_version_2(asked: &Asked) -> bool
+    ensures { result ≡ is_version_2 asked.now }
 {
     asked.version == 2
 }
@@ -84,7 +84,7 @@ fn is_second(asked: &Asked) -> bool
 fn tells_owner(asked: &Asked) -> bool
     ensures { result ≡ tells_owner asked.now }
 {
-    !is_second(asked) || asked.owner
+    !is_version_2(asked) || asked.owner
 }
 
 fn is_filled(text: &[u8]) -> bool
@@ -106,9 +106,9 @@ fn next_text(items: &[Item]) -> &[u8]
 impl Xml {
     fn asked(&mut self, asked: &Asked, items: &[Item], truncated: bool) -> Result<(), Memory>
         ensures { OnOk result (self.new.text ≡ self.old.text
-            ++ by_version (is_second asked.now) asked.now items.now truncated) }
+            ++ by_version (is_version_2 asked.now) asked.now items.now truncated) }
     {
-        if is_second(asked) {
+        if is_version_2(asked) {
             self.second_version(asked, items, truncated)
         } else {
             self.first_version(asked, items, truncated)
@@ -127,7 +127,7 @@ impl Xml {
     {
         self.shown(b"Prefix", asked.url, asked.prefix.as_slice())?;
         self.shown(b"Marker", asked.url, asked.marker.as_slice())?;
-        self.shown_where(
+        self.shown_if(
             truncated && is_filled(asked.delimiter.as_slice()),
             b"NextMarker",
             asked.url,
@@ -147,13 +147,13 @@ impl Xml {
             (self.new.text ≡ self.old.text ++ second_version asked.now items.now truncated) }
     {
         self.shown(b"Prefix", asked.url, asked.prefix.as_slice())?;
-        self.shown_where(
+        self.shown_if(
             is_filled(asked.start_after.as_slice()),
             b"StartAfter",
             asked.url,
             asked.start_after.as_slice(),
         )?;
-        self.token(&asked.token)?;
+        self.continuation_token(&asked.token)?;
         self.number(b"KeyCount", items.len() as u64)?;
         self.limits(asked, truncated)?;
         self.next_token(truncated, next_text(items))
@@ -165,17 +165,17 @@ impl Xml {
         ensures { OnOk result (self.new.text ≡ self.old.text ++ limits asked.now truncated) }
     {
         self.count(b"MaxKeys", asked.max)?;
-        self.shown_where(
+        self.shown_if(
             is_filled(asked.delimiter.as_slice()),
             b"Delimiter",
             asked.url,
             asked.delimiter.as_slice(),
         )?;
-        self.tags_where(asked.url, b"<EncodingType>url</EncodingType>")?;
+        self.tags_if(asked.url, b"<EncodingType>url</EncodingType>")?;
         self.truth(b"IsTruncated", truncated)
     }
 
-    fn shown_where(&mut self, test: bool, name: &[u8], url: bool, text: &[u8]) -> Result<(), Memory>
+    fn shown_if(&mut self, test: bool, name: &[u8], url: bool, text: &[u8]) -> Result<(), Memory>
         ensures { OnOk result (self.new.text ≡ self.old.text
             ++ where_true test (text_element url name.now text.now)) }
     {
@@ -186,7 +186,7 @@ impl Xml {
         }
     }
 
-    fn token(&mut self, token: &Option<Bytes>) -> Result<(), Memory>
+    fn continuation_token(&mut self, token: &Option<Bytes>) -> Result<(), Memory>
         ensures { OnOk result (self.new.text ≡ self.old.text ++ token_by token.now) }
     {
         match token {
@@ -239,7 +239,7 @@ impl Xml {
         self.time(b"LastModified", head.modified)?;
         self.etag(head.etag.as_slice())?;
         self.number(b"Size", head.size)?;
-        self.owner_where(tells_owner(asked))?;
+        self.owner_if(tells_owner(asked))?;
         self.storage_class()?;
         self.tags(b"</Contents>")
     }

@@ -1,3 +1,5 @@
+//! The page of a reply: which function makes that of each; the error page of a refusal; the pages without a body, as that of a
+//! stored object or part and 304 Not Modified; and the headers that pages begin with (Date, x-amz-request-id, Content-Type of XML).
 ghost use Rattle.std.specs.Prelude.{◌≡◌, ◌≢◌, ◌<◌, [], ◌∷◌, ◌++◌, IfOk, OnOk};
 ghost use Rattle.gate_base.specs.Told.{moment_limit};
 ghost use Rattle.s3_machine.specs.Shown.{IsShowable};

@@ -160,7 +160,7 @@ impl Xml {
         self.tags(b"<Owner><ID>s3gate</ID><DisplayName>s3gate</DisplayName></Owner>")
     }
 
-    pub fn owner_where(&mut self, test: bool) -> Result<(), Memory>
+    pub fn owner_if(&mut self, test: bool) -> Result<(), Memory>
         ensures { OnOk result (self.new.text ≡ self.old.text ++ where_true test owner) }
     {
         if test { self.owner() } else { Ok(()) }
@@ -180,7 +180,7 @@ impl Xml {
     }
 
     /// Appends tags where the test is true.
-    pub fn tags_where(&mut self, test: bool, text: &[u8]) -> Result<(), Memory>
+    pub fn tags_if(&mut self, test: bool, text: &[u8]) -> Result<(), Memory>
         ensures { OnOk result (self.new.text ≡ self.old.text ++ where_true test text.now) }
     {
         if test { self.tags(text) } else { Ok(()) }
