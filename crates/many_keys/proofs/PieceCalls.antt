@@ -41,7 +41,7 @@ use Rattle.recovery.proofs.lemmas.Etags.{etag_agrees, part_etag}
 use Rattle.recovery.proofs.lemmas.Quiet.{IsQuietOf, asks_failed}
 use Rattle.recovery.proofs.lemmas.SideNames.{file_name, segment_fits}
 use Rattle.plan_uploads.specs.Interpret.{part_tag, put_part_of}
-use Rattle.many_keys.specs.CopiedLists.{IsUnnamed, modified_in, PutsSegment, TellsPiece, sized_due}
+use Rattle.many_keys.specs.CopiedLists.{IsUnnamed, modified_in, PutsSegment, TellsPiece, sized_due, told_due}
 use Rattle.many_keys.proofs.CutCalls.{object_of_head}
 use Rattle.many_keys.proofs.SideFiles.{part_has_text, same_put}
 
@@ -107,17 +107,6 @@ same_etag : (body : List ℕ) → body_etag body ≡ etag_text body
 unfolding etag_text body_etag
 same_etag body = refl
 
--- the part that is told where the store has the file
-abbrev pub part_due : SealedPart → Result (Unit {0}) PlanFault → Result SealedPart PlanFault
-part_due part (Ok done) = Ok part
-part_due part (Err f) = Err f
-
--- what is no failure of the store still is none
-pub still_own : {T U : Type 0} (f : PlanFault) (result : Result U PlanFault) → result ≡ Err f → (let told : Result T PlanFault = Err f in told ≢ Err fault.Failed) → result ≢ Err fault.Failed
-still_own fault.Failed result is own = absurd (own refl)
-still_own fault.Memory result is own = λ e. cc
-still_own fault.Inconsistent result is own = λ e. cc
-
 -- the request, for a part's own id, number, bytes and moment, and the part as it is told
 pub record IsSegmentPut (request : SwiftRequest) (part : SealedPart) (bucket : List ℕ) (id number : ℕ) (body : List ℕ) (moment : ℕ) : Type 0 where
   pub same : request ≡ put_part_of bucket id number body moment
@@ -162,8 +151,8 @@ module _ (law : OrphanPut) (tree : SwiftAccount) (request : SwiftRequest) (told 
   same_tree : (swift_step request tree).tree ≡ (swift_step (put_part_of bucket id number body moment) tree).tree
   same_tree = ap (λ r. (swift_step r tree).tree) put.same
 
-  says_stored : part_due told (stored_due (body_etag body) (swift_step request tree).reply) ≡ Ok told
-  says_stored = ap (λ (a : Answer). part_due told (stored_due (body_etag body) a.reply)) answered ∙ ap (λ t. part_due told (cond t (Ok tt) (Err Inconsistent))) (etag_agrees body)
+  says_stored : told_due told (stored_due (body_etag body) (swift_step request tree).reply) ≡ Ok told
+  says_stored = ap (λ (a : Answer). told_due told (stored_due (body_etag body) a.reply)) answered ∙ ap (λ t. told_due told (cond t (Ok tt) (Err Inconsistent))) (etag_agrees body)
 
   segment_put : PutsSegment bucket id number body moment tree (swift_step (put_part_of bucket id number body moment) tree).tree told
   segment_put =
@@ -181,7 +170,7 @@ module _ (law : OrphanPut) (tree : SwiftAccount) (request : SwiftRequest) (told 
 
 -- PUT of a part's file under an id that nothing names leaves the state
 pub puts_segment : {request : SwiftRequest} {told : SealedPart} {bucket : List ℕ} {id number : ℕ} {body : List ℕ} {moment : ℕ} → OrphanPut → IsSegmentPut request told bucket id number body moment
-    → IsQuietOf (GivenOf (IsUnnamed bucket id)) request (λ reply. part_due told (stored_due (body_etag body) reply)) (PutsSegment bucket id number body moment)
+    → IsQuietOf (GivenOf (IsUnnamed bucket id)) request (λ reply. told_due told (stored_due (body_etag body) reply)) (PutsSegment bucket id number body moment)
 puts_segment {request = request} {told = told} {bucket = bucket} {id = id} {number = number} {body = body} {moment = moment} law put = record {
   effect = λ tree sound has.
       let done = law tree bucket (segment_name (id_digits id) number) (tag_text (part_tag (body_etag body) moment id)) [] body (part law tree request told bucket id number body moment put sound has) put.is has.is.there has.is.abandoned

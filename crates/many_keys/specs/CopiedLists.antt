@@ -115,6 +115,11 @@ pub record IsPartOf (number : ℕ) (bytes : List ℕ) (p : SealedPart) : Type 0 
   pub etag : p.etag ≡ etag_text bytes
   pub size : p.size ≡ length bytes
 
+-- the part is told where the store has the file
+abbrev pub told_due : SealedPart → Result (Unit {0}) PlanFault → Result SealedPart PlanFault
+told_due part (Ok done) = Ok part
+told_due part (Err f) = Err f
+
 abbrev pub modified_in : Part → ℕ
 modified_in p = p.modified
 

@@ -25,7 +25,7 @@ use crate::copies::copied_end;
 use crate::cut::{Piece, get_cut};
 use crate::segments::copy_segments;
 use crate::source::content_of;
-use gate_base::{Bytes, Copying, List, Memory};
+use gate_base::{Bytes, Copying, List, Memory, drop};
 use plan_uploads::free_id;
 use recovery::{PlanFault, Settled, kept_in, object_request};
 use s3_machine::{Label, ObjectHead, Replaced, Reply};
@@ -118,7 +118,9 @@ fn copy_empty<W: Swift>(
     let id = free_id(alloc, state, &bucket, label.draw)?;
     let parts = List::new(alloc);
     let sealed = copy_as(bucket, key, id, replaced, head, parts, label.moment);
-    put_listed(alloc, state, &sealed)
+    let end = put_listed(alloc, state, &sealed);
+    drop(sealed);
+    end
 }
 
 /// The rest of the copy, of a source whose bytes are cut so.
@@ -209,7 +211,9 @@ fn copy_under<W: Swift>(
         label.moment,
     )?;
     let sealed = copy_as(bucket, key, id, replaced, head, parts, label.moment);
-    put_listed(alloc, state, &sealed)
+    let end = put_listed(alloc, state, &sealed);
+    drop(sealed);
+    end
 }
 
 /// What is put as the copy, by the source's head. All is moved.

@@ -2,6 +2,7 @@
 ghost use Rattle.std.specs.Prelude.{◌≡◌, ◌≢◌, ◌≤◌, ◌<◌, ◌+◌, ◌*◌, true, length, take, IfOk, Err};
 ghost use Rattle.gate_base.specs.Told.{moment_limit};
 ghost use Rattle.s3_names.specs.Bucket.{is_bucket};
+ghost use Rattle.s3_machine.specs.ETag.{body_etag};
 ghost use Rattle.s3_machine.specs.Limits.{most_body_bytes};
 ghost use Rattle.s3_machine.specs.Step.{IsPlace};
 ghost use Rattle.s3_machine.specs.Uploads.{IsPartNumber};
@@ -10,7 +11,7 @@ ghost use Rattle.recovery.specs.Calls.{always, Asks, Given, GivenOf, HasObject, 
 ghost use Rattle.recovery.specs.Interpret.{stored_due};
 ghost use Rattle.recovery.specs.Lent.{Stays};
 ghost use Rattle.recovery.specs.declared.fault.PlanFault.TheVariants as fault;
-ghost use Rattle.many_keys.specs.CopiedLists.{AreOfCut, CopiesFirst, CopiesPiece, IsUnnamed, MayCopy, PutsSegment, TellsPiece, is_cut, is_piece, piece_in, sized_due};
+ghost use Rattle.many_keys.specs.CopiedLists.{AreOfCut, CopiesFirst, CopiesPiece, IsUnnamed, MayCopy, PutsSegment, TellsPiece, is_cut, is_piece, piece_in, sized_due, told_due};
 
 use crate::cut::Piece;
 use gate_base::{Bytes, Copying, List, drop};
@@ -177,29 +178,60 @@ fn put_segment<W: Swift>(
     ensures asks { Asks (always 1) (W.history state.old.store.now) (W.history state.new.store.now)
         (GivenOf (IsUnnamed bucket.now id)) (PutsSegment bucket.now id number body moment) result }
 {
-    law_orphan_put();
     let etag = body_etag(body.as_slice());
     let part = SealedPart {
         number,
         etag: Bytes::from_slice(alloc, &etag)?,
         size: body.len() as u64,
     };
-    let request = part_request(alloc, bucket, id, number, body, &etag, moment)?;
-    let reply = state.call(request)?;
-    stored_in(reply, &etag)?;
-    Ok(part)
+    put_as(alloc, state, bucket, id, part, body, &etag, moment)
 }
 
-/// The answer to PUT of a file whose bytes have this ETag: the store has them with the same.
-fn stored_in(reply: SwiftReply, etag: &[u8]) -> Result<(), PlanFault>
-    ensures due { result ≡ stored_due etag.now reply }
+/// Puts the segment that is this part, of bytes with this ETag.
+fn put_as<W: Swift>(
+    alloc: Global,
+    state: &mut Settled<'_, W>,
+    bucket: &Bytes,
+    id: u128,
+    part: SealedPart,
+    body: Bytes,
+    etag: &[u8],
+    moment: u64,
+) -> Result<SealedPart, PlanFault>
+    requires named { is_bucket bucket.now ≡ true }
+    requires number { IsPartNumber part.number }
+    requires size { part.size ≡ length body }
+    requires same { part.etag ≡ body_etag body }
+    requires etag { etag.now ≡ body_etag body }
+    requires sized { length body ≤ most_body_bytes }
+    requires moment { moment < moment_limit }
+    ensures stays { Stays state.old state.new }
+    ensures told { IfOk result (λ told. told ≡ part) }
+    ensures asks { Asks (always 1) (W.history state.old.store.now) (W.history state.new.store.now)
+        (GivenOf (IsUnnamed bucket.now id)) (PutsSegment bucket.now id part.number body moment)
+        result }
+{
+    law_orphan_put();
+    let request = part_request(alloc, bucket, id, part.number, body, etag, moment)?;
+    let reply = state.call(request)?;
+    told_in(reply, etag, part)
+}
+
+/// The answer to PUT of the segment that is this part, whose bytes have this ETag.
+fn told_in(reply: SwiftReply, etag: &[u8], part: SealedPart) -> Result<SealedPart, PlanFault>
+    ensures due { result ≡ told_due part (stored_due etag.now reply) }
     ensures own { result ≢ Err fault.Failed }
+    ensures told { IfOk result (λ told. told ≡ part) }
 {
     let stored = stored_by(&reply, etag);
     drop(reply);
-    stored
+    match stored {
+        Ok(()) => Ok(part),
+        Err(fault) => Err(fault),
+    }
 }
 
+/// The answer to PUT of a file whose bytes have this ETag: the store has them with the same.
 fn stored_by(reply: &SwiftReply, etag: &[u8]) -> Result<(), PlanFault>
     ensures due { result ≡ stored_due etag.now reply.now }
     ensures own { result ≢ Err fault.Failed }

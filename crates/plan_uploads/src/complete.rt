@@ -1,9 +1,10 @@
 //! The plan of CompleteUpload.
-ghost use Rattle.std.specs.Prelude.{◌≡◌, ◌<◌, ◌+◌, ◌^◌, ℕ, true, List, IfOk};
+ghost use Rattle.std.specs.Prelude.{◌≡◌, ◌<◌, ◌+◌, ◌^◌, ℕ, true, List, Some, IfOk};
 ghost use Rattle.gate_base.specs.Told.{moment_limit};
 ghost use Rattle.s3_names.specs.Id.{id_digits};
 ghost use Rattle.s3_machine.specs.Step.{IsPlace, IsProperList};
 ghost use Rattle.s3_machine.specs.Uploads.{rises};
+ghost use Rattle.s3_machine.specs.declared.items.PartItem.{PartItem};
 ghost use Rattle.s3_machine.specs.declared.operation.Label.{Label};
 ghost use Rattle.s3_machine.specs.declared.operation.Listed.{Listed};
 ghost use Rattle.s3_machine.specs.declared.operation.Op.TheVariants.{CompleteUpload};
@@ -12,7 +13,7 @@ ghost use Rattle.recovery.specs.Answers.{named_by, pages};
 ghost use Rattle.recovery.specs.Calls.{always, by_account, Any, Given, GivenOf};
 ghost use Rattle.recovery.specs.Lent.{Stays};
 ghost use Rattle.recovery.specs.Plan.{Plans};
-ghost use Rattle.plan_uploads.specs.Completing.{HasParts, IsOpenAs, LeavesUnsureOnly, MayComplete, answered_by, completion_of, end_in, known_in};
+ghost use Rattle.plan_uploads.specs.Completing.{Ascend, HasParts, IsOpenAs, LeavesUnsureOnly, MayComplete, answered_by, by_number, completion_of, end_in, known_in, listed_parts};
 
 use crate::chosen::{chosen_parts, has_small};
 use crate::completed::{Opened, ToComplete, find_completion};
@@ -155,6 +156,33 @@ fn complete_by<W: Swift>(
     let Some(chosen) = chosen_parts(alloc, parts, list.as_slice())? else {
         return Ok(refused(Code::InvalidPart));
     };
+    complete_chosen(alloc, state, bucket, key, opened, chosen, list, label)
+}
+
+/// The rest of CompleteUpload, of an upload that has the parts of the list.
+fn complete_chosen<W: Swift>(
+    alloc: Global,
+    state: &mut Settled<'_, W>,
+    bucket: &Bytes,
+    key: &Bytes,
+    opened: Opened,
+    chosen: List<SealedPart>,
+    list: &List<Listed>,
+    label: &Label,
+) -> Result<Completing, PlanFault>
+    requires place { IsPlace bucket.now key.now }
+    requires list { IsProperList list.now }
+    requires ascends { rises list.now ≡ true }
+    requires moment { label.now.moment < moment_limit }
+    ensures stays { Stays state.old state.new }
+    ensures plans { (text : List ℕ) (parts : List PartItem)
+        → (Ascend parts → listed_parts (by_number parts) list.now ≡ Some chosen)
+        → Plans (always 4) (W.history state.old.store.now) (W.history state.new.store.now)
+        state.old.settings.now (GivenOf (HasParts bucket.now key.now text opened parts))
+        (CompleteUpload bucket.now key.now text list.now) label.now (known_in result)
+        (end_in result) }
+    ensures unsure { LeavesUnsureOnly result }
+{
     if has_small(state.settings().least_part, chosen.as_slice()) {
         return Ok(refused(Code::EntityTooSmall));
     }

@@ -1,5 +1,5 @@
 //! The listing of the parts of an upload.
-ghost use Rattle.std.specs.Prelude.{◌≡◌, ◌≤◌, ◌<◌, ◌+◌, true, map, IfOk, IfSome, OnOk};
+ghost use Rattle.std.specs.Prelude.{◌≡◌, ◌≤◌, ◌<◌, ◌+◌, ℕ, true, map, IfOk, IfSome, OnOk};
 ghost use Rattle.std.specs.List.{All};
 ghost use Rattle.s3_names.specs.Bucket.{is_bucket};
 ghost use Rattle.s3_names.specs.Id.{id_digits};
@@ -136,7 +136,33 @@ fn next_parts<W: Swift>(
         (segments_prefix (id_digits id)) marker.now parts.old parts.new)) result }
 {
     let prefix = segments_prefix(alloc, id)?;
-    let page = segments_page(alloc, state, bucket, &prefix, marker)?;
+    next_under(alloc, state, bucket, &prefix, marker, parts)
+}
+
+/// The same by what the names of the parts begin with.
+fn next_under<W: Swift>(
+    alloc: Global,
+    state: &mut Settled<'_, W>,
+    bucket: &Bytes,
+    prefix: &Bytes,
+    marker: &Bytes,
+    parts: &mut List<PartItem>,
+) -> Result<Option<Bytes>, PlanFault>
+    requires name { is_bucket bucket.now ≡ true }
+    requires prefix { IsMarker prefix.now }
+    requires marker { IsMarker marker.now }
+    ensures stays { Stays state.old state.new }
+    ensures counted { IfOk result (λ _. (W.history state.old.store.now).called < budget
+        × ((W.history state.new.store.now).called ≡ (W.history state.old.store.now).called + 1)) }
+    ensures dated { All IsShownPart parts.old → OnOk result (All IsShownPart parts.new) }
+    ensures is_marker { IfOk result (λ next. IfSome next IsMarker) }
+    ensures asks { (id : ℕ) → prefix.now ≡ segments_prefix (id_digits id)
+        → Asks (always 1) (W.history state.old.store.now) (W.history state.new.store.now)
+        (GivenOf (InBucket bucket.now)) (TellsOf (TellsNext
+        (part_due (segments_prefix (id_digits id))) (segments_name bucket.now)
+        (segments_prefix (id_digits id)) marker.now parts.old parts.new)) result }
+{
+    let page = segments_page(alloc, state, bucket, prefix, marker)?;
     add_parts(alloc, prefix.as_slice(), parts, page.as_slice())?;
     Ok(next_marker(page.as_slice())?)
 }

@@ -299,12 +299,19 @@ pub(crate) fn list_uploads<W: Swift>(
     if max == 0 {
         return Ok((List::new(alloc), false));
     }
-    let asked = AskedUploads {
+    let asked = asked_by(prefix, key_marker, id_marker)?;
+    list_asked(alloc, state, bucket, &asked, max)
+}
+
+fn asked_by(prefix: &Bytes, key_marker: &Bytes, id_marker: &Bytes) -> Result<AskedUploads, Memory>
+    ensures { IfOk result (λ asked. asked ≡ record
+        { prefix = prefix.now; key_marker = key_marker.now; id_marker = id_marker.now }) }
+{
+    Ok(AskedUploads {
         prefix: prefix.copy()?,
         key_marker: key_marker.copy()?,
         id_marker: id_marker.copy()?,
-    };
-    list_asked(alloc, state, bucket, &asked, max)
+    })
 }
 
 /// The same by what is asked, of more than none.

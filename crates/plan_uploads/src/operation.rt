@@ -131,6 +131,26 @@ fn plan<W: Swift>(
             replace(meta, Meta::new(alloc)),
             label,
         ),
+        _ => plan_of_open(alloc, state, op, label),
+    }
+}
+
+/// The plan of an operation that changes an upload which is open, but a completion; any other is handed on.
+fn plan_of_open<W: Swift>(
+    alloc: Global,
+    state: &mut Settled<'_, W>,
+    op: &mut Op,
+    label: &Label,
+) -> Result<Reply, PlanFault>
+    requires { IsProper op.old label.now }
+    ensures stays { Stays state.old state.new }
+    ensures plans { Plans (most_calls op.old (present (W.history state.old.store.now)))
+        (W.history state.old.store.now) (W.history state.new.store.now) state.old.settings.now
+        (Given Any) op.old label.now known.Settled result }
+    ensures beside { LeavesBeside (beside_of op.old) label.now (W.history state.old.store.now)
+        (W.history state.new.store.now) (Given Any) result }
+{
+    match op {
         Op::UploadPart {
             bucket,
             key,

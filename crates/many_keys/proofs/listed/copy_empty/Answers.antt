@@ -5,8 +5,8 @@ use Rattle.many_keys.proofs.listed.copy_empty.Goals as goal
 pub returns-in_err-id-clause-plans : goal.returns-in_err-id-clause-plans
 returns-in_err-id-clause-plans g c = λ acl list from_bucket from_key other onto. id_in_vain c.requires.place.named (omega arith) c.in_err-id.ensures.asks _ c.from_residual.ensures.1
 
-pub put_listed-requires : goal.put_listed-requires
-put_listed-requires g c =
+pub put_listed-end-requires : goal.put_listed-end-requires
+put_listed-end-requires g c =
     record {
       copy = is_copy c.args.replaced c.copy_as-sealed.ensures.copy c.requires.place c.copy_as-sealed.ensures.fits c.copy_as-sealed.ensures.content c.copy_as-sealed.ensures.ordered c.requires.head c.requires.of_parts
           (none_is_well _ c.new-parts.ensures) c.requires.moment;
@@ -15,4 +15,4 @@ put_listed-requires g c =
 pub returns-clause-plans : goal.returns-clause-plans
 returns-clause-plans g c = λ acl list from_bucket from_key other onto.
     id_puts _ _ from_bucket from_key acl list c.args.replaced c.args.head c.args.label.now other onto
-    _ c.law_unused_is_abandoned.ensures c.requires.place.named c.free_id.ensures.stays.settings c.in_ok-id.ensures.asks c.requires.empty c.new-parts.ensures c.copy_as-sealed.ensures.copy c.put_listed.ensures.plans
+    _ c.law_unused_is_abandoned.ensures c.requires.place.named c.free_id.ensures.stays.settings c.in_ok-id.ensures.asks c.requires.empty c.new-parts.ensures c.copy_as-sealed.ensures.copy c.put_listed-end.ensures.plans

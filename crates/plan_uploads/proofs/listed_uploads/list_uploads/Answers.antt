@@ -7,14 +7,8 @@ pub returns-then-max-eq0-clause-asks : goal.returns-then-max-eq0-clause-asks
 returns-then-max-eq0-clause-asks g c =
     none_asked _ _ c.args.bucket.now c.args.prefix.now c.args.key_marker.now c.args.id_marker.now c.args.max c.if-max-eq0.true _ (ap (λ items. (items, false)) c.new.ensures)
 
-pub returns-in_err-copy-clause-asks : goal.returns-in_err-copy-clause-asks
-returns-in_err-copy-clause-asks g c = not_asked _ _ _ c.from_residual.ensures.1
-
-pub returns-in_err-copy-2-clause-asks : goal.returns-in_err-copy-2-clause-asks
-returns-in_err-copy-2-clause-asks g c = not_asked _ _ _ c.from_residual-in_err-copy-2.ensures.1
-
-pub returns-in_err-copy-3-clause-asks : goal.returns-in_err-copy-3-clause-asks
-returns-in_err-copy-3-clause-asks g c = not_asked _ _ _ c.from_residual-in_err-copy-3.ensures.1
+pub returns-in_err-asked-clause-asks : goal.returns-in_err-asked-clause-asks
+returns-in_err-asked-clause-asks g c = not_asked _ _ _ c.from_residual.ensures.1
 
 pub returns-clause-asks : goal.returns-clause-asks
-returns-clause-asks g c = rw (c.in_ok-copy.ensures, c.in_ok-copy-2.ensures, c.in_ok-copy-3.ensures) at c.list_asked.ensures.asks
+returns-clause-asks g c = rw c.in_ok-asked.ensures at c.list_asked.ensures.asks
