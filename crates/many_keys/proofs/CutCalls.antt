@@ -1,15 +1,13 @@
 -- GET of the list of the segments of an object: over a consistent account they cut its bytes.
-use Rattle.std.specs.Prelude.{◌≡◌, ◌<◌, ◌≤◌, ◌+◌, ◌-◌, ◌*◌, ◌/◌, ◌%◌, ◌&&◌, ℕ, true, cond, nat_lt, sum_by, List, [], ◌∷◌, ◌++◌, length, drop, Option, None, Some, Ok}
+use Rattle.std.specs.Prelude.{◌≡◌, ◌<◌, ◌≤◌, ◌+◌, ◌-◌, ◌&&◌, ℕ, true, nat_lt, sum_by, List, [], ◌∷◌, ◌++◌, length, drop, Option, None, Some, Ok}
 use Rattle.std.specs.List.{All, list_all}
 use Rattle.std.specs.Option.{option_map, unwrap_or}
 use Rattle.std.specs.FinMap.{get}
 use Rattle.std.proofs.Common.{refl, sym, ap, subst, ◌∙◌, arith, append_assoc}
 use Rattle.std.proofs.lemmas.Bool.{and_from, lt-ltb, le-leb, eq-eqb}
-use Rattle.std.proofs.lemmas.Bool.Decides.{nat_tests}
 use Rattle.std.proofs.lemmas.List.{length-append, length-map}
 use Rattle.std.proofs.lemmas.List.Elements.{All-head, All-tail}
 use Rattle.std.proofs.lemmas.List.Sums.{sum_by-cons}
-use Rattle.gate_base.specs.Ascii.{is_digit}
 use Rattle.gate_base.specs.Maps.{Names}
 use Rattle.s3_names.specs.Bucket.{is_bucket}
 use Rattle.s3_names.specs.Id.{id_digits}
@@ -31,29 +29,12 @@ use Rattle.upload_records.specs.Native.{object_at, s3_state}
 use Rattle.recovery.specs.Answers.{listed_in}
 use Rattle.recovery.specs.Calls.{Given, HasObject}
 use Rattle.recovery.proofs.lemmas.One.{IsReadingOf}
-use Rattle.many_keys.specs.CopiedLists.{TellsCut, ascends_from, cut_by, cut_due, cut_of, digits_number, is_cut, is_piece, number_at, piece_of, size_of_cut}
+use Rattle.plan_uploads.specs.Listing.{digits_in}
+use Rattle.plan_uploads.proofs.lemmas.Digits.{digits_read}
+use Rattle.many_keys.specs.CopiedLists.{TellsCut, ascends_from, cut_by, cut_due, cut_of, is_cut, is_piece, number_at, piece_of, size_of_cut}
 use Rattle.many_keys.specs.declared.cut.Piece.{Piece}
 
 -- ---- the number of a name
-
-digits_sum : (n : ℕ) → n ≡ n / 10000 * 10000 + n / 1000 % 10 * 1000 + n / 100 % 10 * 100 + n / 10 % 10 * 10 + n % 10
-digits_sum n = omega arith
-
-is_one : (x : ℕ) → x ≤ 9 → is_digit (48 + x) ≡ true
-is_one x small = grind (arith, nat_tests)
-
-are_digits : (n : ℕ) → n ≤ 99999 → list_all is_digit (five_digits n) ≡ true
-are_digits n small =
-    and_from _ _ (is_one (n / 10000) (omega (arith, small))) (and_from _ _ (is_one (n / 1000 % 10) (omega arith)) (and_from _ _ (is_one (n / 100 % 10) (omega arith))
-    (and_from _ _ (is_one (n / 10 % 10) (omega arith)) (and_from _ _ (is_one (n % 10) (omega arith)) refl))))
-
-sum_back : (a b c d e : ℕ) → (48 + a - 48) * 10000 + (48 + b - 48) * 1000 + (48 + c - 48) * 100 + (48 + d - 48) * 10 + (48 + e - 48) ≡ a * 10000 + b * 1000 + c * 100 + d * 10 + e
-sum_back a b c d e = omega arith
-
-five_read : (n : ℕ) → n ≤ 99999 → digits_number (five_digits n) ≡ n
-five_read n small =
-    ap (λ t. cond t ((48 + n / 10000 - 48) * 10000 + (48 + n / 1000 % 10 - 48) * 1000 + (48 + n / 100 % 10 - 48) * 100 + (48 + n / 10 % 10 - 48) * 10 + (48 + n % 10 - 48)) 0) (are_digits n small)
-    ∙ sum_back (n / 10000) (n / 1000 % 10) (n / 100 % 10) (n / 10 % 10) (n % 10) ∙ sym (digits_sum n)
 
 drop_front : (front rest : List ℕ) → drop (length front) (front ++ rest) ≡ rest
 drop_front [] rest = refl
@@ -67,7 +48,7 @@ last_five id n =
 
 number_read : (id : List ℕ) (n : ℕ) → n ≤ greatest_part → number_at (segment_name id n) ≡ n
 unfolding segment_name greatest_part
-number_read id n small = ap digits_number (last_five id n) ∙ five_read n (omega (arith, small))
+number_read id n small = ap (λ text. unwrap_or (digits_in text) 0) (last_five id n) ∙ ap (λ o. unwrap_or o 0) (digits_read n (omega (arith, small)))
 
 pub segment_number : (id : List ℕ) (k n : ℕ) → k ≤ greatest_part → n ≤ greatest_part → segment_name id k ≡ segment_name id n → k ≡ n
 segment_number id k n low high e = sym (number_read id k low) ∙ ap number_at e ∙ number_read id n high

@@ -1,10 +1,9 @@
 -- The copy of an object whose file lists segments: how its bytes are cut, and what each call of the copy asks, tells and leaves.
 -- Source: Object Storage API v1, "Static large objects"; Amazon S3 API Reference, "CopyObject"; and this profile.
-use Rattle.std.specs.Prelude.{◌≡◌, ◌≤◌, ◌<◌, ◌==◌, ◌^◌, ◌+◌, ◌-◌, ◌*◌, ℕ, Bool, true, false, ◌&&◌, cond, nat_le, nat_lt, List, [], ◌∷◌, length, map, drop, take, sum_by, Option, None, Some, Result, Ok, Err}
+use Rattle.std.specs.Prelude.{◌≡◌, ◌≤◌, ◌<◌, ◌==◌, ◌^◌, ◌+◌, ◌-◌, ℕ, Bool, true, false, ◌&&◌, cond, nat_le, nat_lt, List, [], ◌∷◌, length, map, drop, take, sum_by, Option, None, Some, Result, Ok, Err}
 use Rattle.std.specs.List.{list_all}
-use Rattle.std.specs.Option.{option_map}
+use Rattle.std.specs.Option.{option_map, unwrap_or}
 use Rattle.std.specs.FinMap.{get, insert}
-use Rattle.gate_base.specs.Ascii.{is_digit}
 use Rattle.gate_base.specs.Maps.{adjust, Names}
 use Rattle.gate_base.specs.Told.{moment_limit}
 use Rattle.s3_names.specs.Id.{id_digits}
@@ -35,20 +34,15 @@ use Rattle.recovery.specs.Answers.{listed_by}
 use Rattle.recovery.specs.Calls.{TellsBucket, TellsObject}
 use Rattle.recovery.specs.declared.fault.PlanFault.{PlanFault}
 use Rattle.recovery.specs.declared.fault.PlanFault.TheVariants.{Inconsistent}
+use Rattle.plan_uploads.specs.Listing.{digits_in}
 use Rattle.many_keys.specs.Copies.{IsFoundSource, content_of}
 use Rattle.many_keys.specs.declared.cut.Piece.{Piece}
 
 -- ---- how a body is cut
 
--- the number that five digits write. For any other text it is 0, which no part has
-abbrev pub digits_number : List ℕ → ℕ
-digits_number (a ∷ (b ∷ (c ∷ (d ∷ (e ∷ []))))) =
-    cond (list_all is_digit (a ∷ (b ∷ (c ∷ (d ∷ (e ∷ [])))))) ((a - 48) * 10000 + (b - 48) * 1000 + (c - 48) * 100 + (d - 48) * 10 + (e - 48)) 0
-digits_number text = 0
-
--- the number at the end of a segment's name
+-- the number that the last five digits of a segment's name write. Where no five digits stand there it is 0, which no part has
 abbrev pub number_at : List ℕ → ℕ
-number_at name = digits_number (drop (length name - 5) name)
+number_at name = unwrap_or (digits_in (drop (length name - 5) name)) 0
 
 abbrev pub piece_of : Segment → Piece
 piece_of s = record { number = number_at s.name; size = s.size }

@@ -1,22 +1,21 @@
 //! How the bytes of an object that lists segments are cut.
-ghost use Rattle.std.specs.Prelude.{◌≡◌, ◌≢◌, ◌≤◌, ◌<◌, ◌-◌, ◌==◌, true, length, IfOk, Err};
+ghost use Rattle.std.specs.Prelude.{◌≡◌, ◌≢◌, ◌<◌, ◌==◌, true, length, IfOk, Err};
 ghost use Rattle.std.specs.List.{list_all};
-ghost use Rattle.gate_base.specs.Ascii.{is_digit};
 ghost use Rattle.s3_machine.specs.Step.{IsPlace};
 ghost use Rattle.recovery.specs.Calls.{always, Asks, Given, HasObject};
 ghost use Rattle.recovery.specs.Interpret.{Gives};
 ghost use Rattle.recovery.specs.Lent.{Stays};
 ghost use Rattle.recovery.specs.Listing.{TellsOf};
 ghost use Rattle.recovery.specs.declared.fault.PlanFault.TheVariants as fault;
-ghost use Rattle.many_keys.specs.CopiedLists.{TellsCut, ascends_from, cut_by, cut_due, cut_of, digits_number, is_cut, is_piece, number_at, piece_of, size_of_cut};
+ghost use Rattle.many_keys.specs.CopiedLists.{TellsCut, ascends_from, cut_by, cut_due, cut_of, is_cut, is_piece, number_at, piece_of, size_of_cut};
 
 use gate_base::{Bytes, Copying, List, Memory};
+use plan_uploads::digits_in;
 use recovery::{PlanFault, Settled};
 use s3_machine::{GREATEST_PART_NUMBER, MOST_BODY_BYTES, MOST_PARTS, ObjectHead};
 use slo_manifest::Segment;
 use std::alloc::Global;
 use swift_calls::{Swift, SwiftReply, SwiftRequest};
-use text_forms::all_digits;
 use upload_records::{law_listing_found, law_object_listed};
 
 /// A segment of an object: the number at the end of its name, and its size in bytes.
@@ -102,35 +101,12 @@ fn piece_of(segment: &Segment) -> Piece
     }
 }
 
-/// The number at the end of a segment's name.
+/// The number at the end of a segment's name, and 0 where no five digits stand there.
 fn number_at(name: &[u8]) -> u32
     ensures { result ≡ number_at name.now }
 {
-    if name.len() < 5 {
-        return 0;
-    }
-    let (front, digits) = name.split_at(name.len() - 5);
-    digits_number(digits)
-}
-
-/// The number that five digits write, and 0 for any other text.
-fn digits_number(text: &[u8]) -> u32
-    ensures { result ≡ digits_number text.now }
-{
-    match text {
-        [a, b, c, d, e] if all_digits(text) => {
-            digit(*a) * 10000 + digit(*b) * 1000 + digit(*c) * 100 + digit(*d) * 10 + digit(*e)
-        }
-        _ => 0,
-    }
-}
-
-fn digit(byte: u8) -> u32
-    requires { is_digit byte ≡ true }
-    ensures value { result ≡ byte - 48 }
-    ensures small { result ≤ 9 }
-{
-    u32::from(byte - b'0')
+    let at = name.len().saturating_sub(5);
+    digits_in(&name[at..]).unwrap_or(0)
 }
 
 /// Whether pieces make so many bytes, as the parts of an object.

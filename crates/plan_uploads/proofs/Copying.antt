@@ -25,6 +25,7 @@ use Rattle.s3_machine.specs.declared.operation.Op.{Op}
 use Rattle.s3_machine.specs.declared.operation.Op.TheVariants.{CopyPart}
 use Rattle.s3_machine.specs.declared.operation.Reply.{Reply}
 use Rattle.s3_machine.specs.declared.operation.Reply.TheVariants as reply
+use Rattle.s3_machine.specs.declared.reading.Span.{Span}
 use Rattle.s3_machine.proofs.lemmas.StepLemmas.{HasSource, HasUpload, steps, in_found, part_copy_without_bucket, part_copy_without_source_bucket, part_copy_without_source, part_copy_past_end, part_copy_too_large, step_part_copied}
 use Rattle.swift_calls.specs.Account.{SwiftAccount, files}
 use Rattle.swift_calls.specs.Bodies.{ranged}
@@ -61,6 +62,10 @@ copied_sized bytes (Some span) proper e =
     let below : span.1 < length bytes = grind (arith, nat_tests) in
     let order = proper.0 in
     length-take-le (span.1 + 1 - span.0) (drop span.0 bytes) (omega (arith, order, below, length-drop span.0 bytes))
+
+-- so many bytes are wanted
+pub same_length : {here span : Span} → here ≡ span → here.length ≡ span.length
+same_length is = ap (λ (s : Span). s.length) is
 
 -- as many bytes as a body may have aren't too many
 pub not_large : (wanted n : ℕ) → wanted ≡ n → wanted ≤ most_body_bytes → nat_lt most_body_bytes n ≡ false

@@ -1,56 +1,17 @@
--- Numbers of five digits, and the names of the parts of an upload in the order of their numbers.
-use Rattle.std.proofs.Common.{◌≡◌, ℕ, ◌+◌, ◌-◌, ◌*◌, ◌/◌, ◌%◌, ◌<◌, ◌≤◌, true, cond, bytes_eq, List, [], ◌∷◌, ◌++◌, length, drop, Some, None, refl, ap, sym, ◌∙◌, arith, append_assoc}
-use Rattle.std.specs.List.{list_all}
-use Rattle.std.specs.Str.Parse.{digits_value}
-use Rattle.std.specs.Char.{digit_value}
+-- The names of the parts of an upload, in the order of their numbers.
+use Rattle.std.proofs.Common.{◌≡◌, ℕ, ◌+◌, ◌*◌, ◌/◌, ◌%◌, ◌<◌, ◌≤◌, cond, bytes_eq, List, [], ◌∷◌, ◌++◌, length, drop, Some, None, refl, ap, sym, ◌∙◌, arith, append_assoc}
 use Rattle.std.specs.declared.cmp.Ordering.TheVariants.{Less}
 use Rattle.std.specs.Ordering.{nat_cmp, ordering_reverse}
 use Rattle.std.specs.Cmp.{tied_itself}
-use Rattle.std.proofs.lemmas.Bool.{and_from}
-use Rattle.std.proofs.lemmas.Bool.Decides.{nat_tests}
 use Rattle.std.proofs.lemmas.Slice.Eq.{bytes_eq-Decides}
 use Rattle.std.proofs.Math.Seq.{take-append_seam}
-use Rattle.gate_base.specs.Ascii.{is_digit}
 use Rattle.gate_base.specs.Maps.{name_cmp}
 use Rattle.gate_base.proofs.lemmas.Maps.{name_total, number_total}
 use Rattle.list_pages.proofs.lemmas.Rising.{bytes_order, below, same, above, then_same, then_below}
 use Rattle.list_pages.proofs.lemmas.Rolling.{common}
 use Rattle.upload_records.specs.Layout.{five_digits, segments_prefix, segment_name}
 use Rattle.plan_uploads.specs.Listing.{digits_in, number_in}
-
-value_of_digit : (c : ℕ) → 48 ≤ c → c ≤ 57 → digit_value c ≡ c - 48
-value_of_digit c low high = grind (arith, nat_tests)
-
--- ---- five digits
-
--- a number is the sum of its digits
-digits_sum : (n : ℕ) → n ≡ n / 10000 * 10000 + n / 1000 % 10 * 1000 + n / 100 % 10 * 100 + n / 10 % 10 * 10 + n % 10
-digits_sum n = omega arith
-
-is_one : (x : ℕ) → x ≤ 9 → is_digit (48 + x) ≡ true
-is_one x small = grind (arith, nat_tests)
-
-has_value : (x : ℕ) → x ≤ 9 → digit_value (48 + x) ≡ x
-has_value x small = let v = value_of_digit (48 + x) (omega arith) (omega (arith, small)) in omega (arith, v)
-
-are_digits : (n : ℕ) → n ≤ 99999 → list_all is_digit (five_digits n) ≡ true
-are_digits n small =
-    and_from _ _ (is_one (n / 10000) (omega (arith, small))) (and_from _ _ (is_one (n / 1000 % 10) (omega arith)) (and_from _ _ (is_one (n / 100 % 10) (omega arith))
-    (and_from _ _ (is_one (n / 10 % 10) (omega arith)) (and_from _ _ (is_one (n % 10) (omega arith)) refl))))
-
-have_value : (n : ℕ) → n ≤ 99999 → digits_value 10 (five_digits n) ≡ n
-have_value n small =
-    let a = has_value (n / 10000) (omega (arith, small)) in
-    let b = has_value (n / 1000 % 10) (omega arith) in
-    let c = has_value (n / 100 % 10) (omega arith) in
-    let d = has_value (n / 10 % 10) (omega arith) in
-    let e = has_value (n % 10) (omega arith) in
-    let sum = digits_sum n in
-    omega (arith, a, b, c, d, e, sum)
-
-pub digits_read : (n : ℕ) → n ≤ 99999 → digits_in (five_digits n) ≡ Some n
-digits_read n small =
-    ap (λ t. cond t (Some (digits_value 10 (five_digits n))) None) (and_from _ _ refl (are_digits n small)) ∙ ap Some (have_value n small)
+use Rattle.plan_uploads.proofs.lemmas.Digits.{digits_read, digits_sum}
 
 drop_seam : (x y : List ℕ) → drop (length x) (x ++ y) ≡ y
 drop_seam [] y = refl

@@ -14,7 +14,6 @@ pub mod Creating
 pub mod Dated
 pub mod Digits
 pub mod DropCalls
-pub mod FilePages
 pub mod Finding
 pub mod Finishing
 pub mod FoundCompletion

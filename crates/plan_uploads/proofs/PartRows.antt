@@ -30,8 +30,9 @@ use Rattle.upload_records.specs.Laws.{part_in}
 use Rattle.list_pages.proofs.lemmas.Pages.{parts}
 use Rattle.list_pages.proofs.lemmas.Rising.{begins_cut}
 use Rattle.list_pages.proofs.lemmas.Sorted.{both, sorted_filter}
+use Rattle.recovery.specs.FilePages.{item_at, items_after}
 use Rattle.recovery.proofs.lemmas.Markers.{IsEntry, entries_are}
-use Rattle.plan_uploads.specs.Listing.{item_at, items_after, number_in, part_due, part_from}
+use Rattle.plan_uploads.specs.Listing.{number_in, part_due, part_from}
 use Rattle.plan_uploads.specs.Records.{items_above}
 use Rattle.plan_uploads.proofs.Digits.{name_is, number_read, segments_order}
 

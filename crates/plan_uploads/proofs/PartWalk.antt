@@ -22,8 +22,9 @@ use Rattle.recovery.specs.declared.fault.PlanFault.{PlanFault}
 use Rattle.recovery.specs.Answers.{named_by, pages}
 use Rattle.recovery.specs.Listing.{TellsOf}
 use Rattle.recovery.specs.Calls.{Bound, always, by_account, Asks, GivenOf, Met}
+use Rattle.recovery.specs.FilePages.{items_after, rows_after}
 use Rattle.recovery.proofs.lemmas.Idle.{grows_none, none_made}
-use Rattle.plan_uploads.specs.Listing.{items_after, part_due, rows_after, told_after, TellsNext}
+use Rattle.plan_uploads.specs.Listing.{part_due, told_after, TellsNext}
 use Rattle.plan_uploads.specs.Records.{InBucket, TellsParts, items_above}
 use Rattle.plan_uploads.proofs.PartRows.{items_told, none_above, parts_told}
 use Rattle.plan_uploads.proofs.Taking.{Taking, taking_end, taking_fault, taking_none}

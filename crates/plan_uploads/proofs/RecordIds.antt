@@ -1,10 +1,11 @@
 -- The ids that the names of the records of a bucket write.
-use Rattle.std.proofs.Common.{◌≡◌, ℕ, ◌≤◌, true, List, [], ◌∷◌, ◌++◌, length, is_some, Option, None, Some, Result, Ok, Err, refl, ap, ◌∙◌, arith}
+use Rattle.std.proofs.Common.{◌≡◌, ℕ, ◌≤◌, Bool, true, false, cond, List, [], ◌∷◌, ◌++◌, length, is_some, Option, None, Some, Result, Ok, Err, refl, ap, ◌∙◌, arith}
 use Rattle.std.specs.Result.{IsErrAnd}
-use Rattle.std.specs.List.{list_all, AllByRecursion}
+use Rattle.std.specs.List.{filter, list_all, AllByRecursion}
 use Rattle.std.specs.Ordering.{is_lt}
 use Rattle.std.specs.FinMap.{entries, len-entries}
-use Rattle.std.proofs.lemmas.Bool.{and_from}
+use Rattle.std.proofs.lemmas.Bool.{and_from, and_parts}
+use Rattle.std.proofs.lemmas.List.Folds.{list_all-map}
 use Rattle.gate_base.specs.Maps.{name_cmp}
 use Rattle.s3_names.specs.Bucket.{is_bucket}
 use Rattle.s3_names.specs.Id.{id_of}
@@ -17,13 +18,22 @@ use Rattle.upload_records.specs.Consistent.{IsConsistent, IsThere}
 use Rattle.recovery.specs.declared.fault.PlanFault.{PlanFault}
 use Rattle.recovery.specs.Answers.{pages, records_of}
 use Rattle.recovery.specs.Calls.{always, by_account, Asks, GivenOf}
+use Rattle.recovery.specs.FilePages.{item_at, rows_after, items_after}
 use Rattle.recovery.specs.Listing.{TellsOf}
 use Rattle.recovery.proofs.lemmas.Markers.{IsEntry, entries_are}
-use Rattle.plan_uploads.specs.Listing.{item_at, rows_after, items_after, id_due, told_after, TellsIds, TellsNext}
+use Rattle.plan_uploads.specs.Listing.{id_due, told_after, TellsIds, TellsNext}
 use Rattle.plan_uploads.specs.Records.{InBucket}
-use Rattle.plan_uploads.proofs.FilePages.{all_filter, all_map}
 use Rattle.plan_uploads.proofs.PartWalk.{shorter}
 use Rattle.plan_uploads.proofs.Taking.{Taking, taking_end, taking_fault, taking_none}
+
+all_filter : {X : Type 0} (q p : X → Bool) (es : List X) → list_all q es ≡ true → list_all q (filter p es) ≡ true
+all_filter q p [] h = refl
+all_filter q p (e ∷ es) h =
+    let a = and_parts (q e) (list_all q es) h in
+    elim (p e) as (λ t. list_all q (cond t (e ∷ filter p es) (filter p es)) ≡ true) [
+      | true ↦ and_from _ _ a.0 (all_filter q p es a.1)
+      | false ↦ all_filter q p es a.1
+    ]
 
 -- ---- each name writes an id
 
@@ -37,8 +47,8 @@ module _ (bucket marker : List ℕ) (is : is_bucket bucket ≡ true) (tree : Swi
   pub all_ids : list_all (λ item. is_some (id_due item)) (items_after [] marker (files tree (uploads_name bucket))) ≡ true
   all_ids =
       let fs = files tree (uploads_name bucket) in
-      all_map (λ item. is_some (id_due item)) item_at (rows_after [] marker fs)
-      (all_filter (λ e. is_some (id_of e.0)) (λ e. is_lt (name_cmp marker e.0)) (with_prefix [] (entries fs))
+      list_all-map (λ item. is_some (id_due item)) item_at (rows_after [] marker fs)
+      ∙ (all_filter (λ e. is_some (id_of e.0)) (λ e. is_lt (name_cmp marker e.0)) (with_prefix [] (entries fs))
       (all_filter (λ e. is_some (id_of e.0)) (λ e. true) (entries fs) (names_are (entries fs) (entries_are fs))))
 
 -- ---- page by page

@@ -1,7 +1,8 @@
 -- What the items of a container tell, taken page by page.
-use Rattle.std.proofs.Common.{◌≡◌, ℕ, zero, suc, ◌+◌, ◌*◌, ◌<◌, ◌≤◌, IsTrue, true, false, List, [], ◌∷◌, ◌++◌, map, length, take, drop, get_or, is_some, Option, Some, None, Result, Ok, Err, refl, sym, ap, subst, ◌∙◌, arith, append_assoc}
+use Rattle.std.proofs.Common.{◌≡◌, ℕ, zero, suc, ◌+◌, ◌*◌, ◌<◌, ◌≤◌, Bool, IsTrue, true, false, List, [], ◌∷◌, ◌++◌, map, length, take, drop, get_or, is_some, Option, Some, None, Result, Ok, Err, refl, sym, ap, subst, ◌∙◌, arith, append_assoc}
 use Rattle.std.specs.Result.{IsErrAnd}
 use Rattle.std.specs.List.{cons_option, filter_map, list_all}
+use Rattle.std.proofs.lemmas.Bool.{and_from, and_parts}
 use Rattle.std.proofs.lemmas.List.{length-drop, take-append-drop, take_more}
 use Rattle.std.proofs.lemmas.List.Elements.{All-contains, filter_map-append}
 use Rattle.std.proofs.lemmas.List.Sums.{AllPass-from_list_all}
@@ -16,13 +17,13 @@ use Rattle.recovery.specs.declared.fault.PlanFault.{PlanFault}
 use Rattle.recovery.specs.declared.fault.PlanFault.TheVariants as plan
 use Rattle.recovery.specs.Answers.{pages}
 use Rattle.recovery.specs.Calls.{always, by_account, Any, Asks, GivenOf, GoesOn, Grows, Met}
+use Rattle.recovery.specs.FilePages.{item_at, rows_after, items_after, next_after, TellsFiles}
 use Rattle.recovery.specs.Listing.{TellsOf}
 use Rattle.recovery.proofs.lemmas.Ask.{asks_out_of_memory}
 use Rattle.recovery.proofs.lemmas.Faults.{err_is}
 use Rattle.recovery.proofs.lemmas.Idle.{goes_none, goes_trans}
 use Rattle.recovery.proofs.lemmas.Walk.{Idles, idles_none, idles_trans, cause_after, keeps_after}
-use Rattle.plan_uploads.specs.Listing.{item_at, rows_after, items_after, next_after, told_after, Adds, GoesOnWith, HasOdd, TellsNext, TellsPage}
-use Rattle.plan_uploads.proofs.FilePages.{all_take}
+use Rattle.plan_uploads.specs.Listing.{told_after, Adds, GoesOnWith, HasOdd, TellsNext}
 use Rattle.plan_uploads.proofs.Turned.{turned, ended}
 
 -- ---- one item more
@@ -41,6 +42,12 @@ drop-map f zero (x ∷ xs) = refl
 drop-map f (suc n) [] = refl
 drop-map f (suc n) (x ∷ xs) = drop-map f n xs
 
+all_take : {X : Type 0} (p : X → Bool) (n : ℕ) (xs : List X) → list_all p xs ≡ true → list_all p (take n xs) ≡ true
+all_take p zero [] h = refl
+all_take p zero (x ∷ xs) h = refl
+all_take p (suc n) [] h = refl
+all_take p (suc n) (x ∷ xs) h = let a = and_parts (p x) (list_all p xs) h in and_from _ _ a.0 (all_take p n xs a.1)
+
 -- ---- a page
 
 -- a page of which nothing is asked
@@ -52,12 +59,12 @@ grows_any grows = record { on = grows.on; calls = grows.calls }
 
 -- the same of texts that are handed on
 pub as_page : {a b : History} {r : Result (List NameItem) PlanFault} (folder prefix marker name front behind : List ℕ) → name ≡ folder → front ≡ prefix → behind ≡ marker
-    → Asks (always 1) a b Any (TellsOf (TellsPage name front behind)) r → Asks (always 1) a b Any (TellsOf (TellsPage folder prefix marker)) r
+    → Asks (always 1) a b Any (TellsOf (TellsFiles name front behind)) r → Asks (always 1) a b Any (TellsOf (TellsFiles folder prefix marker)) r
 as_page {a = a} {b = b} {r = r} folder prefix marker name front behind named fronted from asks =
-    subst {A = List ℕ × List ℕ × List ℕ} (λ x. Asks (always 1) a b Any (TellsOf (TellsPage x.0 x.1 x.2)) r) (λ i. (named i, fronted i, from i)) asks
+    subst {A = List ℕ × List ℕ × List ℕ} (λ x. Asks (always 1) a b Any (TellsOf (TellsFiles x.0 x.1 x.2)) r) (λ i. (named i, fronted i, from i)) asks
 
 module _ {X : Type 0} (due : NameItem → Option X) (folder prefix marker : List ℕ) where
-  module _ (tree : SwiftAccount) (told : List NameItem) (tells : TellsPage folder prefix marker tree told) (old new : List X) (added : new ≡ old ++ filter_map due told) where
+  module _ (tree : SwiftAccount) (told : List NameItem) (tells : TellsFiles folder prefix marker tree told) (old new : List X) (added : new ≡ old ++ filter_map due told) where
     abbrev fs : Names SwiftObject
     fs = files tree folder
 
@@ -83,7 +90,7 @@ module _ {X : Type 0} (due : NameItem → Option X) (folder prefix marker : List
 
   -- an item that tells nothing, where each of them tells something
   module _ (given : SwiftAccount → Type 0) (good : (tree : SwiftAccount) → IsConsistent tree → given tree → list_all (λ item. is_some (due item)) (items_after prefix marker (files tree folder)) ≡ true) where
-    none_odd : (tree : SwiftAccount) (told : List NameItem) → IsConsistent tree → given tree → TellsPage folder prefix marker tree told → HasOdd due told → ⊥
+    none_odd : (tree : SwiftAccount) (told : List NameItem) → IsConsistent tree → given tree → TellsFiles folder prefix marker tree told → HasOdd due told → ⊥
     none_odd tree told sound has tells odd =
         let all : list_all (λ item. is_some (due item)) told ≡ true =
         ap (list_all (λ item. is_some (due item))) tells.items ∙ all_take (λ item. is_some (due item)) 1000 (items_after prefix marker (files tree folder)) (good tree sound has) in
@@ -91,7 +98,7 @@ module _ {X : Type 0} (due : NameItem → Option X) (folder prefix marker : List
         cc
 
     -- what a page tells couldn't be added
-    pub not_added : {a b : History} {told : List NameItem} → Asks (always 1) a b Any (TellsOf (TellsPage folder prefix marker)) (Ok told) → (old new : List X) {Q : SwiftAccount → Option (List ℕ) → Type 0}
+    pub not_added : {a b : History} {told : List NameItem} → Asks (always 1) a b Any (TellsOf (TellsFiles folder prefix marker)) (Ok told) → (old new : List X) {Q : SwiftAccount → Option (List ℕ) → Type 0}
         (tells : NameItem → Option X) (handed : List NameItem) → tells ≡ due → handed ≡ told → (f : PlanFault) → Adds tells old new handed (Err f) → (result : Result (Option (List ℕ)) PlanFault) → IsErrAnd result (λ e. e ≡ f) → Asks (always 1) a b (GivenOf given) (TellsOf Q) result
     not_added asks old new tells handed is same plan.Failed never result gives = absurd never
     not_added asks old new tells handed is same plan.Memory done result gives = asks_out_of_memory (λ tree has. tt) asks result gives

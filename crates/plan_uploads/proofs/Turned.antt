@@ -17,7 +17,7 @@ use Rattle.list_pages.specs.Listing.{is_name_with, name_in}
 use Rattle.list_pages.proofs.lemmas.Sorted.{sorted_filter}
 use Rattle.list_pages.proofs.lemmas.Turning.{page_turned}
 use Rattle.recovery.proofs.lemmas.Names.{object_name}
-use Rattle.plan_uploads.specs.Listing.{item_at, rows_after, items_after, next_after}
+use Rattle.recovery.specs.FilePages.{item_at, rows_after, items_after, next_after}
 
 -- ---- the last name of a page
 

@@ -31,13 +31,14 @@ use Rattle.recovery.specs.declared.fault.PlanFault.TheVariants.{Failed, Memory, 
 use Rattle.recovery.specs.Answers.{pages, records_of}
 use Rattle.recovery.specs.Calls.{Bound, always, by_account, Asks, GivenOf, Keeps, Met, Tells}
 use Rattle.recovery.specs.Fault.{CausesFault}
+use Rattle.recovery.specs.FilePages.{item_at, rows_after}
 use Rattle.recovery.specs.Listing.{TellsOf}
 use Rattle.recovery.proofs.lemmas.Faults.{err_is}
 use Rattle.recovery.proofs.lemmas.Idle.{goes_trans, grows_none, none_made}
 use Rattle.recovery.proofs.lemmas.Markers.{IsEntry, entries_are}
 use Rattle.recovery.proofs.lemmas.Walk.{Idles, idles_trans, cause_after, keeps_after}
 use Rattle.plan_uploads.specs.declared.listed_uploads.AskedUploads.{AskedUploads}
-use Rattle.plan_uploads.specs.Listing.{item_at, rows_after, id_due, ids_in, row_due, row_of_record, AllShown, TellsIds, TellsListed, TellsRows}
+use Rattle.plan_uploads.specs.Listing.{id_due, ids_in, row_due, row_of_record, AllShown, TellsIds, TellsListed, TellsRows}
 use Rattle.plan_uploads.specs.Records.{InBucket, TellsUploads, uploads_in}
 use Rattle.plan_uploads.proofs.PartWalk.{cut_none}
 use Rattle.plan_uploads.proofs.RecordIds.{rows_within}

@@ -1,20 +1,19 @@
 -- The parts of an upload and the uploads of a bucket, as listings of the containers beside the bucket tell them page by page.
 -- Source: Object Storage API v1, "Show container details and list objects", and this profile.
-use Rattle.std.specs.Prelude.{◌≡◌, ◌≤◌, ⊤, ℕ, ◌+◌, ◌-◌, ◌==◌, ◌&&◌, nat_lt, slice_get, List, [], ◌++◌, map, is_some, length, take, drop, cond, bytes_eq, Contains, Option, None, Some, Result, Ok, Err}
+use Rattle.std.specs.Prelude.{◌≡◌, ◌≤◌, ⊤, ℕ, ◌+◌, ◌==◌, ◌&&◌, List, [], ◌++◌, is_some, length, take, drop, cond, bytes_eq, Contains, Option, None, Some, Result, Ok, Err}
 use Rattle.std.specs.List.{filter_map, list_all}
 use Rattle.std.specs.Str.Parse.{digits_value}
-use Rattle.std.specs.FinMap.{entries, from_entries, get, insert}
+use Rattle.std.specs.FinMap.{from_entries, get, insert}
 use Rattle.gate_base.specs.Ascii.{is_digit}
 use Rattle.gate_base.specs.Maps.{Names, name_cmp}
 use Rattle.gate_base.specs.Told.{moment_limit}
 use Rattle.s3_names.specs.Id.{id_digits, id_of}
-use Rattle.s3_machine.specs.Items.{begins, behind, with_prefix}
+use Rattle.s3_machine.specs.Items.{begins}
 use Rattle.s3_machine.specs.Shown.{IsShownUpload}
 use Rattle.s3_machine.specs.Uploads.{is_upload_after, upload_place}
 use Rattle.s3_machine.specs.declared.items.PartItem.{PartItem}
 use Rattle.s3_machine.specs.declared.items.UploadItem.{UploadItem}
-use Rattle.swift_calls.specs.Account.{SwiftObject, SwiftAccount, files}
-use Rattle.swift_calls.specs.Bodies.{item_of}
+use Rattle.swift_calls.specs.Account.{SwiftAccount, files}
 use Rattle.swift_calls.specs.declared.heads.NameItem.{NameItem}
 use Rattle.swift_marks.specs.Tag.{read_stamp}
 use Rattle.swift_marks.specs.declared.tag.Stamp.{Stamp}
@@ -24,28 +23,9 @@ use Rattle.list_pages.specs.declared.page.TheConstants.{MOST_NAMES}
 use Rattle.upload_records.specs.Layout.{uploads_name}
 use Rattle.upload_records.specs.Native.{record_at}
 use Rattle.plan_uploads.specs.declared.listed_uploads.AskedUploads.{AskedUploads}
+use Rattle.recovery.specs.FilePages.{items_after, rows_after}
 use Rattle.recovery.specs.declared.fault.PlanFault.{PlanFault}
 use Rattle.recovery.specs.declared.fault.PlanFault.TheVariants.{Failed, Memory, Inconsistent}
-
--- ---- a page of any container
-
-abbrev pub item_at : List ℕ × SwiftObject → NameItem
-item_at e = item_of e.0 e.1
-
--- the files whose names begin with a prefix and come after a marker, in the order of the names, and the items of them
-abbrev pub rows_after : List ℕ → List ℕ → Names SwiftObject → List (List ℕ × SwiftObject)
-rows_after prefix marker fs = behind marker (with_prefix prefix (entries fs))
-
-abbrev pub items_after : List ℕ → List ℕ → Names SwiftObject → List NameItem
-items_after prefix marker fs = map item_at (rows_after prefix marker fs)
-
--- a page of them
-pub record TellsPage (folder prefix marker : List ℕ) (tree : SwiftAccount) (told : List NameItem) : Type 0 where
-  pub items : told ≡ take MOST_NAMES (items_after prefix marker (files tree folder))
-
--- the marker of the next page, by the names of a page: a shorter page is the last one
-abbrev pub next_after : List (List ℕ) → Option (List ℕ)
-next_after names = cond (nat_lt (length names) MOST_NAMES) None (slice_get names (length names - 1))
 
 -- ---- the part of an item
 

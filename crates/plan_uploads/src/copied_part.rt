@@ -21,7 +21,7 @@ use crate::found::{Found, find_upload};
 use crate::parts::put_part;
 use gate_base::Bytes;
 use recovery::{PlanFault, Settled, get_object, head_bucket, head_object};
-use s3_machine::{Body, Code, Label, MOST_BODY_BYTES, ObjectHead, Reply, has_last};
+use s3_machine::{Body, Code, Label, MOST_BODY_BYTES, ObjectHead, Reply, copied_span, has_last};
 use std::alloc::Global;
 use swift_calls::Swift;
 
@@ -184,7 +184,7 @@ fn copy_of<W: Swift>(
     if !has_last(range, head.size) {
         return Ok(Reply::Refused(Code::InvalidRange));
     }
-    let wanted = wanted(range, head.size);
+    let wanted = copied_span(range, head.size).length;
     if wanted > MOST_BODY_BYTES {
         return Ok(Reply::Refused(Code::EntityTooLarge));
     }
@@ -204,17 +204,6 @@ fn copy_of<W: Swift>(
         wanted,
         label,
     )
-}
-
-/// How many bytes of an object of this size are wanted.
-fn wanted(range: Option<(u64, u64)>, size: u64) -> u64
-    requires { IfSome range IsProperCopyRange }
-    ensures { result ≡ (copied_span range size).length }
-{
-    match range {
-        None => size,
-        Some((first, last)) => last + 1 - first,
-    }
 }
 
 /// The rest of CopyPart, of as many bytes as are wanted of a source with this head.

@@ -12,7 +12,6 @@ mod ids;
 mod listed_parts;
 mod listed_uploads;
 mod operation;
-mod pages;
 mod part;
 mod parts;
 mod records;
@@ -21,5 +20,6 @@ mod uploads;
 
 pub use copied_part::copy_part;
 pub use ids::free_id;
+pub use listed_parts::digits_in;
 pub use operation::{Replied, answer};
 pub use parts::part_request;

@@ -12,14 +12,14 @@ ghost use Rattle.list_pages.specs.Listing.{name_in, IsPageOf};
 ghost use Rattle.upload_records.specs.Layout.{segments_name, segments_prefix};
 ghost use Rattle.recovery.specs.Answers.{named_by, pages};
 ghost use Rattle.recovery.specs.Calls.{always, by_account, Any, Asks, GivenOf};
+ghost use Rattle.recovery.specs.FilePages.{TellsFiles};
 ghost use Rattle.recovery.specs.Lent.{Stays};
 ghost use Rattle.recovery.specs.Listing.{TellsOf};
-ghost use Rattle.plan_uploads.specs.Listing.{digits_in, number_in, part_due, Adds, ReadsPart, TellsNext, TellsPage};
+ghost use Rattle.plan_uploads.specs.Listing.{digits_in, number_in, part_due, Adds, ReadsPart, TellsNext};
 ghost use Rattle.plan_uploads.specs.Records.{InBucket, TellsParts};
 
-use crate::pages::{next_marker, page};
 use gate_base::{Bytes, List};
-use recovery::{PlanFault, Settled};
+use recovery::{PlanFault, Settled, file_page, next_marker};
 use s3_machine::{GREATEST_PART_NUMBER, PartItem};
 use std::alloc::Global;
 use swift_calls::{NameItem, Swift};
@@ -27,8 +27,8 @@ use swift_marks::Stamp;
 use text_forms::{all_digits, short_value};
 use upload_records::{segment_name, segments_container, segments_prefix};
 
-/// The number that five digits write.
-fn digits_in(text: &[u8]) -> Option<u32>
+/// The number that five digits write; `None` for every other text.
+pub fn digits_in(text: &[u8]) -> Option<u32>
     ensures { result ≡ digits_in text.now }
 {
     if text.len() == 5 && all_digits(text) {
@@ -102,10 +102,10 @@ fn segments_page<W: Swift>(
         × ((W.history state.new.store.now).called ≡ (W.history state.old.store.now).called + 1)) }
     ensures page { IfOk result (λ items. IsPageOf prefix.now marker.now (map name_in items)) }
     ensures asks { Asks (always 1) (W.history state.old.store.now) (W.history state.new.store.now)
-        Any (TellsOf (TellsPage (segments_name bucket.now) prefix.now marker.now)) result }
+        Any (TellsOf (TellsFiles (segments_name bucket.now) prefix.now marker.now)) result }
 {
     let folder = segments_container(alloc, bucket.as_slice())?;
-    page(
+    file_page(
         alloc,
         state,
         folder.as_slice(),

@@ -29,11 +29,10 @@ ghost use Rattle.plan_uploads.specs.Listing.{
 };
 ghost use Rattle.plan_uploads.specs.Records.{InBucket, TellsUploads};
 
-use crate::pages::{next_marker, page};
 use crate::records::get_record;
 use gate_base::{Bytes, Copying, List, MOMENT_LIMIT, Memory};
 use name_table::Table;
-use recovery::{PlanFault, Settled};
+use recovery::{PlanFault, Settled, file_page, next_marker};
 use s3_machine::UploadItem;
 use s3_names::{id_digits, id_of};
 use std::alloc::Global;
@@ -76,7 +75,7 @@ fn next_ids<W: Swift>(
         result }
 {
     let folder = uploads_container(alloc, bucket.as_slice())?;
-    let page = page(alloc, state, folder.as_slice(), b"", marker.as_slice())?;
+    let page = file_page(alloc, state, folder.as_slice(), b"", marker.as_slice())?;
     add_ids(ids, page.as_slice())?;
     Ok(next_marker(page.as_slice())?)
 }

@@ -3,8 +3,9 @@ use Rattle.std.specs.List.{filter_map}
 use Rattle.s3_names.specs.Id.{id_digits}
 use Rattle.list_pages.specs.Listing.{name_in}
 use Rattle.upload_records.specs.Layout.{segments_name, segments_prefix}
+use Rattle.recovery.specs.FilePages.{next_after}
 use Rattle.recovery.proofs.lemmas.Ask.{asks_fault, asks_out_of_memory, asks_told}
-use Rattle.plan_uploads.specs.Listing.{next_after, part_due}
+use Rattle.plan_uploads.specs.Listing.{part_due}
 use Rattle.plan_uploads.specs.Records.{InBucket}
 use Rattle.plan_uploads.proofs.PartWalk.{all_parts}
 use Rattle.plan_uploads.proofs.Taking.{as_page, not_added, tells_next}

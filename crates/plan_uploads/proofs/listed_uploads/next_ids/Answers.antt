@@ -3,9 +3,10 @@ use Rattle.std.specs.List.{filter_map}
 use Rattle.swift_calls.specs.Step.{IsContainerName}
 use Rattle.list_pages.specs.Listing.{name_in}
 use Rattle.upload_records.specs.Layout.{uploads_name}
+use Rattle.recovery.specs.FilePages.{next_after}
 use Rattle.recovery.proofs.lemmas.Ask.{asks_told}
 use Rattle.recovery.proofs.lemmas.One.{not_asked}
-use Rattle.plan_uploads.specs.Listing.{next_after, id_due}
+use Rattle.plan_uploads.specs.Listing.{id_due}
 use Rattle.plan_uploads.specs.Records.{InBucket}
 use Rattle.plan_uploads.proofs.RecordIds.{all_ids}
 use Rattle.plan_uploads.proofs.SideNames.{no_marker, uploads_fits}
@@ -16,12 +17,12 @@ use Rattle.plan_uploads.proofs.listed_uploads.next_ids.Goals as goal
 pub returns-in_err-folder-clause-asks : goal.returns-in_err-folder-clause-asks
 returns-in_err-folder-clause-asks g c = not_asked _ _ _ c.from_residual.ensures.1
 
-pub page-requires-clause-folder : goal.page-requires-clause-folder
-page-requires-clause-folder g c =
+pub file_page-requires-clause-folder : goal.file_page-requires-clause-folder
+file_page-requires-clause-folder g c =
     subst IsContainerName (sym (c.as_slice-2.ensures ∙ c.in_ok-folder.ensures ∙ ap uploads_name c.as_slice.ensures)) (uploads_fits c.args.bucket.now c.requires.name)
 
-pub page-requires-clause-prefix : goal.page-requires-clause-prefix
-page-requires-clause-prefix g c = no_marker
+pub file_page-requires-clause-prefix : goal.file_page-requires-clause-prefix
+file_page-requires-clause-prefix g c = no_marker
 
 pub returns-in_err-add_ids-clause-asks : goal.returns-in_err-add_ids-clause-asks
 returns-in_err-add_ids-clause-asks g c =
