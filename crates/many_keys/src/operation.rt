@@ -6,14 +6,14 @@ ghost use Rattle.recovery.specs.Answers.{is_many, most_calls};
 ghost use Rattle.recovery.specs.declared.state.Known.TheVariants as known;
 ghost use Rattle.recovery.specs.Calls.{Any, Given};
 ghost use Rattle.recovery.specs.Lent.{Stays};
-ghost use Rattle.recovery.specs.Plan.{reply_of, Plans, Answered};
+ghost use Rattle.recovery.specs.Plan.{Plans, Answered};
 
 use crate::copies::copy_object;
 use crate::deletions::delete_objects;
 use gate_base::{Bytes, List, drop};
 use plan_uploads::copy_part;
-use recovery::{PlanFault, Settled};
-use s3_machine::{Code, Label, Op, Reply};
+use recovery::{PlanFault, Settled, reply_of};
+use s3_machine::{Label, Op, Reply};
 use std::alloc::Global;
 use std::mem::replace;
 use swift_calls::Swift;
@@ -37,7 +37,7 @@ pub fn answer<W: Swift>(alloc: Global, state: &mut Settled<'_, W>, op: Op, label
     let mut op = op;
     let end = plan(alloc, state, &mut op, label);
     drop(op);
-    reply_to(end)
+    reply_of(end)
 }
 
 /// Makes the calls of an operation's plan, which takes of it what it needs; the operation is dropped by its owner alone. Any other
@@ -99,17 +99,5 @@ fn plan<W: Swift>(
             label,
         ),
         _ => Err(PlanFault::Memory),
-    }
-}
-
-/// The reply by the end of a plan.
-fn reply_to(end: Result<Reply, PlanFault>) -> Reply
-    ensures { result ≡ reply_of end }
-{
-    match end {
-        Ok(reply) => reply,
-        Err(PlanFault::Failed) => Reply::Refused(Code::ServiceUnavailable),
-        Err(PlanFault::Memory) => Reply::Memory,
-        Err(PlanFault::Inconsistent) => Reply::Refused(Code::InconsistentStore),
     }
 }

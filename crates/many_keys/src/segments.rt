@@ -16,7 +16,7 @@ ghost use Rattle.many_keys.specs.CopiedLists.{AreOfCut, CopiesFirst, CopiesPiece
 use crate::cut::Piece;
 use gate_base::{Bytes, Copying, List, drop};
 use plan_uploads::part_request;
-use recovery::{PlanFault, Settled, get_object};
+use recovery::{PlanFault, Settled, get_object, stored_in};
 use s3_machine::{ObjectHead, body_etag};
 use std::alloc::Global;
 use swift_calls::{Swift, SwiftReply};
@@ -223,21 +223,10 @@ fn told_in(reply: SwiftReply, etag: &[u8], part: SealedPart) -> Result<SealedPar
     ensures own { result ≢ Err fault.Failed }
     ensures told { IfOk result (λ told. told ≡ part) }
 {
-    let stored = stored_by(&reply, etag);
+    let stored = stored_in(&reply, etag);
     drop(reply);
     match stored {
         Ok(()) => Ok(part),
         Err(fault) => Err(fault),
-    }
-}
-
-/// The answer to PUT of a file whose bytes have this ETag: the store has them with the same.
-fn stored_by(reply: &SwiftReply, etag: &[u8]) -> Result<(), PlanFault>
-    ensures due { result ≡ stored_due etag.now reply.now }
-    ensures own { result ≢ Err fault.Failed }
-{
-    match reply {
-        SwiftReply::Stored { etag: stored } if stored.as_slice() == etag => Ok(()),
-        _ => Err(PlanFault::Inconsistent),
     }
 }

@@ -16,8 +16,8 @@ use crate::create::create_upload;
 use crate::part::upload_part;
 use crate::uploads::{show_parts, show_uploads};
 use gate_base::{Bytes, drop};
-use recovery::{Known, PlanFault, Settled};
-use s3_machine::{Body, Code, Label, Op, Reply};
+use recovery::{Known, PlanFault, Settled, reply_of};
+use s3_machine::{Body, Label, Op, Reply};
 use s3_names::Meta;
 use std::alloc::Global;
 use std::mem::replace;
@@ -74,7 +74,7 @@ fn answer_lent<W: Swift>(
             list,
         } => completed(complete_upload(alloc, state, bucket, key, id, list, label)),
         _ => Replied {
-            reply: reply_to(plan(alloc, state, op, label)),
+            reply: reply_of(plan(alloc, state, op, label)),
             known: Known::Settled,
         },
     }
@@ -87,11 +87,11 @@ fn completed(end: Result<Completing, PlanFault>) -> Replied
 {
     match end {
         Ok(completing) => Replied {
-            reply: reply_to(completing.end),
+            reply: reply_of(completing.end),
             known: completing.known,
         },
         Err(fault) => Replied {
-            reply: reply_to(Err(fault)),
+            reply: reply_of(Err(fault)),
             known: Known::Settled,
         },
     }
@@ -227,16 +227,4 @@ fn taken(alloc: Global, text: &mut Bytes) -> Bytes
     ensures { result ≡ text.old }
 {
     replace(text, Bytes::new(alloc))
-}
-
-/// The reply by the end of a plan.
-fn reply_to(end: Result<Reply, PlanFault>) -> Reply
-    ensures { result ≡ reply_of end }
-{
-    match end {
-        Ok(reply) => reply,
-        Err(PlanFault::Failed) => Reply::Refused(Code::ServiceUnavailable),
-        Err(PlanFault::Memory) => Reply::Memory,
-        Err(PlanFault::Inconsistent) => Reply::Refused(Code::InconsistentStore),
-    }
 }

@@ -12,9 +12,8 @@ ghost use Rattle.recovery.specs.Lent.{Stays};
 ghost use Rattle.plan_uploads.specs.Interpret.{part_tag, put_part_of};
 ghost use Rattle.plan_uploads.specs.Records.{HasOpen, puts_part};
 
-use crate::records::stored_in;
 use gate_base::{Bytes, List, Memory};
-use recovery::{PlanFault, Settled};
+use recovery::{PlanFault, Settled, stored_in};
 use std::alloc::Global;
 use swift_calls::{Swift, SwiftRequest};
 use swift_marks::Tag;

@@ -10,7 +10,7 @@ ghost use Rattle.swift_calls.specs.Step.{Fit};
 ghost use Rattle.upload_texts.specs.Records.{read_record};
 ghost use Rattle.upload_texts.specs.declared.record.Record.TheVariants.{Open};
 ghost use Rattle.recovery.specs.Calls.{always, Asks, Becomes, Changes, ChangesTo, GivenOf};
-ghost use Rattle.recovery.specs.Interpret.{Gives, gone_due, known, stored_due};
+ghost use Rattle.recovery.specs.Interpret.{Gives, known};
 ghost use Rattle.recovery.specs.Lent.{Stays};
 ghost use Rattle.recovery.specs.Listing.{TellsOf};
 ghost use Rattle.recovery.specs.declared.fault.PlanFault.TheVariants as fault;
@@ -18,7 +18,7 @@ ghost use Rattle.plan_uploads.specs.Interpret.{most_open_text, put_record_of, re
 ghost use Rattle.plan_uploads.specs.Records.{HasOpen, InBucket, MayClear, MayOpen, TellsRecord, drops_upload, opens_upload};
 
 use gate_base::{Bytes, List, Memory};
-use recovery::{PlanFault, Settled};
+use recovery::{PlanFault, Settled, gone_in, stored_in};
 use s3_machine::body_etag;
 use s3_names::{Meta, id_digits};
 use std::alloc::Global;
@@ -74,17 +74,6 @@ fn read_record(alloc: Global, text: &[u8]) -> Result<Option<Record>, PlanFault>
         Err(RecordFault::Memory) => Err(PlanFault::Memory),
         Err(RecordFault::NotARecord) => Err(PlanFault::Inconsistent),
         Err(RecordFault::Version(_)) => Err(PlanFault::Inconsistent),
-    }
-}
-
-/// The answer to PUT of a file whose bytes have this ETag: the store has them with the same.
-pub(crate) fn stored_in(reply: &SwiftReply, etag: &[u8]) -> Result<(), PlanFault>
-    ensures due { result ≡ stored_due etag.now reply.now }
-    ensures own { result ≢ Err fault.Failed }
-{
-    match reply {
-        SwiftReply::Stored { etag: stored } if stored.as_slice() == etag => Ok(()),
-        _ => Err(PlanFault::Inconsistent),
     }
 }
 
@@ -190,16 +179,4 @@ pub(crate) fn drop_record<W: Swift>(
     let name = Bytes::from_slice(alloc, &id_digits(id))?;
     let reply = state.call(SwiftRequest::DeleteObject { container, name })?;
     gone_in(&reply)
-}
-
-/// The answer to DELETE of a record's file.
-fn gone_in(reply: &SwiftReply) -> Result<(), PlanFault>
-    ensures due { result ≡ gone_due reply.now }
-    ensures own { result ≢ Err fault.Failed }
-{
-    match reply {
-        SwiftReply::Gone => Ok(()),
-        SwiftReply::NotFound => Ok(()),
-        _ => Err(PlanFault::Inconsistent),
-    }
 }

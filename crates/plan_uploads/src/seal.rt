@@ -11,9 +11,8 @@ ghost use Rattle.recovery.specs.Plan.{Plans};
 ghost use Rattle.plan_uploads.specs.Completing.{CompletesBy, LeavesUnsureOnly, Seals, completing_by, most_sealed_text, put_sealed_text};
 
 use crate::complete::Completing;
-use crate::records::stored_in;
 use gate_base::{Bytes, List, Memory, drop};
-use recovery::{Known, PlanFault, Settled};
+use recovery::{Known, PlanFault, Settled, stored_in};
 use s3_machine::{Reply, body_etag};
 use std::alloc::Global;
 use swift_calls::{Swift, SwiftRequest};

@@ -5,4 +5,4 @@ use Rattle.many_keys.proofs.Deleting.{none_beside_many}
 use Rattle.many_keys.proofs.operation.answer.Goals as goal
 
 pub returns-clause-answered : goal.returns-clause-answered
-returns-clause-answered g c = subst (Answered _ _ _ _ _ _ _) (sym c.reply_to.ensures) (answered_by (none_beside_many _ c.requires.own) c.plan-end.ensures.plans)
+returns-clause-answered g c = subst (Answered _ _ _ _ _ _ _) (sym c.reply_of.ensures) (answered_by (none_beside_many _ c.requires.own) c.plan-end.ensures.plans)
