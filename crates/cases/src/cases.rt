@@ -1,9 +1,9 @@
 //! The cases of a file. A case is its first line, the lines that are given to it, and the lines `= ` that are expected of it. The
 //! program has no use for the latter: they end a case, and are passed over.
-use crate::given::{Given, give_all};
+use crate::ended::ended;
 use crate::play::{play_case, play_setup};
-use crate::told::{Told, tell_lines};
-use crate::verbs::answer;
+use case_text::{Given, Told, cut_text, give_all, is_passed, tell_lines};
+use case_verbs::tell_verb;
 use gate_base::Bytes;
 use std::alloc::Global;
 
@@ -24,19 +24,6 @@ pub(crate) fn play_text(alloc: Global, text: &str, told: &mut Told) {
             return;
         }
         rest = next;
-    }
-}
-
-/// Whether a line is empty, a comment, or one that is expected.
-pub(crate) fn is_passed(line: &str) -> bool {
-    line.is_empty() || line.starts_with('#') || line == "=" || line.starts_with("= ")
-}
-
-/// What stands before the first such character, and what follows it.
-pub(crate) fn cut_text(text: &str, mark: char) -> (&str, &str) {
-    match text.split_once(mark) {
-        Some(parts) => parts,
-        None => (text, ""),
     }
 }
 
@@ -91,5 +78,9 @@ fn play(alloc: Global, first: &str, setup: &str, below: &str, told: &mut Told) {
 fn play_verb(alloc: Global, verb: &str, text: &str, below: &str, told: &mut Told) {
     let mut given = Bytes::new(alloc);
     give_all(alloc, below, &mut given, told);
-    answer(alloc, verb, text, given.as_slice(), told);
+    if verb == "ended" {
+        ended(alloc, text, given.as_slice(), told);
+    } else {
+        tell_verb(alloc, verb, text, given.as_slice(), told);
+    }
 }

@@ -4,13 +4,11 @@
 ghost use Rattle.std.specs.Prelude.{IsTrue};
 ghost use Rattle.gate_base.specs.MemLine.{is_open_of};
 
-use crate::given::{Given, numbers_of};
 use crate::machine::service_of;
-use crate::pieces::tell_statuses;
-use crate::running::{LARGE, clock, empty_store};
-use crate::talk::line_on;
-use crate::told::{Told, tell};
-use gate_base::{Line, List, ListClock, ListDraws, MemLine};
+use crate::running::empty_store;
+use case_text::{Given, LARGE, Told, clock_of, line_on, numbers_of, tell, tell_statuses};
+use case_verbs::opens;
+use gate_base::{List, ListClock, ListDraws, MemLine};
 use gateway::{Ended, Service, serve_connection};
 use recovery::Known;
 use std::alloc::Global;
@@ -24,28 +22,35 @@ pub(crate) fn ended(alloc: Global, text: &str, given: &[u8], told: &mut Told) {
     }
 }
 
+/// What the service is given that serves it: nothing but what is usual.
+const USUAL: Given<'static> = Given {
+    lines: "",
+    word: "setup",
+};
+
 fn serve_line(alloc: Global, line: &mut MemLine, told: &mut Told) {
-    let usual = Given {
-        lines: "",
-        word: "setup",
-    };
     if let Some(mut store) = empty_store(alloc, told) {
-        if let Some(service) = service_of(alloc, usual, told) {
-            if let Some(mut clock) = clock(alloc, usual, told) {
-                if opens(line) {
-                    tell(&serve(alloc, &mut store, &service, line, &mut clock), told);
-                }
-            }
-        }
+        serve_over(alloc, &mut store, line, told);
     }
 }
 
-fn opens(line: &mut MemLine) -> bool
-    ensures { IsTrue result → IsTrue (is_open_of line.new) }
-{
-    match Line::<MemSwift>::next(line) {
-        Ok(begun) => begun,
-        Err(_) => false,
+fn serve_over(alloc: Global, store: &mut MemSwift, line: &mut MemLine, told: &mut Told) {
+    if let Some(service) = service_of(alloc, USUAL, told) {
+        serve_by(alloc, store, &service, line, told);
+    }
+}
+
+fn serve_by(
+    alloc: Global,
+    store: &mut MemSwift,
+    service: &Service,
+    line: &mut MemLine,
+    told: &mut Told,
+) {
+    if let Some(mut clock) = clock_of(alloc, USUAL, told) {
+        if opens::<MemSwift>(line) {
+            tell(&serve(alloc, store, service, line, &mut clock), told);
+        }
     }
 }
 

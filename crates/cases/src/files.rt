@@ -1,10 +1,7 @@
 //! Files that stand on the account before a case, beside what the requests of its setup made.
-use crate::cases::cut_text;
-use crate::given::{Given, unescaped_of};
 use crate::left::{OTHER, ask};
-use crate::told::{Told, bytes_of};
-use case_text::Fault;
-use gate_base::List;
+use case_text::{Fault, Given, Told, bytes_of, cut_text, unescaped};
+use gate_base::{List, drop};
 use slo_manifest::{Form, read};
 use std::alloc::Global;
 use swift_calls::{ReadList, Swift, SwiftReply, SwiftRequest};
@@ -35,7 +32,7 @@ fn put_file<W: Swift>(alloc: Global, text: &str, store: &mut W, told: &mut Told)
         name: bytes_of(alloc, name.as_bytes(), told),
         content_type: bytes_of(alloc, b"application/json", told),
         meta: List::new(alloc),
-        body: unescaped_of(alloc, text, told),
+        body: unescaped(alloc, text, told),
     };
     put(store, request, told);
 }
@@ -45,7 +42,7 @@ fn put_manifest<W: Swift>(alloc: Global, text: &str, store: &mut W, told: &mut T
     let (container, text) = cut_text(text, ' ');
     let (name, text) = cut_text(text, ' ');
     let (content_type, text) = cut_text(text, ' ');
-    let list = unescaped_of(alloc, text, told);
+    let list = unescaped(alloc, text, told);
     let Ok(segments) = read(alloc, list.as_slice(), Form::Put) else {
         return told.note(Fault::Unread("no list of segments"));
     };
@@ -60,8 +57,10 @@ fn put_manifest<W: Swift>(alloc: Global, text: &str, store: &mut W, told: &mut T
 }
 
 fn put<W: Swift>(store: &mut W, request: SwiftRequest, told: &mut Told) {
-    match ask(store, request) {
+    let answer = ask(store, request);
+    match &answer {
         Ok(SwiftReply::Made | SwiftReply::There | SwiftReply::Stored { .. }) => {}
         _ => told.note(OTHER),
     }
+    drop(answer);
 }

@@ -1,8 +1,6 @@
 //! What a store keeps, as its answers tell it.
-use crate::given::{Given, says};
-use crate::told::{Told, bytes_of, tell};
-use case_text::Fault;
-use gate_base::Bytes;
+use case_text::{Fault, Given, Told, bytes_of, says, tell};
+use gate_base::{Bytes, drop};
 use std::alloc::Global;
 use swift_calls::{Swift, SwiftFault, SwiftReply, SwiftRequest, is_fit};
 
@@ -21,6 +19,7 @@ pub(crate) fn tell_left<W: Swift>(alloc: Global, given: Given<'_>, store: &mut W
         };
         let answer = ask(store, request);
         tell_containers(alloc, given, store, &answer, told);
+        drop(answer);
     }
 }
 
@@ -44,7 +43,9 @@ fn tell_containers<W: Swift>(
 
 fn tell_readers<W: Swift>(alloc: Global, store: &mut W, container: &[u8], told: &mut Told) {
     let container = bytes_of(alloc, container, told);
-    tell_reply(&ask(store, SwiftRequest::HeadContainer { container }), told);
+    let answer = ask(store, SwiftRequest::HeadContainer { container });
+    tell_reply(&answer, told);
+    drop(answer);
 }
 
 fn tell_reply(answer: &Result<SwiftReply, SwiftFault>, told: &mut Told) {
@@ -68,10 +69,11 @@ fn ask_names<W: Swift>(
         limit: MOST_NAMES,
     };
     let answer = ask(store, request);
-    tell_names(alloc, given, store, container, &answer, told);
+    tell_objects(alloc, given, store, container, &answer, told);
+    drop(answer);
 }
 
-fn tell_names<W: Swift>(
+fn tell_objects<W: Swift>(
     alloc: Global,
     given: Given<'_>,
     store: &mut W,
@@ -86,28 +88,28 @@ fn tell_names<W: Swift>(
     tell(&items.len(), told);
     for item in items.as_slice() {
         if says(given, "tell objects") {
-            ask_head(alloc, store, container, &item.name, told);
+            tell_head(alloc, store, container, &item.name, told);
         }
         if says(given, "tell bodies") {
-            ask_body(alloc, store, container, &item.name, told);
+            tell_body(alloc, store, container, &item.name, told);
         }
     }
 }
 
-fn ask_head<W: Swift>(
+fn tell_head<W: Swift>(
     alloc: Global,
     store: &mut W,
     container: &[u8],
     name: &Bytes,
     told: &mut Told,
 ) {
-    let container = bytes_of(alloc, container, told);
-    let copied = bytes_of(alloc, name.as_slice(), told);
     let request = SwiftRequest::HeadObject {
-        container,
-        name: copied,
+        container: bytes_of(alloc, container, told),
+        name: bytes_of(alloc, name.as_slice(), told),
     };
-    tell_object(name, &ask(store, request), told);
+    let answer = ask(store, request);
+    tell_object(name, &answer, told);
+    drop(answer);
 }
 
 fn tell_object(name: &Bytes, answer: &Result<SwiftReply, SwiftFault>, told: &mut Told) {
@@ -127,24 +129,24 @@ fn tell_object(name: &Bytes, answer: &Result<SwiftReply, SwiftFault>, told: &mut
     told.say("\n");
 }
 
-fn ask_body<W: Swift>(
+fn tell_body<W: Swift>(
     alloc: Global,
     store: &mut W,
     container: &[u8],
     name: &Bytes,
     told: &mut Told,
 ) {
-    let container = bytes_of(alloc, container, told);
-    let copied = bytes_of(alloc, name.as_slice(), told);
     let request = SwiftRequest::GetObject {
-        container,
-        name: copied,
+        container: bytes_of(alloc, container, told),
+        name: bytes_of(alloc, name.as_slice(), told),
         range: None,
     };
-    tell_body(&ask(store, request), told);
+    let answer = ask(store, request);
+    tell_got(&answer, told);
+    drop(answer);
 }
 
-fn tell_body(answer: &Result<SwiftReply, SwiftFault>, told: &mut Told) {
+fn tell_got(answer: &Result<SwiftReply, SwiftFault>, told: &mut Told) {
     match answer {
         Ok(SwiftReply::Bytes { body, .. }) => {
             told.say("body ");
@@ -158,7 +160,9 @@ pub(crate) fn ask<W: Swift>(
     store: &mut W,
     request: SwiftRequest,
 ) -> Result<SwiftReply, SwiftFault> {
-    ask_by(store, &request)
+    let answer = ask_by(store, &request);
+    drop(request);
+    answer
 }
 
 fn ask_by<W: Swift>(store: &mut W, request: &SwiftRequest) -> Result<SwiftReply, SwiftFault> {

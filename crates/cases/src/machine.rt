@@ -1,44 +1,34 @@
 //! The same requests through the S3 service as one machine: what it answers is what was written.
-ghost use Rattle.std.specs.Prelude.{◌≢◌, ◌<◌, ◌≤◌, ◌+◌, ◌^◌, IsTrue};
-ghost use Rattle.std.specs.List.{All};
-ghost use Rattle.s3_machine.specs.Shown.{
-  IsShowable,
-  IsShown,
-  IsShownBucket,
-  IsShownItem,
-  IsShownPart,
-  IsShownUpload,
-};
 ghost use Rattle.s3_machine.specs.Step.{IsProperOp};
 ghost use Rattle.s3_requests.specs.Proper.{IsProperMeant};
 
-use crate::given::{Given, behind, connections, keys, meets_fault, moments, says};
 use crate::play::First;
-use crate::talk::Talk;
-use crate::told::{Told, bytes_of, tell_bytes};
-use case_text::Fault;
-use gate_base::{Bytes, Caller, Copying, MOMENT_LIMIT, Memory, Piece};
+use case_text::{
+    Fault, Given, Told, behind, connections, keys, meets_fault, moments, says, tell_bytes,
+};
+use case_verbs::{Talk, USUAL_LEAST_PART, is_shown, settings_of};
+use gate_base::{Bytes, Caller, Copying, MOMENT_LIMIT, Memory, Piece, drop};
 use gateway::{Service, print_reply};
 use http_wire::Message;
-use s3_machine::{BucketItem, Item, Label, ObjectHead, Op, PartItem, Reply, Settings, UploadItem};
+use s3_machine::{Label, Op, Reply};
 use s3_names::Target;
 use s3_native::Native;
 use s3_requests::{Meant, meaning};
 use sigv4::{Keys, verify};
 use std::alloc::Global;
 
-/// The machine, by what its requests are understood, and how many a run has had.
+/// The machine, and how many requests a run has had.
 #[derive(Drop)]
 pub(crate) struct Machine {
     alloc: Global,
     native: Native,
-    service: Service,
     turn: u64,
 }
 
-/// A request's label but for its caller, and the piece that answers it.
+/// By what a request is understood, its label but for its caller, and the piece that answers it.
 #[derive(Clone, Copy)]
 struct Turn<'a> {
+    service: &'a Service,
     label: Label,
     piece: &'a Piece,
 }
@@ -74,11 +64,9 @@ pub(crate) fn machine_after(
 /// A machine without a bucket.
 fn machine_of(alloc: Global, given: Given<'_>, told: &mut Told) -> Option<Machine> {
     let settings = settings_of(alloc, region_of(given), least_part_of(given), told)?;
-    let service = service_of(alloc, given, told)?;
     Some(Machine {
         alloc,
         native: Native::new(alloc, settings),
-        service,
         turn: 0,
     })
 }
@@ -87,34 +75,49 @@ impl Machine {
     /// The machine is asked what a new run was. What it answers is told where that wrote something else.
     pub(crate) fn follow(&mut self, given: Given<'_>, pieces: &[Piece], told: &mut Told) {
         if let Some(service) = service_of(self.alloc, given, told) {
-            self.service = service;
+            self.follow_by(&service, given, pieces, told);
         }
+    }
+
+    fn follow_by(
+        &mut self,
+        service: &Service,
+        given: Given<'_>,
+        pieces: &[Piece],
+        told: &mut Told,
+    ) {
         self.turn = 0;
         let moments = moments(self.alloc, given, told);
         let mut number = 0u64;
         let connections = connections(self.alloc, given, told);
         for bytes in connections.as_slice() {
             number = number.saturating_add(1);
-            self.follow_one(moments.as_slice(), bytes.as_slice(), number, pieces, told);
+            if let Some(mut talk) = Talk::open(self.alloc, bytes.as_slice(), told) {
+                let moments = moments.as_slice();
+                self.follow_one(service, moments, &mut talk, number, pieces, told);
+            }
         }
     }
 
     /// The requests of a connection.
     fn follow_one(
         &mut self,
+        service: &Service,
         moments: &[u64],
-        bytes: &[u8],
+        talk: &mut Talk,
         number: u64,
         pieces: &[Piece],
         told: &mut Told,
     ) {
-        if let Some(mut talk) = Talk::open(self.alloc, bytes, told) {
-            for piece in pieces {
-                if piece.connection == number && !is_interim(piece) {
-                    let label = label_of(self.turn, moments);
-                    self.turn = self.turn.saturating_add(1);
-                    self.hear(&mut talk, &Turn { label, piece }, told);
-                }
+        for piece in pieces {
+            if piece.connection == number && !is_interim(piece) {
+                let turn = Turn {
+                    service,
+                    label: label_of(self.turn, moments),
+                    piece,
+                };
+                self.turn = self.turn.saturating_add(1);
+                self.hear(talk, &turn, told);
             }
         }
     }
@@ -122,15 +125,19 @@ impl Machine {
     /// The next request of a connection. One that is refused before it is understood is not for the machine.
     fn hear(&mut self, talk: &mut Talk, turn: &Turn, told: &mut Told) {
         if let Some(mut message) = talk.next_message() {
-            if let Ok(target) = Target::read(self.alloc, message.target.as_slice()) {
-                self.admit(&mut message, &target, turn, told);
-            }
+            self.hear_message(&mut message, turn, told);
+        }
+    }
+
+    fn hear_message(&mut self, message: &mut Message, turn: &Turn, told: &mut Told) {
+        if let Ok(target) = Target::read(self.alloc, message.target.as_slice()) {
+            self.admit(message, &target, turn, told);
         }
     }
 
     fn admit(&mut self, message: &mut Message, target: &Target, turn: &Turn, told: &mut Told) {
-        let keys = &self.service.keys;
-        let region = self.service.settings.region.as_slice();
+        let keys = &turn.service.keys;
+        let region = turn.service.settings.region.as_slice();
         if let Ok(caller) = verify(self.alloc, keys, region, message, target, turn.label.moment) {
             self.understand(message, target, caller, turn, told);
         }
@@ -144,8 +151,9 @@ impl Machine {
         turn: &Turn,
         told: &mut Told,
     ) {
-        let meant = meaning(self.alloc, message, target, &caller, &self.service.settings);
+        let meant = meaning(self.alloc, message, target, &caller, &turn.service.settings);
         self.meet(&meant, message, target, caller, turn, told);
+        drop(meant);
     }
 
     fn meet(
@@ -188,6 +196,7 @@ impl Machine {
         let resource = target.raw_path.as_slice();
         let stepped = self.native.step(op, &label);
         compare(self.alloc, &stepped, &label, method, resource, turn, told);
+        drop(stepped);
     }
 }
 
@@ -250,23 +259,6 @@ fn label_of(turn: u64, moments: &[u64]) -> Label {
     }
 }
 
-/// The least size of a part that isn't the last, where the words give none: 5 MiB.
-pub(crate) const USUAL_LEAST_PART: u64 = 5_242_880;
-
-/// A copy of the settings of a region.
-pub(crate) fn settings_of(
-    alloc: Global,
-    region: &[u8],
-    least_part: u64,
-    told: &mut Told,
-) -> Option<Settings> {
-    let settings = Settings {
-        region: bytes_of(alloc, region, told),
-        least_part,
-    };
-    told.keep(settings.copy())
-}
-
 /// The word that stands behind an option in the words of the program.
 fn option_of<'a>(given: Given<'a>, option: &str) -> Option<&'a str> {
     let words = behind(given, "words")?;
@@ -301,10 +293,14 @@ fn number_in(text: &str) -> u64 {
 }
 
 pub(crate) fn service_of(alloc: Global, given: Given<'_>, told: &mut Told) -> Option<Service> {
+    let keys = keys_of(alloc, given, told)?;
     let settings = settings_of(alloc, region_of(given), least_part_of(given), told)?;
-    let text = keys(alloc, given);
-    let keys = told.keep(Keys::read(alloc, text.text().as_bytes()))?;
     Some(Service { settings, keys })
+}
+
+fn keys_of(alloc: Global, given: Given<'_>, told: &mut Told) -> Option<Keys> {
+    let text = keys(alloc, given);
+    told.keep(Keys::read(alloc, text.text().as_bytes()))
 }
 
 fn printed(
@@ -325,84 +321,4 @@ fn printed(
     }
     told.note(Fault::Unread("a reply without a page"));
     Bytes::new(alloc)
-}
-
-/// How many bytes an object may have at most, so that numbers hold the end of a range.
-const MOST_BYTES: u64 = 1 << 63;
-
-fn is_within(from: u64, length: u64) -> bool
-    ensures { IsTrue result → (from + length ≤ 2 ^ 63) }
-{
-    length <= MOST_BYTES && from <= MOST_BYTES - length
-}
-
-fn is_filled(length: u64, partial: bool) -> bool
-    ensures { IsTrue result → IsTrue partial → (0 < length) }
-{
-    !partial || 0 < length
-}
-
-fn shows(head: &ObjectHead, from: u64, length: u64, partial: bool) -> bool
-    ensures { IsTrue result → IsShown head.now from length partial }
-{
-    head.modified < MOMENT_LIMIT && is_within(from, length) && is_filled(length, partial)
-}
-
-/// Whether a reply has a page.
-pub(crate) fn is_shown(reply: &Reply) -> bool
-    ensures reply { IsTrue result → reply.now ≢ Reply.Memory }
-    ensures showable { IsTrue result → IsShowable reply.now }
-{
-    match reply {
-        Reply::Memory => false,
-        Reply::Refused(_) | Reply::Done | Reply::Gone | Reply::AclOf(_) => true,
-        Reply::Made { .. } | Reply::Location { .. } | Reply::Stored { .. } => true,
-        Reply::Started { .. } | Reply::Completed { .. } | Reply::Deleted { .. } => true,
-        Reply::NotModified(head) => head.modified < MOMENT_LIMIT,
-        Reply::Buckets(items) => are_dated(items.as_slice()),
-        Reply::Objects { items, .. } => are_items_dated(items.as_slice()),
-        Reply::Uploads { items, .. } => are_shown_uploads(items.as_slice()),
-        Reply::Object {
-            head,
-            from,
-            length,
-            partial,
-            ..
-        } => shows(head, *from, *length, *partial),
-        Reply::Parts { items, .. } => are_shown_parts(items.as_slice()),
-        Reply::Copied { modified, .. } => *modified < MOMENT_LIMIT,
-    }
-}
-
-fn are_dated(items: &[BucketItem]) -> bool
-    ensures { IsTrue result → All IsShownBucket items.now }
-{
-    items.iter().all(|item| item.created < MOMENT_LIMIT)
-}
-
-fn is_dated(item: &Item) -> bool
-    ensures { IsTrue result → IsShownItem item.now }
-{
-    match &item.object {
-        Some(head) => head.modified < MOMENT_LIMIT,
-        None => true,
-    }
-}
-
-fn are_items_dated(items: &[Item]) -> bool
-    ensures { IsTrue result → All IsShownItem items.now }
-{
-    items.iter().all(|item| is_dated(item))
-}
-
-fn are_shown_uploads(items: &[UploadItem]) -> bool
-    ensures { IsTrue result → All IsShownUpload items.now }
-{
-    items.iter().all(|item| item.started < MOMENT_LIMIT)
-}
-
-fn are_shown_parts(items: &[PartItem]) -> bool
-    ensures { IsTrue result → All IsShownPart items.now }
-{
-    items.iter().all(|item| item.modified < MOMENT_LIMIT)
 }

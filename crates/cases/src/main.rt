@@ -9,53 +9,51 @@
 mod cases;
 mod ended;
 mod files;
-mod given;
-mod http_verbs;
 mod left;
 mod machine;
-mod pieces;
 mod play;
 mod running;
-mod s3_verbs;
-mod s3_verbs_meaning;
-mod s3_verbs_message;
-mod s3_verbs_pages;
-mod signed;
 mod sweep;
-mod swift_verbs;
-mod talk;
-mod told;
-mod verbs;
 mod wire;
 
-use case_text::Fault;
+use case_text::{Fault, Told, tell};
 use cases::play_text;
 use std::process::ExitCode;
 use std::{env, fs, io};
-use told::Told;
 
 /// The exit status where a file can't be read as cases.
 const UNREAD: u8 = 2;
 
 fn main(rt: HostRuntime) -> io::Result<ExitCode> {
     for file in env::args(&rt)?.skip(1) {
-        println!(rt; "file {file}")?;
-        let mut told = Told::new(rt.alloc());
-        tell_file(&rt, file.as_str(), &mut told);
-        let came = told.text();
-        print!(rt; "{came}")?;
-        if let Some(fault) = told.fault() {
-            println!(rt; "{file}: {fault:?}")?;
+        if !print_file(&rt, file.as_str())? {
             return Ok(ExitCode::from(UNREAD));
         }
     }
     Ok(ExitCode::from(0))
 }
 
-/// Tells what comes of the cases of a file.
+/// Prints what comes of a file. Whether it is read as cases.
+fn print_file(rt: &HostRuntime, file: &str) -> io::Result<bool> {
+    let mut told = Told::new(rt.alloc());
+    tell_file(rt, file, &mut told);
+    let text = told.text();
+    print!(rt; "{text}")?;
+    Ok(told.fault().is_none())
+}
+
+/// Tells the name of a file, what comes of its cases, and what kept them from being read.
 fn tell_file(rt: &HostRuntime, file: &str, told: &mut Told) {
+    told.say("file ");
+    told.say(file);
+    told.say("\n");
     match fs::read_to_string(rt, file) {
         Ok(text) => play_text(rt.alloc(), text.as_str(), told),
         Err(_) => told.note(Fault::Unread("no file that can be read")),
+    }
+    if let Some(fault) = told.fault() {
+        told.say(file);
+        told.say(": ");
+        tell(&fault, told);
     }
 }

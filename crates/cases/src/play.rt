@@ -1,15 +1,15 @@
 //! A case is run by each of its sizes, and once over the wire. What came is told once, and what is otherwise in another run
 //! beside it.
 use crate::files::put_files;
-use crate::given::{Given, behind, check_lines, number_of, numbers, says};
 use crate::left::tell_left;
 use crate::machine::follow_case;
-use crate::pieces::{are_done, tell_pieces};
-use crate::running::{LARGE, empty_store, line_of, run_on, store_at, store_with};
+use crate::running::{empty_store, run_on, store_at, store_with};
 use crate::sweep::sweep;
-use crate::told::Told;
 use crate::wire::play_wire;
-use case_text::Fault;
+use case_text::{
+    Fault, Given, LARGE, Told, are_done, behind, check_lines, line_of, number_of, numbers, says,
+    tell_pieces,
+};
 use gate_base::{Counted, MemLine, Piece};
 use std::alloc::Global;
 use swift_calls::{MemSwift, Swift};
@@ -74,15 +74,25 @@ pub(crate) fn play_case(alloc: Global, setup: Given<'_>, below: &str, told: &mut
     };
     check_lines(given, told);
     if let Some(mut store) = empty_store(alloc, told) {
-        if let Some(mut line) = line_of(alloc, setup, LARGE, told) {
-            serve(alloc, setup, &mut store, &mut line, "", told);
-            let first = First {
-                given: setup,
-                store: &store,
-                pieces: line.pieces(),
-            };
-            play_behind(alloc, &first, given, told);
-        }
+        play_over(alloc, setup, given, &mut store, told);
+    }
+}
+
+fn play_over(
+    alloc: Global,
+    setup: Given<'_>,
+    given: Given<'_>,
+    store: &mut MemSwift,
+    told: &mut Told,
+) {
+    if let Some(mut line) = line_of(alloc, setup, LARGE, told) {
+        serve(alloc, setup, store, &mut line, "", told);
+        let first = First {
+            given: setup,
+            store,
+            pieces: line.pieces(),
+        };
+        play_behind(alloc, &first, given, told);
     }
 }
 
@@ -121,11 +131,22 @@ fn play_sizes(
 /// Tells what comes by a size, and what the machine answers where that is otherwise.
 fn play_size(alloc: Global, first: &First, given: Given<'_>, size: u64, told: &mut Told) {
     if let Some(mut store) = store_after(alloc, given, first.store, told) {
-        if let Some(mut line) = line_of(alloc, given, size, told) {
-            tell_run(alloc, given, &mut store, &mut line, told);
-            look(alloc, given, &store, told);
-            follow_case(alloc, first, given, line.pieces(), told);
-        }
+        play_on(alloc, first, given, size, &mut store, told);
+    }
+}
+
+fn play_on(
+    alloc: Global,
+    first: &First,
+    given: Given<'_>,
+    size: u64,
+    store: &mut MemSwift,
+    told: &mut Told,
+) {
+    if let Some(mut line) = line_of(alloc, given, size, told) {
+        tell_run(alloc, given, store, &mut line, told);
+        look(alloc, given, store, told);
+        follow_case(alloc, first, given, line.pieces(), told);
     }
 }
 
@@ -155,8 +176,7 @@ pub(crate) fn tell_run<W: Swift>(
 ) {
     let _done = run_on(alloc, given, store, line, told);
     if says(given, "tell calls") {
-        told.say("calls ");
-        told.show(&store.calls());
+        told.say_number("calls ", store.calls());
         told.say("\n");
     }
     tell_pieces(alloc, given, line.pieces(), told);

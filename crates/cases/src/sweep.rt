@@ -1,12 +1,11 @@
 //! Any call may fail, and the client still sees one service: the one request of a case is made anew with each loss of each
 //! of its calls, and a new run, the probe, looks at the account after each number of calls.
-use crate::given::{Given, says};
 use crate::machine::machine_after;
-use crate::pieces::{are_unavailable, tell_answers, tell_statuses};
 use crate::play::First;
-use crate::running::{LARGE, line_of, run_on, store_at, store_with};
-use crate::told::Told;
-use case_text::Fault;
+use crate::running::{run_on, store_at, store_with};
+use case_text::{
+    Fault, Given, LARGE, Told, are_unavailable, line_of, says, tell_answers, tell_statuses,
+};
 use gate_base::{Counted, List, MemLine, Piece};
 use std::alloc::Global;
 use swift_calls::MemSwift;
@@ -53,12 +52,16 @@ pub(crate) fn sweep(alloc: Global, first: &First, given: Given<'_>, told: &mut T
         },
     };
     if let Some(mut store) = store_at(alloc, first.store, first.store.calls(), told) {
-        if let Some(mut line) = line_of(alloc, given, LARGE, told) {
-            let mut answer = Told::new(alloc);
-            answer_on(alloc, given, &mut store, &mut line, &mut answer);
-            told.note_of(&answer);
-            sweep_from(alloc, &setting, &store, line.pieces(), answer.text(), told);
-        }
+        sweep_over(alloc, &setting, &mut store, told);
+    }
+}
+
+fn sweep_over(alloc: Global, setting: &Setting, store: &mut MemSwift, told: &mut Told) {
+    if let Some(mut line) = line_of(alloc, setting.given, LARGE, told) {
+        let mut answer = Told::new(alloc);
+        answer_on(alloc, setting.given, store, &mut line, &mut answer);
+        told.note_of(&answer);
+        sweep_from(alloc, setting, store, line.pieces(), answer.text(), told);
     }
 }
 
@@ -154,7 +157,8 @@ fn sweep_by(alloc: Global, setting: &Setting, made: &MemSwift, texts: &Ordinary,
     let commit = commit_of(alloc, setting.probe, made, texts, told);
     let ordinary = Ordinary { commit, ..*texts };
     for call in 1..=made.calls() {
-        for word in LOSSES {
+        for word in &LOSSES {
+            let word = *word;
             let is_done = commit != 0 && (commit < call || (call == commit && word == "after "));
             let loss = Loss {
                 word,
@@ -200,23 +204,30 @@ fn look(alloc: Global, probe: Given<'_>, store: &MemSwift, at: u64, seen: &mut T
 }
 
 fn lose(alloc: Global, setting: &Setting, loss: &Loss, ordinary: &Ordinary, told: &mut Told) {
-    let first = setting.first.store;
+    if let Some(mut store) = losing_store(alloc, setting.first.store, loss, told) {
+        lose_over(alloc, setting, loss, &mut store, ordinary, told);
+    }
+}
+
+/// A store with the account that another has, which loses the call.
+fn losing_store(alloc: Global, first: &MemSwift, loss: &Loss, told: &mut Told) -> Option<MemSwift> {
     let before = lost(alloc, loss, "before ", told);
     let after = lost(alloc, loss, "after ", told);
     let stop = if loss.word == "stop " { loss.call } else { 0 };
-    if let Some(mut store) = store_with(alloc, first, first.calls(), before, after, stop, told) {
-        if let Some(mut line) = line_of(alloc, setting.given, LARGE, told) {
-            compare_lost(
-                alloc,
-                setting.given,
-                loss,
-                &mut store,
-                &mut line,
-                ordinary,
-                told,
-            );
-            look_at_each(alloc, setting.probe, &store, loss, ordinary, told);
-        }
+    store_with(alloc, first, first.calls(), before, after, stop, told)
+}
+
+fn lose_over(
+    alloc: Global,
+    setting: &Setting,
+    loss: &Loss,
+    store: &mut MemSwift,
+    ordinary: &Ordinary,
+    told: &mut Told,
+) {
+    if let Some(mut line) = line_of(alloc, setting.given, LARGE, told) {
+        compare_lost(alloc, setting.given, loss, store, &mut line, ordinary, told);
+        look_at_each(alloc, setting.probe, store, loss, ordinary, told);
     }
 }
 
@@ -224,8 +235,7 @@ fn lose(alloc: Global, setting: &Setting, loss: &Loss, ordinary: &Ordinary, told
 fn lost(alloc: Global, loss: &Loss, word: &str, told: &mut Told) -> List<u64> {
     let mut numbers = List::new(alloc);
     if loss.word == word {
-        let done = numbers.push(loss.call);
-        told.check(done);
+        told.push(&mut numbers, loss.call);
     }
     numbers
 }
@@ -282,10 +292,8 @@ fn tell_unseen(
     loss: &Loss,
     told: &mut Told,
 ) {
-    told.say(loss.word);
-    told.show(&loss.call);
-    told.say(", probe after calls: ");
-    told.show(&at);
+    told.say_number(loss.word, loss.call);
+    told.say_number(", probe after calls: ", at);
     told.say("\n");
     look(alloc, probe, store, at, told);
 }

@@ -1,19 +1,13 @@
 //! A case over a store across the wire: each call of its run is an exchange of HTTP messages with a store in memory.
-ghost use Rattle.std.specs.Prelude.{IfSome};
-ghost use Rattle.swift_requests.specs.Place.{IsPlace};
-
-use crate::given::{Given, behind, numbers, says};
 use crate::left::tell_left;
 use crate::play::{serve_on, tell_run};
-use crate::running::line_of;
-use crate::told::{Told, bytes_of};
-use case_text::Fault;
+use case_text::{Given, Told, behind, line_of, numbers, says};
+use case_verbs::place;
 use gate_base::List;
 use memory_swift::{StoreLink, client_over};
 use std::alloc::Global;
 use swift_calls::Swift;
 use swift_client::SwiftClient;
-use swift_requests::{Place, is_place};
 use swift_store::{MapShelf, Shelf};
 
 /// Runs a case once more, by reads of this size, and tells what came where it isn't the usual. One store serves the setup, the
@@ -81,26 +75,4 @@ fn client<S: Shelf + Drop>(
         Some(place) => told.keep(client_over(alloc, shelf, place, before, after)),
         None => None,
     }
-}
-
-/// A place of a store: its host, its account and its token.
-pub(crate) fn place(
-    alloc: Global,
-    host: &[u8],
-    account: &[u8],
-    token: &[u8],
-    told: &mut Told,
-) -> Option<Place>
-    ensures { IfSome result IsPlace }
-{
-    let place = Place {
-        host: bytes_of(alloc, host, told),
-        account: bytes_of(alloc, account, told),
-        token: bytes_of(alloc, token, told),
-    };
-    if is_place(&place) {
-        return Some(place);
-    }
-    told.note(Fault::Unread("no place of a store"));
-    None
 }

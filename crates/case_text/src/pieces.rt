@@ -1,0 +1,105 @@
+//! What was written to the connections, as text.
+use crate::given::{Given, behind, says};
+use crate::texts::{cut_text, text_of};
+use crate::{Told, tell_bytes};
+use gate_base::Piece;
+use std::alloc::Global;
+
+/// Tells each piece by its connection, by how many calls the store had counted, and by its bytes, whole or in brief.
+pub fn tell_pieces(alloc: Global, given: Given<'_>, pieces: &[Piece], told: &mut Told) {
+    let is_brief = given.word == "setup" || says(given, "brief");
+    let mut turn = 0u64;
+    for piece in pieces {
+        turn = turn.saturating_add(1);
+        told.say_number("piece ", piece.connection);
+        told.say_number(" ", piece.at);
+        if is_brief && !is_among(turn, given, "whole") {
+            tell_brief(given, turn, piece.bytes.as_slice(), told);
+        } else {
+            told.say("\n");
+            tell_bytes(alloc, piece.bytes.as_slice(), told);
+        }
+    }
+}
+
+/// Whether a number stands behind a word.
+fn is_among(number: u64, given: Given<'_>, word: &str) -> bool {
+    if let Some(text) = behind(given, word) {
+        for word in text.split(' ') {
+            match word.parse::<u64>() {
+                Ok(given) if given == number => return true,
+                _ => {}
+            }
+        }
+    }
+    false
+}
+
+/// Tells the status, the code of an error in the body, and the ETag where that is asked for.
+fn tell_brief(given: Given<'_>, turn: u64, bytes: &[u8], told: &mut Told) {
+    let text = text_of(bytes, told);
+    tell_status(text, told);
+    tell_between(text, "<Code>", "</Code>", told);
+    if is_among(turn, given, "etags") {
+        tell_between(text, "\r\nETag: ", "\r\n", told);
+    }
+    told.say("\n");
+}
+
+fn tell_status(text: &str, told: &mut Told) {
+    told.say(" ");
+    told.say(cut_text(cut_text(text, ' ').1, ' ').0);
+}
+
+/// Tells what stands between the first places of two texts, if they are there.
+fn tell_between(text: &str, from: &str, to: &str, told: &mut Told) {
+    if let Some((_, behind)) = text.split_once(from) {
+        if let Some((between, _)) = behind.split_once(to) {
+            told.say(" ");
+            told.say(between);
+        }
+    }
+}
+
+/// Tells the statuses of replies behind a word.
+pub fn tell_statuses(word: &str, pieces: &[Piece], told: &mut Told) {
+    told.say(word);
+    for piece in pieces {
+        let text = text_of(piece.bytes.as_slice(), told);
+        tell_status(text, told);
+    }
+    told.say("\n");
+}
+
+/// Tells the bytes of each piece behind its connection, and nothing of calls.
+pub fn tell_answers(alloc: Global, pieces: &[Piece], told: &mut Told) {
+    for piece in pieces {
+        told.say_number("piece ", piece.connection);
+        told.say("\n");
+        tell_bytes(alloc, piece.bytes.as_slice(), told);
+    }
+}
+
+/// Whether each reply has a status 2xx.
+pub fn are_done(pieces: &[Piece]) -> bool {
+    for piece in pieces {
+        if !piece.bytes.as_slice().starts_with(b"HTTP/1.1 2") {
+            return false;
+        }
+    }
+    true
+}
+
+/// Whether the one piece is ServiceUnavailable; a reply to HEAD has no body that would say so.
+pub fn are_unavailable(pieces: &[Piece]) -> bool {
+    let [piece] = pieces else {
+        return false;
+    };
+    match str::from_utf8(piece.bytes.as_slice()) {
+        Ok(text) => {
+            text.starts_with("HTTP/1.1 503 ")
+                && (text.ends_with("\r\n\r\n") || text.contains("<Code>ServiceUnavailable</Code>"))
+        }
+        Err(_) => false,
+    }
+}

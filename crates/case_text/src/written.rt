@@ -1,0 +1,84 @@
+//! Bytes that were written, line by line.
+use crate::{Fault, Told, bytes_of, tell};
+use gate_base::cut;
+use md5::{Digest, Md5};
+use std::alloc::Global;
+
+/// The longest line of bytes that is told whole.
+const MOST_SHOWN: usize = 65_536;
+
+/// Appends each line of a text behind `= `; an empty line is `=`.
+pub fn tell_lines(text: &str, told: &mut Told) {
+    for line in text.lines() {
+        told.say(if line.is_empty() { "=" } else { "= " });
+        told.say(line);
+        told.say("\n");
+    }
+}
+
+/// Appends bytes, each line of them as a line: `< TEXT` with CR LF, `<n TEXT` with LF, `<. TEXT` without a line end. A line that
+/// isn't plain text is told as a value, with its line end; one that is very long by `<# SIZE MD5`.
+pub fn tell_bytes(alloc: Global, bytes: &[u8], told: &mut Told) {
+    let mut rest = bytes;
+    for _ in 0..bytes.len() {
+        if rest.is_empty() {
+            return;
+        }
+        let size = cut(rest, b'\n').0.len().saturating_add(1);
+        let (line, next) = match rest.split_at_checked(size) {
+            Some(parts) => parts,
+            None => (rest, b"".as_slice()),
+        };
+        tell_line(alloc, line, told);
+        rest = next;
+    }
+}
+
+fn tell_line(alloc: Global, line: &[u8], told: &mut Told) {
+    if MOST_SHOWN < line.len() {
+        return tell_hash(alloc, line, told);
+    }
+    let (bytes, mark) = marked(line);
+    match str::from_utf8(bytes) {
+        Ok(text) if is_plain(text) => {
+            told.say(mark);
+            told.say(if text.is_empty() { "" } else { " " });
+            told.say(text);
+            told.say("\n");
+        }
+        _ => tell(&bytes_of(alloc, line, told), told),
+    }
+}
+
+/// A line without its end, and the mark that tells the end.
+fn marked(line: &[u8]) -> (&[u8], &'static str) {
+    if let Some(text) = line.strip_suffix(b"\r\n") {
+        return (text, "<");
+    }
+    match line.strip_suffix(b"\n") {
+        Some(text) => (text, "<n"),
+        None => (line, "<."),
+    }
+}
+
+/// Whether a text has no control character, and doesn't end in a space.
+fn is_plain(text: &str) -> bool {
+    for byte in text.as_bytes() {
+        if *byte < b' ' || *byte == 127 {
+            return false;
+        }
+    }
+    !text.ends_with(' ')
+}
+
+fn tell_hash(alloc: Global, line: &[u8], told: &mut Told) {
+    told.say_number("<# ", line.len() as u64);
+    match hex::encode(alloc, Md5::digest(line)) {
+        Ok(hash) => {
+            told.say(" ");
+            told.say(hash.as_str());
+            told.say("\n");
+        }
+        Err(_) => told.note(Fault::Memory),
+    }
+}

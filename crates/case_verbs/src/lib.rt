@@ -1,0 +1,20 @@
+//! The verbs of case files: each tries a public function of a library below the service, by a text and by bytes, and tells what it
+//! gives. `s3_verbs`, `http_verbs` and `swift_verbs` say what they take.
+#![tactic(auto)]
+
+mod http_verbs;
+mod s3_verbs;
+mod s3_verbs_meaning;
+mod s3_verbs_message;
+mod s3_verbs_pages;
+mod settings;
+mod shown;
+mod swift_verbs;
+mod talk;
+mod verbs;
+
+pub use settings::{USUAL_LEAST_PART, settings_of};
+pub use shown::is_shown;
+pub use swift_verbs::wire::place;
+pub use talk::{Talk, opens};
+pub use verbs::tell_verb;

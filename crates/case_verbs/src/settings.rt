@@ -1,0 +1,22 @@
+//! The settings of the service by which requests are understood.
+use case_text::{Told, bytes_of};
+use gate_base::Copying;
+use s3_machine::Settings;
+use std::alloc::Global;
+
+/// The least size of a part that isn't the last, where the words give none: 5 MiB.
+pub const USUAL_LEAST_PART: u64 = 5_242_880;
+
+/// A copy of the settings of a region.
+pub fn settings_of(
+    alloc: Global,
+    region: &[u8],
+    least_part: u64,
+    told: &mut Told,
+) -> Option<Settings> {
+    let settings = Settings {
+        region: bytes_of(alloc, region, told),
+        least_part,
+    };
+    told.keep(settings.copy())
+}

@@ -1,0 +1,34 @@
+//! Whole runs of the store.
+use case_text::{Told, line_on, tell, tell_made, words_of};
+use gate_base::{Bytes, List, MemLine, MemSink};
+use std::alloc::Global;
+use store_cmd::run_store;
+use swift_store::MapShelf;
+
+/// The most bytes that a read gives.
+const PIECE: u64 = 64;
+
+/// Tells what a run with these words writes, its status, and what it reports.
+pub(crate) fn swiftd(alloc: Global, text: &str, given: &[u8], told: &mut Told) {
+    let words = words_of(alloc, text, told);
+    if let Some(mut line) = line_on(alloc, given, PIECE, List::new(alloc), told) {
+        serve(alloc, words.as_slice(), &mut line, told);
+    }
+}
+
+fn serve(alloc: Global, words: &[String], line: &mut MemLine, told: &mut Told) {
+    let mut report = MemSink::new(alloc, List::new(alloc));
+    let mut shelf = MapShelf::new(alloc);
+    let status = run_store(alloc, words, line, &mut report, &mut shelf);
+    tell_sent(alloc, line, told);
+    tell(&status, told);
+    tell_made(Bytes::from_slice(alloc, report.bytes()), told);
+}
+
+fn tell_sent(alloc: Global, line: &MemLine, told: &mut Told) {
+    let mut sent = Bytes::new(alloc);
+    for piece in line.pieces() {
+        told.append(&mut sent, piece.bytes.as_slice());
+    }
+    tell(&sent, told);
+}

@@ -1,0 +1,82 @@
+//! A connection in memory, and the messages that are read from it.
+ghost use Rattle.std.specs.Prelude.{IsTrue};
+ghost use Rattle.gate_base.specs.MemLine.{is_open_of};
+
+use case_text::{Fault, LARGE, Told, line_on, tell};
+use gate_base::{Counted, Line, List, MemLine, NoCount, drop};
+use http_wire::{Got, Message, ReadFault, Reader};
+use std::alloc::Global;
+
+/// A connection that is open, its reader, and how many of the pieces that were written are told.
+#[derive(Drop)]
+pub struct Talk {
+    line: MemLine,
+    reader: Reader,
+    told: usize,
+    ghost open: { IsTrue (is_open_of line) },
+}
+
+impl Talk {
+    /// Begins to talk over a line of one connection.
+    pub fn new(alloc: Global, mut line: MemLine, told: &mut Told) -> Option<Talk> {
+        if !opens::<NoCount>(&mut line) {
+            told.note(Fault::Unread("no connection"));
+            return None;
+        }
+        let reader = told.keep(Reader::new(alloc))?;
+        Some(Talk {
+            line,
+            reader,
+            told: 0,
+        })
+    }
+
+    /// Begins to talk over a connection of these bytes.
+    pub fn open(alloc: Global, given: &[u8], told: &mut Told) -> Option<Talk> {
+        let line = line_on(alloc, given, LARGE, List::new(alloc), told)?;
+        Talk::new(alloc, line, told)
+    }
+
+    /// The next answer of the reader.
+    pub fn next(&mut self) -> Result<Got, ReadFault> {
+        self.reader.next_request(&mut self.line, &NoCount)
+    }
+
+    /// The next message; none where none comes next.
+    pub fn next_message(&mut self) -> Option<Message> {
+        match self.next() {
+            Ok(Got::Request(message)) => Some(message),
+            other => {
+                drop(other);
+                None
+            }
+        }
+    }
+
+    /// Reads the next answer. Whether it is a request.
+    pub fn passes_request(&mut self) -> bool {
+        let got = self.next();
+        let is_request = matches!(got, Ok(Got::Request(_)));
+        drop(got);
+        is_request
+    }
+
+    /// Tells the pieces that were written and aren't told yet.
+    pub fn tell_written(&mut self, told: &mut Told) {
+        let pieces = self.line.pieces();
+        for piece in pieces.iter().skip(self.told) {
+            tell(&piece.bytes, told);
+        }
+        self.told = pieces.len();
+    }
+}
+
+/// Whether a connection begins on a line.
+pub fn opens<C: Counted>(line: &mut MemLine) -> bool
+    ensures { IsTrue result → IsTrue (is_open_of line.new) }
+{
+    match Line::<C>::next(line) {
+        Ok(begun) => begun,
+        Err(_) => false,
+    }
+}

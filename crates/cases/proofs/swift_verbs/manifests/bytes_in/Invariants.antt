@@ -1,6 +1,0 @@
-use Rattle.std.proofs.Common.{◌≤◌, sum, take}
-use Rattle.cases.proofs.swift_verbs.manifests.bytes_in.Given as goal
-
--- no more than the bytes of the segments passed over
-abbrev pub invariant-loop-size : goal.invariant-loop-size
-invariant-loop-size l = l.bytes ≤ sum (take l.size-index l.sizes)
