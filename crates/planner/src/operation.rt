@@ -12,10 +12,11 @@ use crate::acls::{get_bucket_acl, get_object_acl, put_bucket_acl};
 use crate::buckets::{create_bucket, delete_bucket, get_location, list_buckets, show_bucket};
 use crate::listing::list_objects;
 use crate::objects::{delete_object, get_object, head_object, put_object};
-use gate_base::drop;
+use gate_base::{Bytes, drop};
 use recovery::{PlanFault, Settled, reply_of};
-use s3_machine::{Label, Op, Reply};
+use s3_machine::{Asked, Body, Label, Op, Reply};
 use std::alloc::Global;
+use std::mem::replace;
 use swift_calls::Swift;
 
 /// Answers one operation of Amazon S3 that isn't one on uploads in parts. The reply is the service's own, and then the state
@@ -33,72 +34,54 @@ pub fn answer<W: Swift>(alloc: Global, state: &mut Settled<'_, W>, op: Op, label
         (W.history state.old.store.now) (W.history state.new.store.now) state.old.settings.now op
         label.now known.Settled result }
 {
-    reply_of(plan(alloc, state, op, label))
+    let mut op = op;
+    let end = plan(alloc, state, &mut op, label);
+    drop(op);
+    reply_of(end)
 }
 
-/// Makes the calls of an operation's plan. Which function has the plan is asked first, so that each owns few kinds of
-/// operation, or none.
+/// Makes the calls of an operation's plan, which takes of it what it needs; the operation is dropped by its owner alone.
 fn plan<W: Swift>(
     alloc: Global,
     state: &mut Settled<'_, W>,
-    op: Op,
+    op: &mut Op,
     label: &Label,
 ) -> Result<Reply, PlanFault>
-    requires { IsProper op label.now }
+    requires { IsProper op.old label.now }
     ensures stays { Stays state.old state.new }
-    ensures plans { Plans (most_calls op (present (W.history state.old.store.now)))
+    ensures plans { Plans (most_calls op.old (present (W.history state.old.store.now)))
         (W.history state.old.store.now) (W.history state.new.store.now) state.old.settings.now
-        (Given Any) op label.now known.Settled result }
+        (Given Any) op.old label.now known.Settled result }
 {
-    if is_put(&op) {
-        plan_put(alloc, state, op, label)
-    } else if is_lent(&op) {
-        let end = plan_lent(alloc, state, &op, label);
-        drop(op);
-        end
-    } else if is_of_bucket(&op) {
-        plan_of_bucket(alloc, state, op, label)
-    } else {
-        plan_of_key(alloc, state, op, label)
+    match op {
+        Op::CreateBucket { bucket, acl } => {
+            create_bucket(alloc, state, taken(alloc, bucket), *acl, label)
+        }
+        Op::DeleteBucket { bucket } => delete_bucket(state, taken(alloc, bucket)),
+        Op::PutBucketAcl { bucket, acl } => put_bucket_acl(state, taken(alloc, bucket), *acl),
+        Op::ListObjects { bucket, asked } => list_objects(
+            alloc,
+            state,
+            taken(alloc, bucket),
+            taken_asked(alloc, asked),
+            label,
+        ),
+        _ => plan_of_key(alloc, state, op, label),
     }
 }
 
-fn is_put(op: &Op) -> bool {
-    matches!(op, Op::PutObject { .. })
-}
-
-/// Whether the plan of the operation is lent its names.
-fn is_lent(op: &Op) -> bool {
-    matches!(
-        op,
-        Op::ListBuckets
-            | Op::HeadBucket { .. }
-            | Op::GetLocation { .. }
-            | Op::GetBucketAcl { .. }
-            | Op::HeadObject { .. }
-            | Op::GetObjectAcl { .. }
-    )
-}
-
-fn is_of_bucket(op: &Op) -> bool {
-    matches!(
-        op,
-        Op::CreateBucket { .. } | Op::DeleteBucket { .. } | Op::PutBucketAcl { .. }
-    )
-}
-
-/// The plan of PutObject. It is asked for no other operation; one ends as where memory ran out, without a call.
-fn plan_put<W: Swift>(
+/// The plan of an operation that puts, gets or deletes an object, or is lent its names.
+fn plan_of_key<W: Swift>(
     alloc: Global,
     state: &mut Settled<'_, W>,
-    op: Op,
+    op: &mut Op,
     label: &Label,
 ) -> Result<Reply, PlanFault>
-    requires { IsProper op label.now }
+    requires { IsProper op.old label.now }
     ensures stays { Stays state.old state.new }
-    ensures plans { Plans (most_calls op (present (W.history state.old.store.now)))
+    ensures plans { Plans (most_calls op.old (present (W.history state.old.store.now)))
         (W.history state.old.store.now) (W.history state.new.store.now) state.old.settings.now
-        (Given Any) op label.now known.Settled result }
+        (Given Any) op.old label.now known.Settled result }
 {
     match op {
         Op::PutObject {
@@ -111,18 +94,32 @@ fn plan_put<W: Swift>(
         } => put_object(
             alloc,
             state,
-            bucket,
-            key,
-            acl,
-            content_type,
-            &meta,
-            body,
+            taken(alloc, bucket),
+            taken(alloc, key),
+            *acl,
+            taken(alloc, content_type),
+            meta,
+            replace(body, Body::new(Bytes::new(alloc))),
             label,
         ),
-        _ => {
-            drop(op);
-            Err(PlanFault::Memory)
+        Op::GetObject {
+            bucket,
+            key,
+            range,
+            conditions,
+        } => get_object(
+            alloc,
+            state,
+            taken(alloc, bucket),
+            taken(alloc, key),
+            *range,
+            conditions,
+            label,
+        ),
+        Op::DeleteObject { bucket, key } => {
+            delete_object(state, taken(alloc, bucket), taken(alloc, key))
         }
+        _ => plan_lent(alloc, state, op, label),
     }
 }
 
@@ -155,56 +152,27 @@ fn plan_lent<W: Swift>(
     }
 }
 
-/// The plan of an operation that changes a bucket; any other ends as where memory ran out, without a call.
-fn plan_of_bucket<W: Swift>(
-    alloc: Global,
-    state: &mut Settled<'_, W>,
-    op: Op,
-    label: &Label,
-) -> Result<Reply, PlanFault>
-    requires { IsProper op label.now }
-    ensures stays { Stays state.old state.new }
-    ensures plans { Plans (most_calls op (present (W.history state.old.store.now)))
-        (W.history state.old.store.now) (W.history state.new.store.now) state.old.settings.now
-        (Given Any) op label.now known.Settled result }
+/// Takes a text of an operation, and leaves an empty one there. It takes no memory.
+fn taken(alloc: Global, text: &mut Bytes) -> Bytes
+    ensures { result ≡ text.old }
 {
-    match op {
-        Op::CreateBucket { bucket, acl } => create_bucket(alloc, state, bucket, acl, label),
-        Op::DeleteBucket { bucket } => delete_bucket(state, bucket),
-        Op::PutBucketAcl { bucket, acl } => put_bucket_acl(state, bucket, acl),
-        _ => {
-            drop(op);
-            Err(PlanFault::Memory)
-        }
-    }
+    replace(text, Bytes::new(alloc))
 }
 
-/// The plan of an operation that lists keys, or gets or deletes an object; any other ends as where memory ran out, without
-/// a call.
-fn plan_of_key<W: Swift>(
-    alloc: Global,
-    state: &mut Settled<'_, W>,
-    op: Op,
-    label: &Label,
-) -> Result<Reply, PlanFault>
-    requires { IsProper op label.now }
-    ensures stays { Stays state.old state.new }
-    ensures plans { Plans (most_calls op (present (W.history state.old.store.now)))
-        (W.history state.old.store.now) (W.history state.new.store.now) state.old.settings.now
-        (Given Any) op label.now known.Settled result }
+/// Takes what a listing asks for, and leaves there that it asks for no item. It takes no memory.
+fn taken_asked(alloc: Global, asked: &mut Asked) -> Asked
+    ensures { result ≡ asked.old }
 {
-    match op {
-        Op::ListObjects { bucket, asked } => list_objects(alloc, state, bucket, asked, label),
-        Op::GetObject {
-            bucket,
-            key,
-            range,
-            conditions,
-        } => get_object(alloc, state, bucket, key, range, &conditions, label),
-        Op::DeleteObject { bucket, key } => delete_object(state, bucket, key),
-        _ => {
-            drop(op);
-            Err(PlanFault::Memory)
-        }
-    }
+    let none = Asked {
+        version: 2,
+        prefix: Bytes::new(alloc),
+        delimiter: Bytes::new(alloc),
+        marker: Bytes::new(alloc),
+        start_after: Bytes::new(alloc),
+        token: None,
+        max: 0,
+        url: false,
+        owner: false,
+    };
+    replace(asked, none)
 }
