@@ -1,5 +1,6 @@
 -- A session, connection by connection, over a history that grows, and the run that it is.
-use Rattle.std.proofs.Common.{◌≡◌, ◌≢◌, ◌++◌, ◌∷◌, ℕ, Bool, true, false, List, [], Option, None, Some, if◌then◌else◌, slice_set, ◌-◌, refl, sym, ap, subst, inl, ◌∙◌, arith}
+use Rattle.std.specs.Prelude.{◌&&◌}
+use Rattle.std.proofs.Common.{◌≡◌, ◌≢◌, ◌++◌, ◌∷◌, ℕ, Bool, true, false, List, [], Option, None, Some, if◌then◌else◌, slice_set, ◌-◌, is_some, refl, sym, ap, subst, inl, ◌∙◌, arith}
 use Rattle.gate_base.specs.Line.{LineModel, TranscriptServes}
 use Rattle.gate_base.specs.Told.{SourceModel}
 use Rattle.gate_base.specs.Transcript.{Begins}
@@ -7,7 +8,7 @@ use Rattle.gate_base.specs.declared.outside.Piece.{Piece}
 use Rattle.s3_machine.specs.declared.operation.Settings.{Settings}
 use Rattle.swift_calls.specs.History.{History, Extends}
 use Rattle.upload_records.specs.Consistent.{IsConsistent}
-use Rattle.sigv4.specs.Keys.{keys_of, are_keys}
+use Rattle.sigv4.specs.Keys.{keys_of, are_keys, secret_of}
 use Rattle.sigv4.specs.declared.keys.AccessKey.{AccessKey}
 use Rattle.sign_cmd.specs.Signing.{SignsOn}
 use Rattle.recovery.specs.declared.state.Known.{Known}
@@ -26,8 +27,8 @@ use Rattle.gateway_cmd.specs.declared.status.RunOutcome.{RunOutcome}
 use Rattle.gateway_cmd.specs.declared.status.RunOutcome.TheVariants.{Plain}
 use Rattle.gateway_cmd.specs.declared.status.Status.{Status}
 use Rattle.gateway_cmd.specs.declared.status.Status.TheVariants.{Done, Usage, Line, Store, Request, Memory}
-use Rattle.gateway_cmd.specs.Report.{is_failed_run, is_done, Fits}
-use Rattle.gateway_cmd.specs.Tasks.{settings_of, Serving, service_of, Task, nothing, to_serve, to_sign, to_presign, to_recover}
+use Rattle.gateway_cmd.specs.Report.{is_failed_run, is_done, Admits, Fits}
+use Rattle.gateway_cmd.specs.Tasks.{settings_of, is_possible, Serving, service_of, Task, nothing, to_serve, to_sign, to_presign, to_recover}
 use Rattle.gateway_cmd.specs.Run.{run_cursor_of, RunTrace, none, more, RunTraces, RunTraced, RunStands, RunRefines}
 use Rattle.gateway_cmd.specs.Session.{is_end, NextCursor, LineServed, LineServesAll, RunServes, RunSigns, RunPresigns, IsIdle, out_of_memory, keys_refused, nothing_done, Does}
 use Rattle.gateway_cmd.proofs.Faulty.{none_faulty_of_none}
@@ -145,6 +146,29 @@ does_none (to_sign id region) keys ended line store clock draws idle = run_signs
 does_none (to_presign id region expires) keys ended line store clock draws idle =
     run_presigns_none id region expires keys store.called ended line clock (idle_fails idle) (idle_never idle)
 does_none to_recover keys ended line store clock draws idle = nothing_done refl idle
+
+-- by keys that are refused nothing can be done
+impossible_by : (task : Task) (keys : List ℕ) → are_keys (keys_of keys) ≡ false → is_possible task keys ≡ false
+impossible_by nothing keys bad = refl
+impossible_by (to_serve serving) keys bad = bad
+impossible_by (to_sign id region) keys bad = ap (λ b. b && is_some (secret_of id (keys_of keys))) bad
+impossible_by (to_presign id region expires) keys bad = ap (λ b. b && is_some (secret_of id (keys_of keys))) bad
+impossible_by to_recover keys bad = bad
+
+idle_usage : (task : Task) (keys : List ℕ) (ended : RunOutcome) → IsIdle keys ended → ended ≡ Plain Usage → is_possible task keys ≡ false
+idle_usage task keys ended (out_of_memory memory) usage = absurd (let clash : Plain Memory ≡ Plain Usage = sym memory ∙ usage in cc)
+idle_usage task keys ended (keys_refused usage bad) same = impossible_by task keys bad
+
+idle_refused : (keys : List ℕ) (ended : RunOutcome) → IsIdle keys ended → ended ≢ Plain Memory → ended ≡ Plain Usage
+idle_refused keys ended (out_of_memory memory) other = absurd (other memory)
+idle_refused keys ended (keys_refused usage bad) other = usage
+
+pub idle_admits : (task : Task) (keys : List ℕ) (ended : RunOutcome) → IsIdle keys ended → Admits (is_possible task keys) ended
+idle_admits task keys ended idle = record { usage = idle_usage task keys ended idle; refused = λ no other. idle_refused keys ended idle other }
+
+pub idle_fits : (task : Task) (keys : List ℕ) (ended : RunOutcome) → IsIdle keys ended → Fits task ended
+idle_fits task keys ended (out_of_memory memory) = subst (Fits task) (sym memory) tt
+idle_fits task keys ended (keys_refused usage bad) = subst (Fits task) (sym usage) tt
 
 -- what connections are served by as a region, with a least part, at most so many
 abbrev pub as_region : List ℕ → ℕ → Option ℕ → Serving

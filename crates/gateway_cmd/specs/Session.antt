@@ -16,8 +16,6 @@ use Rattle.recovery.specs.Settling.{Settles}
 use Rattle.recovery.specs.Stutters.{Stutters}
 use Rattle.sigv4.specs.Keys.{keys_of, are_keys, secret_of}
 use Rattle.sigv4.specs.declared.keys.AccessKey.{AccessKey}
-use Rattle.sigv4.specs.declared.keys.KeysFault.{KeysFault}
-use Rattle.sigv4.specs.declared.keys.KeysFault.TheVariants as fault
 use Rattle.sign_cmd.specs.Signing.{AnswersFirst, SendsFirst, SignsOn}
 use Rattle.sign_cmd.specs.declared.first.Signing.{Signing}
 use Rattle.presign_cmd.specs.Presigning.{Presigns, AnswersFirst as UrlFirst, SendsFirst as UrlSends}
@@ -41,13 +39,6 @@ IsServedOut most old new = (new.waiting ≡ []) ⊎ ((n : ℕ) × (most ≡ Some
 -- no more connections began than were asked for
 abbrev pub BeginsAtMost : Option ℕ → Transcript → Transcript → Type 0
 BeginsAtMost most old new = (n : ℕ) → most ≡ Some n → new.begun ≤ old.begun + n
-
--- what a key text gives: its keys, each of the form and no id twice; or it is refused; memory may run out for any
-abbrev pub Offers : List ℕ → Result (List AccessKey) KeysFault → Type 0
-Offers keys (Ok read) = (read ≡ keys_of keys) × (are_keys (keys_of keys) ≡ true)
-Offers keys (Err (fault.BadLine n)) = are_keys (keys_of keys) ≡ false
-Offers keys (Err (fault.Twice n)) = are_keys (keys_of keys) ≡ false
-Offers keys (Err fault.Memory) = Unit {0}
 
 -- the next connection was served, or nothing came between
 abbrev pub NextCursor : Service → ReplyRelation → Option Status → World → World → Type 0
@@ -135,6 +126,11 @@ pub record RunPresigns (id region : List ℕ) (expires : ℕ) (keys : List ℕ) 
 pub data IsIdle (keys : List ℕ) (ended : RunOutcome) : Type 0 where
   out_of_memory : ended ≡ Plain Memory → IsIdle keys ended
   keys_refused : ended ≡ Plain Usage → are_keys (keys_of keys) ≡ false → IsIdle keys ended
+
+-- what a key text gives: its keys, each of the form and no id twice; or the status of a run that does nothing
+abbrev pub Offers : List ℕ → Result (List AccessKey) Status → Type 0
+Offers keys (Ok read) = (read ≡ keys_of keys) × (are_keys (keys_of keys) ≡ true)
+Offers keys (Err status) = IsIdle keys (Plain status)
 
 -- the store was settled, or could not be; or nothing was done
 pub data RunRecovers (keys : List ℕ) (ended : RunOutcome) (old new : History) : Type 0 where

@@ -3,7 +3,7 @@ ghost use Rattle.std.specs.Prelude.{◌≡◌, ◌≤◌, ℕ, true, false, IsTr
 ghost use Rattle.gate_base.specs.Told.{ClockNow};
 ghost use Rattle.recovery.specs.declared.state.Known.{Known as what_is_known};
 ghost use Rattle.recovery.specs.declared.state.Known.TheVariants.{Unsure};
-ghost use Rattle.sigv4.specs.Keys.{are_keys, secret_of};
+ghost use Rattle.sigv4.specs.Keys.{keys_of, are_keys, secret_of};
 ghost use Rattle.sign_cmd.specs.Signing.{AnswersFirst, SendsFirst, SignsOn};
 ghost use Rattle.sign_cmd.specs.declared.first.Signing.{Signing};
 ghost use Rattle.presign_cmd.specs.Presigning.{Presigns, AnswersFirst as UrlFirst, SendsFirst as UrlSends};
@@ -28,7 +28,7 @@ use presign_cmd::{Presigning, presign_first};
 use recovery::Known;
 use s3_machine::Settings;
 use sign_cmd::{Signing, sign_first};
-use sigv4::{Keys, KeysFault};
+use sigv4::Keys;
 use std::alloc::Global;
 use swift_calls::Swift;
 
@@ -87,41 +87,63 @@ fn perform<N: Line<W>, W: Swift, C: Clock, D: Draws>(
         (λ known. world (N.model line.new) (W.history store.new) known (C.model clock.new) (D.model draws.new)) }
 {
     match read_keys(alloc, keys) {
-        Ok(keys) => match command {
-            Command::Session { region, least_part } => {
-                let settings = Settings { region, least_part };
-                let most = None;
-                RunOutcome::Plain(serve(alloc, settings, keys, most, line, store, clock, draws))
-            }
-            Command::Serve {
-                region,
-                connections,
-                least_part,
-            } => {
-                let settings = Settings { region, least_part };
-                let most = Some(connections);
-                RunOutcome::Plain(serve(alloc, settings, keys, most, line, store, clock, draws))
-            }
-            Command::Recover => recover(alloc, store),
-            Command::Sign { key, region } => sign(alloc, &keys, &key, &region, line, store),
-            Command::Presign {
-                key,
-                region,
-                expires,
-            } => presign(alloc, &keys, &key, &region, expires, line, store, clock),
-        },
-        Err(KeysFault::BadLine(_)) => {
+        Ok(keys) => perform_by(alloc, command, keys, line, store, clock, draws),
+        Err(status) => {
             drop(command);
-            RunOutcome::Plain(Status::Usage)
+            RunOutcome::Plain(status)
         }
-        Err(KeysFault::Twice(_)) => {
-            drop(command);
-            RunOutcome::Plain(Status::Usage)
+    }
+}
+
+/// Does what is asked for, by keys. What it does is said of each text that has these keys.
+fn perform_by<N: Line<W>, W: Swift, C: Clock, D: Draws>(
+    alloc: Global,
+    command: Command,
+    keys: Keys,
+    line: &mut N,
+    store: &mut W,
+    clock: &mut C,
+    draws: &mut D,
+) -> RunOutcome
+    requires proper { IsProper command }
+    requires keys { are_keys keys ≡ true }
+    ensures admits { (text : List ℕ) → keys ≡ keys_of text
+        → Admits (is_possible (task_of (Some command)) text) result }
+    ensures fits { Fits (task_of (Some command)) result }
+    ensures idle { (text : List ℕ) → keys ≡ keys_of text
+        → is_possible (task_of (Some command)) text ≡ false → (line.new ≡ line.old)
+        × (store.new ≡ store.old) × (clock.new ≡ clock.old) × (draws.new ≡ draws.old) }
+    ensures apart { Apart (task_of (Some command)) (line.new ≡ line.old) (store.new ≡ store.old)
+        (clock.new ≡ clock.old) (draws.new ≡ draws.old) }
+    ensures on { Continues
+        (world (N.model line.old) (W.history store.old) Unsure (C.model clock.old) (D.model draws.old))
+        (world (N.model line.new) (W.history store.new) Unsure (C.model clock.new) (D.model draws.new)) }
+    ensures does { (text : List ℕ) → keys ≡ keys_of text → Does (task_of (Some command)) text result
+        (world (N.model line.old) (W.history store.old) Unsure (C.model clock.old) (D.model draws.old))
+        (λ known. world (N.model line.new) (W.history store.new) known (C.model clock.new) (D.model draws.new)) }
+{
+    match command {
+        Command::Session { region, least_part } => {
+            let settings = Settings { region, least_part };
+            let most = None;
+            RunOutcome::Plain(serve(alloc, settings, keys, most, line, store, clock, draws))
         }
-        Err(KeysFault::Memory) => {
-            drop(command);
-            RunOutcome::Plain(Status::Memory)
+        Command::Serve {
+            region,
+            connections,
+            least_part,
+        } => {
+            let settings = Settings { region, least_part };
+            let most = Some(connections);
+            RunOutcome::Plain(serve(alloc, settings, keys, most, line, store, clock, draws))
         }
+        Command::Recover => recover(alloc, store),
+        Command::Sign { key, region } => sign(alloc, &keys, &key, &region, line, store),
+        Command::Presign {
+            key,
+            region,
+            expires,
+        } => presign(alloc, &keys, &key, &region, expires, line, store, clock),
     }
 }
 
