@@ -27,7 +27,7 @@ FAULTS = [
     ("recovery tag_text: another moment", "recovery/src/object.rt", 1, "        moment,\n        id: None,", "        moment: moment / 2,\n        id: None,"),
     ("recovery make_bucket: the bucket has no moment", "recovery/src/bucket.rt", 1, "created: Some(moment)", "created: None"),
     ("recovery settle_store: the gateway's own container is made twice", "recovery/src/settling.rt", 1, "    make_gateway(alloc, store)?;\n", "    make_gateway(alloc, store)?;\n    make_gateway(alloc, store)?;\n", ["uploads.txt"]),
-    ("recovery get_sealed: what is sealed is passed over", "recovery/src/sealed.rt", 1, "read_sealed(alloc, body.as_slice()),", "Ok(None),", ["settling.txt"]),
+    ("recovery sealed_in: what is sealed is passed over", "recovery/src/sealed.rt", 1, "read_sealed(alloc, body.as_slice()),", "Ok(None),", ["settling.txt"]),
     ("recovery add_sealed_segment: an empty part is listed too", "recovery/src/sealed.rt", 1, "    if part.size == 0 {\n        return Ok(());\n    }\n", "", ["settling.txt"]),
     ("recovery sealed_record_text: the moment of the start", "recovery/src/sealed.rt", 1, "moment: Some(sealed.moment),", "moment: Some(sealed.started),", ["settling.txt"]),
     ("recovery keep_completion: what is sealed goes before the record", "recovery/src/settling.rt", 1, "    put_sealed_record(alloc, store, sealed)?;\n    delete_sealed(alloc, store, sealed)\n", "    delete_sealed(alloc, store, sealed)?;\n    put_sealed_record(alloc, store, sealed)\n", ["settling.txt"]),
