@@ -15,10 +15,10 @@ mod written;
 pub use escapes::{hex_bytes, unescaped};
 pub use fault::Fault;
 pub use given::{
-    Given, behind, check_lines, connections, keys, meets_fault, moments, numbers, says,
+    Given, KEY_TEXT, behind, check_lines, connections, keys, meets_fault, moments, numbers, says,
 };
 pub use lines::give_all;
-pub use outside::{LARGE, clock_of, line_of, line_on};
+pub use outside::{LARGE, clock_of, line_of, line_of_one_connection};
 pub use pieces::{are_done, are_unavailable, tell_answers, tell_pieces, tell_statuses};
 pub use texts::{cut_text, is_passed, number_of, numbers_of, text_of, words_of};
 pub use told::{Told, bytes_of, tell, tell_copied, tell_copy, tell_made};

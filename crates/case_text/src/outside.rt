@@ -19,7 +19,7 @@ pub fn line_of(alloc: Global, given: Given<'_>, size: u64, told: &mut Told) -> O
 }
 
 /// A line of one connection of these bytes, whose reads give at most `piece` bytes. The calls of these numbers fail.
-pub fn line_on(
+pub fn line_of_one_connection(
     alloc: Global,
     given: &[u8],
     piece: u64,

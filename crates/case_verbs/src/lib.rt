@@ -1,5 +1,5 @@
-//! The verbs of case files: each tries a public function of a library below the service, by a text and by bytes, and tells what it
-//! gives. `s3_verbs`, `http_verbs` and `swift_verbs` say what they take.
+//! The verbs of case files: each tries a public function of a library that stands on no plan and no service, by a text and by
+//! bytes, and tells what it gives. `s3_verbs`, `http_verbs` and `swift_verbs` say what they take.
 #![tactic(auto)]
 
 mod http_verbs;
@@ -13,7 +13,7 @@ mod swift_verbs;
 mod talk;
 mod verbs;
 
-pub use settings::{USUAL_LEAST_PART, settings_of};
+pub use settings::{USUAL_LEAST_PART, USUAL_REGION, settings_of};
 pub use shown::is_shown;
 pub use swift_verbs::wire::place;
 pub use talk::{Talk, opens};

@@ -1,7 +1,7 @@
 //! What requests mean.
 use crate::s3_verbs::caller_of;
 use crate::s3_verbs_message::message_of;
-use crate::settings::{USUAL_LEAST_PART, settings_of};
+use crate::settings::{USUAL_LEAST_PART, USUAL_REGION, settings_of};
 use case_text::{Told, cut_text, tell_copied, tell_made};
 use gate_base::{Caller, drop};
 use http_wire::Message;
@@ -36,7 +36,7 @@ fn by_target(
     target: &Target,
     told: &mut Told,
 ) {
-    if let Some(settings) = settings_of(alloc, b"us-east-1", USUAL_LEAST_PART, told) {
+    if let Some(settings) = settings_of(alloc, USUAL_REGION, USUAL_LEAST_PART, told) {
         let meant = meaning(alloc, message, target, &caller, &settings);
         tell_meant(verb, &meant, told);
         drop(meant);

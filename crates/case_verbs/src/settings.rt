@@ -4,6 +4,9 @@ use gate_base::Copying;
 use s3_machine::Settings;
 use std::alloc::Global;
 
+/// The region, where the words give none.
+pub const USUAL_REGION: &[u8] = b"us-east-1";
+
 /// The least size of a part that isn't the last, where the words give none: 5 MiB.
 pub const USUAL_LEAST_PART: u64 = 5_242_880;
 

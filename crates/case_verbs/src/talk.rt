@@ -2,7 +2,7 @@
 ghost use Rattle.std.specs.Prelude.{IsTrue};
 ghost use Rattle.gate_base.specs.MemLine.{is_open_of};
 
-use case_text::{Fault, LARGE, Told, line_on, tell};
+use case_text::{Fault, LARGE, Told, line_of_one_connection, tell};
 use gate_base::{Counted, Line, List, MemLine, NoCount, drop};
 use http_wire::{Got, Message, ReadFault, Reader};
 use std::alloc::Global;
@@ -33,7 +33,7 @@ impl Talk {
 
     /// Begins to talk over a connection of these bytes.
     pub fn open(alloc: Global, given: &[u8], told: &mut Told) -> Option<Talk> {
-        let line = line_on(alloc, given, LARGE, List::new(alloc), told)?;
+        let line = line_of_one_connection(alloc, given, LARGE, List::new(alloc), told)?;
         Talk::new(alloc, line, told)
     }
 

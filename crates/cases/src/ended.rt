@@ -6,7 +6,9 @@ ghost use Rattle.gate_base.specs.MemLine.{is_open_of};
 
 use crate::machine::service_of;
 use crate::running::empty_store;
-use case_text::{Given, LARGE, Told, clock_of, line_on, numbers_of, tell, tell_statuses};
+use case_text::{
+    Given, LARGE, Told, clock_of, line_of_one_connection, numbers_of, tell, tell_statuses,
+};
 use case_verbs::opens;
 use gate_base::{List, ListClock, ListDraws, MemLine};
 use gateway::{Ended, Service, serve_connection};
@@ -16,7 +18,7 @@ use swift_calls::MemSwift;
 
 pub(crate) fn ended(alloc: Global, text: &str, given: &[u8], told: &mut Told) {
     let fails = numbers_of(alloc, text, ' ', told);
-    if let Some(mut line) = line_on(alloc, given, LARGE, fails, told) {
+    if let Some(mut line) = line_of_one_connection(alloc, given, LARGE, fails, told) {
         serve_line(alloc, &mut line, told);
         tell_statuses("written", line.pieces(), told);
     }

@@ -6,7 +6,7 @@ use crate::play::First;
 use case_text::{
     Fault, Given, Told, behind, connections, keys, meets_fault, moments, says, tell_bytes,
 };
-use case_verbs::{Talk, USUAL_LEAST_PART, is_shown, settings_of};
+use case_verbs::{Talk, USUAL_LEAST_PART, USUAL_REGION, is_shown, settings_of};
 use gate_base::{Bytes, Caller, Copying, MOMENT_LIMIT, Memory, Piece, drop};
 use gateway::{Service, print_reply};
 use http_wire::Message;
@@ -273,7 +273,7 @@ fn option_of<'a>(given: Given<'a>, option: &str) -> Option<&'a str> {
 fn region_of(given: Given<'_>) -> &[u8] {
     match option_of(given, " --region ") {
         Some(region) => region.as_bytes(),
-        None => b"us-east-1",
+        None => USUAL_REGION,
     }
 }
 

@@ -1,4 +1,3 @@
-ghost use Rattle.std.specs.Prelude.{◌≡◌};
 ghost use Rattle.gateway_cmd.specs.Session.{Offers};
 
 use crate::status::Status;

@@ -2,7 +2,7 @@
 ghost use Rattle.std.specs.Prelude.{◌≡◌};
 ghost use Rattle.http_answers.specs.Fields.{plain_number};
 
-use text_forms::{digits_value, is_decimal, is_number};
+use text_forms::{digits_value, is_decimal_of, is_number};
 
 /// The most digits that are read: no number of so many is past a `u64`.
 pub(crate) const DIGITS: usize = 19;
@@ -15,7 +15,7 @@ pub fn plain_number(text: &[u8]) -> Option<u64>
         return None;
     }
     let number = digits_value(text);
-    if is_decimal(text, number) {
+    if is_decimal_of(text, number) {
         Some(number)
     } else {
         None

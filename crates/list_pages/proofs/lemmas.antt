@@ -6,6 +6,5 @@ pub mod Rising
 pub mod Rolling
 pub mod Sorted
 pub mod Starting
-pub mod Starts
 pub mod Texts
 pub mod Turning

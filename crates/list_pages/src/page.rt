@@ -5,8 +5,8 @@ ghost use Rattle.swift_calls.specs.Step.{Fit};
 ghost use Rattle.list_pages.specs.Listing.{follows, is_name_with, name_in, page_request, AsksPage, ComesTo, FindsOdd, IsFaultOf, IsPageOf};
 
 use crate::PageFault;
-use crate::text::begins;
 use gate_base::{Bytes, List, Memory};
+use s3_machine::begins;
 use s3_names::is_key;
 use std::alloc::Global;
 use swift_calls::{NameItem, Swift, SwiftFault, SwiftReply, SwiftRequest};

@@ -197,7 +197,7 @@ impl Roll {
         if !self.is_behind(text) {
             return Ok(());
         }
-        if self.ends(text) {
+        if self.is_last_text(text) {
             return Ok(());
         }
         if self.items.len() < self.max as usize {
@@ -217,7 +217,7 @@ impl Roll {
     }
 
     /// Whether the last item has this text.
-    fn ends(&self, text: &[u8]) -> bool
+    fn is_last_text(&self, text: &[u8]) -> bool
         ensures { result ≡ ends text.now (rows_of self.now.items) }
     {
         let items = self.items.as_slice();

@@ -5,13 +5,7 @@ ghost use Rattle.s3_machine.specs.Items.{begins, rolled, row_of};
 ghost use Rattle.list_pages.specs.Rolls.{under_of};
 ghost use Rattle.s3_machine.specs.declared.items.ItemHead.{ItemHead};
 
-/// Whether a text begins with these bytes.
-#[tactic(auto, using(crate::proofs::lemmas::Starts::starts_begins))]
-pub(crate) fn begins(front: &[u8], text: &[u8]) -> bool
-    ensures { result ≡ begins front.now text.now }
-{
-    text.starts_with(front)
-}
+use s3_machine::begins;
 
 /// Where the first occurrence of a delimiter in a text ends.
 fn first_end(delimiter: &[u8], text: &[u8]) -> Option<usize>

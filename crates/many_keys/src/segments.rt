@@ -1,5 +1,5 @@
 //! The copy of the segments of an object, one after another.
-ghost use Rattle.std.specs.Prelude.{◌≡◌, ◌≢◌, ◌≤◌, ◌<◌, ◌+◌, ◌*◌, true, length, take, IfOk, Err};
+ghost use Rattle.std.specs.Prelude.{◌≡◌, ◌≢◌, ◌≤◌, ◌<◌, ◌+◌, ◌*◌, true, length, IfOk, Err};
 ghost use Rattle.gate_base.specs.Told.{moment_limit};
 ghost use Rattle.s3_names.specs.Bucket.{is_bucket};
 ghost use Rattle.s3_machine.specs.ETag.{body_etag};
@@ -11,7 +11,7 @@ ghost use Rattle.recovery.specs.Calls.{always, Asks, Given, GivenOf, HasObject, 
 ghost use Rattle.recovery.specs.Interpret.{stored_due};
 ghost use Rattle.recovery.specs.Lent.{Stays};
 ghost use Rattle.recovery.specs.declared.fault.PlanFault.TheVariants as fault;
-ghost use Rattle.many_keys.specs.CopiedLists.{AreOfCut, CopiesFirst, CopiesPiece, IsUnnamed, MayCopy, PutsSegment, TellsPiece, is_cut, is_piece, piece_in, sized_due, told_due};
+ghost use Rattle.many_keys.specs.CopiedLists.{AreOfCut, CopiesFirst, CopiesPiece, IsUnnamed, MayCopy, PutsSegment, TellsPiece, is_cut, piece_in, sized_due, told_due};
 
 use crate::cut::Piece;
 use gate_base::{Bytes, Copying, List, drop};
@@ -184,11 +184,11 @@ fn put_segment<W: Swift>(
         etag: Bytes::from_slice(alloc, &etag)?,
         size: body.len() as u64,
     };
-    put_as(alloc, state, bucket, id, part, body, &etag, moment)
+    put_part_file(alloc, state, bucket, id, part, body, &etag, moment)
 }
 
 /// Puts the segment that is this part, of bytes with this ETag.
-fn put_as<W: Swift>(
+fn put_part_file<W: Swift>(
     alloc: Global,
     state: &mut Settled<'_, W>,
     bucket: &Bytes,

@@ -34,7 +34,6 @@ pub mod SealCalls
 pub mod SealedTexts
 pub mod Searched
 pub mod SideFiles
-pub mod SideNames
 pub mod Steps
 pub mod TakenIds
 pub mod Taking

@@ -25,7 +25,7 @@ use Rattle.recovery.proofs.lemmas.One.{Effect, IsWritingOf}
 use Rattle.plan_uploads.specs.Interpret.{most_open_text, put_record_of, record_type}
 use Rattle.plan_uploads.specs.Records.{MayOpen, opens_upload}
 use Rattle.plan_uploads.proofs.SideFiles.{same_put}
-use Rattle.plan_uploads.proofs.SideNames.{file_name, id_fits, uploads_fits}
+use Rattle.recovery.proofs.lemmas.SideNames.{file_name, id_fits, uploads_fits}
 
 -- the PUT of a record is one that a store takes
 pub open_fits : (bucket : List ℕ) (id : ℕ) (text : List ℕ) → is_bucket bucket ≡ true → length text ≤ most_open_text → Fit (put_record_of bucket id text)

@@ -29,7 +29,7 @@ use Rattle.recovery.proofs.lemmas.One.{Effect, IsWritingOf}
 use Rattle.plan_uploads.specs.Interpret.{part_tag, put_part_of}
 use Rattle.plan_uploads.specs.Records.{HasOpen, puts_part}
 use Rattle.plan_uploads.proofs.SideFiles.{same_put}
-use Rattle.plan_uploads.proofs.SideNames.{file_name, segment_fits, segments_fits}
+use Rattle.recovery.proofs.lemmas.SideNames.{file_name, segment_fits, segments_fits}
 
 -- the tag of a part has a text
 pub part_has_text : (etag body : List ℕ) (moment id : ℕ) → etag ≡ body_etag body → moment < moment_limit → id < 2 ^ 128 → has_text (part_tag etag moment id) ≡ true

@@ -7,6 +7,7 @@ use Rattle.std.proofs.lemmas.Bool.{and_from, eq-eqb}
 use Rattle.s3_names.specs.Bucket.{is_bucket}
 use Rattle.s3_names.specs.Id.{id_digits}
 use Rattle.s3_machine.specs.Items.{begins}
+use Rattle.s3_machine.proofs.Starts.{starts_begins}
 use Rattle.swift_calls.specs.Account.{SwiftObject, SwiftContainer, SwiftAccount, files, files_of, find_object}
 use Rattle.swift_calls.specs.Bodies.{item_of}
 use Rattle.swift_calls.specs.Step.{head_reply, is_listed, items_reply, page}
@@ -14,7 +15,6 @@ use Rattle.swift_calls.specs.declared.calls.SwiftRequest.TheVariants.{HeadObject
 use Rattle.swift_calls.specs.declared.calls.SwiftReply.TheVariants.{Names as Listed}
 use Rattle.swift_calls.specs.declared.heads.NameItem.{NameItem}
 use Rattle.list_pages.proofs.lemmas.Rising.{begins_cut}
-use Rattle.list_pages.proofs.lemmas.Starts.{starts_begins}
 use Rattle.upload_records.specs.Layout.{segments_name, segments_prefix, uploads_name}
 use Rattle.upload_records.proofs.lemmas.Beside.{segments_there}
 use Rattle.recovery.specs.Answers.{IsNamedBy}

@@ -1,4 +1,4 @@
-//! The ids of uploads: their texts, and the search of one that is free.
+//! The ids of uploads: their texts, and the search of one that is free, under which there is no record and no segment.
 ghost use Rattle.std.specs.Prelude.{◌≡◌, ◌≢◌, ◌+◌, ◌*◌, true, Err};
 ghost use Rattle.s3_names.specs.Bucket.{is_bucket};
 ghost use Rattle.swift_calls.specs.History.{present};

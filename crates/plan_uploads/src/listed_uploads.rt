@@ -1,5 +1,5 @@
 //! The listing of the open uploads of a bucket.
-ghost use Rattle.std.specs.Prelude.{[], ◌≡◌, ◌≤◌, ◌<◌, ◌+◌, ◌&&◌, ◌++◌, true, length, map, IfOk, IfSome, OnOk};
+ghost use Rattle.std.specs.Prelude.{[], ◌≡◌, ◌<◌, ◌+◌, ◌&&◌, true, length, map, IfOk, IfSome, OnOk};
 ghost use Rattle.std.specs.List.{All};
 ghost use Rattle.std.specs.FinMap.{entries};
 ghost use Rattle.s3_names.specs.Bucket.{is_bucket};
@@ -33,7 +33,7 @@ use crate::records::get_record;
 use gate_base::{Bytes, Copying, List, MOMENT_LIMIT, Memory};
 use name_table::Table;
 use recovery::{PlanFault, Settled, file_page, next_marker};
-use s3_machine::UploadItem;
+use s3_machine::{UploadItem, begins};
 use s3_names::{id_digits, id_of};
 use std::alloc::Global;
 use swift_calls::{NameItem, Swift};
@@ -110,12 +110,6 @@ struct AskedUploads {
     prefix: Bytes,
     key_marker: Bytes,
     id_marker: Bytes,
-}
-
-fn begins(front: &[u8], text: &[u8]) -> bool
-    ensures { result ≡ begins front.now text.now }
-{
-    text.starts_with(front)
 }
 
 /// Whether an upload of this key and id comes after the markers.

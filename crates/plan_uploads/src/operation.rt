@@ -16,7 +16,7 @@ use crate::create::create_upload;
 use crate::part::upload_part;
 use crate::uploads::{show_parts, show_uploads};
 use gate_base::{Bytes, drop};
-use recovery::{Known, PlanFault, Settled, reply_of};
+use recovery::{Known, PlanFault, Settled, reply_of, taken};
 use s3_machine::{Body, Label, Op, Reply};
 use s3_names::Meta;
 use std::alloc::Global;
@@ -135,7 +135,7 @@ fn plan<W: Swift>(
     }
 }
 
-/// The plan of an operation that changes an upload which is open, but a completion; any other is handed on.
+/// The plan of UploadPart and of AbortMultipartUpload; any other operation is handed on.
 fn plan_of_open<W: Swift>(
     alloc: Global,
     state: &mut Settled<'_, W>,
@@ -220,11 +220,4 @@ fn plan_listing<W: Swift>(
         ),
         _ => Err(PlanFault::Memory),
     }
-}
-
-/// Takes a text of an operation, and leaves an empty one there. It takes no memory.
-fn taken(alloc: Global, text: &mut Bytes) -> Bytes
-    ensures { result ≡ text.old }
-{
-    replace(text, Bytes::new(alloc))
 }

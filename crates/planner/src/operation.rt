@@ -13,7 +13,7 @@ use crate::buckets::{create_bucket, delete_bucket, get_location, list_buckets, s
 use crate::listing::list_objects;
 use crate::objects::{delete_object, get_object, head_object, put_object};
 use gate_base::{Bytes, drop};
-use recovery::{PlanFault, Settled, reply_of};
+use recovery::{PlanFault, Settled, reply_of, taken};
 use s3_machine::{Asked, Body, Label, Op, Reply};
 use std::alloc::Global;
 use std::mem::replace;
@@ -40,7 +40,8 @@ pub fn answer<W: Swift>(alloc: Global, state: &mut Settled<'_, W>, op: Op, label
     reply_of(end)
 }
 
-/// Makes the calls of an operation's plan, which takes of it what it needs; the operation is dropped by its owner alone.
+/// Makes the calls of an operation's plan. It takes of the operation what it needs, and the operation is dropped by its owner alone.
+/// One on uploads in parts or on many keys ends as where memory ran out, without a call.
 fn plan<W: Swift>(
     alloc: Global,
     state: &mut Settled<'_, W>,
@@ -150,13 +151,6 @@ fn plan_lent<W: Swift>(
         Op::GetObjectAcl { bucket, key } => get_object_acl(alloc, state, bucket, key),
         _ => Err(PlanFault::Memory),
     }
-}
-
-/// Takes a text of an operation, and leaves an empty one there. It takes no memory.
-fn taken(alloc: Global, text: &mut Bytes) -> Bytes
-    ensures { result ≡ text.old }
-{
-    replace(text, Bytes::new(alloc))
 }
 
 /// Takes what a listing asks for, and leaves there that it asks for no item. It takes no memory.

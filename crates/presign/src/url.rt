@@ -136,7 +136,7 @@ fn add_parameters(
         (pairs.new ≡ pairs.old ++ with_credential credential.now time.now expires) }
 {
     let seconds = seconds_text(alloc, expires)?;
-    add_scope(alloc, pairs, credential, time)?;
+    add_credential_parameters(alloc, pairs, credential, time)?;
     add_span(alloc, pairs, seconds.as_slice())?;
     Ok(())
 }
@@ -148,7 +148,7 @@ fn seconds_text(alloc: Global, expires: u64) -> Result<Bytes, Memory>
     Bytes::from_slice(alloc, buffer.format(expires).as_bytes())
 }
 
-fn add_scope(
+fn add_credential_parameters(
     alloc: Global,
     pairs: &mut List<Pair>,
     credential: &[u8],

@@ -20,13 +20,13 @@ abbrev pub has_host : Message → Bool
 has_host message = has_one (codes "host") message.headers
 
 -- the target, where it reads and its query has none of the names of a signature
-abbrev pub plain_target : Result Target NameFault → Option Target
-plain_target (Ok target) = if has_signature_name target.query then None else Some target
-plain_target (Err fault) = None
+abbrev pub unsigned_target : Result Target NameFault → Option Target
+unsigned_target (Ok target) = if has_signature_name target.query then None else Some target
+unsigned_target (Err fault) = None
 
 -- a request is presigned where it has one host and such a target
 abbrev pub can_presign : Message → Bool
-can_presign message = has_host message && is_some (plain_target (target_of message.target))
+can_presign message = has_host message && is_some (unsigned_target (target_of message.target))
 
 -- the URL of a request, by the secret of a key for a region, at a moment for so many seconds
 abbrev pub Presigns : List ℕ → List ℕ → List ℕ → ℕ → ℕ → Message → List ℕ → Type 0

@@ -1,9 +1,10 @@
+//! The URL of a request: whether it can be presigned, by its host and by a target that has no parameter of a signature, and the URL.
 ghost use Rattle.std.specs.Prelude.{◌≡◌, ◌≤◌, ◌<◌, true, false, MatchOption, IfOk};
 ghost use Rattle.gate_base.specs.Told.{moment_limit};
 ghost use Rattle.s3_names.specs.Target.{target_of};
 ghost use Rattle.sigv4.specs.Keys.{is_key};
 ghost use Rattle.presign.specs.Url.{IsPresigned, is_region, has_signature_name};
-ghost use Rattle.presign_cmd.specs.Presigning.{can_presign, has_host, plain_target, Presigns};
+ghost use Rattle.presign_cmd.specs.Presigning.{can_presign, has_host, unsigned_target, Presigns};
 
 use gate_base::{Bytes, Memory};
 use http_wire::{Message, has_one};
@@ -32,7 +33,7 @@ pub(crate) fn presign_message(
     if !has_host(message) {
         return Ok(None);
     }
-    match plain_target(alloc, message.target.as_slice())? {
+    match unsigned_target(alloc, message.target.as_slice())? {
         Some(target) => Ok(Some(presign(
             alloc, secret, id, region, message, &target, moment, expires,
         )?)),
@@ -48,8 +49,8 @@ fn has_host(message: &Message) -> bool
 }
 
 /// The target, where the text is one and its query has none of the names of a signature.
-fn plain_target(alloc: Global, text: &[u8]) -> Result<Option<Target>, Memory>
-    ensures { IfOk result (λ read. read ≡ plain_target (target_of text.now)) }
+fn unsigned_target(alloc: Global, text: &[u8]) -> Result<Option<Target>, Memory>
+    ensures { IfOk result (λ read. read ≡ unsigned_target (target_of text.now)) }
 {
     match Target::read(alloc, text) {
         Ok(target) => Ok(plain(target)),
@@ -59,7 +60,7 @@ fn plain_target(alloc: Global, text: &[u8]) -> Result<Option<Target>, Memory>
 }
 
 fn plain(target: Target) -> Option<Target>
-    ensures { result ≡ plain_target (Ok target) }
+    ensures { result ≡ unsigned_target (Ok target) }
 {
     if has_signature_name(&target) {
         None

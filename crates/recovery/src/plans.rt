@@ -1,10 +1,13 @@
-//! Which operations have plans of their own, and the reply to an operation by the end of its plan.
+//! Which operations have plans of their own, what a plan takes of its operation, and the reply by the end of the plan.
 ghost use Rattle.std.specs.Prelude.{◌≡◌};
 ghost use Rattle.recovery.specs.Answers.{is_many, is_upload};
 ghost use Rattle.recovery.specs.Plan.{reply_of};
 
 use crate::PlanFault;
+use gate_base::Bytes;
 use s3_machine::{Code, Op, Reply};
+use std::alloc::Global;
+use std::mem::replace;
 
 /// The operation is one on uploads in parts, which have plans of their own.
 pub fn is_upload(op: &Op) -> bool
@@ -56,4 +59,11 @@ pub fn reply_of(end: Result<Reply, PlanFault>) -> Reply
         Err(PlanFault::Memory) => Reply::Memory,
         Err(PlanFault::Inconsistent) => Reply::Refused(Code::InconsistentStore),
     }
+}
+
+/// Takes a text of an operation, and leaves an empty one there. It takes no memory.
+pub fn taken(alloc: Global, text: &mut Bytes) -> Bytes
+    ensures { result ≡ text.old }
+{
+    replace(text, Bytes::new(alloc))
 }

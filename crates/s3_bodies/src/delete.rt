@@ -38,10 +38,10 @@ pub fn read_delete(alloc: Global, bytes: &[u8]) -> Result<Deletes, BodyFault>
     ensures answers { AnswersDelete bytes.now result }
     ensures tells { TellsDeletes bytes.now result }
 {
-    all_named(alloc, bytes)
+    deletes_of(alloc, bytes)
 }
 
-fn all_named(alloc: Global, bytes: &[u8]) -> Result<Deletes, BodyFault>
+fn deletes_of(alloc: Global, bytes: &[u8]) -> Result<Deletes, BodyFault>
     ensures { AnswersDelete bytes.now result }
 {
     let (texts, quiet) = texts(alloc, bytes)?;

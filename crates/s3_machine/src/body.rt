@@ -1,4 +1,4 @@
-//! The body of an object, with its digest where that is known.
+//! `Body`: the bytes of an object, with their MD5 digest where that is known.
 ghost use Rattle.std.specs.Prelude.{◌≡◌};
 ghost use Rattle.md5.specs.Md5.{md5};
 ghost use Rattle.s3_machine.specs.Body.{IsDigestOf};

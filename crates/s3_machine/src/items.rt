@@ -1,5 +1,6 @@
 //! What the replies that list are made of, and what a listing is asked for.
 ghost use Rattle.std.specs.Prelude.{◌≡◌, IfOk};
+ghost use Rattle.s3_machine.specs.Items.{begins};
 
 use gate_base::{Bytes, Copying, Memory};
 
@@ -131,4 +132,11 @@ pub fn copy_option<T: Copying>(value: &Option<T>) -> Result<Option<T>, Memory>
         Some(inner) => Ok(Some(inner.copy()?)),
         None => Ok(None),
     }
+}
+
+/// Whether a text begins with these bytes.
+pub fn begins(front: &[u8], text: &[u8]) -> bool
+    ensures { result ≡ begins front.now text.now }
+{
+    text.starts_with(front)
 }

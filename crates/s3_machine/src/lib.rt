@@ -22,7 +22,7 @@ pub use code::Code;
 pub use completion::{rises, same_list, upload_etag};
 pub use copy_sources::{copied_span, has_last, is_onto_itself};
 pub use etag::body_etag;
-pub use items::{Asked, BucketItem, Item, ItemHead, PartItem, UploadItem, copy_option};
+pub use items::{Asked, BucketItem, Item, ItemHead, PartItem, UploadItem, begins, copy_option};
 pub use laws::{law_get_after_delete, law_get_after_put};
 pub use limits::{
     GREATEST_PART_NUMBER, MOST_BODY_BYTES, MOST_ITEMS, MOST_KEYS, MOST_PARTS, RANGE_LIMIT,

@@ -1,18 +1,10 @@
 -- How a key rolls up: the first place of a delimiter, and the row of a key.
 use Rattle.std.proofs.Common.{◌≡◌, ℕ, ◌+◌, ◌≤◌, ◌<◌, Bool, true, false, cond, ◌&&◌, ◌==◌, List, [], ◌∷◌, ◌++◌, length, take, drop, get_or, Option, Some, None, refl, sym, ◌∙◌, ap, arith, add-one, append_assoc}
-use Rattle.std.specs.Prelude.{nat_eq}
-use Rattle.std.specs.List.{starts_with}
 use Rattle.std.specs.Option.{option_map}
 use Rattle.std.proofs.lemmas.List.{drop_all, length-drop, take_more}
 use Rattle.std.proofs.lemmas.Bool.{eqb-true}
 use Rattle.std.proofs.Math.Seq.{drop-cons, take-add}
 use Rattle.s3_machine.specs.Items.{begins, rolled, roll_by, row_of, row_by}
-
--- std's word for a front
-pub starts_begins : (front text : List ℕ) → starts_with nat_eq text front ≡ begins front text
-starts_begins [] text = refl
-starts_begins (c ∷ front) [] = refl
-starts_begins (c ∷ front) (b ∷ text) = ap (λ t. c == b && t) (starts_begins front text)
 
 last : (a b : Bool) → (a && b) ≡ true → b ≡ true
 last true b e = e

@@ -11,7 +11,7 @@ ghost use Rattle.s3_machine.specs.Step.{item_of, listed_key, listing, marker_of}
 use crate::native::NativeObject;
 use gate_base::{Bytes, List, Memory};
 use name_table::Table;
-use s3_machine::{Asked, Item, ItemHead, copy_option};
+use s3_machine::{Asked, Item, ItemHead, begins, copy_option};
 use std::alloc::Global;
 
 /// The text that a listing goes on behind: version 2 has a token, which goes before what it is to start after.
@@ -25,13 +25,6 @@ pub(crate) fn marker_of(asked: &Asked) -> &[u8]
         Some(token) => token.as_slice(),
         None => asked.start_after.as_slice(),
     }
-}
-
-/// Whether the text begins with these bytes.
-pub(crate) fn begins(front: &[u8], text: &[u8]) -> bool
-    ensures { result ≡ begins front.now text.now }
-{
-    text.starts_with(front)
 }
 
 /// Where the first delimiter of a text ends, if there is one and it isn't empty.

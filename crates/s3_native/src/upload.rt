@@ -1,7 +1,8 @@
-//! Open uploads in the machine's running form.
-ghost use Rattle.std.specs.Prelude.{◌≡◌, ◌&&◌, bytes_eq, length, map, nat_lt, option_copied, IfOk, OnOk, OnErr};
+//! Open uploads in the machine's running form: the parts of each by their numbers, what a listing tells of them, and what they are
+//! joined to.
+ghost use Rattle.std.specs.Prelude.{◌≡◌, ◌&&◌, bytes_eq, length, map, nat_lt, IfOk, OnOk, OnErr};
 ghost use Rattle.std.specs.FinMap.{entries, get};
-ghost use Rattle.std.specs.List.{filter, list_any};
+ghost use Rattle.std.specs.List.{filter};
 ghost use Rattle.s3_machine.specs.Uploads.{cut, etag_listed, new_part, new_upload, part_item, parts_above, upload_etag, with_part};
 ghost use Rattle.s3_native.specs.Native.{has_all, has_part, is_small_at, is_small_list, joined_by, kept_by, listed_bytes, refuses};
 
@@ -53,7 +54,7 @@ impl NativePart {
     }
 
     /// What a listing tells of it.
-    fn item(&self, number: u32) -> Result<PartItem, Memory>
+    fn part_item(&self, number: u32) -> Result<PartItem, Memory>
         ensures { IfOk result (λ item. item ≡ part_item (number, self.now)) }
     {
         Ok(PartItem {
@@ -86,7 +87,7 @@ impl Numbered<NativePart> {
         let mut items = List::new(alloc);
         for (number, part) in &self.entries {
             if marker < *number {
-                items.push(part.item(*number)?)?;
+                items.push(part.part_item(*number)?)?;
             }
         }
         Ok(items)

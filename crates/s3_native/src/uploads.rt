@@ -32,12 +32,12 @@ ghost use Rattle.s3_machine.specs.Uploads.{
 ghost use Rattle.s3_native.specs.Native.{added, closed, upload_item};
 
 use crate::kept::NativeKept;
-use crate::listing::{begins, first, is_cut};
+use crate::listing::{first, is_cut};
 use crate::native::{Native, NativeBucket, NativeObject};
 use crate::upload::{NativePart, NativeUpload};
 use gate_base::{Bytes, Copying, List, Memory};
 use name_table::Table;
-use s3_machine::{Body, Code, Label, Listed, Op, Reply, UploadItem};
+use s3_machine::{Body, Code, Label, Listed, Op, Reply, UploadItem, begins};
 use s3_names::{Acl, Meta, id_digits, id_of};
 use std::alloc::Global;
 
@@ -72,7 +72,7 @@ impl NativeUpload {
     }
 
     /// What a listing tells of it.
-    fn item(&self, id: &[u8]) -> Result<UploadItem, Memory>
+    fn upload_item(&self, id: &[u8]) -> Result<UploadItem, Memory>
         ensures { IfOk result (λ item. item ≡ upload_item id.now self.now) }
     {
         Ok(UploadItem {
@@ -130,7 +130,7 @@ fn rows_after(
     for (id, upload) in uploads.as_map() {
         if upload.is_listed(prefix, key_marker, id_marker, id) {
             let place = upload.place(alloc, id)?;
-            let item = upload.item(id)?;
+            let item = upload.upload_item(id)?;
             add_item(&mut rows, place.as_slice(), item)?;
         }
     }

@@ -223,13 +223,13 @@ impl Xml {
         ensures { OnOk result (self.new.text ≡ self.old.text ++ contents_of asked.now item.now) }
     {
         match &item.object {
-            Some(head) => self.object(asked, item.text.as_slice(), head),
+            Some(head) => self.contents_element(asked, item.text.as_slice(), head),
             None => Ok(()),
         }
     }
 
     #[tactic(auto, unfolding(crate::specs::Bodies::contents))]
-    fn object(&mut self, asked: &Asked, key: &[u8], head: &ItemHead) -> Result<(), Memory>
+    fn contents_element(&mut self, asked: &Asked, key: &[u8], head: &ItemHead) -> Result<(), Memory>
         requires { IsShownItemHead head.now }
         ensures { OnOk result
             (self.new.text ≡ self.old.text ++ contents asked.now key.now head.now) }

@@ -1,5 +1,6 @@
 //! The page of a reply: which function makes that of each; the error page of a refusal; the pages without a body, as that of a
-//! stored object or part and 304 Not Modified; and the headers that pages begin with (Date, x-amz-request-id, Content-Type of XML).
+//! stored object or part, 204 No Content and 304 Not Modified; and the headers that pages begin with (Date, x-amz-request-id,
+//! Content-Type of XML).
 ghost use Rattle.std.specs.Prelude.{◌≡◌, ◌≢◌, ◌<◌, [], ◌∷◌, ◌++◌, IfOk, OnOk};
 ghost use Rattle.gate_base.specs.Told.{moment_limit};
 ghost use Rattle.s3_machine.specs.Shown.{IsShowable};
@@ -54,7 +55,7 @@ fn other_page(alloc: Global, reply: &Reply, label: &Label, resource: &[u8]) -> R
         Reply::Refused(code) => refused(alloc, *code, label, resource),
         Reply::Memory => unreachable!(),
         Reply::Done => done(alloc, label),
-        Reply::Gone => gone(alloc, label),
+        Reply::Gone => no_content(alloc, label),
         Reply::NotModified(head) => not_modified(alloc, head, label),
         Reply::Buckets(items) => buckets(alloc, items.as_slice(), label),
         Reply::Made { bucket } => made(alloc, bucket.as_slice(), label),
@@ -186,7 +187,7 @@ fn made(alloc: Global, bucket: &[u8], label: &Label) -> Result<Page, Memory>
     })
 }
 
-fn gone(alloc: Global, label: &Label) -> Result<Page, Memory>
+fn no_content(alloc: Global, label: &Label) -> Result<Page, Memory>
     requires { label.now.moment < moment_limit }
     ensures { IfOk result (λ page. page ≡ gone_page label.now) }
 {

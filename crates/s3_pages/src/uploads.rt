@@ -1,4 +1,4 @@
-//! The pages of the replies on uploads and their parts.
+//! The pages of the replies on uploads and their parts, and the markers that the next page of a listing begins behind.
 ghost use Rattle.std.specs.Prelude.{◌≡◌, ◌<◌, ◌++◌, IfOk, OnOk, codes};
 ghost use Rattle.std.specs.List.{All, flat_map};
 ghost use Rattle.gate_base.specs.Told.{moment_limit};
@@ -73,7 +73,7 @@ fn uploads_body(
     let mut xml = Xml::new(alloc)?;
     xml.root(b"ListMultipartUploadsResult")?;
     xml.uploads_asked(bucket, prefix, key_marker, id_marker)?;
-    xml.next_upload(items, truncated)?;
+    xml.next_upload_markers(items, truncated)?;
     xml.count(b"MaxUploads", max)?;
     xml.truth(b"IsTruncated", truncated)?;
     xml.uploads(items)?;
@@ -226,7 +226,7 @@ impl Xml {
         self.element(b"UploadIdMarker", id_marker)
     }
 
-    fn next_upload(&mut self, items: &[UploadItem], truncated: bool) -> Result<(), Memory>
+    fn next_upload_markers(&mut self, items: &[UploadItem], truncated: bool) -> Result<(), Memory>
         ensures { OnOk result
             (self.new.text ≡ self.old.text ++ where_true truncated (next_upload items.now)) }
     {

@@ -1,4 +1,5 @@
-//! What a listing of objects asks for, and the counts and texts that any listing may be given.
+//! What a listing of objects asks for, and what any listing may be given: counts, which are at most the greatest that S3 takes, and
+//! texts.
 ghost use Rattle.std.specs.Prelude.{◌≡◌, ◌≤◌, IfOk, IfSome};
 ghost use Rattle.std.specs.Result.{result_ok};
 ghost use Rattle.hex.specs.Hex.{decode_of};
@@ -15,7 +16,7 @@ use text_forms::{all_lower_hex, number_of};
 /// The greatest count that is read.
 const GREATEST: u64 = 2_147_483_647;
 
-fn up_to_greatest(count: Option<u64>) -> Option<u64>
+fn if_at_most_greatest(count: Option<u64>) -> Option<u64>
     ensures is { result ≡ up_to_greatest count }
     ensures within { IfSome result (λ count. count ≤ 2147483647) }
 {
@@ -31,7 +32,7 @@ pub fn count_of(text: &[u8]) -> Option<u64>
     ensures is { result ≡ count_of text.now }
     ensures within { IfSome result (λ count. count ≤ 2147483647) }
 {
-    up_to_greatest(number_of(text, 10))
+    if_at_most_greatest(number_of(text, 10))
 }
 
 fn capped(count: Option<u64>) -> u32

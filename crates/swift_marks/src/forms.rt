@@ -4,7 +4,7 @@ ghost use Rattle.swift_marks.specs.Tag.{is_content_type, is_part_count, is_parts
 
 use crate::number::number_of;
 use gate_base::is_field;
-use text_forms::{all_lower_hex, is_decimal};
+use text_forms::{all_lower_hex, is_decimal_of};
 
 /// The longest content type, in bytes.
 pub(crate) const LONGEST_TYPE: usize = 256;
@@ -44,5 +44,5 @@ fn is_part_count(text: &[u8]) -> bool
     ensures { result ≡ is_part_count text.now }
 {
     let count = number_of(text);
-    1 <= count && count <= MOST_PARTS && is_decimal(text, count)
+    1 <= count && count <= MOST_PARTS && is_decimal_of(text, count)
 }

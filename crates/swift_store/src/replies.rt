@@ -308,7 +308,7 @@ fn put_manifest<S: Shelf>(
     ensures tags { IfOk result (TagsList segments.now) }
 {
     if shelf.container(container)?.is_some() {
-        put_listed(shelf, alloc, segments)
+        listed_reply(shelf, alloc, segments)
     } else {
         Ok(SwiftReply::NotFound)
     }
@@ -316,7 +316,7 @@ fn put_manifest<S: Shelf>(
 
 /// The reply where the container is there.
 #[tactic(auto, using(crate::proofs::Replying::list_tag))]
-fn put_listed<S: Shelf>(
+fn listed_reply<S: Shelf>(
     shelf: &mut S,
     alloc: Global,
     segments: &[Segment],

@@ -23,7 +23,7 @@ fn is_as_listed(segment: &Segment, head: &StoredHead) -> bool
 
 /// Whether the object of a segment lists segments, where it is there as the segment says.
 #[tactic(auto, using(crate::proofs::Listed::found_so, crate::proofs::Listed::found_other, crate::proofs::Listed::found_none))]
-fn found_lists<S: Shelf>(shelf: &mut S, segment: &Segment) -> Result<Option<bool>, StoreFault>
+fn is_list_if_found<S: Shelf>(shelf: &mut S, segment: &Segment) -> Result<Option<bool>, StoreFault>
     ensures reads { ShelfReads
         (λ account found. found ≡ found_lists (find_object account) segment.now) (S.model shelf.old)
         result (S.model shelf.new) }
@@ -46,7 +46,7 @@ fn is_inner<S: Shelf>(shelf: &mut S, segment: &Segment) -> Result<bool, StoreFau
     ensures reads { ShelfReads (λ account is. is ≡ is_inner (find_object account) segment.now)
         (S.model shelf.old) result (S.model shelf.new) }
 {
-    match found_lists(shelf, segment)? {
+    match is_list_if_found(shelf, segment)? {
         Some(lists) => Ok(!lists),
         None => Ok(false),
     }
@@ -83,7 +83,7 @@ fn is_outer<S: Shelf>(shelf: &mut S, segment: &Segment) -> Result<bool, StoreFau
     ensures reads { ShelfReads (λ account is. is ≡ is_outer (find_object account) segment.now)
         (S.model shelf.old) result (S.model shelf.new) }
 {
-    match found_lists(shelf, segment)? {
+    match is_list_if_found(shelf, segment)? {
         Some(true) => lists_inner(shelf, segment),
         Some(false) => Ok(true),
         None => Ok(false),
@@ -147,7 +147,7 @@ fn is_shallow<S: Shelf>(shelf: &mut S, segment: &Segment) -> Result<bool, StoreF
     ensures reads { ShelfReads (λ account is. is ≡ is_shallow_there (find_object account)
         (found (find_object account) segment.now)) (S.model shelf.old) result (S.model shelf.new) }
 {
-    match found_lists(shelf, segment)? {
+    match is_list_if_found(shelf, segment)? {
         Some(true) => lists_no_list(shelf, segment),
         Some(false) => Ok(true),
         None => Ok(false),

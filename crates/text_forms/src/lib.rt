@@ -9,5 +9,5 @@ mod utf8;
 
 pub use classes::{all_digits, all_lower_hex, is_digit, is_lower_hex};
 pub use digits::{digits_value, short_value};
-pub use numbers::{append_decimal, is_decimal, is_number, number_of};
+pub use numbers::{append_decimal, is_decimal_of, is_number, number_of};
 pub use utf8::{is_utf8, text_of};

@@ -28,7 +28,7 @@ pub fn number_of(text: &[u8], most: usize) -> Option<u64>
 }
 
 /// Whether the text is the number in decimal, without leading zeros.
-pub fn is_decimal(text: &[u8], number: u64) -> bool
+pub fn is_decimal_of(text: &[u8], number: u64) -> bool
     ensures { result ≡ bytes_eq text.now (decimal number) }
 {
     let mut buffer = Buffer::new();

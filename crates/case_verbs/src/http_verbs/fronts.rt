@@ -1,7 +1,8 @@
 //! What comes first on a connection, again and again.
 use crate::talk::Talk;
 use case_text::{
-    Fault, LARGE, Told, bytes_of, cut_text, line_on, number_of, numbers_of, tell, tell_made,
+    Fault, LARGE, Told, bytes_of, cut_text, line_of_one_connection, number_of, numbers_of, tell,
+    tell_made,
 };
 use gate_base::{Copying, List, MemLine, Memory, drop};
 use http_wire::{Got, ReadFault};
@@ -39,7 +40,7 @@ pub(crate) fn front(alloc: Global, text: &str, given: &[u8], told: &mut Told) {
     };
     let piece = number_of(piece, told);
     let fails = numbers_of(alloc, call, ' ', told);
-    if let Some(line) = line_on(alloc, given, piece, fails, told) {
+    if let Some(line) = line_of_one_connection(alloc, given, piece, fails, told) {
         play_line(alloc, way, line, told);
     }
 }
@@ -87,7 +88,7 @@ fn play_other(alloc: Global, way: Way, given: &[u8], piece: u64, usual: &str, to
 }
 
 fn play_size(alloc: Global, way: Way, given: &[u8], piece: u64, told: &mut Told) {
-    if let Some(line) = line_on(alloc, given, piece, List::new(alloc), told) {
+    if let Some(line) = line_of_one_connection(alloc, given, piece, List::new(alloc), told) {
         play_line(alloc, way, line, told);
     }
 }

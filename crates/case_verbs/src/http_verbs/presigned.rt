@@ -1,8 +1,9 @@
 //! Presigned requests. `verify-query MOMENT` tells who sent the first request, or why it isn't taken; `presign MOMENT SECONDS`
 //! the URL for it.
-use crate::http_verbs::signatures::{KEYS, REGION, SECRET};
-use case_text::{Fault, Told, cut_text, number_of, tell, text_of};
-use gate_base::Bytes;
+use crate::http_verbs::signatures::SECRET;
+use crate::settings::USUAL_REGION;
+use case_text::{Fault, KEY_TEXT, Told, cut_text, number_of, tell, text_of};
+use gate_base::{Bytes, MOMENT_LIMIT};
 use http_wire::{Message, has_one};
 use presign::{has_signature_name, is_presigned, presign, verify_query};
 use s3_names::Target;
@@ -23,8 +24,8 @@ pub(crate) fn tell_query_verdict(
     if !is_presigned(target) {
         return told.say("not presigned\n");
     }
-    if let Some(keys) = told.keep(Keys::read(alloc, KEYS)) {
-        let verdict = verify_query(alloc, &keys, REGION, message, target, moment);
+    if let Some(keys) = told.keep(Keys::read(alloc, KEY_TEXT.as_bytes())) {
+        let verdict = verify_query(alloc, &keys, USUAL_REGION, message, target, moment);
         tell(&verdict, told);
     }
 }
@@ -42,13 +43,22 @@ pub(crate) fn tell_url(
     if has_signature_name(target) {
         return told.say("a name of a signature\n");
     }
-    if !has_one(message.headers.as_slice(), b"host") || moment >= 253_402_300_800 {
+    if !has_one(message.headers.as_slice(), b"host") || moment >= MOMENT_LIMIT {
         return told.note(Fault::Unread("no host, or no moment"));
     }
     if expires < 1 || expires > 604_800 {
         return told.note(Fault::Unread("no seconds"));
     }
-    let url = presign(alloc, SECRET, ID, REGION, message, target, moment, expires);
+    let url = presign(
+        alloc,
+        SECRET,
+        ID,
+        USUAL_REGION,
+        message,
+        target,
+        moment,
+        expires,
+    );
     if let Some(url) = told.keep(url) {
         tell_text(&url, told);
     }

@@ -1,5 +1,5 @@
 //! Whole runs of the store.
-use case_text::{Told, line_on, tell, tell_made, words_of};
+use case_text::{Told, line_of_one_connection, tell, tell_made, words_of};
 use gate_base::{Bytes, List, MemLine, MemSink};
 use std::alloc::Global;
 use store_cmd::run_store;
@@ -11,7 +11,7 @@ const PIECE: u64 = 64;
 /// Tells what a run with these words writes, its status, and what it reports.
 pub(crate) fn swiftd(alloc: Global, text: &str, given: &[u8], told: &mut Told) {
     let words = words_of(alloc, text, told);
-    if let Some(mut line) = line_on(alloc, given, PIECE, List::new(alloc), told) {
+    if let Some(mut line) = line_of_one_connection(alloc, given, PIECE, List::new(alloc), told) {
         serve(alloc, words.as_slice(), &mut line, told);
     }
 }

@@ -1,5 +1,5 @@
 -- The containers beside a bucket, the record of an upload and its segments have names that a store takes.
-use Rattle.std.specs.Prelude.{◌≡◌, ◌==◌, ◌<◌, ◌≤◌, ◌&&◌, ℕ, Bool, nat_lt, List, ◌∷◌, ◌++◌, length, codes, true, false, not, Contains, IsUtf8}
+use Rattle.std.specs.Prelude.{◌≡◌, ◌==◌, ◌<◌, ◌≤◌, ◌&&◌, ℕ, Bool, nat_lt, List, [], ◌∷◌, ◌++◌, length, codes, true, false, not, Contains, IsUtf8}
 use Rattle.std.specs.List.{list_all}
 use Rattle.std.proofs.Common.{refl, ◌∙◌, arith}
 use Rattle.std.proofs.lemmas.Bool.{and_from}
@@ -16,11 +16,11 @@ use Rattle.s3_names.specs.Id.{id_digits}
 use Rattle.s3_names.proofs.lemmas.BucketLemmas.{bucket_length, bucket_bytes}
 use Rattle.s3_names.proofs.lemmas.Ids.{id_has_digits, length-id_digits}
 use Rattle.s3_machine.specs.Uploads.{greatest_part, IsPartNumber}
-use Rattle.swift_calls.specs.Limits.{IsObjectName}
+use Rattle.swift_calls.specs.Limits.{IsMarker, IsObjectName}
 use Rattle.swift_calls.specs.Step.{IsContainerName}
 use Rattle.swift_marks.proofs.lemmas.TagLaws.{weaken}
 use Rattle.upload_records.specs.Consistent.{IsFileName}
-use Rattle.upload_records.specs.Layout.{five_digits, segment_name, segments_name, uploads_name}
+use Rattle.upload_records.specs.Layout.{five_digits, segment_name, segments_name, segments_prefix, uploads_name}
 
 -- ASCII without byte 0
 abbrev is_plain : ℕ → Bool
@@ -48,6 +48,9 @@ plain_no_zero text all has =
     let zero_is : false ≡ true = All-contains (λ b. not (b == 0) ≡ true) text 0
     (All-weaker (λ b. is_plain b ≡ true) (λ b. not (b == 0) ≡ true) plain_filled text (AllPass-from_list_all is_plain text all)) has in
     cc
+
+plain_marker : (text : List ℕ) → list_all is_plain text ≡ true → length text ≤ 1028 → IsMarker text
+plain_marker text all near = record { within = near; utf8 = plain_utf8 text all; no_zero = plain_no_zero text all }
 
 plain_object : (text : List ℕ) → list_all is_plain text ≡ true → 0 < length text → length text ≤ 1024 → IsObjectName text
 plain_object text all some near = (some, record { within = near; utf8 = plain_utf8 text all; no_zero = plain_no_zero text all })
@@ -104,3 +107,18 @@ segment_fits id number is =
     let near = is.within in
     let long = segment_length id number in
     plain_object (id_digits id ++ 47 ∷ five_digits number) (segment_is_plain id number (omega (arith, near))) (omega (arith, long)) (omega (arith, long))
+
+pub segment_is_marker : (id number : ℕ) → number ≤ 99999 → IsMarker (segment_name (id_digits id) number)
+unfolding segment_name
+segment_is_marker id number near = let long = segment_length id number in plain_marker (id_digits id ++ 47 ∷ five_digits number) (segment_is_plain id number near) (omega (arith, long))
+
+pub prefix_is_marker : (id : ℕ) → IsMarker (segments_prefix (id_digits id))
+unfolding segments_prefix
+prefix_is_marker id =
+    let long = length-id_digits id in
+    let size = length-append (id_digits id) (47 ∷ []) in
+    plain_marker (id_digits id ++ 47 ∷ []) (list_all-append is_plain (id_digits id) (47 ∷ []) ∙ and_from _ _ (id_is_plain id) refl) (omega (arith, long, size))
+
+-- a listing begins before every name
+pub no_marker : IsMarker []
+no_marker = plain_marker [] refl (omega arith)

@@ -4,7 +4,7 @@ use Rattle.swift_calls.specs.Step.{IsContainerName}
 use Rattle.recovery.specs.Plan.{Plans}
 use Rattle.plan_uploads.specs.Plans.{LeavesBeside}
 use Rattle.plan_uploads.proofs.Behind.{clears_behind, clears_fault, drop_fails, gone_then, purged_at}
-use Rattle.plan_uploads.proofs.SideNames.{prefix_is_marker, segments_fits}
+use Rattle.recovery.proofs.lemmas.SideNames.{prefix_is_marker, segments_fits}
 use Rattle.plan_uploads.proofs.abort.drop_and_purge.Goals as goal
 
 pub returns-in_err-drop_record-clause-plans : goal.returns-in_err-drop_record-clause-plans

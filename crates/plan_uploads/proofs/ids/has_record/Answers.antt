@@ -3,7 +3,7 @@ use Rattle.swift_calls.specs.Limits.{IsObjectName}
 use Rattle.swift_calls.specs.Step.{IsContainerName}
 use Rattle.upload_records.specs.Layout.{uploads_name}
 use Rattle.recovery.proofs.lemmas.One.{not_asked, asked_of, asked_of_in_vain}
-use Rattle.plan_uploads.proofs.SideNames.{id_fits, uploads_fits}
+use Rattle.recovery.proofs.lemmas.SideNames.{id_fits, uploads_fits}
 use Rattle.plan_uploads.proofs.TakenIds.{recorded}
 use Rattle.plan_uploads.proofs.ids.has_record.Goals as goal
 

@@ -3,7 +3,7 @@ use Rattle.swift_calls.specs.Limits.{IsMarker}
 use Rattle.swift_calls.specs.Step.{IsContainerName}
 use Rattle.upload_records.specs.Layout.{segments_name}
 use Rattle.recovery.proofs.lemmas.One.{not_asked, asked_of, asked_of_in_vain}
-use Rattle.plan_uploads.proofs.SideNames.{no_marker, prefix_is_marker, segments_fits}
+use Rattle.recovery.proofs.lemmas.SideNames.{no_marker, prefix_is_marker, segments_fits}
 use Rattle.plan_uploads.proofs.TakenIds.{segmented}
 use Rattle.plan_uploads.proofs.ids.has_segment.Goals as goal
 

@@ -3,7 +3,7 @@ use Rattle.std.specs.Prelude.{IfSome}
 use Rattle.swift_calls.specs.Limits.{IsMarker}
 use Rattle.recovery.proofs.lemmas.One.{not_asked}
 use Rattle.plan_uploads.proofs.PartWalk.{IsEnough, great_marker, marker_fits, none_listed, parting_end, parting_fault, parting_none}
-use Rattle.plan_uploads.proofs.SideNames.{segment_is_marker}
+use Rattle.recovery.proofs.lemmas.SideNames.{segment_is_marker}
 use Rattle.plan_uploads.proofs.Taking.{taking_more}
 use Rattle.plan_uploads.proofs.listed_parts.list_parts.Goals as goal
 use Rattle.plan_uploads.proofs.listed_parts.list_parts.Goals.{then-max-eq0-via-then-max-eq0, then-max-eq0-via-else-max-eq0+then-marker-ge-GREATEST_PART_NUMBER}

@@ -1,7 +1,7 @@
 use Rattle.std.proofs.Common.{sym, subst}
 use Rattle.swift_calls.specs.Limits.{IsMarker}
 use Rattle.recovery.proofs.lemmas.One.{not_asked}
-use Rattle.plan_uploads.proofs.SideNames.{prefix_is_marker}
+use Rattle.recovery.proofs.lemmas.SideNames.{prefix_is_marker}
 use Rattle.plan_uploads.proofs.listed_parts.next_parts.Goals as goal
 
 pub returns-in_err-prefix-clause-asks : goal.returns-in_err-prefix-clause-asks

@@ -2,7 +2,7 @@ use Rattle.std.proofs.Common.{sym, ap, subst, ◌∙◌}
 use Rattle.swift_calls.specs.Step.{IsContainerName}
 use Rattle.upload_records.specs.Layout.{segments_name}
 use Rattle.recovery.proofs.lemmas.One.{not_asked}
-use Rattle.plan_uploads.proofs.SideNames.{segments_fits}
+use Rattle.recovery.proofs.lemmas.SideNames.{segments_fits}
 use Rattle.plan_uploads.proofs.Taking.{as_page}
 use Rattle.plan_uploads.proofs.listed_parts.segments_page.Goals as goal
 

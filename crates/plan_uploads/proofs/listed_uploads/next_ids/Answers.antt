@@ -9,7 +9,7 @@ use Rattle.recovery.proofs.lemmas.One.{not_asked}
 use Rattle.plan_uploads.specs.Listing.{id_due}
 use Rattle.plan_uploads.specs.Records.{InBucket}
 use Rattle.plan_uploads.proofs.RecordIds.{all_ids}
-use Rattle.plan_uploads.proofs.SideNames.{no_marker, uploads_fits}
+use Rattle.recovery.proofs.lemmas.SideNames.{no_marker, uploads_fits}
 use Rattle.plan_uploads.proofs.Taking.{as_page, not_added, tells_next}
 use Rattle.plan_uploads.proofs.Turned.{next_may_be}
 use Rattle.plan_uploads.proofs.listed_uploads.next_ids.Goals as goal

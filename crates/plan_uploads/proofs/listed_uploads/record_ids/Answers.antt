@@ -2,7 +2,7 @@ use Rattle.std.proofs.Common.{refl, sym, subst, ◌∙◌}
 use Rattle.std.specs.Prelude.{IfSome}
 use Rattle.swift_calls.specs.Limits.{IsMarker}
 use Rattle.plan_uploads.proofs.RecordIds.{counting_end, counting_fault, counting_none}
-use Rattle.plan_uploads.proofs.SideNames.{no_marker}
+use Rattle.recovery.proofs.lemmas.SideNames.{no_marker}
 use Rattle.plan_uploads.proofs.Taking.{taking_more}
 use Rattle.plan_uploads.proofs.listed_uploads.record_ids.Goals as goal
 

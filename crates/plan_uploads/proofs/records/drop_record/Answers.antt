@@ -5,7 +5,7 @@ use Rattle.upload_records.specs.Layout.{uploads_name}
 use Rattle.recovery.proofs.lemmas.One.{not_sent, sent_in_vain, sent}
 use Rattle.plan_uploads.proofs.Clearing.{clearable}
 use Rattle.plan_uploads.proofs.DropCalls.{drops, to_none, to_this}
-use Rattle.plan_uploads.proofs.SideNames.{id_fits, uploads_fits}
+use Rattle.recovery.proofs.lemmas.SideNames.{id_fits, uploads_fits}
 use Rattle.plan_uploads.proofs.records.drop_record.Goals as goal
 
 pub returns-in_err-container-clause-drops : goal.returns-in_err-container-clause-drops

@@ -4,7 +4,7 @@ use Rattle.swift_calls.specs.Step.{IsContainerName}
 use Rattle.upload_records.specs.Layout.{uploads_name}
 use Rattle.recovery.proofs.lemmas.One.{not_asked, asked_of, asked_of_in_vain}
 use Rattle.plan_uploads.proofs.RecordCalls.{record_reads}
-use Rattle.plan_uploads.proofs.SideNames.{id_fits, uploads_fits}
+use Rattle.recovery.proofs.lemmas.SideNames.{id_fits, uploads_fits}
 use Rattle.plan_uploads.proofs.records.get_record.Goals as goal
 
 pub returns-in_err-container-clause-asks : goal.returns-in_err-container-clause-asks

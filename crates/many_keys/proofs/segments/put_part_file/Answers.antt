@@ -4,7 +4,7 @@ use Rattle.recovery.proofs.lemmas.One.{not_asked}
 use Rattle.recovery.proofs.lemmas.Quiet.{quiet_in_vain, quieted}
 use Rattle.many_keys.specs.CopiedLists.{told_due}
 use Rattle.many_keys.proofs.PieceCalls.{puts_segment}
-use Rattle.many_keys.proofs.segments.put_as.Goals as goal
+use Rattle.many_keys.proofs.segments.put_part_file.Goals as goal
 
 pub returns-in_err-request-clause-asks : goal.returns-in_err-request-clause-asks
 returns-in_err-request-clause-asks g c = not_asked _ _ _ c.from_residual.ensures.1
