@@ -7,7 +7,7 @@ use Rattle.std.proofs.lemmas.Bool.{and_from, eq-eqb}
 use Rattle.s3_names.specs.Bucket.{is_bucket}
 use Rattle.s3_names.specs.Id.{id_digits}
 use Rattle.s3_machine.specs.Items.{begins}
-use Rattle.s3_machine.proofs.Starts.{starts_begins}
+use Rattle.s3_machine.proofs.lemmas.Starts.{starts_begins}
 use Rattle.swift_calls.specs.Account.{SwiftObject, SwiftContainer, SwiftAccount, files, files_of, find_object}
 use Rattle.swift_calls.specs.Bodies.{item_of}
 use Rattle.swift_calls.specs.Step.{head_reply, is_listed, items_reply, page}

@@ -1,5 +1,4 @@
 pub mod Budget
 pub mod Digests
 pub mod Rereads
-pub mod Starts
 pub mod lemmas

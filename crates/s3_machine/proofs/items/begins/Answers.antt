@@ -1,5 +1,5 @@
 use Rattle.std.proofs.Common.{◌∙◌}
-use Rattle.s3_machine.proofs.Starts.{starts_begins}
+use Rattle.s3_machine.proofs.lemmas.Starts.{starts_begins}
 use Rattle.s3_machine.proofs.items.begins.Goals as goal
 
 pub returns : goal.returns
