@@ -36,7 +36,7 @@ use Rattle.list_pages.proofs.lemmas.PickedEntries.{entries_picked}
 use Rattle.list_pages.proofs.lemmas.Pushing.{is_less}
 use Rattle.list_pages.proofs.lemmas.Sorted.{sorted_filter}
 use Rattle.list_pages.proofs.lemmas.Starting.{not_behind}
-use Rattle.list_pages.proofs.lemmas.Starts.{starts_begins}
+use Rattle.s3_machine.proofs.lemmas.Starts.{starts_begins}
 use Rattle.recovery.specs.Keys.{objects_in, keys_with, TellsKeys}
 use Rattle.recovery.proofs.lemmas.Markers.{entries_are}
 use Rattle.recovery.proofs.lemmas.Forms.{Says, object_said, said, says_of, key_of}

@@ -33,7 +33,7 @@ use Rattle.list_pages.proofs.lemmas.Pages.{parts}
 use Rattle.list_pages.proofs.lemmas.Pushing.{is_less}
 use Rattle.list_pages.proofs.lemmas.Sorted.{sorted_filter, with_prefix_behind}
 use Rattle.list_pages.proofs.lemmas.Starting.{not_behind}
-use Rattle.list_pages.proofs.lemmas.Starts.{starts_begins}
+use Rattle.s3_machine.proofs.lemmas.Starts.{starts_begins}
 use Rattle.recovery.specs.declared.fault.PlanFault.{PlanFault}
 use Rattle.recovery.specs.declared.fault.PlanFault.TheVariants as plan
 use Rattle.recovery.specs.Fault.{of_page}
