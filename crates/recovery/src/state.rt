@@ -101,15 +101,6 @@ impl<'a, W: Swift> Unsure<'a, W> {
     {
         self.settings
     }
-
-    /// The store, given back.
-    pub fn release(self) -> &'a mut W
-        ensures same { result.ghost_name ≡ self.entry.store.ghost_name }
-        ensures store { result.now ≡ self.entry.store.now }
-    {
-        let Unsure { store, .. } = self;
-        store
-    }
 }
 
 impl<'a, W: Swift> Settled<'a, W> {
@@ -177,15 +168,6 @@ impl<'a, W: Swift> Settled<'a, W> {
         ensures page { IfOk result (λ items. IsPageOf prefix.now marker.now (map name_in items)) }
     {
         names(alloc, self.store, container, prefix, marker)
-    }
-
-    /// The store, given back.
-    pub fn release(self) -> &'a mut W
-        ensures same { result.ghost_name ≡ self.entry.store.ghost_name }
-        ensures store { result.now ≡ self.entry.store.now }
-    {
-        let Settled { store, .. } = self;
-        store
     }
 }
 
