@@ -60,7 +60,7 @@ pub fn reply_to<W: Swift>(
         result }
 {
     match means {
-        Meant::Op(op) => operate(alloc, store, known, settings, op, label),
+        Meant::Op(op) => settle_and_perform(alloc, store, known, settings, op, label),
         Meant::Refused(code) => Reply::Refused(code),
         Meant::Memory => Reply::Memory,
     }
@@ -68,7 +68,7 @@ pub fn reply_to<W: Swift>(
 
 /// Settles the store where that is not known to be needless, and answers an operation over it. What is known of the store then
 /// goes to the next one.
-fn operate<W: Swift>(
+fn settle_and_perform<W: Swift>(
     alloc: Global,
     store: &mut W,
     known: &mut Known,
@@ -91,7 +91,7 @@ fn operate<W: Swift>(
             }
         },
     }
-    let answer = perform(alloc, store, settings, op, label);
+    let answer = perform_on_settled_store(alloc, store, settings, op, label);
     *known = answer.known;
     answer.reply
 }
@@ -103,7 +103,7 @@ fn settle<W: Swift>(alloc: Global, store: &mut W, settings: &Settings) -> Result
 }
 
 /// Answers an operation over a store that is settled, by the crate that has its plan. A completion may be sealed after it.
-fn perform<W: Swift>(
+fn perform_on_settled_store<W: Swift>(
     alloc: Global,
     store: &mut W,
     settings: &Settings,

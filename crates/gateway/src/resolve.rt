@@ -82,7 +82,7 @@ fn refused(code: Code) -> Understood
     }
 }
 
-fn unknown() -> Understood
+fn understood_out_of_memory() -> Understood
     ensures means { result.means ≡ variant.Memory }
 {
     Understood {
@@ -103,8 +103,8 @@ fn understand(alloc: Global, service: &Service, message: &mut Message, moment: u
     ensures keeps { KeepsFront message.entry.now message.exit.now }
 {
     match Target::read(alloc, message.target.as_slice()) {
-        Ok(target) => authenticate(alloc, service, message, target, moment),
-        Err(NameFault::Memory) => unknown(),
+        Ok(target) => verify_and_understand(alloc, service, message, target, moment),
+        Err(NameFault::Memory) => understood_out_of_memory(),
         Err(
             NameFault::BadBucket
             | NameFault::EmptyKey
@@ -117,7 +117,7 @@ fn understand(alloc: Global, service: &Service, message: &mut Message, moment: u
 
 /// The signature is verified, and then the meaning is found.
 #[tactic(auto, using(crate::proofs::Resolving::refused_means, crate::proofs::Resolving::refused_caller))]
-fn authenticate(
+fn verify_and_understand(
     alloc: Global,
     service: &Service,
     message: &mut Message,
@@ -133,10 +133,10 @@ fn authenticate(
         (verdict_at service.now moment message.entry.now target) }
     ensures keeps { KeepsFront message.entry.now message.exit.now }
 {
-    match verified(alloc, service, message, &target, moment) {
+    match verified_caller(alloc, service, message, &target, moment) {
         Ok(caller) => Understood {
             caller,
-            means: admit(alloc, message, target, &caller, &service.settings),
+            means: meaning_for_caller(alloc, message, target, &caller, &service.settings),
         },
         Err(means) => Understood {
             caller: Caller::Anonymous,
@@ -146,7 +146,7 @@ fn authenticate(
 }
 
 /// What a request of that caller means. The names of a signature in the query don't count.
-fn admit(
+fn meaning_for_caller(
     alloc: Global,
     message: &mut Message,
     target: Target,
@@ -177,7 +177,7 @@ fn asked_target(alloc: Global, target: Target) -> Result<Target, Memory>
 /// Who sent a request, or what it is answered whose signature is refused: that in its query where it is presigned, and else
 /// that in its header.
 #[tactic(auto, using(crate::proofs::Resolving::verified_first, crate::proofs::Resolving::verified_second))]
-fn verified(
+fn verified_caller(
     alloc: Global,
     service: &Service,
     message: &Message,
@@ -188,14 +188,14 @@ fn verified(
     ensures proper { IfErr result IsProperMeant }
 {
     if is_presigned(target) {
-        verified_by_query(alloc, service, message, target, moment)
+        verified_caller_by_query(alloc, service, message, target, moment)
     } else {
-        verified_by_header(alloc, service, message, target, moment)
+        verified_caller_by_header(alloc, service, message, target, moment)
     }
 }
 
 #[tactic(auto, using(crate::proofs::Resolving::query_verifies, crate::proofs::Resolving::query_proper))]
-fn verified_by_query(
+fn verified_caller_by_query(
     alloc: Global,
     service: &Service,
     message: &Message,
@@ -215,7 +215,7 @@ fn verified_by_query(
 }
 
 #[tactic(auto, using(crate::proofs::Resolving::refused_verifies, crate::proofs::Resolving::refused_proper))]
-fn verified_by_header(
+fn verified_caller_by_header(
     alloc: Global,
     service: &Service,
     message: &Message,

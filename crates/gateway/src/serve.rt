@@ -11,7 +11,7 @@ ghost use Rattle.gateway.specs.World.{world, progress_of, start_of, cursor_of, S
 
 use crate::handle::{Handled, handle_request};
 use crate::received::Received;
-use crate::write::{Written, write_memory};
+use crate::write::{Written, write_memory_reply};
 use crate::{Ended, Service};
 use gate_base::{Clock, Draws, Line};
 use http_wire::{Got, ReadFault, Reader};
@@ -154,7 +154,7 @@ fn end_unread<N: Line<W>, W: Swift>(line: &mut N, store: &W) -> Ended
         → EndsUnread (W.history store.now).called (N.model line.old).transcript result
         (N.model line.new).transcript }
 {
-    match write_memory(line, store, false) {
+    match write_memory_reply(line, store, false) {
         Written::Failed => Ended::LineFailed,
         Written::Whole | Written::Memory => Ended::Memory,
     }

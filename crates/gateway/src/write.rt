@@ -51,12 +51,12 @@ pub fn write_reply<N: Line<W>, W: Swift>(
             Ok(()) => Written::Whole,
             Err(_) => Written::Failed,
         },
-        Err(_) => write_memory(line, store, method == b"HEAD".as_slice()),
+        Err(_) => write_memory_reply(line, store, method == b"HEAD".as_slice()),
     }
 }
 
 /// Writes the out-of-memory reply.
-pub fn write_memory<N: Line<W>, W: Swift>(line: &mut N, store: &W, head: bool) -> Written
+pub fn write_memory_reply<N: Line<W>, W: Swift>(line: &mut N, store: &W, head: bool) -> Written
     requires { IsTrue (N.model line.old).is_open }
     ensures outcome { result ≢ written.Whole }
     ensures writes { OnlyWrites (is_failed_write result) (N.model line.old) (N.model line.new) }
@@ -64,10 +64,10 @@ pub fn write_memory<N: Line<W>, W: Swift>(line: &mut N, store: &W, head: bool) -
         → WritesOutOfMemory (N.model line.old).transcript (W.history store.now).called
         (memory_reply head) result (N.model line.new).transcript }
 {
-    write_out_of_memory(line, store, print_memory(head))
+    write_memory_reply_bytes(line, store, print_memory(head))
 }
 
-fn write_out_of_memory<N: Line<W>, W: Swift>(line: &mut N, store: &W, bytes: &[u8]) -> Written
+fn write_memory_reply_bytes<N: Line<W>, W: Swift>(line: &mut N, store: &W, bytes: &[u8]) -> Written
     requires { IsTrue (N.model line.old).is_open }
     ensures outcome { result ≢ written.Whole }
     ensures writes { OnlyWrites (is_failed_write result) (N.model line.old) (N.model line.new) }

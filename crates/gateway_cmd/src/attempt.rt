@@ -11,7 +11,7 @@ ghost use Rattle.presign_cmd.specs.declared.first.Presigning.{Presigning};
 ghost use Rattle.gateway_cli.specs.Words.{IsProper, is_region};
 ghost use Rattle.gateway.specs.World.{world, Continues, ServesOver};
 ghost use Rattle.gateway_cmd.specs.Report.{Admits, Fits, is_failed_run, end_of, end_of_url};
-ghost use Rattle.gateway_cmd.specs.Tasks.{Apart, asked_for, is_possible, task_of, to_sign, to_presign};
+ghost use Rattle.gateway_cmd.specs.Tasks.{Apart, asked_for, is_possible, settings_of, task_of, to_sign, to_presign};
 ghost use Rattle.gateway_cmd.specs.declared.status.RunOutcome.TheVariants as ended;
 ghost use Rattle.gateway_cmd.specs.declared.status.Status.TheVariants as status;
 ghost use Rattle.gateway_cmd.specs.Run.{RunTraces};
@@ -25,7 +25,7 @@ use gate_base::{Bytes, Clock, Draws, Line, drop};
 use gateway::Service;
 use gateway_cli::{Command, WordsFault, read_words};
 use presign_cmd::{Presigning, presign_first};
-use recovery::Known;
+use recovery::{Known, taken};
 use s3_machine::Settings;
 use sign_cmd::{Signing, sign_first};
 use sigv4::Keys;
@@ -56,14 +56,14 @@ pub fn attempt<N: Line<W>, W: Swift, C: Clock, D: Draws>(
         (λ known. world (N.model line.new) (W.history store.new) known (C.model clock.new) (D.model draws.new)) }
 {
     match read_words(alloc, words) {
-        Ok(command) => perform(alloc, command, keys, line, store, clock, draws),
+        Ok(command) => perform_by_key_text(alloc, command, keys, line, store, clock, draws),
         Err(WordsFault::Refused) => RunOutcome::Plain(Status::Usage),
         Err(WordsFault::Memory) => RunOutcome::Plain(Status::Memory),
     }
 }
 
 /// Does what is asked for, by the keys of a key text.
-fn perform<N: Line<W>, W: Swift, C: Clock, D: Draws>(
+fn perform_by_key_text<N: Line<W>, W: Swift, C: Clock, D: Draws>(
     alloc: Global,
     command: Command,
     keys: &str,
@@ -87,7 +87,12 @@ fn perform<N: Line<W>, W: Swift, C: Clock, D: Draws>(
         (λ known. world (N.model line.new) (W.history store.new) known (C.model clock.new) (D.model draws.new)) }
 {
     match read_keys(alloc, keys) {
-        Ok(keys) => perform_by(alloc, command, keys, line, store, clock, draws),
+        Ok(keys) => {
+            let mut command = command;
+            let outcome = perform_by_keys(alloc, &mut command, keys, line, store, clock, draws);
+            drop(command);
+            outcome
+        }
         Err(status) => {
             drop(command);
             RunOutcome::Plain(status)
@@ -95,36 +100,37 @@ fn perform<N: Line<W>, W: Swift, C: Clock, D: Draws>(
     }
 }
 
-/// Does what is asked for, by keys. What it does is said of each text that has these keys.
-fn perform_by<N: Line<W>, W: Swift, C: Clock, D: Draws>(
+/// Does what is asked for, by keys. It takes of the command what it needs, and the command is dropped by its owner alone. What it
+/// does is said of each text that has these keys.
+fn perform_by_keys<N: Line<W>, W: Swift, C: Clock, D: Draws>(
     alloc: Global,
-    command: Command,
+    command: &mut Command,
     keys: Keys,
     line: &mut N,
     store: &mut W,
     clock: &mut C,
     draws: &mut D,
 ) -> RunOutcome
-    requires proper { IsProper command }
+    requires proper { IsProper command.old }
     requires keys { are_keys keys ≡ true }
     ensures admits { (text : List ℕ) → keys ≡ keys_of text
-        → Admits (is_possible (task_of (Some command)) text) result }
-    ensures fits { Fits (task_of (Some command)) result }
+        → Admits (is_possible (task_of (Some command.old)) text) result }
+    ensures fits { Fits (task_of (Some command.old)) result }
     ensures idle { (text : List ℕ) → keys ≡ keys_of text
-        → is_possible (task_of (Some command)) text ≡ false → (line.new ≡ line.old)
+        → is_possible (task_of (Some command.old)) text ≡ false → (line.new ≡ line.old)
         × (store.new ≡ store.old) × (clock.new ≡ clock.old) × (draws.new ≡ draws.old) }
-    ensures apart { Apart (task_of (Some command)) (line.new ≡ line.old) (store.new ≡ store.old)
+    ensures apart { Apart (task_of (Some command.old)) (line.new ≡ line.old) (store.new ≡ store.old)
         (clock.new ≡ clock.old) (draws.new ≡ draws.old) }
     ensures on { Continues
         (world (N.model line.old) (W.history store.old) Unsure (C.model clock.old) (D.model draws.old))
         (world (N.model line.new) (W.history store.new) Unsure (C.model clock.new) (D.model draws.new)) }
-    ensures does { (text : List ℕ) → keys ≡ keys_of text → Does (task_of (Some command)) text result
+    ensures does { (text : List ℕ) → keys ≡ keys_of text → Does (task_of (Some command.old)) text result
         (world (N.model line.old) (W.history store.old) Unsure (C.model clock.old) (D.model draws.old))
         (λ known. world (N.model line.new) (W.history store.new) known (C.model clock.new) (D.model draws.new)) }
 {
     match command {
         Command::Session { region, least_part } => {
-            let settings = Settings { region, least_part };
+            let settings = settings_of(alloc, region, *least_part);
             let most = None;
             RunOutcome::Plain(serve(alloc, settings, keys, most, line, store, clock, draws))
         }
@@ -133,17 +139,27 @@ fn perform_by<N: Line<W>, W: Swift, C: Clock, D: Draws>(
             connections,
             least_part,
         } => {
-            let settings = Settings { region, least_part };
-            let most = Some(connections);
+            let settings = settings_of(alloc, region, *least_part);
+            let most = Some(*connections);
             RunOutcome::Plain(serve(alloc, settings, keys, most, line, store, clock, draws))
         }
         Command::Recover => recover(alloc, store),
-        Command::Sign { key, region } => sign(alloc, &keys, &key, &region, line, store),
+        Command::Sign { key, region } => sign(alloc, &keys, key, region, line, store),
         Command::Presign {
             key,
             region,
             expires,
-        } => presign(alloc, &keys, &key, &region, expires, line, store, clock),
+        } => presign(alloc, &keys, key, region, *expires, line, store, clock),
+    }
+}
+
+/// The settings of a service of that region, which is taken, with that least part.
+fn settings_of(alloc: Global, region: &mut Bytes, least_part: u64) -> Settings
+    ensures { result ≡ settings_of region.old least_part }
+{
+    Settings {
+        region: taken(alloc, region),
+        least_part,
     }
 }
 

@@ -32,7 +32,7 @@ pub fn session<N: Line<W>, W: Swift, C: Clock, D: Draws>(
 {
     let mut left = most;
     'connections: loop {
-        if is_reached(left) {
+        if is_session_limit_reached(left) {
             return Status::Done;
         }
         match serve_another(alloc, service, line, store, known, clock, draws) {
@@ -43,7 +43,7 @@ pub fn session<N: Line<W>, W: Swift, C: Clock, D: Draws>(
 }
 
 /// Whether none is left of the connections that were asked for.
-fn is_reached(left: Option<u64>) -> bool
+fn is_session_limit_reached(left: Option<u64>) -> bool
     ensures none { result ≡ true → left ≡ Some 0 }
     ensures some { result ≡ false → left ≢ Some 0 }
 {

@@ -62,7 +62,7 @@ pub fn find_head(alloc: Global, bytes: &[u8]) -> Result<Front, Memory>
     ensures { IfOk result (λ front. Shows bytes.now front) }
 {
     let mut room = [EMPTY_HEADER_SPAN; ROOM];
-    match look(bytes, &mut room) {
+    match look_at_answer_head(bytes, &mut room) {
         Verdict::Whole(spans) => Ok(Front::Whole(head_at(alloc, bytes, &room, &spans)?)),
         Verdict::More => Ok(Front::More),
         Verdict::Dead => Ok(Front::Dead),
@@ -83,7 +83,7 @@ fn find_within(alloc: Global, bytes: &[u8], room: &mut [HeaderSpan]) -> Result<F
     requires { MOST_LINES ≤ length room.old }
     ensures { IfOk result (λ front. Shows bytes.now front) }
 {
-    match look(bytes, room) {
+    match look_at_answer_head(bytes, room) {
         Verdict::Whole(spans) => Ok(Front::Whole(head_at(alloc, bytes, room, &spans)?)),
         Verdict::More => Ok(Front::More),
         Verdict::Dead => Ok(Front::Dead),
@@ -93,7 +93,7 @@ fn find_within(alloc: Global, bytes: &[u8], room: &mut [HeaderSpan]) -> Result<F
 
 /// Looks at bytes once.
 #[tactic(auto, using(crate::proofs::lemmas::HeadLemmas::dead_never, crate::proofs::lemmas::HeadLemmas::dead_none, crate::proofs::lemmas::HeadLemmas::dead_long, crate::proofs::lemmas::HeadLemmas::lives))]
-fn look(bytes: &[u8], room: &mut [HeaderSpan]) -> Verdict
+fn look_at_answer_head(bytes: &[u8], room: &mut [HeaderSpan]) -> Verdict
     ensures { Sees (length room.old) bytes.now room.new result }
 {
     match parse_response(bytes, room) {

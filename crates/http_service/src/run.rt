@@ -36,7 +36,7 @@ pub fn serve_all<C: Counted, N: Line<C>, S: Service<C, N>>(
 {
     let mut left = most;
     'connections: loop {
-        if is_reached(left) {
+        if is_connection_limit_reached(left) {
             return Stopped::Done;
         }
         match serve_another(alloc, service, line) {
@@ -47,7 +47,7 @@ pub fn serve_all<C: Counted, N: Line<C>, S: Service<C, N>>(
 }
 
 /// Whether none is left of the connections that were asked for.
-fn is_reached(left: Option<u64>) -> bool
+fn is_connection_limit_reached(left: Option<u64>) -> bool
     ensures none { result ≡ true → left ≡ Some 0 }
     ensures some { result ≡ false → left ≢ Some 0 }
 {

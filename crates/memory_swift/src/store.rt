@@ -53,7 +53,11 @@ impl<S: Shelf> Store<S> {
 
     /// Appends the answer to the bytes of a request, as [`serve`] does where they are one whole message, and else `400 Bad
     /// Request`. True where the shelf failed, and then nothing is appended.
-    pub(crate) fn hand(&mut self, bytes: &[u8], out: &mut Bytes) -> Result<bool, Memory>
+    pub(crate) fn hand_request_bytes(
+        &mut self,
+        bytes: &[u8],
+        out: &mut Bytes,
+    ) -> Result<bool, Memory>
         ensures place { self.new.place ≡ self.old.place }
         ensures faults { IfOk result (λ lost. RisesIf lost (S.model self.old.shelf).faults
             (S.model self.new.shelf).faults) }

@@ -120,10 +120,10 @@ fn hand_by<S: Shelf>(
     match outcome {
         Outcome::LostBefore => Ok(true),
         Outcome::LostAfter => {
-            let _failed = store.hand(request, answer)?;
+            let _failed = store.hand_request_bytes(request, answer)?;
             Ok(true)
         }
-        Outcome::Answered => store.hand(request, answer),
+        Outcome::Answered => store.hand_request_bytes(request, answer),
     }
 }
 

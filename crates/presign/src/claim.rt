@@ -10,7 +10,7 @@ use crate::parameters::{
 };
 use gate_base::{Bytes, Memory, Pair, cut};
 use http_wire::has_header;
-use sigv4::{Authorization, behind_service, is_formed, is_of_day, is_time, names_of};
+use sigv4::{Authorization, behind_service, is_formed, is_of_day, is_time, signed_names_in};
 use std::alloc::Global;
 
 /// What the query of a presigned request says: who signed it for which day, region and service, which headers, and the
@@ -118,7 +118,7 @@ fn parts_from(
         date: Bytes::from_slice(alloc, date)?,
         region: Bytes::from_slice(alloc, region)?,
         service: Bytes::from_slice(alloc, service)?,
-        names: names_of(alloc, names)?,
+        names: signed_names_in(alloc, names)?,
         signature: Bytes::from_slice(alloc, signature)?,
     })
 }

@@ -44,10 +44,10 @@ fn year_of(date: Date) -> u32
     ensures year { pos result ≡ date.year }
     ensures late { is_year result ≡ true }
 {
-    absolute(date.year)
+    year_as_unsigned(date.year)
 }
 
-fn absolute(year: i16) -> u32
+fn year_as_unsigned(year: i16) -> u32
     ensures { result ≡ unsigned_abs year }
 {
     u32::from(year.unsigned_abs())

@@ -137,7 +137,7 @@ fn add_parameters(
 {
     let seconds = seconds_text(alloc, expires)?;
     add_credential_parameters(alloc, pairs, credential, time)?;
-    add_span(alloc, pairs, seconds.as_slice())?;
+    add_span_parameters(alloc, pairs, seconds.as_slice())?;
     Ok(())
 }
 
@@ -156,21 +156,26 @@ fn add_credential_parameters(
 ) -> Result<(), Memory>
     ensures { OnOk result (pairs.new ≡ pairs.old ++ scope_parameters credential.now time.now) }
 {
-    add(alloc, pairs, ALGORITHM, b"AWS4-HMAC-SHA256")?;
-    add(alloc, pairs, CREDENTIAL, credential)?;
-    add(alloc, pairs, DATE, time)?;
+    add_parameter(alloc, pairs, ALGORITHM, b"AWS4-HMAC-SHA256")?;
+    add_parameter(alloc, pairs, CREDENTIAL, credential)?;
+    add_parameter(alloc, pairs, DATE, time)?;
     Ok(())
 }
 
-fn add_span(alloc: Global, pairs: &mut List<Pair>, seconds: &[u8]) -> Result<(), Memory>
+fn add_span_parameters(alloc: Global, pairs: &mut List<Pair>, seconds: &[u8]) -> Result<(), Memory>
     ensures { OnOk result (pairs.new ≡ pairs.old ++ span_parameters seconds.now) }
 {
-    add(alloc, pairs, EXPIRES, seconds)?;
-    add(alloc, pairs, SIGNED_HEADERS, b"host")?;
+    add_parameter(alloc, pairs, EXPIRES, seconds)?;
+    add_parameter(alloc, pairs, SIGNED_HEADERS, b"host")?;
     Ok(())
 }
 
-fn add(alloc: Global, pairs: &mut List<Pair>, name: &[u8], value: &[u8]) -> Result<(), Memory>
+fn add_parameter(
+    alloc: Global,
+    pairs: &mut List<Pair>,
+    name: &[u8],
+    value: &[u8],
+) -> Result<(), Memory>
     ensures { OnOk result
         (pairs.new ≡ pairs.old ++ record { name = name.now; value = value.now } ∷ []) }
 {

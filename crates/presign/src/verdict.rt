@@ -37,13 +37,13 @@ pub fn verify_query(
     ensures { Gives result (owner_or_refusal keys.now region.now message.now target.now moment) }
 {
     match claim_of(alloc, message.headers.as_slice(), target.query.pairs())? {
-        Some(claim) => judge(alloc, keys, region, message, target, moment, &claim),
+        Some(claim) => judge_query_claim(alloc, keys, region, message, target, moment, &claim),
         None => Err(QueryRefusal::QueryMalformed),
     }
 }
 
 /// The answer to what a query says.
-fn judge(
+fn judge_query_claim(
     alloc: Global,
     keys: &Keys,
     region: &[u8],
@@ -57,13 +57,15 @@ fn judge(
         target.now moment claim.now) }
 {
     match keys.secret(claim.by.id.as_slice()) {
-        Some(secret) => judge_with(alloc, secret, region, message, target, moment, claim),
+        Some(secret) => judge_query_by_secret(
+            alloc, secret, region, message, target, moment, claim,
+        ),
         None => Err(QueryRefusal::UnknownKey),
     }
 }
 
 /// The answer to what a query says whose key has this secret.
-fn judge_with(
+fn judge_query_by_secret(
     alloc: Global,
     secret: &[u8],
     region: &[u8],

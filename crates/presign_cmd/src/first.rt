@@ -93,7 +93,7 @@ fn presign_next<N: Line<W>, W: Counted>(
     };
     match reader.next_request(line, store) {
         Ok(Got::Request(message)) => {
-            answer(alloc, secret, id, region, moment, expires, &message)
+            presigning_of_message(alloc, secret, id, region, moment, expires, &message)
         }
         Ok(Got::End) => Presigning::NoRequest,
         Ok(Got::CutShort(_)) => Presigning::NoRequest,
@@ -104,7 +104,7 @@ fn presign_next<N: Line<W>, W: Counted>(
 }
 
 /// The answer to a request.
-fn answer(
+fn presigning_of_message(
     alloc: Global,
     secret: &[u8],
     id: &[u8],

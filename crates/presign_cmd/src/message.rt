@@ -53,13 +53,13 @@ fn unsigned_target(alloc: Global, text: &[u8]) -> Result<Option<Target>, Memory>
     ensures { IfOk result (λ read. read ≡ unsigned_target (target_of text.now)) }
 {
     match Target::read(alloc, text) {
-        Ok(target) => Ok(plain(target)),
+        Ok(target) => Ok(target_if_unsigned(target)),
         Err(NameFault::Memory) => Err(Memory),
         Err(_) => Ok(None),
     }
 }
 
-fn plain(target: Target) -> Option<Target>
+fn target_if_unsigned(target: Target) -> Option<Target>
     ensures { result ≡ unsigned_target (Ok target) }
 {
     if has_signature_name(&target) {

@@ -120,7 +120,7 @@ fn after_first(text: &[u8]) -> &[u8]
 
 /// The tags between the commas, in order.
 #[tactic(auto, using(crate::proofs::Tags::tags_go_on, crate::proofs::Tags::tags_end))]
-fn listed(alloc: Global, value: &[u8]) -> Result<List<Bytes>, Memory>
+fn etags_between_commas(alloc: Global, value: &[u8]) -> Result<List<Bytes>, Memory>
     ensures { IfOk result (λ etags. etags ≡ map etag_of (slice_split is_comma value.now)) }
 {
     let mut etags = List::new(alloc);
@@ -141,7 +141,7 @@ fn etags_of(alloc: Global, value: &[u8]) -> Result<ETags, Memory>
     if value == b"*".as_slice() {
         return Ok(ETags::Any);
     }
-    let etags = listed(alloc, value)?;
+    let etags = etags_between_commas(alloc, value)?;
     Ok(ETags::Listed(etags))
 }
 

@@ -136,7 +136,12 @@ fn meta_entry_name(name: &[u8]) -> &[u8]
 }
 
 /// Puts the entry of a header into its place, unless its name is there.
-fn enter(alloc: Global, meta: &mut Meta, headers: &[Pair], header: &Pair) -> Result<(), Memory>
+fn enter_meta_header(
+    alloc: Global,
+    meta: &mut Meta,
+    headers: &[Pair],
+    header: &Pair,
+) -> Result<(), Memory>
     ensures { OnOk result (meta.new ≡ entered headers.now meta.old header.now) }
 {
     let name = header.name.as_slice();
@@ -154,7 +159,7 @@ fn given_meta(alloc: Global, headers: &[Pair]) -> Result<Meta, Memory>
 {
     let mut meta = Meta::new(alloc);
     for header in headers {
-        enter(alloc, &mut meta, headers, header)?;
+        enter_meta_header(alloc, &mut meta, headers, header)?;
     }
     Ok(meta)
 }

@@ -162,7 +162,7 @@ pub fn has_long_text(query: &[Pair]) -> bool
 }
 
 /// A copy of the value of a name.
-pub fn copy_at(alloc: Global, query: &[Pair], name: &[u8]) -> Result<Bytes, Memory>
+pub fn copy_of_query_value(alloc: Global, query: &[Pair], name: &[u8]) -> Result<Bytes, Memory>
     ensures { IfOk result (λ text. text ≡ text_at name.now query.now) }
 {
     Bytes::from_slice(alloc, text_at(query, name))
@@ -172,9 +172,9 @@ pub fn copy_at(alloc: Global, query: &[Pair], name: &[u8]) -> Result<Bytes, Memo
 pub fn first_asked(alloc: Global, query: &[Pair]) -> Result<Asked, Memory>
     ensures { IfOk result (λ asked. asked ≡ first_asked query.now) }
 {
-    let prefix = copy_at(alloc, query, b"prefix")?;
-    let delimiter = copy_at(alloc, query, b"delimiter")?;
-    let marker = copy_at(alloc, query, b"marker")?;
+    let prefix = copy_of_query_value(alloc, query, b"prefix")?;
+    let delimiter = copy_of_query_value(alloc, query, b"delimiter")?;
+    let marker = copy_of_query_value(alloc, query, b"marker")?;
     Ok(Asked {
         version: 1,
         prefix,
@@ -193,9 +193,9 @@ pub fn second_asked(alloc: Global, query: &[Pair]) -> Result<Asked, Memory>
     ensures { IfOk result (λ asked. asked ≡ second_asked query.now) }
 {
     let token = given_token(alloc, query)?;
-    let prefix = copy_at(alloc, query, b"prefix")?;
-    let delimiter = copy_at(alloc, query, b"delimiter")?;
-    let start_after = copy_at(alloc, query, b"start-after")?;
+    let prefix = copy_of_query_value(alloc, query, b"prefix")?;
+    let delimiter = copy_of_query_value(alloc, query, b"delimiter")?;
+    let start_after = copy_of_query_value(alloc, query, b"start-after")?;
     Ok(Asked {
         version: 2,
         prefix,

@@ -81,7 +81,7 @@ pub fn meaning(
     ensures proper { IsProperMeant result }
     ensures keeps { KeepsFront message.entry.now message.exit.now }
 {
-    match by_target(alloc, settings, message, target, caller) {
+    match meant_from_target(alloc, settings, message, target, caller) {
         Ok(meant) => meant,
         Err(_) => Meant::Memory,
     }
@@ -89,7 +89,7 @@ pub fn meaning(
 
 /// The reasons against the target, and then those of its row.
 #[tactic(auto, unfolding(crate::specs::Meaning::meaning_of))]
-fn by_target(
+fn meant_from_target(
     alloc: Global,
     settings: &Settings,
     message: &mut Message,
@@ -116,13 +116,13 @@ fn by_target(
         return Ok(Meant::Refused(Code::NotImplemented));
     }
     match row_of(message, target) {
-        Some(row) => by_row(alloc, settings, row, message, target, caller),
+        Some(row) => meant_from_row(alloc, settings, row, message, target, caller),
         None => Ok(Meant::Refused(Code::MethodNotAllowed)),
     }
 }
 
 /// The reasons against the names of the query, and then those against the headers.
-fn by_row(
+fn meant_from_row(
     alloc: Global,
     settings: &Settings,
     row: Row,
@@ -141,11 +141,11 @@ fn by_row(
     if has_name_twice(target.query.pairs()) {
         return Ok(Meant::Refused(Code::InvalidArgument));
     }
-    by_headers(alloc, settings, row, message, target, caller)
+    meant_from_headers(alloc, settings, row, message, target, caller)
 }
 
 /// The reasons against the headers, and then those against the content.
-fn by_headers(
+fn meant_from_headers(
     alloc: Global,
     settings: &Settings,
     row: Row,
@@ -181,11 +181,11 @@ fn by_headers(
     if has_other_class(alloc, headers)? {
         return Ok(Meant::Refused(Code::InvalidStorageClass));
     }
-    by_digest(alloc, settings, row, message, target, caller)
+    meant_from_digest(alloc, settings, row, message, target, caller)
 }
 
 /// The reasons against the digest of the body, and then those against the values of the query.
-fn by_digest(
+fn meant_from_digest(
     alloc: Global,
     settings: &Settings,
     row: Row,
@@ -206,11 +206,11 @@ fn by_digest(
     if is_other {
         return Ok(Meant::Refused(Code::BadDigest));
     }
-    by_arguments(alloc, settings, row, message, target, caller, digest)
+    meant_from_arguments(alloc, settings, row, message, target, caller, digest)
 }
 
 /// The reasons against the values of the query, and then those against the source of a copy.
-fn by_arguments(
+fn meant_from_arguments(
     alloc: Global,
     settings: &Settings,
     row: Row,
@@ -238,11 +238,11 @@ fn by_arguments(
     if has_bad_token(alloc, query)? {
         return Ok(Meant::Refused(Code::InvalidArgument));
     }
-    by_source(alloc, settings, row, message, target, caller, digest)
+    meant_from_source(alloc, settings, row, message, target, caller, digest)
 }
 
 /// The reasons against the source of a copy, and then those against the content type.
-fn by_source(
+fn meant_from_source(
     alloc: Global,
     settings: &Settings,
     row: Row,
@@ -259,14 +259,14 @@ fn by_source(
 {
     match taken_source(alloc, row, message.headers.as_slice())? {
         None => Ok(Meant::Refused(Code::InvalidArgument)),
-        Some(source) => by_content(
+        Some(source) => meant_from_content(
             alloc, settings, row, message, target, caller, source, digest,
         ),
     }
 }
 
 /// The reasons against the content type, and then those against the metadata.
-fn by_content(
+fn meant_from_content(
     alloc: Global,
     settings: &Settings,
     row: Row,
@@ -294,11 +294,11 @@ fn by_content(
         meta: taken_meta(alloc, row, headers)?,
         source,
     };
-    by_meta(alloc, settings, row, message, target, caller, taken, digest)
+    meant_from_meta(alloc, settings, row, message, target, caller, taken, digest)
 }
 
 /// The reasons against the metadata and the bytes of a copy, and then those against the body.
-fn by_meta(
+fn meant_from_meta(
     alloc: Global,
     settings: &Settings,
     row: Row,
@@ -324,11 +324,11 @@ fn by_meta(
     if !is_proper_meta(&taken.meta) {
         return Ok(Meant::Refused(Code::MetadataTooLarge));
     }
-    by_body(alloc, settings, row, message, target, caller, taken, digest)
+    meant_from_body(alloc, settings, row, message, target, caller, taken, digest)
 }
 
 /// The reasons against the body and the caller, and then the operation.
-fn by_body(
+fn meant_from_body(
     alloc: Global,
     settings: &Settings,
     row: Row,
@@ -356,11 +356,11 @@ fn by_body(
     if is_other {
         return Ok(Meant::Refused(Code::InvalidArgument));
     }
-    by_list(alloc, row, message, target, caller, taken, digest)
+    meant_from_list(alloc, row, message, target, caller, taken, digest)
 }
 
 /// The reasons against the parts that the body lists, and then those against the keys that it lists.
-fn by_list(
+fn meant_from_list(
     alloc: Global,
     row: Row,
     message: &mut Message,
@@ -377,12 +377,12 @@ fn by_list(
 {
     match taken_list(alloc, row, message.body.as_slice())? {
         None => Ok(Meant::Refused(Code::MalformedXML)),
-        Some(list) => by_deletes(alloc, row, message, target, caller, taken, list, digest),
+        Some(list) => meant_from_deletes(alloc, row, message, target, caller, taken, list, digest),
     }
 }
 
 /// The reasons against the keys that the body lists and against the caller, and then the operation.
-fn by_deletes(
+fn meant_from_deletes(
     alloc: Global,
     row: Row,
     message: &mut Message,
@@ -542,7 +542,7 @@ fn put_object(
         target.now.key taken.acl taken.content_type taken.meta message.entry.now.body)) }
     ensures keeps { KeepsFront message.entry.now message.exit.now }
 {
-    let (bucket, key) = place(target)?;
+    let (bucket, key) = bucket_and_key_of(target)?;
     Ok(Meant::Op(Op::PutObject {
         bucket,
         key,
@@ -554,7 +554,7 @@ fn put_object(
 }
 
 /// The bucket and the key of the target.
-fn place(target: &Target) -> Result<(Bytes, Bytes), Memory>
+fn bucket_and_key_of(target: &Target) -> Result<(Bytes, Bytes), Memory>
     ensures { IfOk result
         (λ copies. copies ≡ record { 0 = target.now.bucket; 1 = target.now.key }) }
 {
@@ -586,7 +586,7 @@ fn get_object(alloc: Global, headers: &[Pair], target: &Target) -> Result<Meant,
         (given_range headers.now) (given_conditions headers.now))) }
 {
     let range = given_range(alloc, headers)?;
-    let (bucket, key) = place(target)?;
+    let (bucket, key) = bucket_and_key_of(target)?;
     let conditions = given_conditions(alloc, headers)?;
     Ok(Meant::Op(Op::GetObject {
         bucket,
@@ -601,7 +601,7 @@ fn head_object(alloc: Global, headers: &[Pair], target: &Target) -> Result<Meant
         (given_range headers.now) (given_conditions headers.now))) }
 {
     let range = given_range(alloc, headers)?;
-    let (bucket, key) = place(target)?;
+    let (bucket, key) = bucket_and_key_of(target)?;
     let conditions = given_conditions(alloc, headers)?;
     Ok(Meant::Op(Op::HeadObject {
         bucket,
@@ -649,7 +649,7 @@ fn create_upload(target: &Target, taken: Taken) -> Result<Meant, Memory>
     ensures { IfOk result (λ meant. meant ≡ Meant.Op (Op.CreateUpload target.now.bucket
         target.now.key taken.acl taken.content_type taken.meta)) }
 {
-    let (bucket, key) = place(target)?;
+    let (bucket, key) = bucket_and_key_of(target)?;
     Ok(Meant::Op(Op::CreateUpload {
         bucket,
         key,
@@ -671,7 +671,7 @@ fn upload_part(
         message.entry.now.body)) }
     ensures keeps { KeepsFront message.entry.now message.exit.now }
 {
-    let (bucket, key) = place(target)?;
+    let (bucket, key) = bucket_and_key_of(target)?;
     let id = given_upload(alloc, target.query.pairs())?;
     Ok(Meant::Op(Op::UploadPart {
         bucket,
@@ -686,7 +686,7 @@ fn list_parts(alloc: Global, target: &Target) -> Result<Meant, Memory>
     ensures { IfOk result (λ meant. meant ≡ Meant.Op
         (parts_asked target.now.bucket target.now.key target.now.query)) }
 {
-    let (bucket, key) = place(target)?;
+    let (bucket, key) = bucket_and_key_of(target)?;
     let op = parts_asked(alloc, bucket, key, target.query.pairs())?;
     Ok(Meant::Op(op))
 }
@@ -695,7 +695,7 @@ fn abort_upload(alloc: Global, target: &Target) -> Result<Meant, Memory>
     ensures { IfOk result (λ meant. meant ≡ Meant.Op
         (Op.AbortUpload target.now.bucket target.now.key (given_upload target.now.query))) }
 {
-    let (bucket, key) = place(target)?;
+    let (bucket, key) = bucket_and_key_of(target)?;
     let id = given_upload(alloc, target.query.pairs())?;
     Ok(Meant::Op(Op::AbortUpload { bucket, key, id }))
 }
@@ -704,7 +704,7 @@ fn complete_upload(alloc: Global, target: &Target, list: List<Listed>) -> Result
     ensures { IfOk result (λ meant. meant ≡ Meant.Op (Op.CompleteUpload target.now.bucket
         target.now.key (given_upload target.now.query) list)) }
 {
-    let (bucket, key) = place(target)?;
+    let (bucket, key) = bucket_and_key_of(target)?;
     let id = given_upload(alloc, target.query.pairs())?;
     Ok(Meant::Op(Op::CompleteUpload {
         bucket,
@@ -718,7 +718,7 @@ fn copy_object(target: &Target, taken: Taken) -> Result<Meant, Memory>
     ensures { IfOk result
         (λ meant. meant ≡ Meant.Op (copy_asked target.now.bucket target.now.key taken)) }
 {
-    let (bucket, key) = place(target)?;
+    let (bucket, key) = bucket_and_key_of(target)?;
     Ok(Meant::Op(copy_asked(bucket, key, taken)))
 }
 
@@ -726,7 +726,7 @@ fn upload_part_copy(alloc: Global, target: &Target, source: Source) -> Result<Me
     ensures { IfOk result (λ meant. meant ≡ Meant.Op
         (part_copy_asked target.now.bucket target.now.key target.now.query source)) }
 {
-    let (bucket, key) = place(target)?;
+    let (bucket, key) = bucket_and_key_of(target)?;
     let op = part_copy_asked(alloc, bucket, key, target.query.pairs(), source)?;
     Ok(Meant::Op(op))
 }

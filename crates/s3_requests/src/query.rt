@@ -4,7 +4,7 @@ ghost use Rattle.std.specs.Option.{option_copied};
 ghost use Rattle.s3_requests.specs.Rows.{counts, is_asked};
 ghost use Rattle.s3_requests.specs.Query.{is_foreign, has_foreign_name, is_unknown, has_unknown_name, occurrences, is_given_twice, has_name_twice, text_at};
 
-use crate::rows::{Row, is_known, is_name_of};
+use crate::rows::{Row, is_known_query_name, is_name_of};
 use gate_base::Pair;
 
 fn counts(pair: &Pair) -> bool
@@ -32,7 +32,7 @@ pub fn is_asked(query: &[Pair], name: &[u8]) -> bool
 fn is_unknown(pair: &Pair) -> bool
     ensures { result ≡ is_unknown pair.now }
 {
-    !is_known(pair.name.as_slice())
+    !is_known_query_name(pair.name.as_slice())
 }
 
 /// Whether the query has a name that no row has.

@@ -281,7 +281,7 @@ impl Shape {
     }
 
     /// Whether the name is one that the query may have beside the selectors.
-    fn goes_on(&self, name: &[u8]) -> bool
+    fn has_further_name(&self, name: &[u8]) -> bool
         ensures { result ≡ is_among name.now self.now.further }
     {
         is_one_of(name, self.further)
@@ -295,7 +295,7 @@ impl Shape {
     }
 
     /// Whether the query has the selectors of the row, and no other.
-    fn is_chosen(&self, query: &[Pair]) -> bool
+    fn is_selected_by(&self, query: &[Pair]) -> bool
         ensures { result ≡ is_same_set query.now self.now.selectors }
     {
         self.agrees(query, b"acl")
@@ -332,7 +332,7 @@ fn first_fit(method: &[u8], level: Level, query: &[Pair]) -> Option<&'static Row
 }
 
 /// Whether a row has the name.
-pub fn is_known(name: &[u8]) -> bool
+pub fn is_known_query_name(name: &[u8]) -> bool
     ensures { result ≡ list_any (is_name_of name.now) rows }
 {
     table().iter().any(|row| is_name_of(name, *row))
@@ -386,12 +386,12 @@ pub fn is_name_of(name: &[u8], row: Row) -> bool
     ensures { result ≡ is_name_of name.now row }
 {
     let shape = shape_of(row);
-    shape.selects(name) || shape.goes_on(name)
+    shape.selects(name) || shape.has_further_name(name)
 }
 
 fn fits(method: &[u8], level: Level, query: &[Pair], row: Row) -> bool
     ensures { result ≡ fits method.now level query.now row }
 {
     let shape = shape_of(row);
-    shape.is_at(method, level) && shape.is_chosen(query)
+    shape.is_at(method, level) && shape.is_selected_by(query)
 }

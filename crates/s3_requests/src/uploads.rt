@@ -5,7 +5,7 @@ ghost use Rattle.s3_requests.specs.Listings.{count_of, has_bad_count};
 ghost use Rattle.s3_requests.specs.Query.{text_at};
 ghost use Rattle.s3_requests.specs.Uploads.{given_upload, of_part, part_of, given_part, given_marker, has_bad_part, has_bad_number, uploads_asked, parts_asked, taken_list};
 
-use crate::listings::{copy_at, count_of, has_bad_count, most_by};
+use crate::listings::{copy_of_query_value, count_of, has_bad_count, most_by};
 use crate::query::{is_asked, text_at};
 use crate::rows::Row;
 use gate_base::{Bytes, List, Memory, Pair};
@@ -40,7 +40,7 @@ fn part_of(text: &[u8]) -> Option<u32>
 pub fn given_upload(alloc: Global, query: &[Pair]) -> Result<Bytes, Memory>
     ensures { IfOk result (λ id. id ≡ given_upload query.now) }
 {
-    copy_at(alloc, query, b"uploadId")
+    copy_of_query_value(alloc, query, b"uploadId")
 }
 
 /// The number of the part.
@@ -104,9 +104,9 @@ pub fn has_bad_number(query: &[Pair]) -> bool
 pub fn uploads_asked(alloc: Global, bucket: Bytes, query: &[Pair]) -> Result<Op, Memory>
     ensures { IfOk result (λ op. op ≡ uploads_asked bucket query.now) }
 {
-    let prefix = copy_at(alloc, query, b"prefix")?;
-    let key_marker = copy_at(alloc, query, b"key-marker")?;
-    let id_marker = copy_at(alloc, query, b"upload-id-marker")?;
+    let prefix = copy_of_query_value(alloc, query, b"prefix")?;
+    let key_marker = copy_of_query_value(alloc, query, b"key-marker")?;
+    let id_marker = copy_of_query_value(alloc, query, b"upload-id-marker")?;
     Ok(Op::ListUploads {
         bucket,
         prefix,

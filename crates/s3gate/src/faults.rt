@@ -13,7 +13,7 @@ const MEMORY: u8 = 5;
 const SETUP: u8 = 9;
 
 /// Says why the run can't begin. The exit status.
-pub fn told(rt: &HostRuntime, fault: SetupFault) -> u8 {
+pub fn explain_setup_fault(rt: &HostRuntime, fault: SetupFault) -> u8 {
     match fault {
         SetupFault::Memory => MEMORY,
         SetupFault::Variable(name, why) => {
@@ -27,7 +27,7 @@ pub fn told(rt: &HostRuntime, fault: SetupFault) -> u8 {
 pub fn explain_refusal(rt: &HostRuntime, words: &[String], keys: &str) {
     match read_words(rt.alloc(), words) {
         Ok(_) => explain_keys(rt, keys),
-        Err(WordsFault::Refused) => say(
+        Err(WordsFault::Refused) => say_on_standard_error(
             rt,
             b"s3gate: built are session, serve, recover, sign and presign\n",
         ),
@@ -37,7 +37,7 @@ pub fn explain_refusal(rt: &HostRuntime, words: &[String], keys: &str) {
 
 fn explain_keys(rt: &HostRuntime, keys: &str) {
     match Keys::read(rt.alloc(), keys.as_bytes()) {
-        Ok(_) => say(rt, b"S3GATE_KEYS: not the key to sign with\n"),
+        Ok(_) => say_on_standard_error(rt, b"S3GATE_KEYS: not the key to sign with\n"),
         Err(KeysFault::BadLine(line)) => say_line(rt, line, b" is no key\n"),
         Err(KeysFault::Twice(line)) => say_line(rt, line, b" repeats an id\n"),
         Err(KeysFault::Memory) => {}
@@ -47,7 +47,7 @@ fn explain_keys(rt: &HostRuntime, keys: &str) {
 /// Says what is wrong with a line of the key file, which is counted from 0.
 fn say_line(rt: &HostRuntime, line: u64, what: &[u8]) {
     if let Ok(text) = line_text(rt, line.saturating_add(1), what) {
-        say(rt, text.as_slice());
+        say_on_standard_error(rt, text.as_slice());
     }
 }
 
@@ -58,6 +58,6 @@ fn line_text(rt: &HostRuntime, line: u64, what: &[u8]) -> Result<Bytes, Memory> 
     Ok(text)
 }
 
-fn say(rt: &HostRuntime, text: &[u8]) {
+fn say_on_standard_error(rt: &HostRuntime, text: &[u8]) {
     let _ = rt.stderr().write_all(text);
 }

@@ -10,7 +10,7 @@
 mod faults;
 mod input;
 
-use crate::faults::{explain_refusal, told};
+use crate::faults::{explain_refusal, explain_setup_fault};
 use crate::input::InputLine;
 use environment::{
     SetupFault, Why, field, listener, number, own, place_fault, switch, variable, words,
@@ -66,7 +66,7 @@ type Store = LoggedStore<SwiftClient<TcpLink<HostRuntime>>, StdSink, HostRuntime
 fn main(rt: HostRuntime) -> ExitCode {
     match start(&rt) {
         Ok(status) => ExitCode::from(status),
-        Err(fault) => ExitCode::from(told(&rt, fault)),
+        Err(fault) => ExitCode::from(explain_setup_fault(&rt, fault)),
     }
 }
 
@@ -92,7 +92,7 @@ fn start_with(rt: &HostRuntime, words: &[String], keys: &str) -> Result<u8, Setu
     } else if begins_with(words, b"recover") {
         recover(rt, words, keys)
     } else {
-        stay(rt, words, keys)
+        run_in_memory(rt, words, keys)
     }
 }
 
@@ -123,14 +123,14 @@ fn recover(rt: &HostRuntime, words: &[String], keys: &str) -> Result<u8, SetupFa
 }
 
 /// A run over the standard streams, and a store in memory.
-fn stay(rt: &HostRuntime, words: &[String], keys: &str) -> Result<u8, SetupFault> {
+fn run_in_memory(rt: &HostRuntime, words: &[String], keys: &str) -> Result<u8, SetupFault> {
     match memory_store(rt.alloc()) {
-        Ok(mut store) => stay_on(rt, words, keys, &mut store),
+        Ok(mut store) => run_on_standard_streams(rt, words, keys, &mut store),
         Err(_) => Ok(MEMORY),
     }
 }
 
-fn stay_on<W: Swift>(
+fn run_on_standard_streams<W: Swift>(
     rt: &HostRuntime,
     words: &[String],
     keys: &str,

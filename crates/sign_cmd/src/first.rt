@@ -71,7 +71,7 @@ fn sign_next<N: Line<W>, W: Counted>(
         Err(_) => return Signing::Memory,
     };
     match reader.next_request(line, store) {
-        Ok(Got::Request(message)) => answer(alloc, secret, region, &message),
+        Ok(Got::Request(message)) => signing_of_message(alloc, secret, region, &message),
         Ok(Got::End) => Signing::NoRequest,
         Ok(Got::CutShort(_)) => Signing::NoRequest,
         Ok(Got::Refused { .. }) => Signing::NoRequest,
@@ -81,7 +81,7 @@ fn sign_next<N: Line<W>, W: Counted>(
 }
 
 /// The answer to a request.
-fn answer(alloc: Global, secret: &[u8], region: &[u8], message: &Message) -> Signing
+fn signing_of_message(alloc: Global, secret: &[u8], region: &[u8], message: &Message) -> Signing
     ensures heard { is_failed_signing result ≡ false }
     ensures effect { Answers secret.now region.now message.now result }
 {

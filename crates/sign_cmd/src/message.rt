@@ -3,7 +3,7 @@ ghost use Rattle.s3_names.specs.Target.{target_of};
 ghost use Rattle.sign_cmd.specs.Signing.{has_signing_headers, can_sign, target_read, SignsFor, Signs};
 
 use crate::headers::has_signing_headers;
-use crate::names::names_of;
+use crate::names::names_to_sign;
 use gate_base::Memory;
 use http_wire::Message;
 use s3_names::{NameFault, Target};
@@ -52,7 +52,7 @@ fn sign_for(
     ensures { IfOk result (SignsFor secret.now region.now message.now target.now) }
 {
     let headers = message.headers.as_slice();
-    let names = names_of(alloc, headers)?;
+    let names = names_to_sign(alloc, headers)?;
     let text = canonical(alloc, message, target, names.as_slice(), hash_of(headers))?;
     sign(alloc, secret, time_of(headers), region, text.as_slice())
 }

@@ -6,7 +6,7 @@ use gate_base::{Bytes, List, Memory, Pair};
 use std::alloc::Global;
 
 /// The names that are signed: those of all headers but `authorization`, each once, in ascending byte order.
-pub(crate) fn names_of(alloc: Global, headers: &[Pair]) -> Result<List<Bytes>, Memory>
+pub(crate) fn names_to_sign(alloc: Global, headers: &[Pair]) -> Result<List<Bytes>, Memory>
     ensures { IfOk result (λ names. AreSigned headers.now names) }
 {
     let mut names = List::new(alloc);

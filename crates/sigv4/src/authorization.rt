@@ -67,7 +67,7 @@ fn parts_of(alloc: Global, text: &[u8]) -> Result<Authorization, Memory>
         date: Bytes::from_slice(alloc, date)?,
         region: Bytes::from_slice(alloc, region)?,
         service: Bytes::from_slice(alloc, service)?,
-        names: names_of(alloc, behind(names_section(text), 14))?,
+        names: signed_names_in(alloc, behind(names_section(text), 14))?,
         signature: Bytes::from_slice(alloc, behind(signature_section(text), 10))?,
     })
 }
@@ -75,7 +75,7 @@ fn parts_of(alloc: Global, text: &[u8]) -> Result<Authorization, Memory>
 /// The signed names of a text that has `;` between each two, as they stand there: the texts between the semicolons, in
 /// whatever form. There is always one, of no byte where the text has none.
 #[tactic(auto, using(crate::proofs::AuthorizationLemmas::names_more, crate::proofs::AuthorizationLemmas::names_end, crate::proofs::AuthorizationLemmas::behind_is_shorter))]
-pub fn names_of(alloc: Global, text: &[u8]) -> Result<List<Bytes>, Memory>
+pub fn signed_names_in(alloc: Global, text: &[u8]) -> Result<List<Bytes>, Memory>
     ensures { IfOk result (λ names. names ≡ slice_split is_semicolon text.now) }
 {
     let mut names = List::new(alloc);

@@ -13,7 +13,7 @@ mod request;
 mod signature;
 mod verdict;
 
-pub use authorization::{Authorization, behind_service, is_formed, names_of};
+pub use authorization::{Authorization, behind_service, is_formed, signed_names_in};
 pub use hash::hmac;
 pub use keys::{AccessKey, Keys, KeysFault};
 pub use laws::{law_authorization_read, law_query_ordered};

@@ -39,13 +39,13 @@ pub fn verify(
         return Ok(Caller::Anonymous);
     }
     match claim_of(alloc, message.headers.as_slice())? {
-        Some(claim) => judge(alloc, keys, region, message, target, moment, &claim),
+        Some(claim) => judge_claim(alloc, keys, region, message, target, moment, &claim),
         None => Err(Refusal::HeaderMalformed),
     }
 }
 
 /// The answer to what a header says.
-fn judge(
+fn judge_claim(
     alloc: Global,
     keys: &Keys,
     region: &[u8],
@@ -58,13 +58,15 @@ fn judge(
         (judged_with (secret_of claim.now.id keys.now) region.now message.now target.now moment claim.now) }
 {
     match keys.secret(claim.id.as_slice()) {
-        Some(secret) => judge_with(alloc, secret, region, message, target, moment, claim),
+        Some(secret) => judge_claim_by_secret(
+            alloc, secret, region, message, target, moment, claim,
+        ),
         None => Err(Refusal::UnknownKey),
     }
 }
 
 /// The answer to what a header says whose key has this secret.
-fn judge_with(
+fn judge_claim_by_secret(
     alloc: Global,
     secret: &[u8],
     region: &[u8],

@@ -49,12 +49,12 @@ pub fn run_store<N: Line<NoCount>, R: Sink, S: Shelf>(
     // Where all was done nothing is reported.
     ensures silent { result ≡ 0 → report.new ≡ report.old }
 {
-    let status = attempt(alloc, words, line, shelf);
-    tell(status, report)
+    let status = run_without_report(alloc, words, line, shelf);
+    report_status(status, report)
 }
 
 /// A run but for its report.
-fn attempt<N: Line<NoCount>, S: Shelf>(
+fn run_without_report<N: Line<NoCount>, S: Shelf>(
     alloc: Global,
     words: &[String],
     line: &mut N,
@@ -65,14 +65,14 @@ fn attempt<N: Line<NoCount>, S: Shelf>(
         (S.model shelf.old) (S.model shelf.new) }
 {
     match read_words(alloc, words) {
-        Ok(asked) => perform(alloc, asked, line, shelf),
+        Ok(asked) => serve_as_asked(alloc, asked, line, shelf),
         Err(WordsFault::Refused) => Status::Usage,
         Err(WordsFault::Memory) => Status::Memory,
     }
 }
 
 /// Serves as the words ask.
-fn perform<N: Line<NoCount>, S: Shelf>(
+fn serve_as_asked<N: Line<NoCount>, S: Shelf>(
     alloc: Global,
     asked: Asked,
     line: &mut N,
@@ -142,7 +142,7 @@ fn place_of(alloc: Global, asked: Asked) -> Result<Place, Memory>
 }
 
 /// Reports how a run ended. The answer is its exit status.
-fn tell<R: Sink>(status: Status, report: &mut R) -> u8
+fn report_status<R: Sink>(status: Status, report: &mut R) -> u8
     ensures code { result ≡ code_of status }
     ensures reports { Reports (line_of status) (R.model report.old) (R.model report.new) }
     ensures silent { result ≡ 0 → report.new ≡ report.old }

@@ -62,7 +62,9 @@ impl<'a, S: Shelf, N: Line<NoCount>> Service<NoCount, N> for LentStore<'a, S> {
             Received::Message(message) => {
                 answer_message(self.alloc, self.setup, self.shelf, line, message)
             }
-            Received::Refused { kind, place, .. } => refuse(self.setup, line, kind, place),
+            Received::Refused { kind, place, .. } => answer_bad_request(
+                self.setup, line, kind, place,
+            ),
         }
     }
 }
@@ -114,7 +116,12 @@ fn after(last: bool) -> Option<Ended>
 }
 
 /// Answers what is no request that is accepted, `400 Bad Request`, which ends the connection.
-fn refuse<N: Line<NoCount>>(setup: &Setup, line: &mut N, kind: Kind, place: u64) -> Option<Ended>
+fn answer_bad_request<N: Line<NoCount>>(
+    setup: &Setup,
+    line: &mut N,
+    kind: Kind,
+    place: u64,
+) -> Option<Ended>
     requires { IsTrue (N.model line.old).is_open }
     ensures ends { result ≢ None }
     ensures writes { OnlyWrites (is_failed_step result) (N.model line.old) (N.model line.new) }

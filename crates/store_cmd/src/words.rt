@@ -61,14 +61,14 @@ pub(crate) fn read_words(alloc: Global, words: &[String]) -> Result<Asked, Words
     ensures reads { ReadsWords (asked_of words.now) result }
     ensures place { IfOk result (λ asked. IsPlace (place_by asked)) }
 {
-    let matches = parse(alloc, words)?;
+    let matches = match_words(alloc, words)?;
     asked_in(alloc, &matches)
 }
 
-fn parse<'a>(alloc: Global, words: &'a [String]) -> Result<ArgMatches<'a>, WordsFault>
+fn match_words<'a>(alloc: Global, words: &'a [String]) -> Result<ArgMatches<'a>, WordsFault>
     ensures { Parses (map string_bytes words.entry.now) result }
 {
-    let command = described(alloc)?;
+    let command = described_command(alloc)?;
     match command.try_get_matches_from(words) {
         Ok(matches) => Ok(matches),
         Err(error) => Err(fault_of(&error)),
@@ -76,17 +76,17 @@ fn parse<'a>(alloc: Global, words: &'a [String]) -> Result<ArgMatches<'a>, Words
 }
 
 /// The words as `clap` takes them.
-fn described<'a>(alloc: Global) -> Result<Command<'a>, AllocError>
+fn described_command<'a>(alloc: Global) -> Result<Command<'a>, AllocError>
     ensures { IfOk result (λ command. app_of command ≡ store_app) }
 {
-    let bare = named(alloc);
-    let one = with_needed(alloc, bare, "token")?;
-    let two = with_needed(alloc, one, "account")?;
-    with_needed(alloc, two, "connections")
+    let bare = command_without_options(alloc);
+    let one = with_required_option(alloc, bare, "token")?;
+    let two = with_required_option(alloc, one, "account")?;
+    with_required_option(alloc, two, "connections")
 }
 
 /// A command with one more option, which has to be given.
-fn with_needed<'a>(
+fn with_required_option<'a>(
     alloc: Global,
     command: Command<'a>,
     name: &'a str,
@@ -94,19 +94,19 @@ fn with_needed<'a>(
     ensures { IfOk result
         (λ more. app_of more ≡ with_rule (app_of command.entry) (needed_rule name.entry.now)) }
 {
-    let option = needed(alloc, name);
+    let option = required_option(alloc, name);
     command.arg(option)
 }
 
 /// The program, whose words begin behind its name.
-fn named<'a>(alloc: Global) -> Command<'a>
+fn command_without_options<'a>(alloc: Global) -> Command<'a>
     ensures { app_of result ≡ on_top with_settings (new_app (codes "swiftd")) }
 {
     Command::new(alloc, "swiftd").no_binary_name(true)
 }
 
 /// An option that has to be given.
-fn needed<'a>(alloc: Global, name: &'a str) -> Arg<'a>
+fn required_option<'a>(alloc: Global, name: &'a str) -> Arg<'a>
     ensures rule { rule_of result ≡ needed_rule name.entry.now }
     ensures local { result.global ≡ false }
 {
@@ -210,7 +210,7 @@ fn count_in(text: &str) -> Option<u64>
     if !is_number(text.as_bytes(), LONGEST_NUMBER) {
         return None;
     }
-    match text.parse::<u64>() {
+    match text.match_words::<u64>() {
         Ok(count) if is_count(count) => Some(count),
         _ => None,
     }

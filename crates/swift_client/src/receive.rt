@@ -54,7 +54,10 @@ fn receive_front<S: Read>(
         if answer[came..].contains(&b'\n') {
             match front_of(alloc, head, answer)? {
                 Announced::More => {}
-                Announced::Answer { head, body, stays } => return Ok((whole(head, body)?, stays)),
+                Announced::Answer { head, body, stays } => return Ok((
+                    whole_answer_size(head, body)?,
+                    stays,
+                )),
                 Announced::Bad => return Err(io::Error::from(ErrorKind::InvalidData)),
             }
         }
@@ -103,7 +106,7 @@ fn read<S: Read>(stream: &mut S, buf: &mut [u8]) -> io::Result<usize>
 
 /// How many bytes a head and a body have together. More than [`MOST`] is an error, so that a store which announces what no
 /// answer has is not asked for it, and no memory is taken for it.
-fn whole(head: usize, body: u64) -> io::Result<usize> {
+fn whole_answer_size(head: usize, body: u64) -> io::Result<usize> {
     match (head as u64).checked_add(body) {
         Some(size) if size <= MOST => Ok(size as usize),
         _ => Err(io::Error::from(ErrorKind::InvalidData)),

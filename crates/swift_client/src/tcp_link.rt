@@ -112,7 +112,7 @@ impl<R: Net + Drop> TcpLink<R> {
     }
 
     /// A connection for an exchange: the one that is kept, where it may serve another, or a new one.
-    fn ready(&mut self) -> io::Result<R::Stream>
+    fn take_ready_stream(&mut self) -> io::Result<R::Stream>
         ensures { self.new ≡ record self.old { stream = self.new.stream; fresh = self.new.fresh } }
     {
         let fresh = self.fresh;
@@ -126,10 +126,10 @@ impl<R: Net + Drop> TcpLink<R> {
     }
 
     /// One exchange. The connection is kept only where it went well.
-    fn go(&mut self, request: &[u8], reply: &mut Bytes) -> io::Result<()>
+    fn exchange_over_stream(&mut self, request: &[u8], reply: &mut Bytes) -> io::Result<()>
         ensures { self.new ≡ record self.old { stream = self.new.stream; fresh = self.new.fresh } }
     {
-        let mut stream = self.ready()?;
+        let mut stream = self.take_ready_stream()?;
         stream.write_all(request)?;
         let answer = receive(self.alloc, &mut stream, request.starts_with(b"HEAD "))?;
         *reply = answer.bytes;
@@ -161,7 +161,7 @@ impl<R: Net + Drop> Link for TcpLink<R> {
 
     fn exchange(&mut self, request: &[u8], reply: &mut Bytes) -> Result<(), LinkFault> {
         self.calls += 1;
-        match self.go(request, reply) {
+        match self.exchange_over_stream(request, reply) {
             Ok(()) => {
                 self.failing = None;
                 Ok(())

@@ -26,7 +26,7 @@ pub fn read_answer(
     ensures { ReadsAnswer call.now bytes.now result }
 {
     match find_head(alloc, bytes)? {
-        Front::Whole(found) => read_found(alloc, call, bytes, &found),
+        Front::Whole(found) => read_answer_with_head(alloc, call, bytes, &found),
         Front::More => Err(WireFault::NotAnAnswer),
         Front::Dead => Err(WireFault::NotAnAnswer),
     }
@@ -34,7 +34,7 @@ pub fn read_answer(
 
 /// The same where the head was found.
 #[tactic(auto, using(crate::proofs::AnswerLemmas::reads_reply, crate::proofs::AnswerLemmas::reads_none, crate::proofs::AnswerLemmas::reads_no_body))]
-fn read_found(
+fn read_answer_with_head(
     alloc: Global,
     call: &SwiftRequest,
     bytes: &[u8],
@@ -335,13 +335,13 @@ pub(crate) fn is_part(range: Option<(u64, u64)>, size: u64, count: usize) -> boo
     match range {
         None => count as u64 == size,
         Some((first, last)) => {
-            first < size && count as u64 == end_of(last, size).saturating_sub(first)
+            first < size && count as u64 == range_end_in_object(last, size).saturating_sub(first)
         }
     }
 }
 
 /// The end of a range in an object of this size.
-fn end_of(last: u64, size: u64) -> u64
+fn range_end_in_object(last: u64, size: u64) -> u64
     ensures { result ≡ min (last + 1) size }
 {
     if last < size { last + 1 } else { size }

@@ -123,14 +123,14 @@ pub(crate) fn append_meta(text: &mut Bytes, pieces: &[Bytes]) -> Result<(), Memo
     ensures { OnOk result (text.new ≡ text.old ++ print_headers (meta_fields 0 pieces.now)) }
 {
     for (index, piece) in pieces.iter().enumerate() {
-        append_piece(text, index as u64, piece.as_slice())?;
+        append_meta_header(text, index as u64, piece.as_slice())?;
     }
     Ok(())
 }
 
 /// Adds the piece of metadata of a number.
 #[tactic(auto, using(crate::proofs::SentLemmas::piece_is))]
-fn append_piece(text: &mut Bytes, index: u64, piece: &[u8]) -> Result<(), Memory>
+fn append_meta_header(text: &mut Bytes, index: u64, piece: &[u8]) -> Result<(), Memory>
     ensures { OnOk result (text.new ≡ text.old
         ++ print_header (codes "X-Object-Meta-S3-" ++ decimal index, piece.now)) }
 {

@@ -17,7 +17,7 @@ pub(crate) fn containers_text(alloc: Global, names: &[Bytes]) -> Result<Option<B
         (list_text (map container_value names.now)) else None)) }
 {
     if are_utf8(names) {
-        Ok(Some(names_text(alloc, names)?))
+        Ok(Some(json_of_container_names(alloc, names)?))
     } else {
         Ok(None)
     }
@@ -29,7 +29,7 @@ pub(crate) fn items_text(alloc: Global, items: &[NameItem]) -> Result<Option<Byt
         (list_text (map item_value items.now)) else None)) }
 {
     if are_items(items) {
-        Ok(Some(objects_text(alloc, items)?))
+        Ok(Some(json_of_name_items(alloc, items)?))
     } else {
         Ok(None)
     }
@@ -52,18 +52,18 @@ fn is_item(item: &NameItem) -> bool
 {
     is_utf8(item.name.as_slice())
         && (is_utf8(item.hash.as_slice())
-            && (is_utf8(item.content_type.as_slice()) && is_whole(item.size)))
+            && (is_utf8(item.content_type.as_slice()) && is_whole_number(item.size)))
 }
 
 /// Whether a size is read as a whole number, which each `u64` is.
-fn is_whole(size: u64) -> bool
+fn is_whole_number(size: u64) -> bool
     ensures { result ≡ nat_lt size (2 ^ 64) }
 {
     true
 }
 
 #[tactic(auto, using(crate::proofs::ListTextLemmas::passes, crate::proofs::ListTextLemmas::map_more))]
-fn names_text(alloc: Global, names: &[Bytes]) -> Result<Bytes, Memory>
+fn json_of_container_names(alloc: Global, names: &[Bytes]) -> Result<Bytes, Memory>
     requires { list_all is_utf8 names.now ≡ true }
     ensures { IfOk result (λ text. text ≡ list_text (map container_value names.now)) }
 {
@@ -75,13 +75,13 @@ fn names_text(alloc: Global, names: &[Bytes]) -> Result<Bytes, Memory>
 }
 
 #[tactic(auto, using(crate::proofs::ListTextLemmas::passes, crate::proofs::ListTextLemmas::map_more))]
-fn objects_text(alloc: Global, items: &[NameItem]) -> Result<Bytes, Memory>
+fn json_of_name_items(alloc: Global, items: &[NameItem]) -> Result<Bytes, Memory>
     requires { list_all is_item items.now ≡ true }
     ensures { IfOk result (λ text. text ≡ list_text (map item_value items.now)) }
 {
     let mut entries = Vec::new(alloc);
     for item in items {
-        entries.push(item_of(alloc, item)?)?;
+        entries.push(json_value_of_item(alloc, item)?)?;
     }
     Ok(Bytes::from_vec(Value::Array(entries).to_vec(alloc)?))
 }
@@ -93,7 +93,7 @@ fn container_value(alloc: Global, name: &str) -> Result<Value, AllocError>
 }
 
 #[tactic(auto, using(crate::proofs::ListTextLemmas::name_is_utf8, crate::proofs::ListTextLemmas::hash_is_utf8, crate::proofs::ListTextLemmas::type_is_utf8))]
-fn item_of(alloc: Global, item: &NameItem) -> Result<Value, AllocError>
+fn json_value_of_item(alloc: Global, item: &NameItem) -> Result<Value, AllocError>
     requires { is_item item.now ≡ true }
     ensures { IfOk result (λ value. view value ≡ item_value item.now) }
 {

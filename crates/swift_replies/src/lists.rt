@@ -15,13 +15,13 @@ use swift_calls::NameItem;
 pub(crate) fn container_names(alloc: Global, body: &[u8]) -> Result<Option<List<Bytes>>, Memory>
     ensures { IfOk result (λ names. names ≡ container_names body.now) }
 {
-    let Some(value) = parse(alloc, body)? else {
+    let Some(value) = json_value_in(alloc, body)? else {
         return Ok(None);
     };
     let Some(entries) = value.as_array() else {
         return Ok(None);
     };
-    read_names(alloc, entries)
+    container_names_in_entries(alloc, entries)
 }
 
 /// The objects of a listing of a container; none where the text is no such listing.
@@ -29,18 +29,18 @@ pub(crate) fn container_names(alloc: Global, body: &[u8]) -> Result<Option<List<
 pub(crate) fn name_items(alloc: Global, body: &[u8]) -> Result<Option<List<NameItem>>, Memory>
     ensures { IfOk result (λ items. items ≡ name_items body.now) }
 {
-    let Some(value) = parse(alloc, body)? else {
+    let Some(value) = json_value_in(alloc, body)? else {
         return Ok(None);
     };
     let Some(entries) = value.as_array() else {
         return Ok(None);
     };
-    read_items(alloc, entries)
+    name_items_in_entries(alloc, entries)
 }
 
 /// The JSON of a text.
 #[tactic(auto, using(crate::proofs::ListLemmas::json_read, crate::proofs::ListLemmas::json_refused))]
-fn parse(alloc: Global, bytes: &[u8]) -> Result<Option<Value>, Memory>
+fn json_value_in(alloc: Global, bytes: &[u8]) -> Result<Option<Value>, Memory>
     ensures { IfOk result (λ value. option_map view value ≡ json_of bytes.now) }
 {
     match Value::from_slice(alloc, bytes) {
@@ -53,7 +53,10 @@ fn parse(alloc: Global, bytes: &[u8]) -> Result<Option<Value>, Memory>
 }
 
 #[tactic(auto, using(crate::proofs::ListLemmas::each_more, crate::proofs::ListLemmas::each_none, crate::proofs::ListLemmas::each_all))]
-fn read_names(alloc: Global, entries: &[Value]) -> Result<Option<List<Bytes>>, Memory>
+fn container_names_in_entries(
+    alloc: Global,
+    entries: &[Value],
+) -> Result<Option<List<Bytes>>, Memory>
     ensures { IfOk result (λ names. names ≡ each container_name (items_view entries.now)) }
 {
     let mut names = List::new(alloc);
@@ -67,12 +70,12 @@ fn read_names(alloc: Global, entries: &[Value]) -> Result<Option<List<Bytes>>, M
 }
 
 #[tactic(auto, using(crate::proofs::ListLemmas::each_more, crate::proofs::ListLemmas::each_none, crate::proofs::ListLemmas::each_all))]
-fn read_items(alloc: Global, entries: &[Value]) -> Result<Option<List<NameItem>>, Memory>
+fn name_items_in_entries(alloc: Global, entries: &[Value]) -> Result<Option<List<NameItem>>, Memory>
     ensures { IfOk result (λ items. items ≡ each name_item (items_view entries.now)) }
 {
     let mut items = List::new(alloc);
     for entry in entries {
-        let Some(item) = item_in(alloc, entry)? else {
+        let Some(item) = name_item_in_entry(alloc, entry)? else {
             return Ok(None);
         };
         items.push(item)?;
@@ -81,7 +84,7 @@ fn read_items(alloc: Global, entries: &[Value]) -> Result<Option<List<NameItem>>
 }
 
 /// The object that an entry of a listing has.
-fn item_in(alloc: Global, entry: &Value) -> Result<Option<NameItem>, Memory>
+fn name_item_in_entry(alloc: Global, entry: &Value) -> Result<Option<NameItem>, Memory>
     ensures { IfOk result (λ item. item ≡ name_item (view entry.now)) }
 {
     let Some(name) = text_at(entry, "name") else {

@@ -37,14 +37,14 @@ pub fn write_answer(alloc: Global, call: &SwiftRequest, reply: &SwiftReply) -> R
     match call {
         SwiftRequest::ListContainers { .. } => list_containers_answer(alloc, reply),
         SwiftRequest::HeadContainer { .. } => head_container_answer(alloc, reply),
-        SwiftRequest::PutContainer { .. } => put_answer(alloc, reply),
+        SwiftRequest::PutContainer { .. } => put_container_answer(alloc, reply),
         SwiftRequest::PostContainer { .. } => post_answer(alloc, reply),
         SwiftRequest::DeleteContainer { .. } => delete_answer(alloc, reply),
         SwiftRequest::ListNames { .. } => list_names_answer(alloc, reply),
         SwiftRequest::PutObject { .. } => put_object_answer(alloc, reply),
         SwiftRequest::PutManifest { .. } => put_manifest_answer(alloc, reply),
         SwiftRequest::HeadObject { .. } => head_object_answer(alloc, reply),
-        SwiftRequest::GetObject { range, .. } => get_answer(alloc, *range, reply),
+        SwiftRequest::GetObject { range, .. } => get_object_answer(alloc, *range, reply),
         SwiftRequest::GetManifest { .. } => get_manifest_answer(alloc, reply),
         SwiftRequest::DeleteObject { .. } => post_answer(alloc, reply),
     }
@@ -56,12 +56,12 @@ pub fn write_answer(alloc: Global, call: &SwiftRequest, reply: &SwiftReply) -> R
 pub fn refusal(alloc: Global, status: u16) -> Result<Bytes, Memory>
     ensures { IfOk result (λ text. text ≡ refusal status) }
 {
-    let mut text = begin(alloc, status, 0, 0)?;
-    finish(&mut text, b"")?;
+    let mut text = begin_answer(alloc, status, 0, 0)?;
+    finish_answer(&mut text, b"")?;
     Ok(text)
 }
 
-fn put_answer(alloc: Global, reply: &SwiftReply) -> Result<Bytes, Memory>
+fn put_container_answer(alloc: Global, reply: &SwiftReply) -> Result<Bytes, Memory>
     ensures { IfOk result (λ text. text ≡ text_by (put_sent reply.now)) }
 {
     match reply {
@@ -148,7 +148,11 @@ fn head_object_answer(alloc: Global, reply: &SwiftReply) -> Result<Bytes, Memory
     }
 }
 
-fn get_answer(alloc: Global, range: Option<(u64, u64)>, reply: &SwiftReply) -> Result<Bytes, Memory>
+fn get_object_answer(
+    alloc: Global,
+    range: Option<(u64, u64)>,
+    reply: &SwiftReply,
+) -> Result<Bytes, Memory>
     ensures { IfOk result (λ text. text ≡ text_by (get_sent range reply.now)) }
 {
     match reply {
@@ -173,7 +177,7 @@ fn get_manifest_answer(alloc: Global, reply: &SwiftReply) -> Result<Bytes, Memor
 }
 
 /// The status line and Content-Length, with room for a body.
-fn begin(alloc: Global, status: u16, size: u64, room: usize) -> Result<Bytes, Memory>
+fn begin_answer(alloc: Global, status: u16, size: u64, room: usize) -> Result<Bytes, Memory>
     ensures { IfOk result
         (λ text. text ≡ status_line status ++ print_headers (length_field size ∷ [])) }
 {
@@ -192,7 +196,7 @@ fn append_length(text: &mut Bytes, size: u64) -> Result<(), Memory>
 }
 
 /// Adds the empty line and the body.
-fn finish(text: &mut Bytes, body: &[u8]) -> Result<(), Memory>
+fn finish_answer(text: &mut Bytes, body: &[u8]) -> Result<(), Memory>
     ensures { OnOk result (text.new ≡ (text.old ++ 13 ∷ 10 ∷ []) ++ body.now) }
 {
     text.append(b"\r\n")?;
@@ -200,20 +204,20 @@ fn finish(text: &mut Bytes, body: &[u8]) -> Result<(), Memory>
 }
 
 /// The same for a head of at most 65,536 bytes, and else an answer of status 500.
-fn finish_within(alloc: Global, head: Bytes, body: &[u8]) -> Result<Bytes, Memory>
+fn finish_answer_within_limit(alloc: Global, head: Bytes, body: &[u8]) -> Result<Bytes, Memory>
     ensures { IfOk result (λ text. text ≡ (if nat_le (length (head ++ 13 ∷ 10 ∷ [])) HEAD_LIMIT then
         (head ++ 13 ∷ 10 ∷ []) ++ body.now else refusal 500)) }
 {
     let mut text = head;
     text.append(b"\r\n")?;
-    if is_long(&text) {
+    if is_head_too_long(&text) {
         return refusal(alloc, 500);
     }
     text.append(body)?;
     Ok(text)
 }
 
-fn is_long(text: &Bytes) -> bool
+fn is_head_too_long(text: &Bytes) -> bool
     ensures { result ≡ not (nat_le (length text.now) HEAD_LIMIT) }
 {
     text.len() > HEAD_LIMIT
@@ -234,10 +238,10 @@ fn readers_answer(alloc: Global, readers: ReadList, created: Option<u64>) -> Res
     if !is_created(created) {
         return refusal(alloc, 500);
     }
-    let mut text = begin(alloc, 204, 0, 0)?;
+    let mut text = begin_answer(alloc, 204, 0, 0)?;
     append_header(&mut text, b"X-Container-Read", readers_text(readers))?;
     append_created(&mut text, created)?;
-    finish(&mut text, b"")?;
+    finish_answer(&mut text, b"")?;
     Ok(text)
 }
 
@@ -248,9 +252,9 @@ fn stored_answer(alloc: Global, etag: &[u8]) -> Result<Bytes, Memory>
     if !is_tag(etag) {
         return refusal(alloc, 500);
     }
-    let mut text = begin(alloc, 201, 0, 0)?;
+    let mut text = begin_answer(alloc, 201, 0, 0)?;
     append_header(&mut text, b"Etag", etag)?;
-    let answer = finish_within(alloc, text, b"")?;
+    let answer = finish_answer_within_limit(alloc, text, b"")?;
     Ok(answer)
 }
 
@@ -291,7 +295,7 @@ fn is_head(head: &StoredHead) -> bool
         && (is_tag(head.etag.as_slice()) && (is_size(head.size) && is_meta(head.meta.as_slice())))
 }
 
-fn append_object(text: &mut Bytes, head: &StoredHead) -> Result<(), Memory>
+fn append_object_headers(text: &mut Bytes, head: &StoredHead) -> Result<(), Memory>
     ensures { OnOk result (text.new ≡ text.old ++ print_headers (object_fields head.now)) }
 {
     append_header(text, b"Content-Type", head.content_type.as_slice())?;
@@ -318,9 +322,9 @@ fn head_answer(alloc: Global, head: &StoredHead) -> Result<Bytes, Memory>
     if !is_head(head) {
         return refusal(alloc, 500);
     }
-    let mut text = begin(alloc, 200, head.size, 0)?;
-    append_object(&mut text, head)?;
-    let answer = finish_within(alloc, text, b"")?;
+    let mut text = begin_answer(alloc, 200, head.size, 0)?;
+    append_object_headers(&mut text, head)?;
+    let answer = finish_answer_within_limit(alloc, text, b"")?;
     Ok(answer)
 }
 
@@ -332,7 +336,7 @@ fn bytes_answer(
 ) -> Result<Bytes, Memory>
     ensures { IfOk result (λ text. text ≡ text_by (bytes_sent range head.now body.now)) }
 {
-    if !is_sent(range, head, body.len()) {
+    if !is_spelled_content(range, head, body.len()) {
         return refusal(alloc, 500);
     }
     match range {
@@ -341,7 +345,7 @@ fn bytes_answer(
     }
 }
 
-fn is_sent(range: Option<(u64, u64)>, head: &StoredHead, count: usize) -> bool
+fn is_spelled_content(range: Option<(u64, u64)>, head: &StoredHead, count: usize) -> bool
     ensures { result ≡ (is_part range head.now.size count && is_head head.now) }
 {
     is_part(range, head.size, count) && is_head(head)
@@ -352,9 +356,9 @@ fn whole_answer(alloc: Global, head: &StoredHead, body: &[u8]) -> Result<Bytes, 
     ensures { IfOk result
         (λ text. text ≡ text_by (within_limit (bytes_by None head.now body.now))) }
 {
-    let mut text = begin(alloc, 200, body.len() as u64, body.len())?;
-    append_object(&mut text, head)?;
-    let answer = finish_within(alloc, text, body)?;
+    let mut text = begin_answer(alloc, 200, body.len() as u64, body.len())?;
+    append_object_headers(&mut text, head)?;
+    let answer = finish_answer_within_limit(alloc, text, body)?;
     Ok(answer)
 }
 
@@ -369,15 +373,15 @@ fn part_answer(
     ensures { IfOk result
         (λ text. text ≡ text_by (within_limit (bytes_by (Some (first, last)) head.now body.now))) }
 {
-    let mut text = begin(alloc, 206, body.len() as u64, body.len())?;
-    append_object(&mut text, head)?;
-    append_range(&mut text, first, body.len() as u64, head.size)?;
-    let answer = finish_within(alloc, text, body)?;
+    let mut text = begin_answer(alloc, 206, body.len() as u64, body.len())?;
+    append_object_headers(&mut text, head)?;
+    append_content_range(&mut text, first, body.len() as u64, head.size)?;
+    let answer = finish_answer_within_limit(alloc, text, body)?;
     Ok(answer)
 }
 
 #[tactic(auto, using(crate::proofs::SentLemmas::header_is))]
-fn append_range(text: &mut Bytes, first: u64, count: u64, size: u64) -> Result<(), Memory>
+fn append_content_range(text: &mut Bytes, first: u64, count: u64, size: u64) -> Result<(), Memory>
     requires { first + count < 2 ^ 64 }
     ensures { OnOk result (text.new ≡ text.old
         ++ print_header (codes "Content-Range", range_text first count size)) }
@@ -405,7 +409,7 @@ fn containers_answer(alloc: Global, names: &[Bytes]) -> Result<Bytes, Memory>
     ensures { IfOk result (λ text. text ≡ text_by (containers_sent names.now)) }
 {
     match containers_text(alloc, names)? {
-        Some(text) => list_answer(alloc, text.as_slice()),
+        Some(text) => json_listing_answer(alloc, text.as_slice()),
         None => refusal(alloc, 500),
     }
 }
@@ -414,17 +418,17 @@ fn names_answer(alloc: Global, items: &[NameItem]) -> Result<Bytes, Memory>
     ensures { IfOk result (λ text. text ≡ text_by (names_sent items.now)) }
 {
     match items_text(alloc, items)? {
-        Some(text) => list_answer(alloc, text.as_slice()),
+        Some(text) => json_listing_answer(alloc, text.as_slice()),
         None => refusal(alloc, 500),
     }
 }
 
 #[tactic(auto, using(crate::proofs::SentLemmas::sent_parts))]
-fn list_answer(alloc: Global, body: &[u8]) -> Result<Bytes, Memory>
+fn json_listing_answer(alloc: Global, body: &[u8]) -> Result<Bytes, Memory>
     ensures { IfOk result (λ text. text ≡ sent_text (list_sent body.now)) }
 {
-    let mut text = begin(alloc, 200, body.len() as u64, body.len())?;
-    finish(&mut text, body)?;
+    let mut text = begin_answer(alloc, 200, body.len() as u64, body.len())?;
+    finish_answer(&mut text, body)?;
     Ok(text)
 }
 
@@ -435,15 +439,15 @@ fn segments_answer(alloc: Global, segments: &[Segment]) -> Result<Bytes, Memory>
         return refusal(alloc, 500);
     }
     let body = write(alloc, segments, Form::Got)?;
-    listed_answer(alloc, body.as_slice())
+    json_segments_answer(alloc, body.as_slice())
 }
 
 #[tactic(auto, using(crate::proofs::SentLemmas::join_headers, crate::proofs::SentLemmas::sent_parts))]
-fn listed_answer(alloc: Global, body: &[u8]) -> Result<Bytes, Memory>
+fn json_segments_answer(alloc: Global, body: &[u8]) -> Result<Bytes, Memory>
     ensures { IfOk result (λ text. text ≡ sent_text (segments_by body.now)) }
 {
-    let mut text = begin(alloc, 200, body.len() as u64, body.len())?;
+    let mut text = begin_answer(alloc, 200, body.len() as u64, body.len())?;
     append_manifest(&mut text, true)?;
-    finish(&mut text, body)?;
+    finish_answer(&mut text, body)?;
     Ok(text)
 }

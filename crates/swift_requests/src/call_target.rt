@@ -45,11 +45,11 @@ pub(crate) fn append_target(
             name,
             ..
         } => {
-            append_object(alloc, text, place, container, name)?;
+            append_object_path(alloc, text, place, container, name)?;
             text.append(b"?multipart-manifest=put")
         }
         SwiftRequest::GetManifest { container, name } => {
-            append_object(alloc, text, place, container, name)?;
+            append_object_path(alloc, text, place, container, name)?;
             text.append(b"?multipart-manifest=get")
         }
         SwiftRequest::PutObject {
@@ -63,7 +63,7 @@ pub(crate) fn append_target(
             name,
             ..
         }
-        | SwiftRequest::DeleteObject { container, name } => append_object(
+        | SwiftRequest::DeleteObject { container, name } => append_object_path(
             alloc, text, place, container, name,
         ),
     }
@@ -107,7 +107,7 @@ fn append_container(
 }
 
 /// Adds `/v1/ACCOUNT/CONTAINER/NAME`.
-fn append_object(
+fn append_object_path(
     alloc: Global,
     text: &mut Bytes,
     place: &Place,

@@ -29,17 +29,22 @@ pub fn write_call(alloc: Global, place: &Place, call: &SwiftRequest) -> Result<B
     ensures spells { IfOk result (λ bytes. SpellsRequest place.now call.now bytes) }
 {
     match call {
-        SwiftRequest::PutObject { body, .. } => write_with(alloc, place, call, body.as_slice()),
+        SwiftRequest::PutObject { body, .. } => write_call_with_body(
+            alloc,
+            place,
+            call,
+            body.as_slice(),
+        ),
         SwiftRequest::PutManifest { segments, .. } => {
             let body = write(alloc, segments.as_slice(), Form::Put)?;
-            write_with(alloc, place, call, body.as_slice())
+            write_call_with_body(alloc, place, call, body.as_slice())
         }
-        _ => write_with(alloc, place, call, b""),
+        _ => write_call_with_body(alloc, place, call, b""),
     }
 }
 
 /// The same with the call's body.
-fn write_with(
+fn write_call_with_body(
     alloc: Global,
     place: &Place,
     call: &SwiftRequest,
@@ -53,7 +58,7 @@ fn write_with(
 {
     law_call_reads_back();
     let mut text = Bytes::with_room(alloc, body.len().saturating_add(HEAD_ROOM))?;
-    append_line(alloc, &mut text, place, call)?;
+    append_request_line(alloc, &mut text, place, call)?;
     append_fields(&mut text, place, call, body.len())?;
     text.append(b"\r\n")?;
     text.append(body)?;
@@ -80,7 +85,7 @@ fn method_text(call: &SwiftRequest) -> &'static [u8]
 }
 
 /// Adds the request line.
-fn append_line(
+fn append_request_line(
     alloc: Global,
     text: &mut Bytes,
     place: &Place,
@@ -106,7 +111,7 @@ fn append_fields(
 {
     append_field(text, b"Host", place.host.as_slice())?;
     append_field(text, b"X-Auth-Token", place.token.as_slice())?;
-    append_own(text, call)?;
+    append_own_fields(text, call)?;
     append_number(text, b"Content-Length", size as u64)
 }
 
@@ -131,7 +136,7 @@ fn append_number(text: &mut Bytes, name: &[u8], number: u64) -> Result<(), Memor
 }
 
 /// Adds the fields of the call's own.
-fn append_own(text: &mut Bytes, call: &SwiftRequest) -> Result<(), Memory>
+fn append_own_fields(text: &mut Bytes, call: &SwiftRequest) -> Result<(), Memory>
     ensures { OnOk result (text.new ≡ text.old ++ print_headers (own_fields call.now)) }
 {
     match call {
@@ -154,7 +159,7 @@ fn append_own(text: &mut Bytes, call: &SwiftRequest) -> Result<(), Memory>
             meta,
             ..
         } => append_content(text, content_type, meta),
-        SwiftRequest::GetObject { range, .. } => append_range(text, *range),
+        SwiftRequest::GetObject { range, .. } => append_range_if_asked(text, *range),
         _ => Ok(()),
     }
 }
@@ -192,7 +197,7 @@ fn append_created(text: &mut Bytes, created: Option<u64>) -> Result<(), Memory>
     }
 }
 
-fn append_range(text: &mut Bytes, range: Option<(u64, u64)>) -> Result<(), Memory>
+fn append_range_if_asked(text: &mut Bytes, range: Option<(u64, u64)>) -> Result<(), Memory>
     ensures { OnOk result (text.new ≡ text.old ++ print_headers (range_fields range)) }
 {
     match range {
@@ -216,12 +221,12 @@ fn append_meta(text: &mut Bytes, pieces: &[Bytes]) -> Result<(), Memory>
     ensures { OnOk result (text.new ≡ text.old ++ print_headers (meta_fields 0 pieces.now)) }
 {
     'pieces: for (index, piece) in pieces.iter().enumerate() {
-        append_piece(text, index as u64, piece.as_slice())?;
+        append_meta_field(text, index as u64, piece.as_slice())?;
     }
     Ok(())
 }
 
-fn append_piece(text: &mut Bytes, index: u64, piece: &[u8]) -> Result<(), Memory>
+fn append_meta_field(text: &mut Bytes, index: u64, piece: &[u8]) -> Result<(), Memory>
     ensures { OnOk result (text.new ≡ text.old
         ++ print_header (codes "X-Object-Meta-S3-" ++ decimal index, piece.now)) }
 {

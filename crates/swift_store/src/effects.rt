@@ -180,7 +180,7 @@ fn delete_object<S: Shelf>(
 }
 
 /// Writes what a call writes. Its body, or its segments, are moved.
-pub(crate) fn apply<S: Shelf>(
+pub(crate) fn apply_call<S: Shelf>(
     shelf: &mut S,
     call: SwiftRequest,
     reply: SwiftReply,
@@ -209,12 +209,12 @@ pub(crate) fn apply<S: Shelf>(
             body,
             reply,
         ),
-        other => apply_list(shelf, other, reply),
+        other => apply_other_than_bytes(shelf, other, reply),
     }
 }
 
 /// Writes what a call other than a PUT of bytes writes. Its segments are moved.
-fn apply_list<S: Shelf>(
+fn apply_other_than_bytes<S: Shelf>(
     shelf: &mut S,
     call: SwiftRequest,
     reply: SwiftReply,
@@ -243,12 +243,12 @@ fn apply_list<S: Shelf>(
             segments,
             reply,
         ),
-        other => apply_other(shelf, other, &reply),
+        other => apply_owned_call(shelf, other, &reply),
     }
 }
 
 /// Writes what any other call writes, and lets go of the call.
-fn apply_other<S: Shelf>(
+fn apply_owned_call<S: Shelf>(
     shelf: &mut S,
     call: SwiftRequest,
     reply: &SwiftReply,
@@ -260,12 +260,12 @@ fn apply_other<S: Shelf>(
         → Writes (S.model shelf.old).account (swift_step (call) (S.model shelf.old).account).tree
         (S.model shelf.new).account result }
 {
-    apply_small(shelf, &call, reply)
+    apply_lent_call(shelf, &call, reply)
 }
 
 /// The same, of a call that is lent. A PUT of an object doesn't come here, of bytes or of segments.
 #[tactic(auto, using(crate::proofs::Writing::head_leaves))]
-fn apply_small<S: Shelf>(
+fn apply_lent_call<S: Shelf>(
     shelf: &mut S,
     call: &SwiftRequest,
     reply: &SwiftReply,

@@ -210,7 +210,7 @@ fn get_listed<S: Shelf>(
         → IsReply (asked.GetObject container.now name.now range) account reply) (S.model shelf.old)
         result (S.model shelf.new) }
 {
-    match list_bytes(shelf, alloc, container, name, head.size, range)? {
+    match bytes_of_listing_object(shelf, alloc, container, name, head.size, range)? {
         Some(Some(body)) => Ok(SwiftReply::Bytes { head, body }),
         Some(None) => Ok(SwiftReply::Unsatisfiable),
         None => Ok(SwiftReply::NotFound),
@@ -219,7 +219,7 @@ fn get_listed<S: Shelf>(
 
 /// The bytes of a range of an object that lists segments of a size together; none where a segment isn't there, and none of
 /// these where the range isn't.
-fn list_bytes<S: Shelf>(
+fn bytes_of_listing_object<S: Shelf>(
     shelf: &mut S,
     alloc: Global,
     container: &[u8],
@@ -232,13 +232,13 @@ fn list_bytes<S: Shelf>(
         (S.model shelf.new) }
 {
     match shelf.segments(container, name)? {
-        Some(segments) => listed_bytes(shelf, alloc, segments.as_slice(), size, range),
+        Some(segments) => bytes_of_segments(shelf, alloc, segments.as_slice(), size, range),
         None => Ok(None),
     }
 }
 
 /// The bytes of a range of segments of a size together.
-fn listed_bytes<S: Shelf>(
+fn bytes_of_segments<S: Shelf>(
     shelf: &mut S,
     alloc: Global,
     segments: &[Segment],
@@ -252,12 +252,12 @@ fn listed_bytes<S: Shelf>(
     if !are_outer(shelf, segments)? {
         return Ok(None);
     }
-    let part = part_bytes(shelf, alloc, segments, size, range)?;
+    let part = bytes_of_present_segments(shelf, alloc, segments, size, range)?;
     Ok(Some(part))
 }
 
 /// The bytes of a range of segments that are there.
-fn part_bytes<S: Shelf>(
+fn bytes_of_present_segments<S: Shelf>(
     shelf: &mut S,
     alloc: Global,
     segments: &[Segment],

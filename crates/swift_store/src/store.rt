@@ -7,7 +7,7 @@ ghost use Rattle.swift_requests.specs.Place.{IsPlace};
 ghost use Rattle.swift_store.specs.Shelf.{ShelfKeeps, ShelfReads, Writes};
 ghost use Rattle.swift_store.specs.Serving.{Answers, IsReply, Served, TagsBody};
 
-use crate::effects::apply;
+use crate::effects::apply_call;
 use crate::replies::reply_to;
 use crate::{Shelf, StoreFault};
 use gate_base::{Bytes, Memory};
@@ -97,7 +97,7 @@ fn apply_ready<S: Shelf>(
     ensures text { IfOk result (λ done. out.new ≡ out.old ++ answer_text call reply) }
     ensures text_err { OnErr result (out.new ≡ out.old) }
 {
-    apply(shelf, call, reply)?;
+    apply_call(shelf, call, reply)?;
     *out = ready;
     Ok(())
 }

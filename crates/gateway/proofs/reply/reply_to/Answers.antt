@@ -6,14 +6,14 @@ use Rattle.gateway.proofs.Replying.{operated_knows, operated_stands, code_meant,
 use Rattle.gateway.proofs.reply.reply_to.Goals as goal
 
 pub returns-in-Op-clause-knows : goal.returns-in-Op-clause-knows
-returns-in-Op-clause-knows g c = operated_knows c.operate.ensures c.requires.knows
+returns-in-Op-clause-knows g c = operated_knows c.settle_and_perform.ensures c.requires.knows
 
 pub returns-in-Op-clause-stands : goal.returns-in-Op-clause-stands
-returns-in-Op-clause-stands g c = operated_stands c.operate.ensures
+returns-in-Op-clause-stands g c = operated_stands c.settle_and_perform.ensures
 
 pub returns-in-Op-clause-effect : goal.returns-in-Op-clause-effect
 returns-in-Op-clause-effect g c = λ all met request understands from.
-    replied_op _ _ _ _ _ request _ all _ c.in-Op.op _ c.in-Op.is understands from c.operate.ensures met
+    replied_op _ _ _ _ _ request _ all _ c.in-Op.op _ c.in-Op.is understands from c.settle_and_perform.ensures met
 
 -- a code that is meant is not the one for a store that failed
 pub returns-in-Refused-clause-unavailable : goal.returns-in-Refused-clause-unavailable

@@ -19,15 +19,15 @@ connections-init g c = record {
   serves = λ view given told. ([], none (run_cursor (g.N.Line.model c.args.line.now).transcript (g.S.Service.state c.args.service.now)));
 }
 
-pub returns-then-is_reached-clause-line : goal.returns-then-is_reached-clause-line
-returns-then-is_reached-clause-line g c =
+pub returns-then-is_connection_limit_reached-clause-line : goal.returns-then-is_connection_limit_reached-clause-line
+returns-then-is_connection_limit_reached-clause-line g c =
     let i = c.connections.invariant in
     let old = (g.N.Line.model c.args.line.now).transcript in
     let new = (g.N.Line.model c.connections.line).transcript in
     record {
       next_faults = i.next_faults;
       observable = i.observable;
-      done = λ observable is. counts_reached c.args.most c.connections.left old new (c.is_reached.ensures.none c.if-is_reached.true) (i.counts observable);
+      done = λ observable is. counts_reached c.args.most c.connections.left old new (c.is_connection_limit_reached.ensures.none c.if-is_connection_limit_reached.true) (i.counts observable);
       within = λ observable. counts_within c.args.most c.connections.left old new (i.counts observable);
       none_faulty = i.none_faulty;
     }
@@ -69,7 +69,7 @@ connections-preserved g c =
       none_faulty = none_faulty_next (g.N.Line.model c.args.line.now) (g.N.Line.model c.connections.line) (g.N.Line.model c.serve_another.new.line) i.observable i.faults i.none_faulty s;
       counts = λ observable.
           subst (λ left. Counts c.args.most left (g.N.Line.model c.args.line.now).transcript.begun (g.N.Line.model c.serve_another.new.line).transcript.begun) (sym c.one_less-left.ensures)
-          (counts_next c.args.most c.connections.left _ (g.N.Line.model c.connections.line).transcript.begun _ (c.is_reached.ensures.some c.if-is_reached.false) (i.counts observable) (s.begun (i.observable observable)));
+          (counts_next c.args.most c.connections.left _ (g.N.Line.model c.connections.line).transcript.begun _ (c.is_connection_limit_reached.ensures.some c.if-is_connection_limit_reached.false) (i.counts observable) (s.begun (i.observable observable)));
       goes = g.met.S.Service.goes_on_then c.args.service.now c.connections.service c.serve_another.new.service i.goes step.goes;
       serves = λ view given told.
           let now = g.met.S.Service.given_on view c.args.service.now c.connections.service i.goes given in

@@ -6,7 +6,7 @@ use Rattle.sign_cmd.proofs.first.sign_next.Goals as goal
 pub returns-in-Ok-Request-clause-effect : goal.returns-in-Ok-Request-clause-effect
 returns-in-Ok-Request-clause-effect g c = λ line.
     let gives = rw c.in-Ok-Request.field-0-is at (c.in-Ok-Request.ensures.effect line) in
-    request_first _ _ _ c.in-Ok.reader c.next_request.new.self _ c.in-Ok-Request.message c.answer.result c.in-Ok.ensures gives c.answer.ensures.effect
+    request_first _ _ _ c.in-Ok.reader c.next_request.new.self _ c.in-Ok-Request.message c.signing_of_message.result c.in-Ok.ensures gives c.signing_of_message.ensures.effect
 
 pub returns-in-Ok-CutShort-clause-effect : goal.returns-in-Ok-CutShort-clause-effect
 returns-in-Ok-CutShort-clause-effect g c = λ line.
@@ -21,5 +21,5 @@ returns-in-Ok-Refused-clause-effect g c = λ line.
 pub returns-in-Ok-Request-clause-sent : goal.returns-in-Ok-Request-clause-sent
 returns-in-Ok-Request-clause-sent g c = λ line.
     request_sent (g.N.Line.model c.args.line.now).transcript.rest c.in-Ok.reader (g.N.Line.model c.args.line.now).transcript.begun (g.W.Counted.called c.args.store.now)
-    (g.N.Line.model c.args.line.now).transcript.sent (g.N.Line.model c.next_request.new.line).transcript.sent c.answer.result c.in-Ok.ensures c.answer.ensures.heard
+    (g.N.Line.model c.args.line.now).transcript.sent (g.N.Line.model c.next_request.new.line).transcript.sent c.signing_of_message.result c.in-Ok.ensures c.signing_of_message.ensures.heard
     (c.in-Ok-Request.ensures.sent (ap (λ (r : Pending). r.ended) c.in-Ok.ensures) line)

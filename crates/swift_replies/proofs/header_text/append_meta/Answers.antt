@@ -7,7 +7,7 @@ use Rattle.swift_replies.proofs.header_text.append_meta.Goals as goal
 
 pub loop-index-preserved : goal.loop-index-preserved
 loop-index-preserved c =
-    c.in_ok-append_piece.ensures ∙ ap (λ p. c.loop-index.text ++ print_header (piece_field c.loop-index.index p)) c.as_slice.ensures
+    c.in_ok-append_meta_header.ensures ∙ ap (λ p. c.loop-index.text ++ print_header (piece_field c.loop-index.index p)) c.as_slice.ensures
     ∙ meta_more c.args.text.now c.loop-index.text c.args.pieces.now c.loop-index.index c.index-pieces-index.result c.loop-index-test.true c.index-pieces-index.is c.loop-index.invariant
 
 pub returns : goal.returns

@@ -8,8 +8,8 @@ pieces-init c = sym (append-nil c.args.text.now)
 
 pub pieces-preserved : goal.pieces-preserved
 pieces-preserved c =
-    meta_more c.pieces.text c.args.text.now c.append_piece.new.text c.args.pieces.now c.pieces.index _ c.pieces-test.true c.pieces.invariant
-    (c.in_ok-append_piece.ensures ∙ ap (λ piece. c.pieces.text ++ print_header (piece_field c.pieces.index piece)) (c.as_slice.ensures ∙ c.index-pieces-index.is))
+    meta_more c.pieces.text c.args.text.now c.append_meta_field.new.text c.args.pieces.now c.pieces.index _ c.pieces-test.true c.pieces.invariant
+    (c.in_ok-append_meta_field.ensures ∙ ap (λ piece. c.pieces.text ++ print_header (piece_field c.pieces.index piece)) (c.as_slice.ensures ∙ c.index-pieces-index.is))
 
 pub returns : goal.returns
 returns c = meta_all c.pieces.text c.args.text.now c.args.pieces.now c.pieces.index c.pieces-test.false c.pieces.invariant

@@ -1,0 +1,27 @@
+use Rattle.std.proofs.Common.{ap}
+use Rattle.gateway.proofs.Operating.{Readied, readied_at_once, readied_by, settled_now, operated_by, operated_unsettled}
+use Rattle.gateway.proofs.reply.settle_and_perform.Goals.{in-Settled, in-Unsure+in-Ok}
+use Rattle.gateway.proofs.reply.settle_and_perform.Goals as goal
+
+pub returns-in-Err : goal.returns-in-Err
+returns-in-Err g c = operated_unsettled c.in-Err.fault c.in-Unsure.is c.unsettled.ensures c.in-Err.ensures
+
+pub perform_on_settled_store-answer-requires-clause-settled : goal.perform_on_settled_store-answer-requires-clause-settled
+perform_on_settled_store-answer-requires-clause-settled g c =
+    let old = g.W.Swift.history c.args.store.now in
+    let middle = g.W.Swift.history c.match-known.store in
+    let readied : Readied old middle c.args.known.now = elim c.match-known.branch as (λ _. Readied old middle c.args.known.now) [
+      | in-Settled w ↦ readied_at_once w.in-Settled.is (ap g.W.Swift.history w.store-is)
+      | in-Unsure+in-Ok w ↦ readied_by w.in-Unsure.is (ap g.W.Swift.history w.store-is) w.in-Ok.ensures
+    ] in
+    settled_now readied c.requires.knows
+
+pub returns : goal.returns
+returns g c =
+    let old = g.W.Swift.history c.args.store.now in
+    let middle = g.W.Swift.history c.match-known.store in
+    let readied : Readied old middle c.args.known.now = elim c.match-known.branch as (λ _. Readied old middle c.args.known.now) [
+      | in-Settled w ↦ readied_at_once w.in-Settled.is (ap g.W.Swift.history w.store-is)
+      | in-Unsure+in-Ok w ↦ readied_by w.in-Unsure.is (ap g.W.Swift.history w.store-is) w.in-Ok.ensures
+    ] in
+    operated_by readied c.perform_on_settled_store-answer.ensures

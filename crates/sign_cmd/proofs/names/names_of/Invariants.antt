@@ -1,6 +1,0 @@
-use Rattle.std.proofs.Common.{take}
-use Rattle.sign_cmd.specs.Names.{AreSigned}
-use Rattle.sign_cmd.proofs.names.names_of.Given as goal
-
-abbrev pub invariant-loop-header : goal.invariant-loop-header
-invariant-loop-header l = AreSigned (take l.header-index l.headers) l.names
