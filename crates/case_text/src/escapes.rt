@@ -5,7 +5,7 @@ use hex::FromHexError;
 use std::alloc::Global;
 
 /// The bytes of a text in which `\HH` stands for the byte with those two hexadecimal digits, and all else for itself.
-pub fn unescaped(alloc: Global, text: &str, told: &mut Told) -> Bytes {
+pub fn bytes_of_escaped_text(alloc: Global, text: &str, told: &mut Told) -> Bytes {
     let mut bytes = Bytes::new(alloc);
     let mut rest = text;
     for _ in 0..=text.len() {
@@ -27,7 +27,7 @@ fn append_escape<'a>(alloc: Global, text: &'a str, to: &mut Bytes, told: &mut To
             rest
         }
         None => {
-            told.note(Fault::Unread("a backslash without two digits"));
+            told.note_fault(Fault::Unread("a backslash without two digits"));
             ""
         }
     }
@@ -43,7 +43,7 @@ pub fn hex_bytes(alloc: Global, digits: &str, told: &mut Told) -> Bytes {
 pub(crate) fn append_hex(alloc: Global, digits: &str, to: &mut Bytes, told: &mut Told) {
     match hex::decode(alloc, digits) {
         Ok(bytes) => told.append(to, bytes.as_slice()),
-        Err(FromHexError::OutOfMemory) => told.note(Fault::Memory),
-        Err(_) => told.note(Fault::Unread("no hexadecimal digits")),
+        Err(FromHexError::OutOfMemory) => told.note_fault(Fault::Memory),
+        Err(_) => told.note_fault(Fault::Unread("no hexadecimal digits")),
     }
 }

@@ -12,14 +12,22 @@ mod texts;
 mod told;
 mod written;
 
-pub use escapes::{hex_bytes, unescaped};
+pub use escapes::{bytes_of_escaped_text, hex_bytes};
 pub use fault::Fault;
 pub use given::{
-    Given, KEY_TEXT, behind, check_lines, connections, keys, meets_fault, moments, numbers, says,
+    Given, KEY_TEXT, check_given_lines, given_connections, given_keys, given_moments,
+    given_numbers, given_text_behind, has_failing_call, has_given_line,
 };
-pub use lines::give_all;
-pub use outside::{LARGE, clock_of, line_of, line_of_one_connection};
-pub use pieces::{are_done, are_unavailable, tell_answers, tell_pieces, tell_statuses};
-pub use texts::{cut_text, is_passed, number_of, numbers_of, text_of, words_of};
-pub use told::{Told, bytes_of, tell, tell_copied, tell_copy, tell_made};
-pub use written::{tell_bytes, tell_lines};
+pub use lines::append_bytes_of_lines;
+pub use outside::{LARGE, clock_of_run, line_of_one_connection, line_of_run};
+pub use pieces::{
+    are_pieces_successful, is_piece_service_unavailable, tell_pieces, tell_pieces_without_calls,
+    tell_statuses_of_pieces,
+};
+pub use texts::{
+    cut_text, is_line_passed_over, number_of_text, numbers_of_text, text_of_bytes, words_of_text,
+};
+pub use told::{
+    Told, copy_of_bytes, tell_copy_of_read, tell_copy_of_value, tell_owned_value, tell_value,
+};
+pub use written::{tell_bytes_by_lines, tell_text_by_lines};

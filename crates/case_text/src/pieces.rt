@@ -1,30 +1,30 @@
 //! What was written to the connections, as text.
-use crate::given::{Given, behind, says};
-use crate::texts::{cut_text, text_of};
-use crate::{Told, tell_bytes};
+use crate::given::{Given, given_text_behind, has_given_line};
+use crate::texts::{cut_text, text_of_bytes};
+use crate::{Told, tell_bytes_by_lines};
 use gate_base::Piece;
 use std::alloc::Global;
 
 /// Tells each piece by its connection, by how many calls the store had counted, and by its bytes, whole or in brief.
 pub fn tell_pieces(alloc: Global, given: Given<'_>, pieces: &[Piece], told: &mut Told) {
-    let is_brief = given.word == "setup" || says(given, "brief");
+    let is_brief = given.word == "setup" || has_given_line(given, "brief");
     let mut turn = 0u64;
     for piece in pieces {
         turn = turn.saturating_add(1);
         told.say_number("piece ", piece.connection);
         told.say_number(" ", piece.at);
-        if is_brief && !is_among(turn, given, "whole") {
-            tell_brief(given, turn, piece.bytes.as_slice(), told);
+        if is_brief && !is_piece_number_given(turn, given, "whole") {
+            tell_piece_in_brief(given, turn, piece.bytes.as_slice(), told);
         } else {
             told.say("\n");
-            tell_bytes(alloc, piece.bytes.as_slice(), told);
+            tell_bytes_by_lines(alloc, piece.bytes.as_slice(), told);
         }
     }
 }
 
 /// Whether a number stands behind a word.
-fn is_among(number: u64, given: Given<'_>, word: &str) -> bool {
-    if let Some(text) = behind(given, word) {
+fn is_piece_number_given(number: u64, given: Given<'_>, word: &str) -> bool {
+    if let Some(text) = given_text_behind(given, word) {
         for word in text.split(' ') {
             match word.parse::<u64>() {
                 Ok(given) if given == number => return true,
@@ -36,23 +36,23 @@ fn is_among(number: u64, given: Given<'_>, word: &str) -> bool {
 }
 
 /// Tells the status, the code of an error in the body, and the ETag where that is asked for.
-fn tell_brief(given: Given<'_>, turn: u64, bytes: &[u8], told: &mut Told) {
-    let text = text_of(bytes, told);
-    tell_status(text, told);
-    tell_between(text, "<Code>", "</Code>", told);
-    if is_among(turn, given, "etags") {
-        tell_between(text, "\r\nETag: ", "\r\n", told);
+fn tell_piece_in_brief(given: Given<'_>, turn: u64, bytes: &[u8], told: &mut Told) {
+    let text = text_of_bytes(bytes, told);
+    tell_status_of_piece(text, told);
+    tell_text_within_piece(text, "<Code>", "</Code>", told);
+    if is_piece_number_given(turn, given, "etags") {
+        tell_text_within_piece(text, "\r\nETag: ", "\r\n", told);
     }
     told.say("\n");
 }
 
-fn tell_status(text: &str, told: &mut Told) {
+fn tell_status_of_piece(text: &str, told: &mut Told) {
     told.say(" ");
     told.say(cut_text(cut_text(text, ' ').1, ' ').0);
 }
 
 /// Tells what stands between the first places of two texts, if they are there.
-fn tell_between(text: &str, from: &str, to: &str, told: &mut Told) {
+fn tell_text_within_piece(text: &str, from: &str, to: &str, told: &mut Told) {
     if let Some((_, behind)) = text.split_once(from) {
         if let Some((between, _)) = behind.split_once(to) {
             told.say(" ");
@@ -62,26 +62,26 @@ fn tell_between(text: &str, from: &str, to: &str, told: &mut Told) {
 }
 
 /// Tells the statuses of replies behind a word.
-pub fn tell_statuses(word: &str, pieces: &[Piece], told: &mut Told) {
+pub fn tell_statuses_of_pieces(word: &str, pieces: &[Piece], told: &mut Told) {
     told.say(word);
     for piece in pieces {
-        let text = text_of(piece.bytes.as_slice(), told);
-        tell_status(text, told);
+        let text = text_of_bytes(piece.bytes.as_slice(), told);
+        tell_status_of_piece(text, told);
     }
     told.say("\n");
 }
 
 /// Tells the bytes of each piece behind its connection, and nothing of calls.
-pub fn tell_answers(alloc: Global, pieces: &[Piece], told: &mut Told) {
+pub fn tell_pieces_without_calls(alloc: Global, pieces: &[Piece], told: &mut Told) {
     for piece in pieces {
         told.say_number("piece ", piece.connection);
         told.say("\n");
-        tell_bytes(alloc, piece.bytes.as_slice(), told);
+        tell_bytes_by_lines(alloc, piece.bytes.as_slice(), told);
     }
 }
 
 /// Whether each reply has a status 2xx.
-pub fn are_done(pieces: &[Piece]) -> bool {
+pub fn are_pieces_successful(pieces: &[Piece]) -> bool {
     for piece in pieces {
         if !piece.bytes.as_slice().starts_with(b"HTTP/1.1 2") {
             return false;
@@ -91,7 +91,7 @@ pub fn are_done(pieces: &[Piece]) -> bool {
 }
 
 /// Whether the one piece is ServiceUnavailable; a reply to HEAD has no body that would say so.
-pub fn are_unavailable(pieces: &[Piece]) -> bool {
+pub fn is_piece_service_unavailable(pieces: &[Piece]) -> bool {
     let [piece] = pieces else {
         return false;
     };

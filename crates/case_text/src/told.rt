@@ -30,59 +30,59 @@ impl Told {
     }
 
     /// Notes a fault, if it is the first.
-    pub fn note(&mut self, fault: Fault) {
+    pub fn note_fault(&mut self, fault: Fault) {
         if self.fault.is_none() {
             self.fault = Some(fault);
         }
     }
 
     /// Notes that memory ran out, where something wasn't done.
-    pub fn check<E: Drop>(&mut self, done: Result<(), E>) {
+    pub fn check_done<E: Drop>(&mut self, done: Result<(), E>) {
         if done.is_err() {
-            self.note(Fault::Memory);
+            self.note_fault(Fault::Memory);
         }
     }
 
     /// Appends bytes to others.
     pub fn append(&mut self, to: &mut Bytes, bytes: &[u8]) {
         let done = to.append(bytes);
-        self.check(done);
+        self.check_done(done);
     }
 
     /// Appends a value to a list.
     pub fn push<T: Drop>(&mut self, to: &mut List<T>, value: T) {
         let done = to.push(value);
-        self.check(done);
+        self.check_done(done);
     }
 
     /// Appends a text.
     pub fn say(&mut self, text: &str) {
         let done = self.text.push_str(text);
-        self.check(done);
+        self.check_done(done);
     }
 
     /// Appends the text of a value.
-    pub fn show<T: Debug>(&mut self, value: &T) {
+    pub fn say_value<T: Debug>(&mut self, value: &T) {
         let done = write!(self.text, "{value:?}");
-        self.check(done);
+        self.check_done(done);
     }
 
     /// Appends a number behind a text.
     pub fn say_number(&mut self, text: &str, number: u64) {
         self.say(text);
-        self.show(&number);
+        self.say_value(&number);
     }
 
     /// Notes the fault of another text.
-    pub fn note_of(&mut self, other: &Told) {
+    pub fn note_fault_of(&mut self, other: &Told) {
         if let Some(fault) = other.fault {
-            self.note(fault);
+            self.note_fault(fault);
         }
     }
 
     /// Appends another text behind a line that says how it came, where it isn't the usual one. Its fault is noted.
-    pub fn say_other(&mut self, how: &str, size: u64, other: &Told, usual: &str) {
-        self.note_of(other);
+    pub fn say_if_other(&mut self, how: &str, size: u64, other: &Told, usual: &str) {
+        self.note_fault_of(other);
         if other.text() != usual {
             self.say_number(how, size);
             self.say(":\n");
@@ -91,11 +91,11 @@ impl Told {
     }
 
     /// What was made. Where nothing was, it is noted that memory ran out.
-    pub fn keep<T: Drop, E: Drop>(&mut self, made: Result<T, E>) -> Option<T> {
+    pub fn keep_made<T: Drop, E: Drop>(&mut self, made: Result<T, E>) -> Option<T> {
         match made {
             Ok(value) => Some(value),
             Err(_) => {
-                self.note(Fault::Memory);
+                self.note_fault(Fault::Memory);
                 None
             }
         }
@@ -103,37 +103,40 @@ impl Told {
 }
 
 /// Appends the text of a value, and a line end.
-pub fn tell<T: Debug>(value: &T, told: &mut Told) {
-    told.show(value);
+pub fn tell_value<T: Debug>(value: &T, told: &mut Told) {
+    told.say_value(value);
     told.say("\n");
 }
 
 /// The same, of a value that ends with it.
-pub fn tell_made<T: Debug + Drop>(made: T, told: &mut Told) {
-    tell(&made, told);
+pub fn tell_owned_value<T: Debug + Drop>(made: T, told: &mut Told) {
+    tell_value(&made, told);
 }
 
 /// Tells a copy of what was read, or why it wasn't.
-pub fn tell_copy<T: Copying + Debug + Drop, E: Debug>(read: &Result<T, E>, told: &mut Told) {
+pub fn tell_copy_of_read<T: Copying + Debug + Drop, E: Debug>(
+    read: &Result<T, E>,
+    told: &mut Told,
+) {
     match read {
-        Ok(value) => tell_made(value.copy(), told),
-        Err(_) => tell(read, told),
+        Ok(value) => tell_owned_value(value.copy(), told),
+        Err(_) => tell_value(read, told),
     }
 }
 
 /// Tells a copy of a value.
-pub fn tell_copied<T: Copying + Debug + Drop>(value: &T, told: &mut Told) {
-    if let Some(copied) = told.keep(value.copy()) {
-        tell_made(copied, told);
+pub fn tell_copy_of_value<T: Copying + Debug + Drop>(value: &T, told: &mut Told) {
+    if let Some(copied) = told.keep_made(value.copy()) {
+        tell_owned_value(copied, told);
     }
 }
 
 /// A copy of these bytes.
-pub fn bytes_of(alloc: Global, bytes: &[u8], told: &mut Told) -> Bytes {
+pub fn copy_of_bytes(alloc: Global, bytes: &[u8], told: &mut Told) -> Bytes {
     match Bytes::from_slice(alloc, bytes) {
         Ok(copied) => copied,
         Err(_) => {
-            told.note(Fault::Memory);
+            told.note_fault(Fault::Memory);
             Bytes::new(alloc)
         }
     }

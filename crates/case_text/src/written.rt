@@ -1,5 +1,5 @@
 //! Bytes that were written, line by line.
-use crate::{Fault, Told, bytes_of, tell};
+use crate::{Fault, Told, copy_of_bytes, tell_value};
 use gate_base::cut;
 use md5::{Digest, Md5};
 use std::alloc::Global;
@@ -8,7 +8,7 @@ use std::alloc::Global;
 const MOST_SHOWN: usize = 65_536;
 
 /// Appends each line of a text behind `= `; an empty line is `=`.
-pub fn tell_lines(text: &str, told: &mut Told) {
+pub fn tell_text_by_lines(text: &str, told: &mut Told) {
     for line in text.lines() {
         told.say(if line.is_empty() { "=" } else { "= " });
         told.say(line);
@@ -18,7 +18,7 @@ pub fn tell_lines(text: &str, told: &mut Told) {
 
 /// Appends bytes, each line of them as a line: `< TEXT` with CR LF, `<n TEXT` with LF, `<. TEXT` without a line end. A line that
 /// isn't plain text is told as a value, with its line end; one that is very long by `<# SIZE MD5`.
-pub fn tell_bytes(alloc: Global, bytes: &[u8], told: &mut Told) {
+pub fn tell_bytes_by_lines(alloc: Global, bytes: &[u8], told: &mut Told) {
     let mut rest = bytes;
     for _ in 0..bytes.len() {
         if rest.is_empty() {
@@ -29,29 +29,29 @@ pub fn tell_bytes(alloc: Global, bytes: &[u8], told: &mut Told) {
             Some(parts) => parts,
             None => (rest, b"".as_slice()),
         };
-        tell_line(alloc, line, told);
+        tell_line_of_bytes(alloc, line, told);
         rest = next;
     }
 }
 
-fn tell_line(alloc: Global, line: &[u8], told: &mut Told) {
+fn tell_line_of_bytes(alloc: Global, line: &[u8], told: &mut Told) {
     if MOST_SHOWN < line.len() {
-        return tell_hash(alloc, line, told);
+        return tell_hash_of_line(alloc, line, told);
     }
-    let (bytes, mark) = marked(line);
+    let (bytes, mark) = line_and_end_mark(line);
     match str::from_utf8(bytes) {
-        Ok(text) if is_plain(text) => {
+        Ok(text) if is_plain_line(text) => {
             told.say(mark);
             told.say(if text.is_empty() { "" } else { " " });
             told.say(text);
             told.say("\n");
         }
-        _ => tell(&bytes_of(alloc, line, told), told),
+        _ => tell_value(&copy_of_bytes(alloc, line, told), told),
     }
 }
 
 /// A line without its end, and the mark that tells the end.
-fn marked(line: &[u8]) -> (&[u8], &'static str) {
+fn line_and_end_mark(line: &[u8]) -> (&[u8], &'static str) {
     if let Some(text) = line.strip_suffix(b"\r\n") {
         return (text, "<");
     }
@@ -62,7 +62,7 @@ fn marked(line: &[u8]) -> (&[u8], &'static str) {
 }
 
 /// Whether a text has no control character, and doesn't end in a space.
-fn is_plain(text: &str) -> bool {
+fn is_plain_line(text: &str) -> bool {
     for byte in text.as_bytes() {
         if *byte < b' ' || *byte == 127 {
             return false;
@@ -71,7 +71,7 @@ fn is_plain(text: &str) -> bool {
     !text.ends_with(' ')
 }
 
-fn tell_hash(alloc: Global, line: &[u8], told: &mut Told) {
+fn tell_hash_of_line(alloc: Global, line: &[u8], told: &mut Told) {
     told.say_number("<# ", line.len() as u64);
     match hex::encode(alloc, Md5::digest(line)) {
         Ok(hash) => {
@@ -79,6 +79,6 @@ fn tell_hash(alloc: Global, line: &[u8], told: &mut Told) {
             told.say(hash.as_str());
             told.say("\n");
         }
-        Err(_) => told.note(Fault::Memory),
+        Err(_) => told.note_fault(Fault::Memory),
     }
 }

@@ -13,8 +13,8 @@ mod swift_verbs;
 mod talk;
 mod verbs;
 
-pub use settings::{USUAL_LEAST_PART, USUAL_REGION, settings_of};
-pub use shown::is_shown;
-pub use swift_verbs::wire::place;
-pub use talk::{Talk, opens};
+pub use settings::{USUAL_LEAST_PART, USUAL_REGION, settings_of_region};
+pub use shown::is_shown_reply;
+pub use swift_verbs::wire::place_of_store;
+pub use talk::{Talk, opens_connection};
 pub use verbs::tell_verb;

@@ -1,8 +1,8 @@
 //! What requests mean.
-use crate::s3_verbs::caller_of;
-use crate::s3_verbs_message::message_of;
-use crate::settings::{USUAL_LEAST_PART, USUAL_REGION, settings_of};
-use case_text::{Told, cut_text, tell_copied, tell_made};
+use crate::s3_verbs::caller_of_word;
+use crate::s3_verbs_message::message_of_case;
+use crate::settings::{USUAL_LEAST_PART, USUAL_REGION, settings_of_region};
+use case_text::{Told, cut_text, tell_copy_of_value, tell_owned_value};
 use gate_base::{Caller, drop};
 use http_wire::Message;
 use s3_machine::Code;
@@ -12,23 +12,29 @@ use std::alloc::Global;
 
 /// `CALLER METHOD TARGET` tells what a request means. The lines `>` are its headers, and behind an empty one its body; where
 /// nothing stands behind CALLER, they are the whole request. By `code` an operation is told by that word alone.
-pub(crate) fn meaning_verb(alloc: Global, verb: &str, text: &str, given: &[u8], told: &mut Told) {
+pub(crate) fn tell_meaning(alloc: Global, verb: &str, text: &str, given: &[u8], told: &mut Told) {
     let (word, line) = cut_text(text, ' ');
-    let caller = caller_of(word, told);
-    if let Some(mut message) = message_of(alloc, line, given, told) {
-        by_message(alloc, verb, caller, &mut message, told);
+    let caller = caller_of_word(word, told);
+    if let Some(mut message) = message_of_case(alloc, line, given, told) {
+        tell_meaning_of_message(alloc, verb, caller, &mut message, told);
     }
 }
 
 /// A target that can't be read has the code InvalidURI before anything else is looked at.
-fn by_message(alloc: Global, verb: &str, caller: Caller, message: &mut Message, told: &mut Told) {
+fn tell_meaning_of_message(
+    alloc: Global,
+    verb: &str,
+    caller: Caller,
+    message: &mut Message,
+    told: &mut Told,
+) {
     match Target::read(alloc, message.target.as_slice()) {
-        Ok(target) => by_target(alloc, verb, caller, message, &target, told),
-        Err(_) => tell_made(Meant::Refused(Code::InvalidURI), told),
+        Ok(target) => tell_meaning_with_target(alloc, verb, caller, message, &target, told),
+        Err(_) => tell_owned_value(Meant::Refused(Code::InvalidURI), told),
     }
 }
 
-fn by_target(
+fn tell_meaning_with_target(
     alloc: Global,
     verb: &str,
     caller: Caller,
@@ -36,7 +42,7 @@ fn by_target(
     target: &Target,
     told: &mut Told,
 ) {
-    if let Some(settings) = settings_of(alloc, USUAL_REGION, USUAL_LEAST_PART, told) {
+    if let Some(settings) = settings_of_region(alloc, USUAL_REGION, USUAL_LEAST_PART, told) {
         let meant = meaning(alloc, message, target, &caller, &settings);
         tell_meant(verb, &meant, told);
         drop(meant);
@@ -46,6 +52,6 @@ fn by_target(
 fn tell_meant(verb: &str, meant: &Meant, told: &mut Told) {
     match meant {
         Meant::Op(_) if verb == "code" => told.say("operation\n"),
-        _ => tell_copied(meant, told),
+        _ => tell_copy_of_value(meant, told),
     }
 }

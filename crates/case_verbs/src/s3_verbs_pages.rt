@@ -2,10 +2,12 @@
 //! has four words, of which the last may have spaces: `MOMENT NUMBER WORD TEXT`. Of a bucket they are `CREATED 0 - NAME`; of an
 //! object `MODIFIED SIZE ETAG KEY`, and of a common prefix `0 0 - PREFIX`; of an upload `STARTED ID - KEY`; of a part
 //! `MODIFIED SIZE NUMBER ETAG`. Each field `key` of a deletion is one of its keys.
-use crate::s3_verbs::acl_of;
-use crate::s3_verbs_message::message_of;
-use crate::shown::is_shown;
-use case_text::{Fault, Told, bytes_of, cut_text, number_of, tell_copied, text_of};
+use crate::s3_verbs::acl_of_word;
+use crate::s3_verbs_message::message_of_case;
+use crate::shown::is_shown_reply;
+use case_text::{
+    Fault, Told, copy_of_bytes, cut_text, number_of_text, tell_copy_of_value, text_of_bytes,
+};
 use gate_base::{Bytes, Caller, Copying, List, MOMENT_LIMIT, Pair, cut, drop};
 use http_wire::{Message, first_value, has_header};
 use s3_machine::{
@@ -54,142 +56,160 @@ const CODES: [Code; 34] = [
 
 /// `REPLY MOMENT ID` tells the page of a reply, at that moment and to the request of that number. What the reply bears stands
 /// on the lines `>` as headers, `name: value`, and behind an empty line the bytes of an object.
-pub(crate) fn page_verb(alloc: Global, text: &str, given: &[u8], told: &mut Told) {
+pub(crate) fn tell_page_of_reply(alloc: Global, text: &str, given: &[u8], told: &mut Told) {
     let (name, words) = cut_text(text, ' ');
     let (moment, id) = cut_text(words, ' ');
     let label = Label {
         caller: Caller::Owner,
-        moment: number_of(moment, told),
-        request_id: id_of(id.as_bytes(), told),
+        moment: number_of_text(moment, told),
+        request_id: id_of_digits(id.as_bytes(), told),
         draw: 7,
     };
-    if let Some(message) = message_of(alloc, "GET /", given, told) {
-        page_with(alloc, name, &label, &message, told);
+    if let Some(message) = message_of_case(alloc, "GET /", given, told) {
+        tell_page_of_fields(alloc, name, &label, &message, told);
     }
 }
 
-fn page_with(alloc: Global, name: &str, label: &Label, message: &Message, told: &mut Told) {
+fn tell_page_of_fields(
+    alloc: Global,
+    name: &str,
+    label: &Label,
+    message: &Message,
+    told: &mut Told,
+) {
     let fields = message.headers.as_slice();
-    let reply = reply_of(alloc, name, fields, &message.body, told);
+    let reply = reply_of_fields(alloc, name, fields, &message.body, told);
     let resource = first_value(fields, b"resource");
-    show(alloc, &reply, label, resource, told);
+    tell_page_of_copy(alloc, &reply, label, resource, told);
     drop(reply);
 }
 
 /// Tells the page of a copy of a reply.
-fn show(alloc: Global, reply: &Reply, label: &Label, resource: &[u8], told: &mut Told) {
-    if !is_shown(reply) || label.moment >= MOMENT_LIMIT {
-        return told.note(Fault::Unread("a reply without a page"));
+fn tell_page_of_copy(
+    alloc: Global,
+    reply: &Reply,
+    label: &Label,
+    resource: &[u8],
+    told: &mut Told,
+) {
+    if !is_shown_reply(reply) || label.moment >= MOMENT_LIMIT {
+        return told.note_fault(Fault::Unread("a reply without a page"));
     }
     if let Ok(copied) = reply.copy() {
-        if let Some(page) = told.keep(page(alloc, copied, label, resource)) {
-            tell_copied(&page, told);
+        if let Some(page) = told.keep_made(page(alloc, copied, label, resource)) {
+            tell_copy_of_value(&page, told);
         }
     }
 }
 
 /// The reply of that name, with what the fields say.
-fn reply_of(alloc: Global, name: &str, fields: &[Pair], body: &Bytes, told: &mut Told) -> Reply {
+fn reply_of_fields(
+    alloc: Global,
+    name: &str,
+    fields: &[Pair],
+    body: &Bytes,
+    told: &mut Told,
+) -> Reply {
     match name {
         "done" => Reply::Done,
         "gone" => Reply::Gone,
-        "acl" => acl_reply(fields, told),
-        "refused" => Reply::Refused(code_in(alloc, fields, told)),
-        "not-modified" => Reply::NotModified(head_in(alloc, fields, told)),
-        "object" => object(alloc, fields, body, told),
-        "buckets" => Reply::Buckets(items_in(alloc, fields, told)),
-        "objects" => objects(alloc, fields, told),
-        "uploads" => uploads(alloc, fields, told),
-        "parts" => parts(alloc, fields, told),
-        "deleted" => deleted(alloc, fields, told),
-        _ => small_reply_of(alloc, name, fields, told),
+        "acl" => acl_reply_of_fields(fields, told),
+        "refused" => Reply::Refused(code_of_fields(alloc, fields, told)),
+        "not-modified" => Reply::NotModified(object_head_of_fields(alloc, fields, told)),
+        "object" => object_reply_of_fields(alloc, fields, body, told),
+        "buckets" => Reply::Buckets(items_of_fields(alloc, fields, told)),
+        "objects" => objects_reply_of_fields(alloc, fields, told),
+        "uploads" => uploads_reply_of_fields(alloc, fields, told),
+        "parts" => parts_reply_of_fields(alloc, fields, told),
+        "deleted" => deleted_reply_of_fields(alloc, fields, told),
+        _ => short_reply_of_fields(alloc, name, fields, told),
     }
 }
 
-fn acl_reply(fields: &[Pair], told: &mut Told) -> Reply {
-    Reply::AclOf(acl_of(text_in(fields, b"acl", told), told))
+fn acl_reply_of_fields(fields: &[Pair], told: &mut Told) -> Reply {
+    Reply::AclOf(acl_of_word(text_in_field(fields, b"acl", told), told))
 }
 
-fn small_reply_of(alloc: Global, name: &str, fields: &[Pair], told: &mut Told) -> Reply {
+fn short_reply_of_fields(alloc: Global, name: &str, fields: &[Pair], told: &mut Told) -> Reply {
     match name {
         "made" => Reply::Made {
-            bucket: bytes_in(alloc, fields, b"bucket", told),
+            bucket: bytes_in_field(alloc, fields, b"bucket", told),
         },
         "stored" => Reply::Stored {
-            etag: bytes_in(alloc, fields, b"etag", told),
+            etag: bytes_in_field(alloc, fields, b"etag", told),
         },
         "location" => Reply::Location {
-            region: bytes_in(alloc, fields, b"region", told),
+            region: bytes_in_field(alloc, fields, b"region", told),
         },
         "started" => Reply::Started {
-            bucket: bytes_in(alloc, fields, b"bucket", told),
-            key: bytes_in(alloc, fields, b"key", told),
-            id: id_of(first_value(fields, b"id"), told),
+            bucket: bytes_in_field(alloc, fields, b"bucket", told),
+            key: bytes_in_field(alloc, fields, b"key", told),
+            id: id_of_digits(first_value(fields, b"id"), told),
         },
         "completed" => Reply::Completed {
-            bucket: bytes_in(alloc, fields, b"bucket", told),
-            key: bytes_in(alloc, fields, b"key", told),
-            etag: bytes_in(alloc, fields, b"etag", told),
+            bucket: bytes_in_field(alloc, fields, b"bucket", told),
+            key: bytes_in_field(alloc, fields, b"key", told),
+            etag: bytes_in_field(alloc, fields, b"etag", told),
         },
         "copied" => Reply::Copied {
-            part: is_said(fields, b"part"),
-            etag: bytes_in(alloc, fields, b"etag", told),
-            modified: number_in(fields, b"modified", told),
+            part: is_field_yes(fields, b"part"),
+            etag: bytes_in_field(alloc, fields, b"etag", told),
+            modified: number_in_field(fields, b"modified", told),
         },
         _ => Reply::Memory,
     }
 }
 
-fn object(alloc: Global, fields: &[Pair], body: &Bytes, told: &mut Told) -> Reply {
+fn object_reply_of_fields(alloc: Global, fields: &[Pair], body: &Bytes, told: &mut Told) -> Reply {
     Reply::Object {
-        head: head_in(alloc, fields, told),
-        from: number_in(fields, b"from", told),
-        length: number_in(fields, b"length", told),
-        partial: is_said(fields, b"partial"),
-        body: bytes_of(alloc, body.as_slice(), told),
+        head: object_head_of_fields(alloc, fields, told),
+        from: number_in_field(fields, b"from", told),
+        length: number_in_field(fields, b"length", told),
+        partial: is_field_yes(fields, b"partial"),
+        body: copy_of_bytes(alloc, body.as_slice(), told),
     }
 }
 
-fn head_in(alloc: Global, fields: &[Pair], told: &mut Told) -> ObjectHead {
+fn object_head_of_fields(alloc: Global, fields: &[Pair], told: &mut Told) -> ObjectHead {
     ObjectHead {
-        etag: bytes_in(alloc, fields, b"etag", told),
-        modified: number_in(fields, b"modified", told),
-        size: number_in(fields, b"size", told),
-        content_type: bytes_in(alloc, fields, b"type", told),
-        meta: meta_in(alloc, fields, told),
+        etag: bytes_in_field(alloc, fields, b"etag", told),
+        modified: number_in_field(fields, b"modified", told),
+        size: number_in_field(fields, b"size", told),
+        content_type: bytes_in_field(alloc, fields, b"type", told),
+        meta: metadata_of_fields(alloc, fields, told),
     }
 }
 
 /// The metadata of the fields `meta`, each `NAME VALUE`.
-fn meta_in(alloc: Global, fields: &[Pair], told: &mut Told) -> Meta {
+fn metadata_of_fields(alloc: Global, fields: &[Pair], told: &mut Told) -> Meta {
     let mut meta = Meta::new(alloc);
     for field in fields {
         if field.name.as_slice() == b"meta".as_slice() {
             let (name, value) = cut(field.value.as_slice(), b' ');
             let added = meta.add(name, value);
-            let _is_new = told.keep(added);
+            let _is_new = told.keep_made(added);
         }
     }
     meta
 }
 
 /// A copy of the code of that name.
-fn code_in(alloc: Global, fields: &[Pair], told: &mut Told) -> Code {
-    let name = text_in(fields, b"code", told);
+fn code_of_fields(alloc: Global, fields: &[Pair], told: &mut Told) -> Code {
+    let name = text_in_field(fields, b"code", told);
     for code in &CODES {
-        if is_named(alloc, code, name) {
+        if is_code_named(alloc, code, name) {
             if let Ok(copied) = code.copy() {
                 return copied;
             }
         }
     }
-    told.note(Fault::Unread("no such code"));
+    told.note_fault(Fault::Unread("no such code"));
     Code::AccessDenied
 }
 
-fn is_named(alloc: Global, code: &Code, name: &str) -> bool {
+fn is_code_named(alloc: Global, code: &Code, name: &str) -> bool {
     let mut told = Told::new(alloc);
-    told.show(code);
+    told.say_value(code);
     told.text() == name
 }
 
@@ -203,7 +223,7 @@ struct Words<'a> {
 }
 
 /// The words of a field that is an item.
-fn words_in<'a>(field: &'a Pair, told: &mut Told) -> Option<Words<'a>> {
+fn words_of_item<'a>(field: &'a Pair, told: &mut Told) -> Option<Words<'a>> {
     if field.name.as_slice() != b"item".as_slice() {
         return None;
     }
@@ -211,8 +231,8 @@ fn words_in<'a>(field: &'a Pair, told: &mut Told) -> Option<Words<'a>> {
     let (number, rest) = cut(rest, b' ');
     let (word, text) = cut(rest, b' ');
     Some(Words {
-        moment: number_of(text_of(moment, told), told),
-        number: id_of(number, told),
+        moment: number_of_text(text_of_bytes(moment, told), told),
+        number: id_of_digits(number, told),
         word,
         text,
     })
@@ -224,10 +244,10 @@ trait FromWords: Drop + Sized {
 }
 
 /// The items of the fields `item`, in their order.
-fn items_in<T: FromWords>(alloc: Global, fields: &[Pair], told: &mut Told) -> List<T> {
+fn items_of_fields<T: FromWords>(alloc: Global, fields: &[Pair], told: &mut Told) -> List<T> {
     let mut items = List::new(alloc);
     for field in fields {
-        if let Some(words) = words_in(field, told) {
+        if let Some(words) = words_of_item(field, told) {
             let item = T::from_words(alloc, &words, told);
             told.push(&mut items, item);
         }
@@ -238,7 +258,7 @@ fn items_in<T: FromWords>(alloc: Global, fields: &[Pair], told: &mut Told) -> Li
 impl FromWords for BucketItem {
     fn from_words(alloc: Global, words: &Words<'_>, told: &mut Told) -> BucketItem {
         BucketItem {
-            name: bytes_of(alloc, words.text, told),
+            name: copy_of_bytes(alloc, words.text, told),
             created: words.moment,
         }
     }
@@ -247,8 +267,8 @@ impl FromWords for BucketItem {
 impl FromWords for Item {
     fn from_words(alloc: Global, words: &Words<'_>, told: &mut Told) -> Item {
         Item {
-            text: bytes_of(alloc, words.text, told),
-            object: head_of(alloc, words, told),
+            text: copy_of_bytes(alloc, words.text, told),
+            object: item_head_of_words(alloc, words, told),
         }
     }
 }
@@ -256,7 +276,7 @@ impl FromWords for Item {
 impl FromWords for UploadItem {
     fn from_words(alloc: Global, words: &Words<'_>, told: &mut Told) -> UploadItem {
         UploadItem {
-            key: bytes_of(alloc, words.text, told),
+            key: copy_of_bytes(alloc, words.text, told),
             id: words.number,
             started: words.moment,
         }
@@ -266,94 +286,94 @@ impl FromWords for UploadItem {
 impl FromWords for PartItem {
     fn from_words(alloc: Global, words: &Words<'_>, told: &mut Told) -> PartItem {
         PartItem {
-            number: small_of(words.word, told),
-            etag: bytes_of(alloc, words.text, told),
+            number: small_number_of_bytes(words.word, told),
+            etag: copy_of_bytes(alloc, words.text, told),
             modified: words.moment,
-            size: small(words.number, told),
+            size: size_of_item_number(words.number, told),
         }
     }
 }
 
-fn objects(alloc: Global, fields: &[Pair], told: &mut Told) -> Reply {
+fn objects_reply_of_fields(alloc: Global, fields: &[Pair], told: &mut Told) -> Reply {
     Reply::Objects {
-        bucket: bytes_in(alloc, fields, b"bucket", told),
-        asked: asked_in(alloc, fields, told),
-        items: items_in(alloc, fields, told),
-        truncated: is_said(fields, b"truncated"),
+        bucket: bytes_in_field(alloc, fields, b"bucket", told),
+        asked: asked_of_fields(alloc, fields, told),
+        items: items_of_fields(alloc, fields, told),
+        truncated: is_field_yes(fields, b"truncated"),
     }
 }
 
-fn head_of(alloc: Global, words: &Words<'_>, told: &mut Told) -> Option<ItemHead> {
+fn item_head_of_words(alloc: Global, words: &Words<'_>, told: &mut Told) -> Option<ItemHead> {
     if words.word == b"-".as_slice() {
         return None;
     }
     Some(ItemHead {
-        etag: bytes_of(alloc, words.word, told),
+        etag: copy_of_bytes(alloc, words.word, told),
         modified: words.moment,
-        size: small(words.number, told),
+        size: size_of_item_number(words.number, told),
     })
 }
 
-fn asked_in(alloc: Global, fields: &[Pair], told: &mut Told) -> Asked {
+fn asked_of_fields(alloc: Global, fields: &[Pair], told: &mut Told) -> Asked {
     let is_first = first_value(fields, b"version") == b"1".as_slice();
     Asked {
         version: if is_first { 1 } else { 2 },
-        prefix: bytes_in(alloc, fields, b"prefix", told),
-        delimiter: bytes_in(alloc, fields, b"delimiter", told),
-        marker: bytes_in(alloc, fields, b"marker", told),
-        start_after: bytes_in(alloc, fields, b"start-after", told),
-        token: token_in(alloc, fields, told),
-        max: small_in(fields, b"max", told),
-        url: is_said(fields, b"url"),
-        owner: is_said(fields, b"owner"),
+        prefix: bytes_in_field(alloc, fields, b"prefix", told),
+        delimiter: bytes_in_field(alloc, fields, b"delimiter", told),
+        marker: bytes_in_field(alloc, fields, b"marker", told),
+        start_after: bytes_in_field(alloc, fields, b"start-after", told),
+        token: token_of_fields(alloc, fields, told),
+        max: small_number_in_field(fields, b"max", told),
+        url: is_field_yes(fields, b"url"),
+        owner: is_field_yes(fields, b"owner"),
     }
 }
 
-fn token_in(alloc: Global, fields: &[Pair], told: &mut Told) -> Option<Bytes> {
+fn token_of_fields(alloc: Global, fields: &[Pair], told: &mut Told) -> Option<Bytes> {
     if has_header(fields, b"token") {
-        Some(bytes_in(alloc, fields, b"token", told))
+        Some(bytes_in_field(alloc, fields, b"token", told))
     } else {
         None
     }
 }
 
-fn uploads(alloc: Global, fields: &[Pair], told: &mut Told) -> Reply {
+fn uploads_reply_of_fields(alloc: Global, fields: &[Pair], told: &mut Told) -> Reply {
     Reply::Uploads {
-        bucket: bytes_in(alloc, fields, b"bucket", told),
-        prefix: bytes_in(alloc, fields, b"prefix", told),
-        key_marker: bytes_in(alloc, fields, b"key-marker", told),
-        id_marker: bytes_in(alloc, fields, b"id-marker", told),
-        max: small_in(fields, b"max", told),
-        items: items_in(alloc, fields, told),
-        truncated: is_said(fields, b"truncated"),
+        bucket: bytes_in_field(alloc, fields, b"bucket", told),
+        prefix: bytes_in_field(alloc, fields, b"prefix", told),
+        key_marker: bytes_in_field(alloc, fields, b"key-marker", told),
+        id_marker: bytes_in_field(alloc, fields, b"id-marker", told),
+        max: small_number_in_field(fields, b"max", told),
+        items: items_of_fields(alloc, fields, told),
+        truncated: is_field_yes(fields, b"truncated"),
     }
 }
 
-fn parts(alloc: Global, fields: &[Pair], told: &mut Told) -> Reply {
+fn parts_reply_of_fields(alloc: Global, fields: &[Pair], told: &mut Told) -> Reply {
     Reply::Parts {
-        bucket: bytes_in(alloc, fields, b"bucket", told),
-        key: bytes_in(alloc, fields, b"key", told),
-        id: id_of(first_value(fields, b"id"), told),
-        marker: small_in(fields, b"number-marker", told),
-        max: small_in(fields, b"max", told),
-        items: items_in(alloc, fields, told),
-        truncated: is_said(fields, b"truncated"),
+        bucket: bytes_in_field(alloc, fields, b"bucket", told),
+        key: bytes_in_field(alloc, fields, b"key", told),
+        id: id_of_digits(first_value(fields, b"id"), told),
+        marker: small_number_in_field(fields, b"number-marker", told),
+        max: small_number_in_field(fields, b"max", told),
+        items: items_of_fields(alloc, fields, told),
+        truncated: is_field_yes(fields, b"truncated"),
     }
 }
 
-fn deleted(alloc: Global, fields: &[Pair], told: &mut Told) -> Reply {
+fn deleted_reply_of_fields(alloc: Global, fields: &[Pair], told: &mut Told) -> Reply {
     Reply::Deleted {
-        keys: keys_in(alloc, fields, told),
-        quiet: is_said(fields, b"quiet"),
+        keys: keys_of_fields(alloc, fields, told),
+        quiet: is_field_yes(fields, b"quiet"),
     }
 }
 
 /// The keys of the fields `key`, in their order.
-fn keys_in(alloc: Global, fields: &[Pair], told: &mut Told) -> List<Bytes> {
+fn keys_of_fields(alloc: Global, fields: &[Pair], told: &mut Told) -> List<Bytes> {
     let mut keys = List::new(alloc);
     for field in fields {
         if field.name.as_slice() == b"key".as_slice() {
-            let key = bytes_of(alloc, field.value.as_slice(), told);
+            let key = copy_of_bytes(alloc, field.value.as_slice(), told);
             told.push(&mut keys, key);
         }
     }
@@ -361,53 +381,53 @@ fn keys_in(alloc: Global, fields: &[Pair], told: &mut Told) -> List<Bytes> {
 }
 
 /// The bytes of a field; none where it is missing.
-fn bytes_in(alloc: Global, fields: &[Pair], name: &[u8], told: &mut Told) -> Bytes {
-    bytes_of(alloc, first_value(fields, name), told)
+fn bytes_in_field(alloc: Global, fields: &[Pair], name: &[u8], told: &mut Told) -> Bytes {
+    copy_of_bytes(alloc, first_value(fields, name), told)
 }
 
-fn text_in<'a>(fields: &'a [Pair], name: &[u8], told: &mut Told) -> &'a str {
-    text_of(first_value(fields, name), told)
+fn text_in_field<'a>(fields: &'a [Pair], name: &[u8], told: &mut Told) -> &'a str {
+    text_of_bytes(first_value(fields, name), told)
 }
 
 /// Whether a field says `yes`.
-fn is_said(fields: &[Pair], name: &[u8]) -> bool {
+fn is_field_yes(fields: &[Pair], name: &[u8]) -> bool {
     first_value(fields, name) == b"yes".as_slice()
 }
 
-fn number_in(fields: &[Pair], name: &[u8], told: &mut Told) -> u64 {
-    number_of(text_in(fields, name, told), told)
+fn number_in_field(fields: &[Pair], name: &[u8], told: &mut Told) -> u64 {
+    number_of_text(text_in_field(fields, name, told), told)
 }
 
-fn small_in(fields: &[Pair], name: &[u8], told: &mut Told) -> u32 {
-    small_of(first_value(fields, name), told)
+fn small_number_in_field(fields: &[Pair], name: &[u8], told: &mut Told) -> u32 {
+    small_number_of_bytes(first_value(fields, name), told)
 }
 
-fn small_of(text: &[u8], told: &mut Told) -> u32 {
-    match text_of(text, told).parse::<u32>() {
+fn small_number_of_bytes(text: &[u8], told: &mut Told) -> u32 {
+    match text_of_bytes(text, told).parse::<u32>() {
         Ok(number) => number,
         Err(_) => {
-            told.note(Fault::Unread("no number of 32 bits"));
+            told.note_fault(Fault::Unread("no number of 32 bits"));
             0
         }
     }
 }
 
 /// The number of a request or of an upload, in decimal.
-fn id_of(text: &[u8], told: &mut Told) -> u128 {
-    match text_of(text, told).parse::<u128>() {
+fn id_of_digits(text: &[u8], told: &mut Told) -> u128 {
+    match text_of_bytes(text, told).parse::<u128>() {
         Ok(number) => number,
         Err(_) => {
-            told.note(Fault::Unread("no number of 128 bits"));
+            told.note_fault(Fault::Unread("no number of 128 bits"));
             0
         }
     }
 }
 
-fn small(number: u128, told: &mut Told) -> u64 {
+fn size_of_item_number(number: u128, told: &mut Told) -> u64 {
     match u64::try_from(number) {
         Ok(number) => number,
         Err(_) => {
-            told.note(Fault::Unread("a number of more than 64 bits"));
+            told.note_fault(Fault::Unread("a number of more than 64 bits"));
             0
         }
     }

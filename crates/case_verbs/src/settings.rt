@@ -1,5 +1,5 @@
 //! The settings of the service by which requests are understood.
-use case_text::{Told, bytes_of};
+use case_text::{Told, copy_of_bytes};
 use gate_base::Copying;
 use s3_machine::Settings;
 use std::alloc::Global;
@@ -11,15 +11,15 @@ pub const USUAL_REGION: &[u8] = b"us-east-1";
 pub const USUAL_LEAST_PART: u64 = 5_242_880;
 
 /// A copy of the settings of a region.
-pub fn settings_of(
+pub fn settings_of_region(
     alloc: Global,
     region: &[u8],
     least_part: u64,
     told: &mut Told,
 ) -> Option<Settings> {
     let settings = Settings {
-        region: bytes_of(alloc, region, told),
+        region: copy_of_bytes(alloc, region, told),
         least_part,
     };
-    told.keep(settings.copy())
+    told.keep_made(settings.copy())
 }

@@ -16,26 +16,28 @@ use s3_machine::{BucketItem, Item, ObjectHead, PartItem, Reply, UploadItem};
 /// How many bytes an object may have at most, so that numbers hold the end of a range.
 const MOST_BYTES: u64 = 1 << 63;
 
-fn is_within(from: u64, length: u64) -> bool
+fn is_shown_range(from: u64, length: u64) -> bool
     ensures { IsTrue result → (from + length ≤ 2 ^ 63) }
 {
     length <= MOST_BYTES && from <= MOST_BYTES - length
 }
 
-fn is_filled(length: u64, partial: bool) -> bool
+fn is_partial_range_filled(length: u64, partial: bool) -> bool
     ensures { IsTrue result → IsTrue partial → (0 < length) }
 {
     !partial || 0 < length
 }
 
-fn shows(head: &ObjectHead, from: u64, length: u64, partial: bool) -> bool
+fn is_shown_object(head: &ObjectHead, from: u64, length: u64, partial: bool) -> bool
     ensures { IsTrue result → IsShown head.now from length partial }
 {
-    head.modified < MOMENT_LIMIT && is_within(from, length) && is_filled(length, partial)
+    head.modified < MOMENT_LIMIT
+        && is_shown_range(from, length)
+        && is_partial_range_filled(length, partial)
 }
 
 /// Whether a reply has a page.
-pub fn is_shown(reply: &Reply) -> bool
+pub fn is_shown_reply(reply: &Reply) -> bool
     ensures reply { IsTrue result → reply.now ≢ Reply.Memory }
     ensures showable { IsTrue result → IsShowable reply.now }
 {
@@ -45,8 +47,8 @@ pub fn is_shown(reply: &Reply) -> bool
         Reply::Made { .. } | Reply::Location { .. } | Reply::Stored { .. } => true,
         Reply::Started { .. } | Reply::Completed { .. } | Reply::Deleted { .. } => true,
         Reply::NotModified(head) => head.modified < MOMENT_LIMIT,
-        Reply::Buckets(items) => are_dated(items.as_slice()),
-        Reply::Objects { items, .. } => are_items_dated(items.as_slice()),
+        Reply::Buckets(items) => are_shown_buckets(items.as_slice()),
+        Reply::Objects { items, .. } => are_shown_items(items.as_slice()),
         Reply::Uploads { items, .. } => are_shown_uploads(items.as_slice()),
         Reply::Object {
             head,
@@ -54,19 +56,19 @@ pub fn is_shown(reply: &Reply) -> bool
             length,
             partial,
             ..
-        } => shows(head, *from, *length, *partial),
+        } => is_shown_object(head, *from, *length, *partial),
         Reply::Parts { items, .. } => are_shown_parts(items.as_slice()),
         Reply::Copied { modified, .. } => *modified < MOMENT_LIMIT,
     }
 }
 
-fn are_dated(items: &[BucketItem]) -> bool
+fn are_shown_buckets(items: &[BucketItem]) -> bool
     ensures { IsTrue result → All IsShownBucket items.now }
 {
     items.iter().all(|item| item.created < MOMENT_LIMIT)
 }
 
-fn is_dated(item: &Item) -> bool
+fn is_shown_item(item: &Item) -> bool
     ensures { IsTrue result → IsShownItem item.now }
 {
     match &item.object {
@@ -75,10 +77,10 @@ fn is_dated(item: &Item) -> bool
     }
 }
 
-fn are_items_dated(items: &[Item]) -> bool
+fn are_shown_items(items: &[Item]) -> bool
     ensures { IsTrue result → All IsShownItem items.now }
 {
-    items.iter().all(|item| is_dated(item))
+    items.iter().all(|item| is_shown_item(item))
 }
 
 fn are_shown_uploads(items: &[UploadItem]) -> bool

@@ -2,7 +2,7 @@
 ghost use Rattle.std.specs.Prelude.{IsTrue};
 ghost use Rattle.gate_base.specs.MemLine.{is_open_of};
 
-use case_text::{Fault, LARGE, Told, line_of_one_connection, tell};
+use case_text::{Fault, LARGE, Told, line_of_one_connection, tell_value};
 use gate_base::{Counted, Line, List, MemLine, NoCount, drop};
 use http_wire::{Got, Message, ReadFault, Reader};
 use std::alloc::Global;
@@ -19,11 +19,11 @@ pub struct Talk {
 impl Talk {
     /// Begins to talk over a line of one connection.
     pub fn new(alloc: Global, mut line: MemLine, told: &mut Told) -> Option<Talk> {
-        if !opens::<NoCount>(&mut line) {
-            told.note(Fault::Unread("no connection"));
+        if !opens_connection::<NoCount>(&mut line) {
+            told.note_fault(Fault::Unread("no connection"));
             return None;
         }
-        let reader = told.keep(Reader::new(alloc))?;
+        let reader = told.keep_made(Reader::new(alloc))?;
         Some(Talk {
             line,
             reader,
@@ -32,19 +32,19 @@ impl Talk {
     }
 
     /// Begins to talk over a connection of these bytes.
-    pub fn open(alloc: Global, given: &[u8], told: &mut Told) -> Option<Talk> {
+    pub fn open_over_bytes(alloc: Global, given: &[u8], told: &mut Told) -> Option<Talk> {
         let line = line_of_one_connection(alloc, given, LARGE, List::new(alloc), told)?;
         Talk::new(alloc, line, told)
     }
 
     /// The next answer of the reader.
-    pub fn next(&mut self) -> Result<Got, ReadFault> {
+    pub fn next_front(&mut self) -> Result<Got, ReadFault> {
         self.reader.next_request(&mut self.line, &NoCount)
     }
 
     /// The next message; none where none comes next.
     pub fn next_message(&mut self) -> Option<Message> {
-        match self.next() {
+        match self.next_front() {
             Ok(Got::Request(message)) => Some(message),
             other => {
                 drop(other);
@@ -55,7 +55,7 @@ impl Talk {
 
     /// Reads the next answer. Whether it is a request.
     pub fn passes_request(&mut self) -> bool {
-        let got = self.next();
+        let got = self.next_front();
         let is_request = matches!(got, Ok(Got::Request(_)));
         drop(got);
         is_request
@@ -65,14 +65,14 @@ impl Talk {
     pub fn tell_written(&mut self, told: &mut Told) {
         let pieces = self.line.pieces();
         for piece in pieces.iter().skip(self.told) {
-            tell(&piece.bytes, told);
+            tell_value(&piece.bytes, told);
         }
         self.told = pieces.len();
     }
 }
 
 /// Whether a connection begins on a line.
-pub fn opens<C: Counted>(line: &mut MemLine) -> bool
+pub fn opens_connection<C: Counted>(line: &mut MemLine) -> bool
     ensures { IsTrue result → IsTrue (is_open_of line.new) }
 {
     match Line::<C>::next(line) {

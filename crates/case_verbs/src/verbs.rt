@@ -1,8 +1,8 @@
 //! The verbs of public functions: which function tells what each gives.
 use crate::http_verbs::{fronts, pages, signatures};
-use crate::s3_verbs::s3_verb;
-use crate::s3_verbs_meaning::meaning_verb;
-use crate::s3_verbs_pages::page_verb;
+use crate::s3_verbs::tell_s3_verb;
+use crate::s3_verbs_meaning::tell_meaning;
+use crate::s3_verbs_pages::tell_page_of_reply;
 use crate::swift_verbs::{calls, manifests, marks, records, served, wire};
 use case_text::Told;
 use std::alloc::Global;
@@ -10,13 +10,13 @@ use std::alloc::Global;
 /// Tells what a verb gives: by the text behind the verb, and by the bytes of its lines `>`.
 pub fn tell_verb(alloc: Global, verb: &str, text: &str, given: &[u8], told: &mut Told) {
     match verb {
-        "meaning" | "code" => meaning_verb(alloc, verb, text, given, told),
-        "page-of" => page_verb(alloc, text, given, told),
-        "messages" => fronts::messages(alloc, text, given, false, told),
-        "lengths" => fronts::messages(alloc, text, given, true, told),
-        "front" => fronts::front(alloc, text, given, told),
-        "page" => pages::page(alloc, text, given, told),
-        "memory" => pages::memory(alloc, text, told),
+        "meaning" | "code" => tell_meaning(alloc, verb, text, given, told),
+        "page-of" => tell_page_of_reply(alloc, text, given, told),
+        "messages" => fronts::tell_messages(alloc, text, given, false, told),
+        "lengths" => fronts::tell_messages(alloc, text, given, true, told),
+        "front" => fronts::tell_first_front(alloc, text, given, told),
+        "page" => pages::tell_printed_page(alloc, text, given, told),
+        "memory" => pages::tell_memory_reply(alloc, text, told),
         "verify"
         | "canonical"
         | "verify-query"
@@ -35,23 +35,25 @@ pub fn tell_verb(alloc: Global, verb: &str, text: &str, given: &[u8], told: &mut
 /// The same for the layers of Swift.
 fn tell_swift_verb(alloc: Global, verb: &str, text: &str, given: &[u8], told: &mut Told) {
     match verb {
-        "read-call" => wire::read_first(alloc, given, told),
-        "read-answer" => wire::read_behind(alloc, given, told),
-        "answer-end" => wire::tell_end(alloc, text, given, told),
-        "fits" => wire::tell_fit(alloc, text, told),
-        "calls" | "write-answer" => calls::calls(alloc, verb, text, given, told),
-        "swiftd" => served::swiftd(alloc, text, given, told),
-        "tag" => marks::tag(alloc, given, told),
-        "tag-write" => marks::tag_write(alloc, text, told),
-        "pack" => marks::packed(alloc, given, told),
-        "unpack" => marks::unpacked(alloc, given, told),
-        "record" => records::record(alloc, given, told),
-        "sealed" => records::sealed(alloc, given, told),
-        "manifest" | "manifest-size" => manifests::manifest(alloc, verb, text, given, told),
-        "cover" => manifests::covered(alloc, text, told),
+        "read-call" => wire::tell_read_call(alloc, given, told),
+        "read-answer" => wire::tell_read_answer(alloc, given, told),
+        "answer-end" => wire::tell_answer_end(alloc, text, given, told),
+        "fits" => wire::tell_fit_of_put(alloc, text, told),
+        "calls" | "write-answer" => calls::tell_calls_or_answer(alloc, verb, text, given, told),
+        "swiftd" => served::tell_swiftd_run(alloc, text, given, told),
+        "tag" => marks::tell_tag(alloc, given, told),
+        "tag-write" => marks::tell_written_tag(alloc, text, told),
+        "pack" => marks::tell_packed_metadata(alloc, given, told),
+        "unpack" => marks::tell_unpacked_metadata(alloc, given, told),
+        "record" => records::tell_upload_record(alloc, given, told),
+        "sealed" => records::tell_sealed_completion(alloc, given, told),
+        "manifest" | "manifest-size" => manifests::tell_manifest_or_size(
+            alloc, verb, text, given, told,
+        ),
+        "cover" => manifests::tell_cover_of_range(alloc, text, told),
         "is-segment" | "is-manifest" | "joined-etag" | "manifest-write" => {
-            manifests::verb_on_segments(alloc, verb, given, told);
+            manifests::tell_segment_verb(alloc, verb, given, told);
         }
-        _ => s3_verb(alloc, verb, text, given, told),
+        _ => tell_s3_verb(alloc, verb, text, given, told),
     }
 }

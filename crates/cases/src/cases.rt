@@ -1,14 +1,16 @@
 //! The cases of a file. A case is its first line, the lines that are given to it, and the lines `= ` that are expected of it. The
 //! program has no use for the latter: they end a case, and are passed over.
-use crate::ended::ended;
+use crate::ended::tell_ended_connection;
 use crate::play::{play_case, play_setup};
-use case_text::{Given, Told, cut_text, give_all, is_passed, tell_lines};
+use case_text::{
+    Given, Told, append_bytes_of_lines, cut_text, is_line_passed_over, tell_text_by_lines,
+};
 use case_verbs::tell_verb;
 use gate_base::Bytes;
 use std::alloc::Global;
 
 /// Tells what comes of each case of a text, up to the first with a fault.
-pub(crate) fn play_text(alloc: Global, text: &str, told: &mut Told) {
+pub(crate) fn tell_cases_of_text(alloc: Global, text: &str, told: &mut Told) {
     let mut setup = "";
     let mut rest = text;
     for _ in 0..=text.len() {
@@ -17,7 +19,7 @@ pub(crate) fn play_text(alloc: Global, text: &str, told: &mut Told) {
         if first == "setup" {
             setup = below;
         }
-        if !is_passed(first) {
+        if !is_line_passed_over(first) {
             tell_case(alloc, first, setup, below, told);
         }
         if next.is_empty() || told.fault().is_some() {
@@ -30,21 +32,21 @@ pub(crate) fn play_text(alloc: Global, text: &str, told: &mut Told) {
 /// The lines that belong to a case with that first line, and those behind them: the former go up to the first line behind the
 /// expected ones; of a case that is no run also up to a line that gives no bytes. None belongs to a line that is passed over.
 fn split_case<'a>(first: &str, text: &'a str) -> (&'a str, &'a str) {
-    if is_passed(first) {
+    if is_line_passed_over(first) {
         return ("", text);
     }
-    let size = size_below(first == "setup" || first.starts_with("case "), text);
+    let size = size_of_case_lines(first == "setup" || first.starts_with("case "), text);
     match text.split_at_checked(size) {
         Some(parts) => parts,
         None => (text, ""),
     }
 }
 
-fn size_below(is_run: bool, text: &str) -> usize {
+fn size_of_case_lines(is_run: bool, text: &str) -> usize {
     let mut size = 0usize;
     let mut is_behind = false;
     for line in text.split('\n') {
-        if !is_passed(line) && (is_behind || !(is_run || line.starts_with('>'))) {
+        if !is_line_passed_over(line) && (is_behind || !(is_run || line.starts_with('>'))) {
             return size;
         }
         is_behind = is_behind || line.starts_with('=');
@@ -58,12 +60,12 @@ fn tell_case(alloc: Global, first: &str, setup: &str, below: &str, told: &mut To
     told.say(first);
     told.say("\n");
     let mut came = Told::new(alloc);
-    play(alloc, first, setup, below, &mut came);
-    told.note_of(&came);
-    tell_lines(came.text(), told);
+    tell_case_by_word(alloc, first, setup, below, &mut came);
+    told.note_fault_of(&came);
+    tell_text_by_lines(came.text(), told);
 }
 
-fn play(alloc: Global, first: &str, setup: &str, below: &str, told: &mut Told) {
+fn tell_case_by_word(alloc: Global, first: &str, setup: &str, below: &str, told: &mut Told) {
     let setup = Given {
         lines: setup,
         word: "setup",
@@ -71,15 +73,15 @@ fn play(alloc: Global, first: &str, setup: &str, below: &str, told: &mut Told) {
     match cut_text(first, ' ') {
         ("setup", _) => play_setup(alloc, setup, told),
         ("case", _) => play_case(alloc, setup, below, told),
-        (verb, text) => play_verb(alloc, verb, text, below, told),
+        (verb, text) => tell_verb_case(alloc, verb, text, below, told),
     }
 }
 
-fn play_verb(alloc: Global, verb: &str, text: &str, below: &str, told: &mut Told) {
+fn tell_verb_case(alloc: Global, verb: &str, text: &str, below: &str, told: &mut Told) {
     let mut given = Bytes::new(alloc);
-    give_all(alloc, below, &mut given, told);
+    append_bytes_of_lines(alloc, below, &mut given, told);
     if verb == "ended" {
-        ended(alloc, text, given.as_slice(), told);
+        tell_ended_connection(alloc, text, given.as_slice(), told);
     } else {
         tell_verb(alloc, verb, text, given.as_slice(), told);
     }

@@ -4,23 +4,24 @@
 ghost use Rattle.std.specs.Prelude.{IsTrue};
 ghost use Rattle.gate_base.specs.MemLine.{is_open_of};
 
-use crate::machine::service_of;
-use crate::running::empty_store;
+use crate::machine::service_of_run;
+use crate::running::empty_store_for_run;
 use case_text::{
-    Given, LARGE, Told, clock_of, line_of_one_connection, numbers_of, tell, tell_statuses,
+    Given, LARGE, Told, clock_of_run, line_of_one_connection, numbers_of_text,
+    tell_statuses_of_pieces, tell_value,
 };
-use case_verbs::opens;
+use case_verbs::opens_connection;
 use gate_base::{List, ListClock, ListDraws, MemLine};
 use gateway::{Ended, Service, serve_connection};
 use recovery::Known;
 use std::alloc::Global;
 use swift_calls::MemSwift;
 
-pub(crate) fn ended(alloc: Global, text: &str, given: &[u8], told: &mut Told) {
-    let fails = numbers_of(alloc, text, ' ', told);
+pub(crate) fn tell_ended_connection(alloc: Global, text: &str, given: &[u8], told: &mut Told) {
+    let fails = numbers_of_text(alloc, text, ' ', told);
     if let Some(mut line) = line_of_one_connection(alloc, given, LARGE, fails, told) {
-        serve_line(alloc, &mut line, told);
-        tell_statuses("written", line.pieces(), told);
+        tell_end_on_line(alloc, &mut line, told);
+        tell_statuses_of_pieces("written", line.pieces(), told);
     }
 }
 
@@ -30,33 +31,36 @@ const USUAL: Given<'static> = Given {
     word: "setup",
 };
 
-fn serve_line(alloc: Global, line: &mut MemLine, told: &mut Told) {
-    if let Some(mut store) = empty_store(alloc, told) {
-        serve_over(alloc, &mut store, line, told);
+fn tell_end_on_line(alloc: Global, line: &mut MemLine, told: &mut Told) {
+    if let Some(mut store) = empty_store_for_run(alloc, told) {
+        tell_end_over_store(alloc, &mut store, line, told);
     }
 }
 
-fn serve_over(alloc: Global, store: &mut MemSwift, line: &mut MemLine, told: &mut Told) {
-    if let Some(service) = service_of(alloc, USUAL, told) {
-        serve_by(alloc, store, &service, line, told);
+fn tell_end_over_store(alloc: Global, store: &mut MemSwift, line: &mut MemLine, told: &mut Told) {
+    if let Some(service) = service_of_run(alloc, USUAL, told) {
+        tell_end_by_service(alloc, store, &service, line, told);
     }
 }
 
-fn serve_by(
+fn tell_end_by_service(
     alloc: Global,
     store: &mut MemSwift,
     service: &Service,
     line: &mut MemLine,
     told: &mut Told,
 ) {
-    if let Some(mut clock) = clock_of(alloc, USUAL, told) {
-        if opens::<MemSwift>(line) {
-            tell(&serve(alloc, store, service, line, &mut clock), told);
+    if let Some(mut clock) = clock_of_run(alloc, USUAL, told) {
+        if opens_connection::<MemSwift>(line) {
+            tell_value(
+                &serve_until_ended(alloc, store, service, line, &mut clock),
+                told,
+            );
         }
     }
 }
 
-fn serve(
+fn serve_until_ended(
     alloc: Global,
     store: &mut MemSwift,
     service: &Service,

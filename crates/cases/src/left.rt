@@ -1,5 +1,5 @@
 //! What a store keeps, as its answers tell it.
-use case_text::{Fault, Given, Told, bytes_of, says, tell};
+use case_text::{Fault, Given, Told, copy_of_bytes, has_given_line, tell_value};
 use gate_base::{Bytes, drop};
 use std::alloc::Global;
 use swift_calls::{Swift, SwiftFault, SwiftReply, SwiftRequest, is_fit};
@@ -11,19 +11,24 @@ pub(crate) const OTHER: Fault = Fault::Unread("a store that answers something el
 
 /// Tells the containers of a store whose calls don't fail, each with its readers, and how many objects it has; and the objects, and
 /// the bytes of each.
-pub(crate) fn tell_left<W: Swift>(alloc: Global, given: Given<'_>, store: &mut W, told: &mut Told) {
-    if says(given, "tell left") {
+pub(crate) fn tell_what_is_left<W: Swift>(
+    alloc: Global,
+    given: Given<'_>,
+    store: &mut W,
+    told: &mut Told,
+) {
+    if has_given_line(given, "tell left") {
         let request = SwiftRequest::ListContainers {
             marker: Bytes::new(alloc),
             limit: MOST_NAMES,
         };
-        let answer = ask(store, request);
-        tell_containers(alloc, given, store, &answer, told);
+        let answer = ask_store(store, request);
+        tell_left_containers(alloc, given, store, &answer, told);
         drop(answer);
     }
 }
 
-fn tell_containers<W: Swift>(
+fn tell_left_containers<W: Swift>(
     alloc: Global,
     given: Given<'_>,
     store: &mut W,
@@ -31,31 +36,31 @@ fn tell_containers<W: Swift>(
     told: &mut Told,
 ) {
     let Ok(SwiftReply::Containers(names)) = answer else {
-        return told.note(OTHER);
+        return told.note_fault(OTHER);
     };
     told.say("left ");
-    tell(names, told);
+    tell_value(names, told);
     for name in names.as_slice() {
-        tell_readers(alloc, store, name.as_slice(), told);
-        ask_names(alloc, given, store, name.as_slice(), told);
+        tell_left_readers(alloc, store, name.as_slice(), told);
+        tell_left_names(alloc, given, store, name.as_slice(), told);
     }
 }
 
-fn tell_readers<W: Swift>(alloc: Global, store: &mut W, container: &[u8], told: &mut Told) {
-    let container = bytes_of(alloc, container, told);
-    let answer = ask(store, SwiftRequest::HeadContainer { container });
-    tell_reply(&answer, told);
+fn tell_left_readers<W: Swift>(alloc: Global, store: &mut W, container: &[u8], told: &mut Told) {
+    let container = copy_of_bytes(alloc, container, told);
+    let answer = ask_store(store, SwiftRequest::HeadContainer { container });
+    tell_reply_of_store(&answer, told);
     drop(answer);
 }
 
-fn tell_reply(answer: &Result<SwiftReply, SwiftFault>, told: &mut Told) {
+fn tell_reply_of_store(answer: &Result<SwiftReply, SwiftFault>, told: &mut Told) {
     match answer {
-        Ok(reply) => tell(reply, told),
-        Err(_) => told.note(OTHER),
+        Ok(reply) => tell_value(reply, told),
+        Err(_) => told.note_fault(OTHER),
     }
 }
 
-fn ask_names<W: Swift>(
+fn tell_left_names<W: Swift>(
     alloc: Global,
     given: Given<'_>,
     store: &mut W,
@@ -63,17 +68,17 @@ fn ask_names<W: Swift>(
     told: &mut Told,
 ) {
     let request = SwiftRequest::ListNames {
-        container: bytes_of(alloc, container, told),
+        container: copy_of_bytes(alloc, container, told),
         prefix: Bytes::new(alloc),
         marker: Bytes::new(alloc),
         limit: MOST_NAMES,
     };
-    let answer = ask(store, request);
-    tell_objects(alloc, given, store, container, &answer, told);
+    let answer = ask_store(store, request);
+    tell_left_objects(alloc, given, store, container, &answer, told);
     drop(answer);
 }
 
-fn tell_objects<W: Swift>(
+fn tell_left_objects<W: Swift>(
     alloc: Global,
     given: Given<'_>,
     store: &mut W,
@@ -82,21 +87,21 @@ fn tell_objects<W: Swift>(
     told: &mut Told,
 ) {
     let Ok(SwiftReply::Names(items)) = answer else {
-        return told.note(OTHER);
+        return told.note_fault(OTHER);
     };
     told.say("objects ");
-    tell(&items.len(), told);
+    tell_value(&items.len(), told);
     for item in items.as_slice() {
-        if says(given, "tell objects") {
-            tell_head(alloc, store, container, &item.name, told);
+        if has_given_line(given, "tell objects") {
+            tell_left_head(alloc, store, container, &item.name, told);
         }
-        if says(given, "tell bodies") {
-            tell_body(alloc, store, container, &item.name, told);
+        if has_given_line(given, "tell bodies") {
+            tell_left_body(alloc, store, container, &item.name, told);
         }
     }
 }
 
-fn tell_head<W: Swift>(
+fn tell_left_head<W: Swift>(
     alloc: Global,
     store: &mut W,
     container: &[u8],
@@ -104,32 +109,32 @@ fn tell_head<W: Swift>(
     told: &mut Told,
 ) {
     let request = SwiftRequest::HeadObject {
-        container: bytes_of(alloc, container, told),
-        name: bytes_of(alloc, name.as_slice(), told),
+        container: copy_of_bytes(alloc, container, told),
+        name: copy_of_bytes(alloc, name.as_slice(), told),
     };
-    let answer = ask(store, request);
-    tell_object(name, &answer, told);
+    let answer = ask_store(store, request);
+    tell_left_object(name, &answer, told);
     drop(answer);
 }
 
-fn tell_object(name: &Bytes, answer: &Result<SwiftReply, SwiftFault>, told: &mut Told) {
+fn tell_left_object(name: &Bytes, answer: &Result<SwiftReply, SwiftFault>, told: &mut Told) {
     let Ok(SwiftReply::Head(head)) = answer else {
-        return told.note(OTHER);
+        return told.note_fault(OTHER);
     };
     told.say("object ");
-    told.show(name);
+    told.say_value(name);
     told.say(" ");
-    told.show(&head.content_type);
+    told.say_value(&head.content_type);
     told.say(" ");
-    told.show(&head.meta);
+    told.say_value(&head.meta);
     if head.manifest {
         told.say(" segments ");
-        told.show(&head.etag);
+        told.say_value(&head.etag);
     }
     told.say("\n");
 }
 
-fn tell_body<W: Swift>(
+fn tell_left_body<W: Swift>(
     alloc: Global,
     store: &mut W,
     container: &[u8],
@@ -137,35 +142,38 @@ fn tell_body<W: Swift>(
     told: &mut Told,
 ) {
     let request = SwiftRequest::GetObject {
-        container: bytes_of(alloc, container, told),
-        name: bytes_of(alloc, name.as_slice(), told),
+        container: copy_of_bytes(alloc, container, told),
+        name: copy_of_bytes(alloc, name.as_slice(), told),
         range: None,
     };
-    let answer = ask(store, request);
-    tell_got(&answer, told);
+    let answer = ask_store(store, request);
+    tell_left_bytes(&answer, told);
     drop(answer);
 }
 
-fn tell_got(answer: &Result<SwiftReply, SwiftFault>, told: &mut Told) {
+fn tell_left_bytes(answer: &Result<SwiftReply, SwiftFault>, told: &mut Told) {
     match answer {
         Ok(SwiftReply::Bytes { body, .. }) => {
             told.say("body ");
-            tell(body, told);
+            tell_value(body, told);
         }
-        _ => told.note(OTHER),
+        _ => told.note_fault(OTHER),
     }
 }
 
-pub(crate) fn ask<W: Swift>(
+pub(crate) fn ask_store<W: Swift>(
     store: &mut W,
     request: SwiftRequest,
 ) -> Result<SwiftReply, SwiftFault> {
-    let answer = ask_by(store, &request);
+    let answer = ask_store_if_fit(store, &request);
     drop(request);
     answer
 }
 
-fn ask_by<W: Swift>(store: &mut W, request: &SwiftRequest) -> Result<SwiftReply, SwiftFault> {
+fn ask_store_if_fit<W: Swift>(
+    store: &mut W,
+    request: &SwiftRequest,
+) -> Result<SwiftReply, SwiftFault> {
     if is_fit(request) {
         store.call(request)
     } else {

@@ -4,9 +4,10 @@ ghost use Rattle.s3_requests.specs.Proper.{IsProperMeant};
 
 use crate::play::First;
 use case_text::{
-    Fault, Given, Told, behind, connections, keys, meets_fault, moments, says, tell_bytes,
+    Fault, Given, Told, given_connections, given_keys, given_moments, given_text_behind,
+    has_failing_call, has_given_line, tell_bytes_by_lines,
 };
-use case_verbs::{Talk, USUAL_LEAST_PART, USUAL_REGION, is_shown, settings_of};
+use case_verbs::{Talk, USUAL_LEAST_PART, USUAL_REGION, is_shown_reply, settings_of_region};
 use gate_base::{Bytes, Caller, Copying, MOMENT_LIMIT, Memory, Piece, drop};
 use gateway::{Service, print_reply};
 use http_wire::Message;
@@ -34,36 +35,41 @@ struct Turn<'a> {
 }
 
 /// Tells what the machine answers where a run without a fault wrote something else.
-pub(crate) fn follow_case(
+pub(crate) fn compare_case_with_machine(
     alloc: Global,
     first: &First,
     given: Given<'_>,
     pieces: &[Piece],
     told: &mut Told,
 ) {
-    if meets_fault(given) || says(given, "nomodel") || pieces.is_empty() {
+    if has_failing_call(given) || has_given_line(given, "nomodel") || pieces.is_empty() {
         return;
     }
-    if let Some(mut machine) = machine_after(alloc, first, given, told) {
-        machine.follow(given, pieces, told);
+    if let Some(mut machine) = machine_after_setup(alloc, first, given, told) {
+        machine.answer_run(given, pieces, told);
     }
 }
 
 /// The machine that was asked what the run was that stands before a case, with the settings of the case.
-pub(crate) fn machine_after(
+pub(crate) fn machine_after_setup(
     alloc: Global,
     first: &First,
     given: Given<'_>,
     told: &mut Told,
 ) -> Option<Machine> {
-    let mut machine = machine_of(alloc, given, told)?;
-    machine.follow(first.given, first.pieces, told);
+    let mut machine = machine_without_bucket(alloc, given, told)?;
+    machine.answer_run(first.given, first.pieces, told);
     Some(machine)
 }
 
 /// A machine without a bucket.
-fn machine_of(alloc: Global, given: Given<'_>, told: &mut Told) -> Option<Machine> {
-    let settings = settings_of(alloc, region_of(given), least_part_of(given), told)?;
+fn machine_without_bucket(alloc: Global, given: Given<'_>, told: &mut Told) -> Option<Machine> {
+    let settings = settings_of_region(
+        alloc,
+        region_of_words(given),
+        least_part_of_words(given),
+        told,
+    )?;
     Some(Machine {
         alloc,
         native: Native::new(alloc, settings),
@@ -73,13 +79,13 @@ fn machine_of(alloc: Global, given: Given<'_>, told: &mut Told) -> Option<Machin
 
 impl Machine {
     /// The machine is asked what a new run was. What it answers is told where that wrote something else.
-    pub(crate) fn follow(&mut self, given: Given<'_>, pieces: &[Piece], told: &mut Told) {
-        if let Some(service) = service_of(self.alloc, given, told) {
-            self.follow_by(&service, given, pieces, told);
+    pub(crate) fn answer_run(&mut self, given: Given<'_>, pieces: &[Piece], told: &mut Told) {
+        if let Some(service) = service_of_run(self.alloc, given, told) {
+            self.answer_run_by_service(&service, given, pieces, told);
         }
     }
 
-    fn follow_by(
+    fn answer_run_by_service(
         &mut self,
         service: &Service,
         given: Given<'_>,
@@ -87,20 +93,20 @@ impl Machine {
         told: &mut Told,
     ) {
         self.turn = 0;
-        let moments = moments(self.alloc, given, told);
+        let moments = given_moments(self.alloc, given, told);
         let mut number = 0u64;
-        let connections = connections(self.alloc, given, told);
+        let connections = given_connections(self.alloc, given, told);
         for bytes in connections.as_slice() {
             number = number.saturating_add(1);
-            if let Some(mut talk) = Talk::open(self.alloc, bytes.as_slice(), told) {
+            if let Some(mut talk) = Talk::open_over_bytes(self.alloc, bytes.as_slice(), told) {
                 let moments = moments.as_slice();
-                self.follow_one(service, moments, &mut talk, number, pieces, told);
+                self.answer_connection(service, moments, &mut talk, number, pieces, told);
             }
         }
     }
 
     /// The requests of a connection.
-    fn follow_one(
+    fn answer_connection(
         &mut self,
         service: &Service,
         moments: &[u64],
@@ -110,40 +116,46 @@ impl Machine {
         told: &mut Told,
     ) {
         for piece in pieces {
-            if piece.connection == number && !is_interim(piece) {
+            if piece.connection == number && !is_interim_piece(piece) {
                 let turn = Turn {
                     service,
-                    label: label_of(self.turn, moments),
+                    label: label_of_turn(self.turn, moments),
                     piece,
                 };
                 self.turn = self.turn.saturating_add(1);
-                self.hear(talk, &turn, told);
+                self.answer_next_request(talk, &turn, told);
             }
         }
     }
 
     /// The next request of a connection. One that is refused before it is understood is not for the machine.
-    fn hear(&mut self, talk: &mut Talk, turn: &Turn, told: &mut Told) {
+    fn answer_next_request(&mut self, talk: &mut Talk, turn: &Turn, told: &mut Told) {
         if let Some(mut message) = talk.next_message() {
-            self.hear_message(&mut message, turn, told);
+            self.answer_message(&mut message, turn, told);
         }
     }
 
-    fn hear_message(&mut self, message: &mut Message, turn: &Turn, told: &mut Told) {
+    fn answer_message(&mut self, message: &mut Message, turn: &Turn, told: &mut Told) {
         if let Ok(target) = Target::read(self.alloc, message.target.as_slice()) {
-            self.admit(message, &target, turn, told);
+            self.answer_if_verified(message, &target, turn, told);
         }
     }
 
-    fn admit(&mut self, message: &mut Message, target: &Target, turn: &Turn, told: &mut Told) {
+    fn answer_if_verified(
+        &mut self,
+        message: &mut Message,
+        target: &Target,
+        turn: &Turn,
+        told: &mut Told,
+    ) {
         let keys = &turn.service.keys;
         let region = turn.service.settings.region.as_slice();
         if let Ok(caller) = verify(self.alloc, keys, region, message, target, turn.label.moment) {
-            self.understand(message, target, caller, turn, told);
+            self.answer_by_meaning(message, target, caller, turn, told);
         }
     }
 
-    fn understand(
+    fn answer_by_meaning(
         &mut self,
         message: &mut Message,
         target: &Target,
@@ -152,11 +164,11 @@ impl Machine {
         told: &mut Told,
     ) {
         let meant = meaning(self.alloc, message, target, &caller, &turn.service.settings);
-        self.meet(&meant, message, target, caller, turn, told);
+        self.answer_meant(&meant, message, target, caller, turn, told);
         drop(meant);
     }
 
-    fn meet(
+    fn answer_meant(
         &mut self,
         meant: &Meant,
         message: &Message,
@@ -168,13 +180,13 @@ impl Machine {
         requires { IsProperMeant meant.now }
     {
         match meant {
-            Meant::Op(op) => self.answer(op, message, target, caller, turn, told),
+            Meant::Op(op) => self.answer_operation(op, message, target, caller, turn, told),
             Meant::Refused(_) => {}
-            Meant::Memory => told.note(Fault::Memory),
+            Meant::Memory => told.note_fault(Fault::Memory),
         }
     }
 
-    fn answer(
+    fn answer_operation(
         &mut self,
         op: &Op,
         message: &Message,
@@ -190,22 +202,22 @@ impl Machine {
             ..turn.label
         };
         if label.moment >= MOMENT_LIMIT {
-            return told.note(Fault::Unread("a moment past the year 9999"));
+            return told.note_fault(Fault::Unread("a moment past the year 9999"));
         }
         let method = message.method.as_slice();
         let resource = target.raw_path.as_slice();
         let stepped = self.native.step(op, &label);
-        compare(self.alloc, &stepped, &label, method, resource, turn, told);
+        compare_step_with_piece(self.alloc, &stepped, &label, method, resource, turn, told);
         drop(stepped);
     }
 }
 
 /// Whether a piece answers no request: an interim line is written before a body is read, and the reply follows.
-fn is_interim(piece: &Piece) -> bool {
+fn is_interim_piece(piece: &Piece) -> bool {
     piece.bytes.as_slice().starts_with(b"HTTP/1.1 100 ")
 }
 
-fn compare(
+fn compare_step_with_piece(
     alloc: Global,
     stepped: &Result<Reply, Memory>,
     label: &Label,
@@ -215,13 +227,13 @@ fn compare(
     told: &mut Told,
 ) {
     match stepped {
-        Ok(reply) => compare_reply(alloc, reply, label, method, resource, turn, told),
-        Err(_) => told.note(Fault::Memory),
+        Ok(reply) => compare_reply_with_piece(alloc, reply, label, method, resource, turn, told),
+        Err(_) => told.note_fault(Fault::Memory),
     }
 }
 
 /// Tells the reply as it is printed where it isn't the piece, which may say besides that the connection ends.
-fn compare_reply(
+fn compare_reply_with_piece(
     alloc: Global,
     reply: &Reply,
     label: &Label,
@@ -231,18 +243,18 @@ fn compare_reply(
     told: &mut Told,
 ) {
     let came = turn.piece.bytes.as_slice();
-    let closing = printed(alloc, reply, label, method, resource, true, told);
+    let closing = printed_machine_reply(alloc, reply, label, method, resource, true, told);
     if closing.as_slice() != came {
-        let due = printed(alloc, reply, label, method, resource, false, told);
+        let due = printed_machine_reply(alloc, reply, label, method, resource, false, told);
         if due.as_slice() != came {
             told.say("by the machine:\n");
-            tell_bytes(alloc, due.as_slice(), told);
+            tell_bytes_by_lines(alloc, due.as_slice(), told);
         }
     }
 }
 
 /// The label of a request by its place in a run, from 0: two words are drawn a request, and the last moment comes again.
-fn label_of(turn: u64, moments: &[u64]) -> Label {
+fn label_of_turn(turn: u64, moments: &[u64]) -> Label {
     let draws = 2 * u128::from(turn);
     let moment = match moments.get(turn as usize) {
         Some(moment) => *moment,
@@ -260,8 +272,8 @@ fn label_of(turn: u64, moments: &[u64]) -> Label {
 }
 
 /// The word that stands behind an option in the words of the program.
-fn option_of<'a>(given: Given<'a>, option: &str) -> Option<&'a str> {
-    let words = behind(given, "words")?;
+fn option_of_words<'a>(given: Given<'a>, option: &str) -> Option<&'a str> {
+    let words = given_text_behind(given, "words")?;
     let (_, rest) = words.split_once(option)?;
     match rest.split_once(' ') {
         Some((value, _)) => Some(value),
@@ -270,40 +282,45 @@ fn option_of<'a>(given: Given<'a>, option: &str) -> Option<&'a str> {
 }
 
 /// The region of the words, or the usual one.
-fn region_of(given: Given<'_>) -> &[u8] {
-    match option_of(given, " --region ") {
+fn region_of_words(given: Given<'_>) -> &[u8] {
+    match option_of_words(given, " --region ") {
         Some(region) => region.as_bytes(),
         None => USUAL_REGION,
     }
 }
 
 /// The least size of a part of the words, or the usual one, 5 MiB.
-fn least_part_of(given: Given<'_>) -> u64 {
-    match option_of(given, " --least-part ") {
-        Some(value) => number_in(value),
+fn least_part_of_words(given: Given<'_>) -> u64 {
+    match option_of_words(given, " --least-part ") {
+        Some(value) => option_number_or_zero(value),
         None => USUAL_LEAST_PART,
     }
 }
 
-fn number_in(text: &str) -> u64 {
+fn option_number_or_zero(text: &str) -> u64 {
     match text.parse::<u64>() {
         Ok(number) => number,
         Err(_) => 0,
     }
 }
 
-pub(crate) fn service_of(alloc: Global, given: Given<'_>, told: &mut Told) -> Option<Service> {
-    let keys = keys_of(alloc, given, told)?;
-    let settings = settings_of(alloc, region_of(given), least_part_of(given), told)?;
+pub(crate) fn service_of_run(alloc: Global, given: Given<'_>, told: &mut Told) -> Option<Service> {
+    let keys = keys_of_run(alloc, given, told)?;
+    let settings = settings_of_region(
+        alloc,
+        region_of_words(given),
+        least_part_of_words(given),
+        told,
+    )?;
     Some(Service { settings, keys })
 }
 
-fn keys_of(alloc: Global, given: Given<'_>, told: &mut Told) -> Option<Keys> {
-    let text = keys(alloc, given);
-    told.keep(Keys::read(alloc, text.text().as_bytes()))
+fn keys_of_run(alloc: Global, given: Given<'_>, told: &mut Told) -> Option<Keys> {
+    let text = given_keys(alloc, given);
+    told.keep_made(Keys::read(alloc, text.text().as_bytes()))
 }
 
-fn printed(
+fn printed_machine_reply(
     alloc: Global,
     reply: &Reply,
     label: &Label,
@@ -312,13 +329,13 @@ fn printed(
     closing: bool,
     told: &mut Told,
 ) -> Bytes {
-    if is_shown(reply) && label.moment < MOMENT_LIMIT {
+    if is_shown_reply(reply) && label.moment < MOMENT_LIMIT {
         if let Ok(copied) = reply.copy() {
             if let Ok(page) = print_reply(alloc, copied, label, method, resource, closing) {
                 return page;
             }
         }
     }
-    told.note(Fault::Unread("a reply without a page"));
+    told.note_fault(Fault::Unread("a reply without a page"));
     Bytes::new(alloc)
 }

@@ -16,8 +16,8 @@ mod running;
 mod sweep;
 mod wire;
 
-use case_text::{Fault, Told, tell};
-use cases::play_text;
+use case_text::{Fault, Told, tell_value};
+use cases::tell_cases_of_text;
 use std::process::ExitCode;
 use std::{env, fs, io};
 
@@ -26,7 +26,7 @@ const UNREAD: u8 = 2;
 
 fn main(rt: HostRuntime) -> io::Result<ExitCode> {
     for file in env::args(&rt)?.skip(1) {
-        if !print_file(&rt, file.as_str())? {
+        if !print_cases_of_file(&rt, file.as_str())? {
             return Ok(ExitCode::from(UNREAD));
         }
     }
@@ -34,26 +34,26 @@ fn main(rt: HostRuntime) -> io::Result<ExitCode> {
 }
 
 /// Prints what comes of a file. Whether it is read as cases.
-fn print_file(rt: &HostRuntime, file: &str) -> io::Result<bool> {
+fn print_cases_of_file(rt: &HostRuntime, file: &str) -> io::Result<bool> {
     let mut told = Told::new(rt.alloc());
-    tell_file(rt, file, &mut told);
+    tell_cases_of_file(rt, file, &mut told);
     let text = told.text();
     print!(rt; "{text}")?;
     Ok(told.fault().is_none())
 }
 
 /// Tells the name of a file, what comes of its cases, and what kept them from being read.
-fn tell_file(rt: &HostRuntime, file: &str, told: &mut Told) {
+fn tell_cases_of_file(rt: &HostRuntime, file: &str, told: &mut Told) {
     told.say("file ");
     told.say(file);
     told.say("\n");
     match fs::read_to_string(rt, file) {
-        Ok(text) => play_text(rt.alloc(), text.as_str(), told),
-        Err(_) => told.note(Fault::Unread("no file that can be read")),
+        Ok(text) => tell_cases_of_text(rt.alloc(), text.as_str(), told),
+        Err(_) => told.note_fault(Fault::Unread("no file that can be read")),
     }
     if let Some(fault) = told.fault() {
         told.say(file);
         told.say(": ");
-        tell(&fault, told);
+        tell_value(&fault, told);
     }
 }

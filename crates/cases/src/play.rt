@@ -1,14 +1,16 @@
 //! A case is run by each of its sizes, and once over the wire. What came is told once, and what is otherwise in another run
 //! beside it.
-use crate::files::put_files;
-use crate::left::tell_left;
-use crate::machine::follow_case;
-use crate::running::{empty_store, run_on, store_at, store_with};
-use crate::sweep::sweep;
+use crate::files::put_files_of_setup;
+use crate::left::tell_what_is_left;
+use crate::machine::compare_case_with_machine;
+use crate::running::{
+    empty_store_for_run, failing_store_for_run, run_program_on_store, unfailing_store_for_run,
+};
+use crate::sweep::sweep_case;
 use crate::wire::play_wire;
 use case_text::{
-    Fault, Given, LARGE, Told, are_done, behind, check_lines, line_of, number_of, numbers, says,
-    tell_pieces,
+    Fault, Given, LARGE, Told, are_pieces_successful, check_given_lines, given_numbers,
+    given_text_behind, has_given_line, line_of_run, number_of_text, tell_pieces,
 };
 use gate_base::{Counted, MemLine, Piece};
 use std::alloc::Global;
@@ -27,25 +29,25 @@ pub(crate) struct First<'a> {
 
 /// Tells whether the requests of a setup are served.
 pub(crate) fn play_setup(alloc: Global, setup: Given<'_>, told: &mut Told) {
-    if let Some(mut store) = empty_store(alloc, told) {
-        serve_on(alloc, setup, &mut store, "served\n", told);
+    if let Some(mut store) = empty_store_for_run(alloc, told) {
+        serve_setup_on_store(alloc, setup, &mut store, "served\n", told);
     }
 }
 
 /// Runs the requests of a setup over a store, and puts its files. Where each is served, that is said; else what came is told.
-pub(crate) fn serve_on<W: Swift>(
+pub(crate) fn serve_setup_on_store<W: Swift>(
     alloc: Global,
     setup: Given<'_>,
     store: &mut W,
     served: &str,
     told: &mut Told,
 ) {
-    if let Some(mut line) = line_of(alloc, setup, LARGE, told) {
-        serve(alloc, setup, store, &mut line, served, told);
+    if let Some(mut line) = line_of_run(alloc, setup, LARGE, told) {
+        serve_setup_on_line(alloc, setup, store, &mut line, served, told);
     }
 }
 
-fn serve<W: Swift>(
+fn serve_setup_on_line<W: Swift>(
     alloc: Global,
     setup: Given<'_>,
     store: &mut W,
@@ -54,14 +56,14 @@ fn serve<W: Swift>(
     told: &mut Told,
 ) {
     let mut came = Told::new(alloc);
-    let is_run = run_on(alloc, setup, store, line, &mut came);
-    put_files(alloc, setup, store, &mut came);
+    let is_run = run_program_on_store(alloc, setup, store, line, &mut came);
+    put_files_of_setup(alloc, setup, store, &mut came);
     tell_pieces(alloc, setup, line.pieces(), &mut came);
     let is_answered = line.pieces().is_empty() != setup.lines.contains('>');
-    if is_run && is_answered && are_done(line.pieces()) {
+    if is_run && is_answered && are_pieces_successful(line.pieces()) {
         told.say(served);
     } else {
-        told.note_of(&came);
+        told.note_fault_of(&came);
         told.say(came.text());
     }
 }
@@ -72,39 +74,39 @@ pub(crate) fn play_case(alloc: Global, setup: Given<'_>, below: &str, told: &mut
         lines: below,
         word: "connection",
     };
-    check_lines(given, told);
-    if let Some(mut store) = empty_store(alloc, told) {
-        play_over(alloc, setup, given, &mut store, told);
+    check_given_lines(given, told);
+    if let Some(mut store) = empty_store_for_run(alloc, told) {
+        play_case_after_setup(alloc, setup, given, &mut store, told);
     }
 }
 
-fn play_over(
+fn play_case_after_setup(
     alloc: Global,
     setup: Given<'_>,
     given: Given<'_>,
     store: &mut MemSwift,
     told: &mut Told,
 ) {
-    if let Some(mut line) = line_of(alloc, setup, LARGE, told) {
-        serve(alloc, setup, store, &mut line, "", told);
+    if let Some(mut line) = line_of_run(alloc, setup, LARGE, told) {
+        serve_setup_on_line(alloc, setup, store, &mut line, "", told);
         let first = First {
             given: setup,
             store,
             pieces: line.pieces(),
         };
-        play_behind(alloc, &first, given, told);
+        play_case_each_way(alloc, &first, given, told);
     }
 }
 
 /// What came by the last size, and what came otherwise by each other size, over the wire, and in a sweep.
-fn play_behind(alloc: Global, first: &First, given: Given<'_>, told: &mut Told) {
-    let sizes = numbers(alloc, given, "pieces", SIZES, told);
+fn play_case_each_way(alloc: Global, first: &First, given: Given<'_>, told: &mut Told) {
+    let sizes = given_numbers(alloc, given, "pieces", SIZES, told);
     match sizes.as_slice().split_last() {
         Some((last, others)) => play_sizes(alloc, first, given, *last, others, told),
-        None => told.note(Fault::Unread("no size of pieces")),
+        None => told.note_fault(Fault::Unread("no size of pieces")),
     }
-    if says(given, "sweep") {
-        sweep(alloc, first, given, told);
+    if has_given_line(given, "sweep") {
+        sweep_case(alloc, first, given, told);
     }
 }
 
@@ -118,24 +120,24 @@ fn play_sizes(
 ) {
     let mut usual = Told::new(alloc);
     play_size(alloc, first, given, last, &mut usual);
-    told.note_of(&usual);
+    told.note_fault_of(&usual);
     told.say(usual.text());
     for size in others {
         let mut other = Told::new(alloc);
         play_size(alloc, first, given, *size, &mut other);
-        told.say_other("by ", *size, &other, usual.text());
+        told.say_if_other("by ", *size, &other, usual.text());
     }
     play_wire(alloc, first.given, given, last, usual.text(), told);
 }
 
 /// Tells what comes by a size, and what the machine answers where that is otherwise.
 fn play_size(alloc: Global, first: &First, given: Given<'_>, size: u64, told: &mut Told) {
-    if let Some(mut store) = store_after(alloc, given, first.store, told) {
-        play_on(alloc, first, given, size, &mut store, told);
+    if let Some(mut store) = store_after_setup(alloc, given, first.store, told) {
+        play_case_on_store(alloc, first, given, size, &mut store, told);
     }
 }
 
-fn play_on(
+fn play_case_on_store(
     alloc: Global,
     first: &First,
     given: Given<'_>,
@@ -143,39 +145,39 @@ fn play_on(
     store: &mut MemSwift,
     told: &mut Told,
 ) {
-    if let Some(mut line) = line_of(alloc, given, size, told) {
-        tell_run(alloc, given, store, &mut line, told);
-        look(alloc, given, store, told);
-        follow_case(alloc, first, given, line.pieces(), told);
+    if let Some(mut line) = line_of_run(alloc, given, size, told) {
+        tell_run_of_case(alloc, given, store, &mut line, told);
+        tell_left_after_case(alloc, given, store, told);
+        compare_case_with_machine(alloc, first, given, line.pieces(), told);
     }
 }
 
 /// A store with the account that another has, whose calls fail as a case says.
-fn store_after(
+fn store_after_setup(
     alloc: Global,
     given: Given<'_>,
     first: &MemSwift,
     told: &mut Told,
 ) -> Option<MemSwift> {
-    let stop = match behind(given, "stop") {
-        Some(text) => number_of(text, told),
+    let stop = match given_text_behind(given, "stop") {
+        Some(text) => number_of_text(text, told),
         None => 0,
     };
-    let before = numbers(alloc, given, "before", "", told);
-    let after = numbers(alloc, given, "after", "", told);
-    store_with(alloc, first, first.calls(), before, after, stop, told)
+    let before = given_numbers(alloc, given, "before", "", told);
+    let after = given_numbers(alloc, given, "after", "", told);
+    failing_store_for_run(alloc, first, first.calls(), before, after, stop, told)
 }
 
 /// Runs the program, and tells all of it but what is left.
-pub(crate) fn tell_run<W: Swift>(
+pub(crate) fn tell_run_of_case<W: Swift>(
     alloc: Global,
     given: Given<'_>,
     store: &mut W,
     line: &mut MemLine,
     told: &mut Told,
 ) {
-    let _done = run_on(alloc, given, store, line, told);
-    if says(given, "tell calls") {
+    let _done = run_program_on_store(alloc, given, store, line, told);
+    if has_given_line(given, "tell calls") {
         told.say_number("calls ", store.calls());
         told.say("\n");
     }
@@ -183,8 +185,8 @@ pub(crate) fn tell_run<W: Swift>(
 }
 
 /// What a store keeps, by the calls of another that begins with it.
-fn look(alloc: Global, given: Given<'_>, store: &MemSwift, told: &mut Told) {
-    if let Some(mut later) = store_at(alloc, store, store.calls(), told) {
-        tell_left(alloc, given, &mut later, told);
+fn tell_left_after_case(alloc: Global, given: Given<'_>, store: &MemSwift, told: &mut Told) {
+    if let Some(mut later) = unfailing_store_for_run(alloc, store, store.calls(), told) {
+        tell_what_is_left(alloc, given, &mut later, told);
     }
 }

@@ -1,10 +1,11 @@
 //! Any call may fail, and the client still sees one service: the one request of a case is made anew with each loss of each
 //! of its calls, and a new run, the probe, looks at the account after each number of calls.
-use crate::machine::machine_after;
+use crate::machine::machine_after_setup;
 use crate::play::First;
-use crate::running::{run_on, store_at, store_with};
+use crate::running::{failing_store_for_run, run_program_on_store, unfailing_store_for_run};
 use case_text::{
-    Fault, Given, LARGE, Told, are_unavailable, line_of, says, tell_answers, tell_statuses,
+    Fault, Given, LARGE, Told, has_given_line, is_piece_service_unavailable, line_of_run,
+    tell_pieces_without_calls, tell_statuses_of_pieces,
 };
 use gate_base::{Counted, List, MemLine, Piece};
 use std::alloc::Global;
@@ -42,7 +43,7 @@ struct Loss {
 }
 
 /// Tells the statuses that the probe is answered before the request and after it, and all that isn't as it is to be.
-pub(crate) fn sweep(alloc: Global, first: &First, given: Given<'_>, told: &mut Told) {
+pub(crate) fn sweep_case(alloc: Global, first: &First, given: Given<'_>, told: &mut Told) {
     let setting = Setting {
         first,
         given,
@@ -51,33 +52,38 @@ pub(crate) fn sweep(alloc: Global, first: &First, given: Given<'_>, told: &mut T
             word: "probe",
         },
     };
-    if let Some(mut store) = store_at(alloc, first.store, first.store.calls(), told) {
+    if let Some(mut store) = unfailing_store_for_run(
+        alloc,
+        first.store,
+        first.store.calls(),
+        told,
+    ) {
         sweep_over(alloc, &setting, &mut store, told);
     }
 }
 
 fn sweep_over(alloc: Global, setting: &Setting, store: &mut MemSwift, told: &mut Told) {
-    if let Some(mut line) = line_of(alloc, setting.given, LARGE, told) {
+    if let Some(mut line) = line_of_run(alloc, setting.given, LARGE, told) {
         let mut answer = Told::new(alloc);
-        answer_on(alloc, setting.given, store, &mut line, &mut answer);
-        told.note_of(&answer);
-        sweep_from(alloc, setting, store, line.pieces(), answer.text(), told);
+        tell_answers_for_sweep(alloc, setting.given, store, &mut line, &mut answer);
+        told.note_fault_of(&answer);
+        sweep_with_probes(alloc, setting, store, line.pieces(), answer.text(), told);
     }
 }
 
 /// Runs the program, and tells what it answers, and nothing of calls.
-fn answer_on(
+fn tell_answers_for_sweep(
     alloc: Global,
     given: Given<'_>,
     store: &mut MemSwift,
     line: &mut MemLine,
     told: &mut Told,
 ) {
-    let _done = run_on(alloc, given, store, line, told);
-    tell_answers(alloc, line.pieces(), told);
+    let _done = run_program_on_store(alloc, given, store, line, told);
+    tell_pieces_without_calls(alloc, line.pieces(), told);
 }
 
-fn sweep_from(
+fn sweep_with_probes(
     alloc: Global,
     setting: &Setting,
     made: &MemSwift,
@@ -86,7 +92,7 @@ fn sweep_from(
     told: &mut Told,
 ) {
     let mut before = Told::new(alloc);
-    see(
+    probe_with_machine(
         alloc,
         setting,
         &[],
@@ -96,19 +102,19 @@ fn sweep_from(
         told,
     );
     let mut after = Told::new(alloc);
-    see(alloc, setting, pieces, made, "after", &mut after, told);
+    probe_with_machine(alloc, setting, pieces, made, "after", &mut after, told);
     let texts = Ordinary {
         answer,
         before: before.text(),
         after: after.text(),
         commit: 0,
     };
-    sweep_by(alloc, setting, made, &texts, told);
+    sweep_each_loss(alloc, setting, made, &texts, told);
 }
 
 /// What the probe sees on the account of a store, behind a request that was answered by these pieces. It is what the machine
 /// answers, where that is asked.
-fn see(
+fn probe_with_machine(
     alloc: Global,
     setting: &Setting,
     pieces: &[Piece],
@@ -117,14 +123,14 @@ fn see(
     seen: &mut Told,
     told: &mut Told,
 ) {
-    if let Some(mut line) = line_of(alloc, setting.probe, LARGE, told) {
-        look_on(alloc, setting.probe, store, store.calls(), &mut line, seen);
-        tell_statuses(word, line.pieces(), told);
-        follow_probe(alloc, setting, pieces, line.pieces(), told);
+    if let Some(mut line) = line_of_run(alloc, setting.probe, LARGE, told) {
+        probe_on_line(alloc, setting.probe, store, store.calls(), &mut line, seen);
+        tell_statuses_of_pieces(word, line.pieces(), told);
+        compare_probe_with_machine(alloc, setting, pieces, line.pieces(), told);
     }
 }
 
-fn look_on(
+fn probe_on_line(
     alloc: Global,
     probe: Given<'_>,
     store: &MemSwift,
@@ -132,29 +138,35 @@ fn look_on(
     line: &mut MemLine,
     seen: &mut Told,
 ) {
-    if let Some(mut later) = store_at(alloc, store, at, seen) {
-        answer_on(alloc, probe, &mut later, line, seen);
+    if let Some(mut later) = unfailing_store_for_run(alloc, store, at, seen) {
+        tell_answers_for_sweep(alloc, probe, &mut later, line, seen);
     }
 }
 
-fn follow_probe(
+fn compare_probe_with_machine(
     alloc: Global,
     setting: &Setting,
     pieces: &[Piece],
     seen: &[Piece],
     told: &mut Told,
 ) {
-    if says(setting.given, "nomodel") {
+    if has_given_line(setting.given, "nomodel") {
         return;
     }
-    if let Some(mut machine) = machine_after(alloc, setting.first, setting.given, told) {
-        machine.follow(setting.given, pieces, told);
-        machine.follow(setting.probe, seen, told);
+    if let Some(mut machine) = machine_after_setup(alloc, setting.first, setting.given, told) {
+        machine.answer_run(setting.given, pieces, told);
+        machine.answer_run(setting.probe, seen, told);
     }
 }
 
-fn sweep_by(alloc: Global, setting: &Setting, made: &MemSwift, texts: &Ordinary, told: &mut Told) {
-    let commit = commit_of(alloc, setting.probe, made, texts, told);
+fn sweep_each_loss(
+    alloc: Global,
+    setting: &Setting,
+    made: &MemSwift,
+    texts: &Ordinary,
+    told: &mut Told,
+) {
+    let commit = commit_seen_by_probe(alloc, setting.probe, made, texts, told);
     let ordinary = Ordinary { commit, ..*texts };
     for call in 1..=made.calls() {
         for word in &LOSSES {
@@ -165,13 +177,13 @@ fn sweep_by(alloc: Global, setting: &Setting, made: &MemSwift, texts: &Ordinary,
                 call,
                 is_done,
             };
-            lose(alloc, setting, &loss, &ordinary, told);
+            sweep_one_loss(alloc, setting, &loss, &ordinary, told);
         }
     }
 }
 
 /// The least number of calls after which the probe sees the request done, where it can see that; else 0.
-fn commit_of(
+fn commit_seen_by_probe(
     alloc: Global,
     probe: Given<'_>,
     store: &MemSwift,
@@ -182,42 +194,54 @@ fn commit_of(
         return 0;
     }
     for at in 0..=store.calls() {
-        if sees(alloc, probe, store, at, texts.after) {
+        if is_seen_by_probe(alloc, probe, store, at, texts.after) {
             return at;
         }
     }
-    told.note(Fault::Unread("a request that never takes effect"));
+    told.note_fault(Fault::Unread("a request that never takes effect"));
     0
 }
 
 /// Whether the probe sees this on the account that a store had after so many calls.
-fn sees(alloc: Global, probe: Given<'_>, store: &MemSwift, at: u64, text: &str) -> bool {
+fn is_seen_by_probe(
+    alloc: Global,
+    probe: Given<'_>,
+    store: &MemSwift,
+    at: u64,
+    text: &str,
+) -> bool {
     let mut seen = Told::new(alloc);
-    look(alloc, probe, store, at, &mut seen);
+    probe_after_calls(alloc, probe, store, at, &mut seen);
     seen.text() == text
 }
 
-fn look(alloc: Global, probe: Given<'_>, store: &MemSwift, at: u64, seen: &mut Told) {
-    if let Some(mut line) = line_of(alloc, probe, LARGE, seen) {
-        look_on(alloc, probe, store, at, &mut line, seen);
+fn probe_after_calls(alloc: Global, probe: Given<'_>, store: &MemSwift, at: u64, seen: &mut Told) {
+    if let Some(mut line) = line_of_run(alloc, probe, LARGE, seen) {
+        probe_on_line(alloc, probe, store, at, &mut line, seen);
     }
 }
 
-fn lose(alloc: Global, setting: &Setting, loss: &Loss, ordinary: &Ordinary, told: &mut Told) {
+fn sweep_one_loss(
+    alloc: Global,
+    setting: &Setting,
+    loss: &Loss,
+    ordinary: &Ordinary,
+    told: &mut Told,
+) {
     if let Some(mut store) = losing_store(alloc, setting.first.store, loss, told) {
-        lose_over(alloc, setting, loss, &mut store, ordinary, told);
+        sweep_loss_over_store(alloc, setting, loss, &mut store, ordinary, told);
     }
 }
 
 /// A store with the account that another has, which loses the call.
 fn losing_store(alloc: Global, first: &MemSwift, loss: &Loss, told: &mut Told) -> Option<MemSwift> {
-    let before = lost(alloc, loss, "before ", told);
-    let after = lost(alloc, loss, "after ", told);
+    let before = numbers_of_loss(alloc, loss, "before ", told);
+    let after = numbers_of_loss(alloc, loss, "after ", told);
     let stop = if loss.word == "stop " { loss.call } else { 0 };
-    store_with(alloc, first, first.calls(), before, after, stop, told)
+    failing_store_for_run(alloc, first, first.calls(), before, after, stop, told)
 }
 
-fn lose_over(
+fn sweep_loss_over_store(
     alloc: Global,
     setting: &Setting,
     loss: &Loss,
@@ -225,14 +249,14 @@ fn lose_over(
     ordinary: &Ordinary,
     told: &mut Told,
 ) {
-    if let Some(mut line) = line_of(alloc, setting.given, LARGE, told) {
-        compare_lost(alloc, setting.given, loss, store, &mut line, ordinary, told);
-        look_at_each(alloc, setting.probe, store, loss, ordinary, told);
+    if let Some(mut line) = line_of_run(alloc, setting.given, LARGE, told) {
+        compare_reply_after_loss(alloc, setting.given, loss, store, &mut line, ordinary, told);
+        compare_probes_after_loss(alloc, setting.probe, store, loss, ordinary, told);
     }
 }
 
 /// The number of the call, where it is lost so; else none.
-fn lost(alloc: Global, loss: &Loss, word: &str, told: &mut Told) -> List<u64> {
+fn numbers_of_loss(alloc: Global, loss: &Loss, word: &str, told: &mut Told) -> List<u64> {
     let mut numbers = List::new(alloc);
     if loss.word == word {
         told.push(&mut numbers, loss.call);
@@ -242,7 +266,7 @@ fn lost(alloc: Global, loss: &Loss, word: &str, told: &mut Told) -> List<u64> {
 
 /// The reply to a request one of whose calls was lost is ServiceUnavailable, where a call failed, or the ordinary one, where
 /// what it says was done.
-fn compare_lost(
+fn compare_reply_after_loss(
     alloc: Global,
     given: Given<'_>,
     loss: &Loss,
@@ -252,18 +276,21 @@ fn compare_lost(
     told: &mut Told,
 ) {
     let mut came = Told::new(alloc);
-    answer_on(alloc, given, store, line, &mut came);
+    tell_answers_for_sweep(alloc, given, store, line, &mut came);
     let failed = loss.call <= store.calls();
-    if failed && came.text().starts_with("status 0\n") && are_unavailable(line.pieces()) {
-        return told.note_of(&came);
+    if failed
+        && came.text().starts_with("status 0\n")
+        && is_piece_service_unavailable(line.pieces())
+    {
+        return told.note_fault_of(&came);
     }
     let done = ordinary.commit == 0 || loss.is_done;
     let due = if done { ordinary.answer } else { "" };
-    told.say_other(loss.word, loss.call, &came, due);
+    told.say_if_other(loss.word, loss.call, &came, due);
 }
 
 /// The probe over the account after each number of calls sees the request as not done, or as done where that is to be.
-fn look_at_each(
+fn compare_probes_after_loss(
     alloc: Global,
     probe: Given<'_>,
     store: &MemSwift,
@@ -277,14 +304,14 @@ fn look_at_each(
         } else {
             ordinary.before
         };
-        if !sees(alloc, probe, store, at, due) {
-            tell_unseen(alloc, probe, store, at, loss, told);
+        if !is_seen_by_probe(alloc, probe, store, at, due) {
+            tell_loss_and_probe(alloc, probe, store, at, loss, told);
         }
     }
 }
 
 /// Tells how a call was lost, and what the probe sees after so many calls.
-fn tell_unseen(
+fn tell_loss_and_probe(
     alloc: Global,
     probe: Given<'_>,
     store: &MemSwift,
@@ -295,5 +322,5 @@ fn tell_unseen(
     told.say_number(loss.word, loss.call);
     told.say_number(", probe after calls: ", at);
     told.say("\n");
-    look(alloc, probe, store, at, told);
+    probe_after_calls(alloc, probe, store, at, told);
 }

@@ -1,8 +1,8 @@
 //! A case over a store across the wire: each call of its run is an exchange of HTTP messages with a store in memory.
-use crate::left::tell_left;
-use crate::play::{serve_on, tell_run};
-use case_text::{Given, Told, behind, line_of, numbers, says};
-use case_verbs::place;
+use crate::left::tell_what_is_left;
+use crate::play::{serve_setup_on_store, tell_run_of_case};
+use case_text::{Given, Told, given_numbers, given_text_behind, has_given_line, line_of_run};
+use case_verbs::place_of_store;
 use gate_base::List;
 use memory_swift::{StoreLink, client_over};
 use std::alloc::Global;
@@ -21,58 +21,86 @@ pub(crate) fn play_wire(
     usual: &str,
     told: &mut Told,
 ) {
-    if behind(given, "stop").is_none() && !says(given, "sweep") {
+    if given_text_behind(given, "stop").is_none() && !has_given_line(given, "sweep") {
         let mut other = Told::new(alloc);
         let mut shelf = MapShelf::new(alloc);
-        serve_first(alloc, setup, &mut shelf, &mut other);
-        serve_case(alloc, given, size, &mut shelf, &mut other);
-        look(alloc, given, &mut shelf, &mut other);
-        told.say_other("over the wire, by ", size, &other, usual);
+        serve_setup_over_wire(alloc, setup, &mut shelf, &mut other);
+        serve_case_over_wire(alloc, given, size, &mut shelf, &mut other);
+        tell_left_over_wire(alloc, given, &mut shelf, &mut other);
+        told.say_if_other("over the wire, by ", size, &other, usual);
     }
 }
 
-fn serve_first<S: Shelf + Drop>(alloc: Global, setup: Given<'_>, shelf: S, told: &mut Told) {
-    if let Some(mut store) = client(alloc, shelf, List::new(alloc), List::new(alloc), told) {
-        serve_on(alloc, setup, &mut store, "", told);
+fn serve_setup_over_wire<S: Shelf + Drop>(
+    alloc: Global,
+    setup: Given<'_>,
+    shelf: S,
+    told: &mut Told,
+) {
+    if let Some(mut store) = client_over_wire(
+        alloc,
+        shelf,
+        List::new(alloc),
+        List::new(alloc),
+        told,
+    ) {
+        serve_setup_on_store(alloc, setup, &mut store, "", told);
     }
 }
 
-fn serve_case<S: Shelf + Drop>(
+fn serve_case_over_wire<S: Shelf + Drop>(
     alloc: Global,
     given: Given<'_>,
     size: u64,
     shelf: S,
     told: &mut Told,
 ) {
-    let before = numbers(alloc, given, "before", "", told);
-    let after = numbers(alloc, given, "after", "", told);
-    if let Some(mut store) = client(alloc, shelf, before, after, told) {
-        run_over(alloc, given, size, &mut store, told);
+    let before = given_numbers(alloc, given, "before", "", told);
+    let after = given_numbers(alloc, given, "after", "", told);
+    if let Some(mut store) = client_over_wire(alloc, shelf, before, after, told) {
+        tell_run_over_wire(alloc, given, size, &mut store, told);
     }
 }
 
-fn run_over<W: Swift>(alloc: Global, given: Given<'_>, size: u64, store: &mut W, told: &mut Told) {
-    if let Some(mut line) = line_of(alloc, given, size, told) {
-        tell_run(alloc, given, store, &mut line, told);
+fn tell_run_over_wire<W: Swift>(
+    alloc: Global,
+    given: Given<'_>,
+    size: u64,
+    store: &mut W,
+    told: &mut Told,
+) {
+    if let Some(mut line) = line_of_run(alloc, given, size, told) {
+        tell_run_of_case(alloc, given, store, &mut line, told);
     }
 }
 
-fn look<S: Shelf + Drop>(alloc: Global, given: Given<'_>, shelf: S, told: &mut Told) {
-    if let Some(mut store) = client(alloc, shelf, List::new(alloc), List::new(alloc), told) {
-        tell_left(alloc, given, &mut store, told);
+fn tell_left_over_wire<S: Shelf + Drop>(
+    alloc: Global,
+    given: Given<'_>,
+    shelf: S,
+    told: &mut Told,
+) {
+    if let Some(mut store) = client_over_wire(
+        alloc,
+        shelf,
+        List::new(alloc),
+        List::new(alloc),
+        told,
+    ) {
+        tell_what_is_left(alloc, given, &mut store, told);
     }
 }
 
 /// A client of a store over the shelf. Its calls of these numbers lose their request, or their answer.
-fn client<S: Shelf + Drop>(
+fn client_over_wire<S: Shelf + Drop>(
     alloc: Global,
     shelf: S,
     before: List<u64>,
     after: List<u64>,
     told: &mut Told,
 ) -> Option<SwiftClient<StoreLink<S>>> {
-    match place(alloc, b"localhost:8080", b"AUTH_test", b"secret", told) {
-        Some(place) => told.keep(client_over(alloc, shelf, place, before, after)),
+    match place_of_store(alloc, b"localhost:8080", b"AUTH_test", b"secret", told) {
+        Some(place) => told.keep_made(client_over(alloc, shelf, place, before, after)),
         None => None,
     }
 }

@@ -1,8 +1,8 @@
 //! What comes first on a connection, again and again.
 use crate::talk::Talk;
 use case_text::{
-    Fault, LARGE, Told, bytes_of, cut_text, line_of_one_connection, number_of, numbers_of, tell,
-    tell_made,
+    Fault, LARGE, Told, copy_of_bytes, cut_text, line_of_one_connection, number_of_text,
+    numbers_of_text, tell_owned_value, tell_value,
 };
 use gate_base::{Copying, List, MemLine, Memory, drop};
 use http_wire::{Got, ReadFault};
@@ -31,72 +31,86 @@ struct Way {
 }
 
 /// Tells the first message while a call of the line fails.
-pub(crate) fn front(alloc: Global, text: &str, given: &[u8], told: &mut Told) {
+pub(crate) fn tell_first_front(alloc: Global, text: &str, given: &[u8], told: &mut Told) {
     let (piece, call) = cut_text(text, ' ');
     let way = Way {
         before: 0,
         most: 1,
         brief: false,
     };
-    let piece = number_of(piece, told);
-    let fails = numbers_of(alloc, call, ' ', told);
+    let piece = number_of_text(piece, told);
+    let fails = numbers_of_text(alloc, call, ' ', told);
     if let Some(line) = line_of_one_connection(alloc, given, piece, fails, told) {
-        play_line(alloc, way, line, told);
+        tell_fronts_on_line(alloc, way, line, told);
     }
 }
 
 /// Tells the messages of a connection in pieces of the usual size, and where another size tells others, alone or behind another
 /// request.
-pub(crate) fn messages(alloc: Global, text: &str, given: &[u8], brief: bool, told: &mut Told) {
+pub(crate) fn tell_messages(alloc: Global, text: &str, given: &[u8], brief: bool, told: &mut Told) {
     let way = Way {
         before: 0,
         most: MOST,
         brief,
     };
     let mut usual = Told::new(alloc);
-    play_size(alloc, way, given, LARGE, &mut usual);
-    told.note_of(&usual);
+    tell_fronts_by_size(alloc, way, given, LARGE, &mut usual);
+    told.note_fault_of(&usual);
     told.say(usual.text());
     let sizes = if text.is_empty() { USUAL_SIZES } else { text };
-    play_sizes(alloc, way, given, sizes, usual.text(), told);
+    tell_fronts_by_sizes(alloc, way, given, sizes, usual.text(), told);
 }
 
-fn play_sizes(alloc: Global, way: Way, given: &[u8], sizes: &str, usual: &str, told: &mut Told) {
-    let mut behind = bytes_of(alloc, BEFORE, told);
+fn tell_fronts_by_sizes(
+    alloc: Global,
+    way: Way,
+    given: &[u8],
+    sizes: &str,
+    usual: &str,
+    told: &mut Told,
+) {
+    let mut behind = copy_of_bytes(alloc, BEFORE, told);
     told.append(&mut behind, given);
     let later = Way {
         before: BEFORE.len() as u64,
         ..way
     };
     for word in sizes.split(' ') {
-        let piece = number_of(word, told);
-        play_other(alloc, way, given, piece, usual, told);
-        play_other(alloc, later, behind.as_slice(), piece, usual, told);
+        let piece = number_of_text(word, told);
+        tell_fronts_if_other(alloc, way, given, piece, usual, told);
+        tell_fronts_if_other(alloc, later, behind.as_slice(), piece, usual, told);
     }
 }
 
 /// Tells the messages in pieces of a size where they aren't the usual ones.
-fn play_other(alloc: Global, way: Way, given: &[u8], piece: u64, usual: &str, told: &mut Told) {
+fn tell_fronts_if_other(
+    alloc: Global,
+    way: Way,
+    given: &[u8],
+    piece: u64,
+    usual: &str,
+    told: &mut Told,
+) {
     let mut other = Told::new(alloc);
-    play_size(alloc, way, given, piece, &mut other);
+    tell_fronts_by_size(alloc, way, given, piece, &mut other);
     let how = if way.before == 0 {
         "by "
     } else {
         "behind a request, by "
     };
-    told.say_other(how, piece, &other, usual);
+    told.say_if_other(how, piece, &other, usual);
 }
 
-fn play_size(alloc: Global, way: Way, given: &[u8], piece: u64, told: &mut Told) {
+fn tell_fronts_by_size(alloc: Global, way: Way, given: &[u8], piece: u64, told: &mut Told) {
     if let Some(line) = line_of_one_connection(alloc, given, piece, List::new(alloc), told) {
-        play_line(alloc, way, line, told);
+        tell_fronts_on_line(alloc, way, line, told);
     }
 }
 
-fn play_line(alloc: Global, way: Way, line: MemLine, told: &mut Told) {
+fn tell_fronts_on_line(alloc: Global, way: Way, line: MemLine, told: &mut Told) {
     if let Some(mut talk) = Talk::new(alloc, line, told) {
         if way.before != 0 && !talk.passes_request() {
-            told.note(Fault::Unread("the first request isn't read"));
+            told.note_fault(Fault::Unread("the first request isn't read"));
         }
         tell_fronts(&mut talk, way, told);
     }
@@ -105,35 +119,35 @@ fn play_line(alloc: Global, way: Way, line: MemLine, told: &mut Told) {
 /// Tells the messages up to the first that is no request, and whether the reader has ended then.
 fn tell_fronts(talk: &mut Talk, way: Way, told: &mut Told) {
     for _ in 0..way.most {
-        if !tell_front(talk, way, told) {
-            return tell_end(talk, told);
+        if !tell_next_front(talk, way, told) {
+            return tell_reader_not_ended(talk, told);
         }
     }
 }
 
 /// Tells the next answer of the reader. Whether it is a request.
-fn tell_front(talk: &mut Talk, way: Way, told: &mut Told) -> bool {
-    let got = talk.next();
+fn tell_next_front(talk: &mut Talk, way: Way, told: &mut Told) -> bool {
+    let got = talk.next_front();
     talk.tell_written(told);
-    tell_got(&got, way, told);
+    tell_front_by_way(&got, way, told);
     let is_request = matches!(got, Ok(Got::Request(_)));
     drop(got);
     is_request
 }
 
 /// Tells the answer of the reader.
-fn tell_got(got: &Result<Got, ReadFault>, way: Way, told: &mut Told) {
+fn tell_front_by_way(got: &Result<Got, ReadFault>, way: Way, told: &mut Told) {
     match got {
         Ok(Got::Request(message)) if way.brief => {
-            tell(&(message.headers.len(), message.body.len()), told);
+            tell_value(&(message.headers.len(), message.body.len()), told);
         }
-        Ok(front) => tell_made(placed(front, way.before), told),
-        Err(_) => tell(got, told),
+        Ok(front) => tell_owned_value(front_counted_behind(front, way.before), told),
+        Err(_) => tell_value(got, told),
     }
 }
 
 /// A copy whose place is counted behind the bytes that stand before those of the case.
-fn placed(got: &Got, before: u64) -> Result<Got, Memory> {
+fn front_counted_behind(got: &Got, before: u64) -> Result<Got, Memory> {
     match got {
         Got::CutShort(place) => Ok(Got::CutShort(place.saturating_sub(before))),
         Got::Refused { kind, place, head } if before != 0 => Ok(Got::Refused {
@@ -146,9 +160,9 @@ fn placed(got: &Got, before: u64) -> Result<Got, Memory> {
 }
 
 /// Tells it where the reader hasn't ended.
-fn tell_end(talk: &mut Talk, told: &mut Told) {
+fn tell_reader_not_ended(talk: &mut Talk, told: &mut Told) {
     for _ in 0..2 {
-        let got = talk.next();
+        let got = talk.next_front();
         if !matches!(got, Ok(Got::End)) {
             told.say("the reader has not ended\n");
         }

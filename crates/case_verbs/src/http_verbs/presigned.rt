@@ -2,7 +2,7 @@
 //! the URL for it.
 use crate::http_verbs::signatures::SECRET;
 use crate::settings::USUAL_REGION;
-use case_text::{Fault, KEY_TEXT, Told, cut_text, number_of, tell, text_of};
+use case_text::{Fault, KEY_TEXT, Told, cut_text, number_of_text, tell_value, text_of_bytes};
 use gate_base::{Bytes, MOMENT_LIMIT};
 use http_wire::{Message, has_one};
 use presign::{has_signature_name, is_presigned, presign, verify_query};
@@ -20,18 +20,18 @@ pub(crate) fn tell_query_verdict(
     target: &Target,
     told: &mut Told,
 ) {
-    let moment = number_of(text, told);
+    let moment = number_of_text(text, told);
     if !is_presigned(target) {
         return told.say("not presigned\n");
     }
-    if let Some(keys) = told.keep(Keys::read(alloc, KEY_TEXT.as_bytes())) {
+    if let Some(keys) = told.keep_made(Keys::read(alloc, KEY_TEXT.as_bytes())) {
         let verdict = verify_query(alloc, &keys, USUAL_REGION, message, target, moment);
-        tell(&verdict, told);
+        tell_value(&verdict, told);
     }
 }
 
 /// Tells the URL for a request.
-pub(crate) fn tell_url(
+pub(crate) fn tell_presigned_url(
     alloc: Global,
     text: &str,
     message: &Message,
@@ -39,15 +39,15 @@ pub(crate) fn tell_url(
     told: &mut Told,
 ) {
     let (first, second) = cut_text(text, ' ');
-    let (moment, expires) = (number_of(first, told), number_of(second, told));
+    let (moment, expires) = (number_of_text(first, told), number_of_text(second, told));
     if has_signature_name(target) {
         return told.say("a name of a signature\n");
     }
     if !has_one(message.headers.as_slice(), b"host") || moment >= MOMENT_LIMIT {
-        return told.note(Fault::Unread("no host, or no moment"));
+        return told.note_fault(Fault::Unread("no host, or no moment"));
     }
     if expires < 1 || expires > 604_800 {
-        return told.note(Fault::Unread("no seconds"));
+        return told.note_fault(Fault::Unread("no seconds"));
     }
     let url = presign(
         alloc,
@@ -59,14 +59,14 @@ pub(crate) fn tell_url(
         moment,
         expires,
     );
-    if let Some(url) = told.keep(url) {
-        tell_text(&url, told);
+    if let Some(url) = told.keep_made(url) {
+        tell_text_of_url(&url, told);
     }
 }
 
-fn tell_text(url: &Bytes, told: &mut Told) {
+fn tell_text_of_url(url: &Bytes, told: &mut Told) {
     told.say("url ");
-    let text = text_of(url.as_slice(), told);
+    let text = text_of_bytes(url.as_slice(), told);
     told.say(text);
     told.say("\n");
 }

@@ -1,10 +1,10 @@
 //! Signatures of requests.
-use crate::http_verbs::presigned::{tell_query_verdict, tell_url};
+use crate::http_verbs::presigned::{tell_presigned_url, tell_query_verdict};
 use crate::settings::USUAL_REGION;
 use crate::talk::Talk;
 use case_text::{
-    Fault, KEY_TEXT, Told, bytes_of, cut_text, hex_bytes, line_of_one_connection, number_of,
-    numbers_of, tell, tell_made,
+    Fault, KEY_TEXT, Told, copy_of_bytes, cut_text, hex_bytes, line_of_one_connection,
+    number_of_text, numbers_of_text, tell_owned_value, tell_value,
 };
 use gate_base::{Bytes, Copying, List, MemLine, NoCount, drop};
 use http_wire::{Got, Message, ReadFault};
@@ -28,33 +28,33 @@ pub(crate) fn tell_signature_verb(
 ) {
     match verb {
         "verify" | "canonical" | "verify-query" | "presign" => {
-            verb_on_request(alloc, verb, text, given, told);
+            tell_signing_of_request(alloc, verb, text, given, told);
         }
-        "is-date-time" => tell(&is_date_time(text.as_bytes()), told),
-        "hmac" => tell_code(alloc, text, given, told),
+        "is-date-time" => tell_value(&is_date_time(text.as_bytes()), told),
+        "hmac" => tell_hmac(alloc, text, given, told),
         "secret" => tell_secret(alloc, text, given, told),
-        "first" => tell_first(alloc, text, given, told),
+        "first" => tell_first_request_signed(alloc, text, given, told),
         _ => {
             let line = MemLine::new(alloc, List::new(alloc), 1, List::new(alloc));
-            sign_on(alloc, told.keep(line), told);
+            sign_first_on_line(alloc, told.keep_made(line), told);
         }
     }
 }
 
-fn tell_code(alloc: Global, text: &str, given: &[u8], told: &mut Told) {
+fn tell_hmac(alloc: Global, text: &str, given: &[u8], told: &mut Told) {
     let key = hex_bytes(alloc, text, told);
-    tell(&hmac(key.as_slice(), given), told);
+    tell_value(&hmac(key.as_slice(), given), told);
 }
 
-fn verb_on_request(alloc: Global, verb: &str, text: &str, given: &[u8], told: &mut Told) {
-    if let Some(mut talk) = Talk::open(alloc, given, told) {
-        let got = talk.next();
-        verb_on_got(alloc, verb, text, &got, told);
+fn tell_signing_of_request(alloc: Global, verb: &str, text: &str, given: &[u8], told: &mut Told) {
+    if let Some(mut talk) = Talk::open_over_bytes(alloc, given, told) {
+        let got = talk.next_front();
+        tell_signing_of_front(alloc, verb, text, &got, told);
         drop(got);
     }
 }
 
-fn verb_on_got(
+fn tell_signing_of_front(
     alloc: Global,
     verb: &str,
     text: &str,
@@ -62,21 +62,27 @@ fn verb_on_got(
     told: &mut Told,
 ) {
     match got {
-        Ok(Got::Request(message)) => verb_on_message(alloc, verb, text, message, told),
-        _ => tell(got, told),
+        Ok(Got::Request(message)) => tell_signing_of_message(alloc, verb, text, message, told),
+        _ => tell_value(got, told),
     }
 }
 
-fn verb_on_message(alloc: Global, verb: &str, text: &str, message: &Message, told: &mut Told) {
+fn tell_signing_of_message(
+    alloc: Global,
+    verb: &str,
+    text: &str,
+    message: &Message,
+    told: &mut Told,
+) {
     let read = Target::read(alloc, message.target.as_slice());
     match &read {
-        Ok(target) => verb_on_target(alloc, verb, text, message, target, told),
-        Err(_) => tell(&read, told),
+        Ok(target) => tell_signing_of_target(alloc, verb, text, message, target, told),
+        Err(_) => tell_value(&read, told),
     }
     drop(read);
 }
 
-fn verb_on_target(
+fn tell_signing_of_target(
     alloc: Global,
     verb: &str,
     text: &str,
@@ -85,17 +91,23 @@ fn verb_on_target(
     told: &mut Told,
 ) {
     match verb {
-        "presign" => tell_url(alloc, text, message, target, told),
+        "presign" => tell_presigned_url(alloc, text, message, target, told),
         "verify-query" => tell_query_verdict(alloc, text, message, target, told),
-        "verify" => tell_verdict(alloc, text, message, target, told),
+        "verify" => tell_signature_verdict(alloc, text, message, target, told),
         _ => tell_canonical(alloc, text, message, target, told),
     }
 }
 
-fn tell_verdict(alloc: Global, text: &str, message: &Message, target: &Target, told: &mut Told) {
-    let moment = number_of(text, told);
-    if let Some(keys) = told.keep(Keys::read(alloc, KEY_TEXT.as_bytes())) {
-        tell(
+fn tell_signature_verdict(
+    alloc: Global,
+    text: &str,
+    message: &Message,
+    target: &Target,
+    told: &mut Told,
+) {
+    let moment = number_of_text(text, told);
+    if let Some(keys) = told.keep_made(Keys::read(alloc, KEY_TEXT.as_bytes())) {
+        tell_value(
             &verify(alloc, &keys, USUAL_REGION, message, target, moment),
             told,
         );
@@ -106,11 +118,11 @@ fn tell_canonical(alloc: Global, text: &str, message: &Message, target: &Target,
     let (names, payload) = cut_text(text, ' ');
     let mut signed = List::new(alloc);
     for name in names.split(';') {
-        let name = bytes_of(alloc, name.as_bytes(), told);
+        let name = copy_of_bytes(alloc, name.as_bytes(), told);
         told.push(&mut signed, name);
     }
     let payload = payload.as_bytes();
-    tell_made(
+    tell_owned_value(
         canonical(alloc, message, target, signed.as_slice(), payload),
         told,
     );
@@ -120,31 +132,31 @@ fn tell_secret(alloc: Global, id: &str, given: &[u8], told: &mut Told) {
     let read = Keys::read(alloc, given);
     match &read {
         Ok(keys) => tell_copied_secret(alloc, keys, id, told),
-        Err(_) => tell(&read, told),
+        Err(_) => tell_value(&read, told),
     }
 }
 
 fn tell_copied_secret(alloc: Global, keys: &Keys, id: &str, told: &mut Told) {
-    if let Some(keys) = told.keep(keys.copy()) {
+    if let Some(keys) = told.keep_made(keys.copy()) {
         match keys.secret(id.as_bytes()) {
-            Some(secret) => tell_made(Bytes::from_slice(alloc, secret), told),
+            Some(secret) => tell_owned_value(Bytes::from_slice(alloc, secret), told),
             None => told.say("no such id\n"),
         }
     }
 }
 
-fn tell_first(alloc: Global, text: &str, given: &[u8], told: &mut Told) {
-    let fails = numbers_of(alloc, text, ' ', told);
-    sign_on(
+fn tell_first_request_signed(alloc: Global, text: &str, given: &[u8], told: &mut Told) {
+    let fails = numbers_of_text(alloc, text, ' ', told);
+    sign_first_on_line(
         alloc,
         line_of_one_connection(alloc, given, PIECE, fails, told),
         told,
     );
 }
 
-fn sign_on(alloc: Global, line: Option<MemLine>, told: &mut Told) {
+fn sign_first_on_line(alloc: Global, line: Option<MemLine>, told: &mut Told) {
     if let Some(mut line) = line {
-        tell_made(
+        tell_owned_value(
             sign_first(alloc, SECRET, USUAL_REGION, &mut line, &NoCount),
             told,
         );

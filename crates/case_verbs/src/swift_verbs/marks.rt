@@ -1,56 +1,59 @@
 //! Tags, and packs of metadata.
-use case_text::{Fault, Told, bytes_of, number_of, tell, tell_copy, tell_made, text_of};
+use case_text::{
+    Fault, Told, copy_of_bytes, number_of_text, tell_copy_of_read, tell_owned_value, tell_value,
+    text_of_bytes,
+};
 use gate_base::{Copying, List, drop};
 use s3_names::Meta;
 use std::alloc::Global;
 use swift_marks::{Tag, pack, unpack};
 
 /// Tells a tag, and its text.
-pub(crate) fn tag(alloc: Global, given: &[u8], told: &mut Told) {
+pub(crate) fn tell_tag(alloc: Global, given: &[u8], told: &mut Told) {
     let read = Tag::read(alloc, given);
-    tell_copy(&read, told);
+    tell_copy_of_read(&read, told);
     if let Ok(tag) = &read {
-        tell_text(alloc, tag, told);
+        tell_text_of_tag(alloc, tag, told);
     }
     drop(read);
 }
 
-fn tell_text(alloc: Global, tag: &Tag, told: &mut Told) {
+fn tell_text_of_tag(alloc: Global, tag: &Tag, told: &mut Told) {
     if tag.has_text() {
-        tell_made(tag.write(alloc), told);
+        tell_owned_value(tag.write(alloc), told);
     } else {
         told.say("no text\n");
     }
 }
 
 /// Tells the text of the tag that a text gives field by field.
-pub(crate) fn tag_write(alloc: Global, text: &str, told: &mut Told) {
+pub(crate) fn tell_written_tag(alloc: Global, text: &str, told: &mut Told) {
     let parts: Result<Vec<&str>, _> = text.split(" | ").collect(alloc);
     match parts {
-        Ok(parts) => tell_parts(alloc, parts.as_slice(), told),
-        Err(_) => told.note(Fault::Memory),
+        Ok(parts) => tell_tag_of_parts(alloc, parts.as_slice(), told),
+        Err(_) => told.note_fault(Fault::Memory),
     }
 }
 
-fn tell_parts(alloc: Global, parts: &[&str], told: &mut Told) {
+fn tell_tag_of_parts(alloc: Global, parts: &[&str], told: &mut Told) {
     let [content_type, etag, moment, id] = parts else {
-        return told.note(Fault::Unread("no four fields of a tag"));
+        return told.note_fault(Fault::Unread("no four fields of a tag"));
     };
     let tag = Tag {
-        content_type: bytes_of(alloc, content_type.as_bytes(), told),
-        etag: bytes_of(alloc, etag.as_bytes(), told),
-        moment: number_of(moment, told),
-        id: id_of(id, told),
+        content_type: copy_of_bytes(alloc, content_type.as_bytes(), told),
+        etag: copy_of_bytes(alloc, etag.as_bytes(), told),
+        moment: number_of_text(moment, told),
+        id: tag_id_of_text(id, told),
     };
-    tell_text(alloc, &tag, told);
+    tell_text_of_tag(alloc, &tag, told);
 }
 
-fn id_of(text: &str, told: &mut Told) -> Option<u128> {
+fn tag_id_of_text(text: &str, told: &mut Told) -> Option<u128> {
     match text.parse::<u128>() {
         Ok(id) => Some(id),
         Err(_) => {
             if text != "-" {
-                told.note(Fault::Unread("no id"));
+                told.note_fault(Fault::Unread("no id"));
             }
             None
         }
@@ -58,36 +61,36 @@ fn id_of(text: &str, told: &mut Told) -> Option<u128> {
 }
 
 /// Tells the pieces of metadata.
-pub(crate) fn packed(alloc: Global, given: &[u8], told: &mut Told) {
+pub(crate) fn tell_packed_metadata(alloc: Global, given: &[u8], told: &mut Told) {
     let mut meta = Meta::new(alloc);
-    for pair in text_of(given, told).split(';') {
+    for pair in text_of_bytes(given, told).split(';') {
         if let Some((name, value)) = pair.split_once(':') {
             if !matches!(meta.add(name.as_bytes(), value.as_bytes()), Ok(true)) {
-                told.note(Fault::Unread("a name that stands twice"));
+                told.note_fault(Fault::Unread("a name that stands twice"));
             }
         }
     }
-    tell_made(pack(alloc, &meta), told);
+    tell_owned_value(pack(alloc, &meta), told);
 }
 
 /// Tells the metadata of pieces, and their pieces.
-pub(crate) fn unpacked(alloc: Global, given: &[u8], told: &mut Told) {
+pub(crate) fn tell_unpacked_metadata(alloc: Global, given: &[u8], told: &mut Told) {
     let mut pieces = List::new(alloc);
-    for line in text_of(given, told).lines() {
-        let piece = bytes_of(alloc, line.as_bytes(), told);
+    for line in text_of_bytes(given, told).lines() {
+        let piece = copy_of_bytes(alloc, line.as_bytes(), told);
         told.push(&mut pieces, piece);
     }
     let read = unpack(alloc, pieces.as_slice());
     match &read {
-        Ok(meta) => tell_meta(alloc, meta, told),
-        Err(_) => tell(&read, told),
+        Ok(meta) => tell_metadata_and_pieces(alloc, meta, told),
+        Err(_) => tell_value(&read, told),
     }
     drop(read);
 }
 
-fn tell_meta(alloc: Global, meta: &Meta, told: &mut Told) {
-    if let Some(copied) = told.keep(meta.copy()) {
-        tell(&copied.pairs(), told);
-        tell_made(pack(alloc, &copied), told);
+fn tell_metadata_and_pieces(alloc: Global, meta: &Meta, told: &mut Told) {
+    if let Some(copied) = told.keep_made(meta.copy()) {
+        tell_value(&copied.pairs(), told);
+        tell_owned_value(pack(alloc, &copied), told);
     }
 }

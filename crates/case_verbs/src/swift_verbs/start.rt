@@ -4,7 +4,7 @@ ghost use Rattle.swift_calls.specs.Account.{size_of, IsOrdered, IsSized};
 ghost use Rattle.swift_calls.specs.declared.account.Content.TheVariants.{Segments};
 ghost use Rattle.swift_requests.specs.Place.{IsPlace};
 
-use crate::swift_verbs::wire::next_call;
+use crate::swift_verbs::wire::read_next_call;
 use crate::talk::Talk;
 use case_text::{Fault, Told};
 use gate_base::{Bytes, List, Memory, drop};
@@ -22,7 +22,7 @@ pub(crate) struct Start {
 }
 
 /// An account of so many containers with one large object each, as the next requests give them.
-pub(crate) fn start_of(
+pub(crate) fn start_with_large_objects(
     alloc: Global,
     place: &Place,
     count: u64,
@@ -37,9 +37,9 @@ pub(crate) fn start_of(
         },
     };
     for _ in 0..count {
-        if let Some(call) = next_call(alloc, place, talk, told) {
-            let done = start.add(alloc, call);
-            told.check(done);
+        if let Some(call) = read_next_call(alloc, place, talk, told) {
+            let done = start.add_large_object(alloc, call);
+            told.check_done(done);
         }
     }
     start
@@ -47,7 +47,7 @@ pub(crate) fn start_of(
 
 impl Start {
     /// A store that begins with the account.
-    pub(crate) fn store(
+    pub(crate) fn into_store(
         self,
         alloc: Global,
         before: List<u64>,
@@ -58,7 +58,7 @@ impl Start {
     }
 
     /// Adds the large object that a call puts whose body is its manifest.
-    fn add(&mut self, alloc: Global, call: SwiftRequest) -> Result<(), Fault> {
+    fn add_large_object(&mut self, alloc: Global, call: SwiftRequest) -> Result<(), Fault> {
         match call {
             SwiftRequest::PutObject {
                 container,
@@ -68,12 +68,12 @@ impl Start {
                 body,
             } => {
                 let object = Stored {
-                    content: content_of(alloc, body.as_slice())?,
+                    content: large_content_of_manifest(alloc, body.as_slice())?,
                     name,
                     content_type,
                     meta,
                 };
-                add_container(alloc, &mut self.account, container, object)
+                put_container_with_object(alloc, &mut self.account, container, object)
             }
             other => {
                 drop(other);
@@ -84,20 +84,20 @@ impl Start {
 }
 
 /// The two segments of a manifest.
-fn content_of(alloc: Global, body: &[u8]) -> Result<Content, Fault>
+fn large_content_of_manifest(alloc: Global, body: &[u8]) -> Result<Content, Fault>
     ensures { IfOk result (λ content. size_of content < 2 ^ 63) }
 {
     let Ok(segments) = read(alloc, body, Form::Put) else {
         return Err(Fault::Unread("no manifest"));
     };
-    if are_small(segments.as_slice()) {
+    if are_two_small_segments(segments.as_slice()) {
         Ok(Content::Segments(segments))
     } else {
         Err(Fault::Unread("no two segments of less than 100 bytes"))
     }
 }
 
-fn are_small(segments: &[Segment]) -> bool
+fn are_two_small_segments(segments: &[Segment]) -> bool
     ensures { IsTrue result → size_of (Segments segments.now) < 2 ^ 63 }
 {
     match segments {
@@ -108,7 +108,7 @@ fn are_small(segments: &[Segment]) -> bool
 
 /// Puts a container with one object in its place.
 #[tactic(auto, using(crate::proofs::Accounts::one_more_ordered, crate::proofs::Accounts::one_more_sized))]
-fn add_container(
+fn put_container_with_object(
     alloc: Global,
     account: &mut Account,
     name: Bytes,
