@@ -210,7 +210,7 @@ fn count_in(text: &str) -> Option<u64>
     if !is_number(text.as_bytes(), LONGEST_NUMBER) {
         return None;
     }
-    match text.match_words::<u64>() {
+    match text.parse::<u64>() {
         Ok(count) if is_count(count) => Some(count),
         _ => None,
     }
