@@ -4,6 +4,7 @@ pub mod FirstMessageLemmas
 pub mod InterimLemmas
 pub mod JoinLemmas
 pub mod LookLemmas
+pub mod ReaderLemmas
 pub mod ScanLemmas
 pub mod SeenLemmas
 pub mod TakeLemmas

@@ -1,9 +1,14 @@
 -- What becomes of a whole head.
 use Rattle.std.specs.Prelude.{◌≡◌, ◌⊎◌, ℕ, ◌+◌, ◌<◌, ◌≤◌, Bool, true, false, List, ◌++◌, length, take, drop, Ok, Err}
-use Rattle.http_wire.specs.declared.message.Kind.TheVariants.{ShortBody}
+use Rattle.http_wire.specs.declared.message.Got.{Got}
+use Rattle.http_wire.specs.declared.message.Got.TheVariants.{Request, End, CutShort, Refused}
+use Rattle.http_wire.specs.declared.message.Kind.TheVariants.{BadHead, LongHead, ShortBody}
+use Rattle.http_wire.specs.declared.advance.Found.{Found}
+use Rattle.http_wire.specs.declared.advance.Found.TheVariants.{Head, Bad, Long, Cut, Nothing}
 use Rattle.http_wire.specs.declared.take.Taken.{Taken}
 use Rattle.http_wire.specs.declared.take.Taken.TheVariants.{Whole, Not}
 use Rattle.http_wire.specs.FirstMessage.{judge, message_of, message_with, is_head}
+use Rattle.http_wire.specs.Reading.{place_after}
 use Rattle.httparse.specs.Grammar.{RequestHead}
 
 -- the message of the head h, of n bytes, with its body, and what is left behind them; or why it is refused, and then all is left
@@ -24,3 +29,24 @@ BodyFrom all n m false body before rest = (length all < n + m) × ((before ++ bo
 abbrev pub OnWhole : Type 0 → Taken → Type 0
 OnWhole P (Whole message size) = P
 OnWhole P (Not kind head) = Unit {0}
+
+-- the answer to what was taken behind so many bytes of requests, how many there are with it, and whether the reader has ended
+abbrev pub IsAnswer : Taken → ℕ → Got → ℕ → Bool → Type 0
+IsAnswer (Whole message size) place got next over = (got ≡ Request message) × (next ≡ place_after place size) × (over ≡ false)
+IsAnswer (Not kind head) place got next over = (got ≡ Refused kind place head) × (next ≡ place) × (over ≡ true)
+
+-- no whole head was found
+abbrev pub IsHeadless : Found → Type 0
+IsHeadless (Head spans) = ⊥
+IsHeadless Bad = Unit {0}
+IsHeadless Long = Unit {0}
+IsHeadless Cut = Unit {0}
+IsHeadless Nothing = Unit {0}
+
+-- the answer then, behind so many bytes of requests. Of a whole head it says nothing
+abbrev pub headless : Found → ℕ → Got
+headless (Head spans) place = End
+headless Bad place = Refused BadHead place false
+headless Long place = Refused LongHead place false
+headless Cut place = CutShort place
+headless Nothing place = End

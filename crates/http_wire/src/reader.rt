@@ -2,6 +2,7 @@ ghost use Rattle.std.specs.Prelude.{◌≡◌, ◌≤◌, ◌<◌, ◌++◌, [],
 ghost use Rattle.gate_base.specs.Line.{LineServes};
 ghost use Rattle.http_wire.specs.Reading.{GivesFirstMessage, OnRequest, ends, is_failed_read, weight};
 ghost use Rattle.http_wire.specs.Interim.{OwesInterim, SendsOn};
+ghost use Rattle.http_wire.specs.Taken.{IsAnswer, IsHeadless, headless};
 
 use crate::advance::{Found, HEAD_LIMIT, advance};
 use crate::fill::READ_SIZE;
@@ -103,38 +104,63 @@ impl Reader {
         }
         self.over = true;
         match advance(&mut self.pending, &mut self.lines, line, store) {
-            Ok(Found::Head(spans)) => match take_message(
-                &mut self.pending,
-                &mut self.partial,
-                &self.lines,
-                &spans,
-                line,
-                store,
-            )? {
-                Taken::Whole { message, size } => {
-                    self.given = self.given.saturating_add(size as u64);
-                    self.over = false;
-                    Ok(Got::Request(message))
-                }
-                Taken::Not { kind, head } => Ok(Got::Refused {
-                    kind,
-                    place: self.given,
-                    head,
-                }),
-            },
-            Ok(Found::Bad) => Ok(Got::Refused {
-                kind: Kind::BadHead,
-                place: self.given,
-                head: false,
-            }),
-            Ok(Found::Long) => Ok(Got::Refused {
-                kind: Kind::LongHead,
-                place: self.given,
-                head: false,
-            }),
-            Ok(Found::Cut) => Ok(Got::CutShort(self.given)),
-            Ok(Found::Nothing) => Ok(Got::End),
+            Ok(Found::Head(spans)) => {
+                let taken = take_message(
+                    &mut self.pending,
+                    &mut self.partial,
+                    &self.lines,
+                    &spans,
+                    line,
+                    store,
+                )?;
+                Ok(answer(taken, &mut self.given, &mut self.over))
+            }
+            Ok(found) => Ok(headless(found, self.given)),
             Err(fault) => Err(fault),
         }
+    }
+}
+
+/// The answer to what was taken of a whole head, behind so many bytes. Behind a request the reader goes on. It stands alone
+/// because a function's check costs its points times what is owned there: so the reader's call never takes a message apart.
+fn answer(taken: Taken, given: &mut u64, over: &mut bool) -> Got
+    requires { over.old ≡ true }
+    ensures { IsAnswer taken given.old result given.new over.new }
+{
+    match taken {
+        Taken::Whole { message, size } => {
+            *given = given.saturating_add(size as u64);
+            *over = false;
+            Got::Request(message)
+        }
+        Taken::Not { kind, head } => Got::Refused {
+            kind,
+            place: *given,
+            head,
+        },
+    }
+}
+
+/// The answer where no whole head was found, behind so many bytes. It says again that none was: in an arm that binds the
+/// rest to a name, the caller's proof has no name for that fact.
+fn headless(found: Found, place: u64) -> Got
+    requires { IsHeadless found }
+    ensures none { IsHeadless found }
+    ensures is { result ≡ headless found place }
+{
+    match found {
+        Found::Bad => Got::Refused {
+            kind: Kind::BadHead,
+            place,
+            head: false,
+        },
+        Found::Long => Got::Refused {
+            kind: Kind::LongHead,
+            place,
+            head: false,
+        },
+        Found::Cut => Got::CutShort(place),
+        Found::Nothing => Got::End,
+        Found::Head(_) => unreachable!(),
     }
 }
