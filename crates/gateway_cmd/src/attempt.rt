@@ -25,7 +25,7 @@ use gate_base::{Bytes, Clock, Draws, Line, drop};
 use gateway::Service;
 use gateway_cli::{Command, WordsFault, read_words};
 use presign_cmd::{Presigning, presign_first};
-use recovery::{Known, taken};
+use recovery::{Known, taken_text};
 use s3_machine::Settings;
 use sign_cmd::{Signing, sign_first};
 use sigv4::Keys;
@@ -158,7 +158,7 @@ fn settings_of(alloc: Global, region: &mut Bytes, least_part: u64) -> Settings
     ensures { result ≡ settings_of region.old least_part }
 {
     Settings {
-        region: taken(alloc, region),
+        region: taken_text(alloc, region),
         least_part,
     }
 }

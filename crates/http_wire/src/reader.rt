@@ -113,7 +113,7 @@ impl Reader {
                     line,
                     store,
                 )?;
-                Ok(answer(taken, &mut self.given, &mut self.over))
+                Ok(got_of_taken(taken, &mut self.given, &mut self.over))
             }
             Ok(found) => Ok(headless(found, self.given)),
             Err(fault) => Err(fault),
@@ -123,7 +123,7 @@ impl Reader {
 
 /// The answer to what was taken of a whole head, behind so many bytes. Behind a request the reader goes on. It stands alone
 /// because a function's check costs its points times what is owned there: so the reader's call never takes a message apart.
-fn answer(taken: Taken, given: &mut u64, over: &mut bool) -> Got
+fn got_of_taken(taken: Taken, given: &mut u64, over: &mut bool) -> Got
     requires { over.old ≡ true }
     ensures { IsAnswer taken given.old result given.new over.new }
 {

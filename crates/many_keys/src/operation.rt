@@ -12,7 +12,7 @@ use crate::copies::copy_object;
 use crate::deletions::delete_objects;
 use gate_base::{Bytes, List, drop};
 use plan_uploads::copy_part;
-use recovery::{PlanFault, Settled, reply_of, taken};
+use recovery::{PlanFault, Settled, reply_of, taken_text};
 use s3_machine::{Label, Op, Reply};
 use std::alloc::Global;
 use std::mem::replace;
@@ -70,11 +70,11 @@ fn plan<W: Swift>(
         } => copy_object(
             alloc,
             state,
-            taken(alloc, bucket),
-            taken(alloc, key),
+            taken_text(alloc, bucket),
+            taken_text(alloc, key),
             *acl,
-            taken(alloc, from_bucket),
-            taken(alloc, from_key),
+            taken_text(alloc, from_bucket),
+            taken_text(alloc, from_key),
             replaced.take(),
             label,
         ),
@@ -93,8 +93,8 @@ fn plan<W: Swift>(
             key,
             id,
             *number,
-            taken(alloc, from_bucket),
-            taken(alloc, from_key),
+            taken_text(alloc, from_bucket),
+            taken_text(alloc, from_key),
             *range,
             label,
         ),

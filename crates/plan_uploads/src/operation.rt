@@ -16,7 +16,7 @@ use crate::create::create_upload;
 use crate::part::upload_part;
 use crate::uploads::{show_parts, show_uploads};
 use gate_base::{Bytes, drop};
-use recovery::{Known, PlanFault, Settled, reply_of, taken};
+use recovery::{Known, PlanFault, Settled, reply_of, taken_text};
 use s3_machine::{Body, Label, Op, Reply};
 use s3_names::Meta;
 use std::alloc::Global;
@@ -124,10 +124,10 @@ fn plan<W: Swift>(
         } => create_upload(
             alloc,
             state,
-            taken(alloc, bucket),
-            taken(alloc, key),
+            taken_text(alloc, bucket),
+            taken_text(alloc, key),
             *acl,
-            taken(alloc, content_type),
+            taken_text(alloc, content_type),
             replace(meta, Meta::new(alloc)),
             label,
         ),
@@ -197,10 +197,10 @@ fn plan_listing<W: Swift>(
         } => show_uploads(
             alloc,
             state,
-            taken(alloc, bucket),
-            taken(alloc, prefix),
-            taken(alloc, key_marker),
-            taken(alloc, id_marker),
+            taken_text(alloc, bucket),
+            taken_text(alloc, prefix),
+            taken_text(alloc, key_marker),
+            taken_text(alloc, id_marker),
             *max,
         ),
         Op::ListParts {
@@ -212,8 +212,8 @@ fn plan_listing<W: Swift>(
         } => show_parts(
             alloc,
             state,
-            taken(alloc, bucket),
-            taken(alloc, key),
+            taken_text(alloc, bucket),
+            taken_text(alloc, key),
             id,
             *marker,
             *max,

@@ -13,7 +13,7 @@ use crate::buckets::{create_bucket, delete_bucket, get_location, list_buckets, s
 use crate::listing::list_objects;
 use crate::objects::{delete_object, get_object, head_object, put_object};
 use gate_base::{Bytes, drop};
-use recovery::{PlanFault, Settled, reply_of, taken};
+use recovery::{PlanFault, Settled, reply_of, taken_text};
 use s3_machine::{Asked, Body, Label, Op, Reply};
 use std::alloc::Global;
 use std::mem::replace;
@@ -56,14 +56,14 @@ fn plan<W: Swift>(
 {
     match op {
         Op::CreateBucket { bucket, acl } => {
-            create_bucket(alloc, state, taken(alloc, bucket), *acl, label)
+            create_bucket(alloc, state, taken_text(alloc, bucket), *acl, label)
         }
-        Op::DeleteBucket { bucket } => delete_bucket(state, taken(alloc, bucket)),
-        Op::PutBucketAcl { bucket, acl } => put_bucket_acl(state, taken(alloc, bucket), *acl),
+        Op::DeleteBucket { bucket } => delete_bucket(state, taken_text(alloc, bucket)),
+        Op::PutBucketAcl { bucket, acl } => put_bucket_acl(state, taken_text(alloc, bucket), *acl),
         Op::ListObjects { bucket, asked } => list_objects(
             alloc,
             state,
-            taken(alloc, bucket),
+            taken_text(alloc, bucket),
             taken_asked(alloc, asked),
             label,
         ),
@@ -95,10 +95,10 @@ fn plan_of_key<W: Swift>(
         } => put_object(
             alloc,
             state,
-            taken(alloc, bucket),
-            taken(alloc, key),
+            taken_text(alloc, bucket),
+            taken_text(alloc, key),
             *acl,
-            taken(alloc, content_type),
+            taken_text(alloc, content_type),
             meta,
             replace(body, Body::new(Bytes::new(alloc))),
             label,
@@ -111,14 +111,14 @@ fn plan_of_key<W: Swift>(
         } => get_object(
             alloc,
             state,
-            taken(alloc, bucket),
-            taken(alloc, key),
+            taken_text(alloc, bucket),
+            taken_text(alloc, key),
             *range,
             conditions,
             label,
         ),
         Op::DeleteObject { bucket, key } => {
-            delete_object(state, taken(alloc, bucket), taken(alloc, key))
+            delete_object(state, taken_text(alloc, bucket), taken_text(alloc, key))
         }
         _ => plan_lent(alloc, state, op, label),
     }

@@ -62,7 +62,7 @@ pub fn reply_of(end: Result<Reply, PlanFault>) -> Reply
 }
 
 /// Takes a text of an operation, and leaves an empty one there. It takes no memory.
-pub fn taken(alloc: Global, text: &mut Bytes) -> Bytes
+pub fn taken_text(alloc: Global, text: &mut Bytes) -> Bytes
     ensures { result ≡ text.old }
 {
     replace(text, Bytes::new(alloc))

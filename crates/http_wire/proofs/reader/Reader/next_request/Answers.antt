@@ -27,10 +27,10 @@ returns-in_ok-taken-in-Ok-Head-clause-effect g c observable =
     let has = whole_head came more c.advance.new.headers spans found.0.0 found.0.1 found.1 in
     let left = (c.take_message.new.pending.items ++ c.take_message.new.partial.items) ++ (g.N.Line.model c.take_message.new.line).transcript.rest in
     let taken = c.in_ok-taken-in-Ok-Head.ensures.effect (c.in-Ok-Head.ensures.reads.serves.observable observable) found.0.0 at in
-    let new : Pending = record { bytes = c.take_message.new.pending.items ++ c.take_message.new.partial.items; place = c.answer.new.given; ended = c.answer.new.over } in
-    let is = subst (λ p. IsAnswer c.in_ok-taken-in-Ok-Head.taken p c.answer.result c.answer.new.given c.answer.new.over) place c.answer.ensures in
-    subst (λ v. GivesFirstMessage c.args.self.now v c.answer.result new left) all
-    (gives_taken c.in_ok-taken-in-Ok-Head.taken (came ++ more) found.0.0 spans.len left c.args.self.now c.answer.result new has taken goes is)
+    let new : Pending = record { bytes = c.take_message.new.pending.items ++ c.take_message.new.partial.items; place = c.got_of_taken.new.given; ended = c.got_of_taken.new.over } in
+    let is = subst (λ p. IsAnswer c.in_ok-taken-in-Ok-Head.taken p c.got_of_taken.result c.got_of_taken.new.given c.got_of_taken.new.over) place c.got_of_taken.ensures in
+    subst (λ v. GivesFirstMessage c.args.self.now v c.got_of_taken.result new left) all
+    (gives_taken c.in_ok-taken-in-Ok-Head.taken (came ++ more) found.0.0 spans.len left c.args.self.now c.got_of_taken.result new has taken goes is)
 
 pub returns-in-Ok-clause-effect : goal.returns-in-Ok-clause-effect
 returns-in-Ok-clause-effect g c observable =
