@@ -18,10 +18,10 @@ pub(crate) fn message_of_case(
     told.append(&mut bytes, version.as_bytes());
     told.append(&mut bytes, given);
     told.append(&mut bytes, b"\r\n");
-    message_of_bytes(alloc, bytes.as_slice(), told)
+    unescaped_message(alloc, bytes.as_slice(), told)
 }
 
-fn message_of_bytes(alloc: Global, given: &[u8], told: &mut Told) -> Option<Message> {
+fn unescaped_message(alloc: Global, given: &[u8], told: &mut Told) -> Option<Message> {
     let mut talk = Talk::open_over_bytes(alloc, given, told)?;
     let mut message = talk.next_message();
     unescape_message(alloc, &mut message, told);

@@ -10,7 +10,7 @@ use std::io::ErrorKind;
 const LONGEST: usize = 1024;
 
 /// The runtime once more, for what owns one.
-pub fn own(rt: &HostRuntime) -> Result<HostRuntime, SetupFault> {
+pub fn own_runtime(rt: &HostRuntime) -> Result<HostRuntime, SetupFault> {
     match rt.clone() {
         Ok(own) => Ok(own),
         Err(_) => Err(SetupFault::Memory),
@@ -56,7 +56,7 @@ pub fn switch(rt: &HostRuntime, name: &'static str) -> Result<bool, SetupFault> 
 }
 
 /// The bytes of a variable that has to be there: 1 to 1024 of visible ASCII.
-pub fn field(rt: &HostRuntime, name: &'static str) -> Result<Bytes, SetupFault> {
+pub fn required_field(rt: &HostRuntime, name: &'static str) -> Result<Bytes, SetupFault> {
     let Some(text) = variable(rt, name)? else {
         return Err(SetupFault::Variable(name, Why::Missing));
     };

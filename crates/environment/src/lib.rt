@@ -7,5 +7,5 @@ mod given;
 mod place;
 
 pub use fault::{SetupFault, Why, report_setup, setup_line};
-pub use given::{field, number, own, switch, variable, words};
+pub use given::{number, own_runtime, required_field, switch, variable, words};
 pub use place::{listener, place_fault};

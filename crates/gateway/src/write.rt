@@ -64,10 +64,10 @@ pub fn write_memory_reply<N: Line<W>, W: Swift>(line: &mut N, store: &W, head: b
         → WritesOutOfMemory (N.model line.old).transcript (W.history store.now).called
         (memory_reply head) result (N.model line.new).transcript }
 {
-    write_memory_reply_bytes(line, store, print_memory(head))
+    write_out_of_memory(line, store, print_memory(head))
 }
 
-fn write_memory_reply_bytes<N: Line<W>, W: Swift>(line: &mut N, store: &W, bytes: &[u8]) -> Written
+fn write_out_of_memory<N: Line<W>, W: Swift>(line: &mut N, store: &W, bytes: &[u8]) -> Written
     requires { IsTrue (N.model line.old).is_open }
     ensures outcome { result ≢ written.Whole }
     ensures writes { OnlyWrites (is_failed_write result) (N.model line.old) (N.model line.new) }

@@ -55,6 +55,6 @@ Ends head bytes Bad = IsHopeless head bytes
 Ends head bytes More = ((h : ResponseHead) (n m : ℕ) → ¬ (BeginsAnswer head bytes h n m)) × ¬ (IsHopeless head bytes)
 
 -- where an answer ends of which so many bytes are there, with a head of len bytes and a body of this length
-abbrev pub end_by : ℕ → ℕ → Option ℕ → End
-end_by have len None = Bad
-end_by have len (Some size) = if nat_le (len + size) have then At (len + size) else More
+abbrev pub answer_end_by : ℕ → ℕ → Option ℕ → End
+answer_end_by have len None = Bad
+answer_end_by have len (Some size) = if nat_le (len + size) have then At (len + size) else More

@@ -1,6 +1,6 @@
 //! Where an answer ends.
 ghost use Rattle.std.specs.Prelude.{◌≡◌, Some, IfOk};
-ghost use Rattle.http_answers.specs.Framing.{Ends, expected, is_bodiless, end_by};
+ghost use Rattle.http_answers.specs.Framing.{Ends, expected, is_bodiless, answer_end_by};
 
 use crate::fields::size_in;
 use crate::head::{Front, find_head};
@@ -41,7 +41,7 @@ pub fn answer_end(alloc: Global, head: bool, bytes: &[u8]) -> Result<End, Memory
     match find_head(alloc, bytes)? {
         Front::Whole(found) => {
             let body = expected(head, found.status, found.headers.as_slice());
-            Ok(end_by(bytes.len(), found.len, body))
+            Ok(answer_end_by(bytes.len(), found.len, body))
         }
         Front::More => Ok(End::More),
         Front::Dead => Ok(End::Bad),
@@ -49,8 +49,8 @@ pub fn answer_end(alloc: Global, head: bool, bytes: &[u8]) -> Result<End, Memory
 }
 
 /// Where the answer ends of which so many bytes are there, with a head and a body of these lengths.
-fn end_by(have: usize, len: usize, body: Option<u64>) -> End
-    ensures { result ≡ end_by have len body }
+fn answer_end_by(have: usize, len: usize, body: Option<u64>) -> End
+    ensures { result ≡ answer_end_by have len body }
 {
     match body {
         Some(size) => end_within(have, len, size),
@@ -59,7 +59,7 @@ fn end_by(have: usize, len: usize, body: Option<u64>) -> End
 }
 
 fn end_within(have: usize, len: usize, size: u64) -> End
-    ensures { result ≡ end_by have len (Some size) }
+    ensures { result ≡ answer_end_by have len (Some size) }
 {
     match (len as u64).checked_add(size) {
         Some(end) if end <= have as u64 => End::At(end as usize),

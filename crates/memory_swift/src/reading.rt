@@ -12,7 +12,7 @@ use std::alloc::Global;
 pub(crate) fn message_in(alloc: Global, bytes: &[u8]) -> Result<Option<Message>, Memory>
     ensures { IfOk result (IsMessageIn bytes.now) }
 {
-    let mut line = line_of(alloc, bytes)?;
+    let mut line = open_line_over(alloc, bytes)?;
     let mut reader = Reader::new(alloc)?;
     read_alone(&mut reader, &mut line)
 }
@@ -54,7 +54,7 @@ fn next_of(reader: &mut Reader, line: &mut MemLine) -> Result<Got, Memory>
 }
 
 /// A line whose open connection has the bytes.
-fn line_of(alloc: Global, bytes: &[u8]) -> Result<MemLine, Memory>
+fn open_line_over(alloc: Global, bytes: &[u8]) -> Result<MemLine, Memory>
     ensures open { IfOk result (λ line. IsTrue (is_open_of line)) }
     ensures rest { IfOk result (λ line. (transcript_of line).rest ≡ bytes.now) }
 {

@@ -14,7 +14,7 @@ use crate::abort::abort_upload;
 use crate::complete::{Completing, complete_upload};
 use crate::create::create_upload;
 use crate::part::upload_part;
-use crate::uploads::{show_parts, show_uploads};
+use crate::uploads::{plan_list_parts, plan_list_uploads};
 use gate_base::{Bytes, drop};
 use recovery::{Known, PlanFault, Settled, reply_of, taken_text};
 use s3_machine::{Body, Label, Op, Reply};
@@ -194,7 +194,7 @@ fn plan_listing<W: Swift>(
             key_marker,
             id_marker,
             max,
-        } => show_uploads(
+        } => plan_list_uploads(
             alloc,
             state,
             taken_text(alloc, bucket),
@@ -209,7 +209,7 @@ fn plan_listing<W: Swift>(
             id,
             marker,
             max,
-        } => show_parts(
+        } => plan_list_parts(
             alloc,
             state,
             taken_text(alloc, bucket),

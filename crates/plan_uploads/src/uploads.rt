@@ -27,7 +27,7 @@ use swift_calls::Swift;
 /// ListParts: HEAD of the bucket's container, GET of the upload's record, then the names of its segments page by page. None of
 /// the calls commits. Over an observable consistent account at most two calls more than there are pages of the upload's
 /// segments. The faults are those of the calls.
-pub(crate) fn show_parts<W: Swift>(
+pub(crate) fn plan_list_parts<W: Swift>(
     alloc: Global,
     state: &mut Settled<'_, W>,
     bucket: Bytes,
@@ -102,7 +102,7 @@ fn parts_reply(
 /// ListUploads: HEAD of the bucket's container, then the names of all records page by page, and GET of each. None of the calls
 /// commits. Over an observable consistent account at most one call more than there are pages and records. The faults are those
 /// of the calls.
-pub(crate) fn show_uploads<W: Swift>(
+pub(crate) fn plan_list_uploads<W: Swift>(
     alloc: Global,
     state: &mut Settled<'_, W>,
     bucket: Bytes,

@@ -13,7 +13,8 @@ mod input;
 use crate::faults::{explain_refusal, explain_setup_fault};
 use crate::input::InputLine;
 use environment::{
-    SetupFault, Why, field, listener, number, own, place_fault, switch, variable, words,
+    SetupFault, Why, listener, number, own_runtime, place_fault, required_field, switch, variable,
+    words,
 };
 use gate_base::{Bytes, Copying, Line, RandomDraws, StdLine, StdSink, SystemClock};
 use gateway_cmd::run;
@@ -118,7 +119,7 @@ fn serve_on(
 /// A run over the Swift store alone: it has a line, and reads nothing of it.
 fn recover(rt: &HostRuntime, words: &[String], keys: &str) -> Result<u8, SetupFault> {
     let mut store = swift_store(rt)?;
-    let mut line = InputLine::new(own(rt)?);
+    let mut line = InputLine::new(own_runtime(rt)?);
     run_over(rt, words, keys, &mut line, &mut store)
 }
 
@@ -137,10 +138,10 @@ fn run_on_standard_streams<W: Swift>(
     store: &mut W,
 ) -> Result<u8, SetupFault> {
     if begins_with(words, b"session") {
-        let mut line = StdLine::new(own(rt)?);
+        let mut line = StdLine::new(own_runtime(rt)?);
         run_over(rt, words, keys, &mut line, store)
     } else {
-        let mut line = InputLine::new(own(rt)?);
+        let mut line = InputLine::new(own_runtime(rt)?);
         run_over(rt, words, keys, &mut line, store)
     }
 }
@@ -152,9 +153,9 @@ fn run_over<N: Line<W>, W: Swift>(
     line: &mut N,
     store: &mut W,
 ) -> Result<u8, SetupFault> {
-    let mut report = report_for(own(rt)?, words);
-    let mut clock = SystemClock::new(own(rt)?);
-    let mut draws = RandomDraws::new(own(rt)?);
+    let mut report = report_for(own_runtime(rt)?, words);
+    let mut clock = SystemClock::new(own_runtime(rt)?);
+    let mut draws = RandomDraws::new(own_runtime(rt)?);
     Ok(run(
         rt.alloc(),
         words,
@@ -202,7 +203,7 @@ fn tcp_line(
     ahead: usize,
 ) -> Result<TcpLine<HostRuntime>, SetupFault> {
     let listener = listener(rt, LISTEN)?;
-    match TcpLine::new(own(rt)?, rt.alloc(), listener, limit, None, ahead) {
+    match TcpLine::new(own_runtime(rt)?, rt.alloc(), listener, limit, None, ahead) {
         Ok(line) => Ok(line),
         Err(error) if error.kind() == ErrorKind::OutOfMemory => Err(SetupFault::Memory),
         Err(_) => Err(SetupFault::Variable(LISTEN, Why::CannotListen)),
@@ -218,8 +219,8 @@ fn ahead(rt: &HostRuntime) -> Result<usize, SetupFault> {
 /// A log on standard error, unless the environment ends it.
 fn log(rt: &HostRuntime) -> Result<Log<StdSink, HostRuntime>, SetupFault> {
     let is_on = switch(rt, "S3GATE_LOG")?;
-    let sink = StdSink::error(own(rt)?);
-    Ok(Log::new(own(rt)?, rt.alloc(), sink, is_on))
+    let sink = StdSink::error(own_runtime(rt)?);
+    Ok(Log::new(own_runtime(rt)?, rt.alloc(), sink, is_on))
 }
 
 /// The Swift store that the environment names. The first call connects to it.
@@ -240,14 +241,14 @@ fn store_at(
     if !is_place(&place) {
         return Err(SetupFault::Variable(STORE, Why::NotField));
     }
-    Ok(over_tcp(own(rt)?, rt.alloc(), place, limit)?)
+    Ok(over_tcp(own_runtime(rt)?, rt.alloc(), place, limit)?)
 }
 
 /// Where the store is, and its account and token.
 fn store_place(rt: &HostRuntime) -> Result<Place, SetupFault> {
     let host = store_host(rt)?;
-    let account = field(rt, "S3GATE_ACCOUNT")?;
-    let token = field(rt, "S3GATE_TOKEN")?;
+    let account = required_field(rt, "S3GATE_ACCOUNT")?;
+    let token = required_field(rt, "S3GATE_TOKEN")?;
     Ok(Place {
         host,
         account,
@@ -256,7 +257,7 @@ fn store_place(rt: &HostRuntime) -> Result<Place, SetupFault> {
 }
 
 fn store_host(rt: &HostRuntime) -> Result<Bytes, SetupFault> {
-    let host = field(rt, STORE)?;
+    let host = required_field(rt, STORE)?;
     match str::from_utf8(host.as_slice()) {
         Ok(text) => match place_fault(text) {
             Some(why) => Err(SetupFault::Variable(STORE, why)),

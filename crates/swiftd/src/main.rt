@@ -2,7 +2,7 @@
 //! serves the clients that come to the place which `SWIFTD_LISTEN` names.
 #![tactic(auto)]
 
-use environment::{SetupFault, Why, listener, number, own, report_setup, switch, words};
+use environment::{SetupFault, Why, listener, number, own_runtime, report_setup, switch, words};
 use gate_base::{Line, List, MemLine, NoCount, StdSink};
 use sockets::TcpLine;
 use std::io::ErrorKind;
@@ -73,7 +73,7 @@ fn run_over<N: Line<NoCount>>(
     words: &[String],
     line: &mut N,
 ) -> Result<u8, SetupFault> {
-    let mut report = StdSink::output(own(rt)?);
+    let mut report = StdSink::output(own_runtime(rt)?);
     let mut shelf = MapShelf::new(rt.alloc());
     Ok(run_store(rt.alloc(), words, line, &mut report, &mut shelf))
 }
@@ -96,7 +96,7 @@ fn tcp_line(
     ahead: usize,
 ) -> Result<TcpLine<HostRuntime>, SetupFault> {
     let listener = listener(rt, LISTEN)?;
-    match TcpLine::new(own(rt)?, rt.alloc(), listener, limit, None, ahead) {
+    match TcpLine::new(own_runtime(rt)?, rt.alloc(), listener, limit, None, ahead) {
         Ok(line) => Ok(line),
         Err(error) if error.kind() == ErrorKind::OutOfMemory => Err(SetupFault::Memory),
         Err(_) => Err(SetupFault::Variable(LISTEN, Why::CannotListen)),
@@ -112,6 +112,6 @@ fn ahead(rt: &HostRuntime) -> Result<usize, SetupFault> {
 /// A log on standard error, unless the environment ends it.
 fn log(rt: &HostRuntime) -> Result<Log<StdSink, HostRuntime>, SetupFault> {
     let is_on = switch(rt, "SWIFTD_LOG")?;
-    let sink = StdSink::error(own(rt)?);
-    Ok(Log::new(own(rt)?, rt.alloc(), sink, is_on))
+    let sink = StdSink::error(own_runtime(rt)?);
+    Ok(Log::new(own_runtime(rt)?, rt.alloc(), sink, is_on))
 }

@@ -5,7 +5,7 @@ use Rattle.std.proofs.lemmas.Bool.{leb-true}
 use Rattle.std.proofs.lemmas.Bool.Decides.{nat_tests}
 use Rattle.httparse.specs.Grammar.{ResponseHead, print_response, status_code}
 use Rattle.httparse.proofs.GrammarLemmas.{response_unique}
-use Rattle.http_answers.specs.Framing.{HasHead, BeginsAnswer, IsHopeless, Ends, end_by, expected, expected_of}
+use Rattle.http_answers.specs.Framing.{HasHead, BeginsAnswer, IsHopeless, Ends, answer_end_by, expected, expected_of}
 use Rattle.http_answers.specs.Head.{IsDead, IsOpen, Shows}
 use Rattle.http_answers.specs.declared.framing.End.TheVariants.{More, At, Bad}
 use Rattle.http_answers.specs.declared.head.Head.{Head}
@@ -48,7 +48,7 @@ pub ends_dead : (head : Bool) (bytes : List ℕ) → IsDead bytes → Ends head 
 ends_dead head bytes dead = inl dead
 
 ends_at : (head : Bool) (bytes : List ℕ) (h : ResponseHead) (n : ℕ) → HasHead bytes h n → (size : Option ℕ) → expected_of head h ≡ size
-    → Ends head bytes (end_by (length bytes) n size)
+    → Ends head bytes (answer_end_by (length bytes) n size)
 ends_at head bytes h n has None is = inr (h, n, has, is)
 ends_at head bytes h n has (Some m) is = by_size (nat_le (n + m) (length bytes)) refl
   where
@@ -70,7 +70,7 @@ ends_at head bytes h n has (Some m) is = by_size (nat_le (n + m) (length bytes))
 
 -- where an answer ends whose head was found
 pub ends_whole : (head : Bool) (bytes : List ℕ) (found : Head) → Shows bytes (front.Whole found)
-    → Ends head bytes (end_by (length bytes) found.len (expected head found.status found.headers))
+    → Ends head bytes (answer_end_by (length bytes) found.len (expected head found.status found.headers))
 ends_whole head bytes found (h, has, status, headers) =
     ends_at head bytes h found.len has (expected head found.status found.headers)
     (sym (ap (λ s. expected head s found.headers) status ∙ ap (expected head (status_code h)) headers))

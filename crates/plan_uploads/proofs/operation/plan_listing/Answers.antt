@@ -7,10 +7,10 @@ use Rattle.plan_uploads.proofs.operation.plan_listing.Goals as goal
 
 pub returns-in-ListUploads-clause-plans : goal.returns-in-ListUploads-clause-plans
 returns-in-ListUploads-clause-plans g c = rw c.in-ListUploads.is
-    (rw (c.taken_text.ensures, c.taken_text-in-ListUploads.ensures, c.taken_text-in-ListUploads-2.ensures, c.taken_text-in-ListUploads-3.ensures) at (c.show_uploads.ensures.plans c.args.label.now))
+    (rw (c.taken_text.ensures, c.taken_text-in-ListUploads.ensures, c.taken_text-in-ListUploads-2.ensures, c.taken_text-in-ListUploads-3.ensures) at (c.plan_list_uploads.ensures.plans c.args.label.now))
 
 pub returns-in-ListParts-clause-plans : goal.returns-in-ListParts-clause-plans
-returns-in-ListParts-clause-plans g c = rw c.in-ListParts.is (rw (c.taken_text-in-ListParts.ensures, c.taken_text-in-ListParts-2.ensures) at (c.show_parts.ensures.plans c.args.label.now))
+returns-in-ListParts-clause-plans g c = rw c.in-ListParts.is (rw (c.taken_text-in-ListParts.ensures, c.taken_text-in-ListParts-2.ensures) at (c.plan_list_parts.ensures.plans c.args.label.now))
 
 pub returns-in_default : goal.returns-in_default
 returns-in_default g c = record { stays = record { store = refl; settings = refl }; plans = out_of_memory _ (Err Memory) refl; beside = beside_none _ _ _ _ (Err Memory) refl }

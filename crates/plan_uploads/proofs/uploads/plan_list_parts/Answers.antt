@@ -6,7 +6,7 @@ use Rattle.plan_uploads.specs.declared.found.Found.TheVariants.{NoBucket, NoUplo
 use Rattle.plan_uploads.proofs.Asking.{after_told_of, asked_in_vain, asked_reply}
 use Rattle.plan_uploads.proofs.Finding.{named_same}
 use Rattle.plan_uploads.proofs.Steps.{parts_lost, parts_missing}
-use Rattle.plan_uploads.proofs.uploads.show_parts.Goals as goal
+use Rattle.plan_uploads.proofs.uploads.plan_list_parts.Goals as goal
 
 pub returns-in_err-find_upload-clause-plans : goal.returns-in_err-find_upload-clause-plans
 returns-in_err-find_upload-clause-plans g c = λ label. asked_in_vain (always 2) (omega arith) met_settled c.in_err-find_upload.ensures.asks _ c.from_residual.ensures.1

@@ -5,7 +5,7 @@ use Rattle.recovery.specs.Answers.{pages, records_of}
 use Rattle.recovery.specs.Calls.{Any, TellsBucket}
 use Rattle.recovery.proofs.lemmas.Ends.{told_nothing, answers, met_settled, after_told, goes_on_from}
 use Rattle.plan_uploads.proofs.Steps.{lacks_of, uploads_missing}
-use Rattle.plan_uploads.proofs.uploads.show_uploads.Goals as goal
+use Rattle.plan_uploads.proofs.uploads.plan_list_uploads.Goals as goal
 
 pub returns-in_err-head_bucket-clause-plans : goal.returns-in_err-head_bucket-clause-plans
 returns-in_err-head_bucket-clause-plans g c = λ label. told_nothing (omega arith) c.in_err-head_bucket.ensures.asks _ c.from_residual.ensures.1
