@@ -143,13 +143,47 @@ fn perform_by_keys<N: Line<W>, W: Swift, C: Clock, D: Draws>(
             let most = Some(*connections);
             RunOutcome::Plain(serve(alloc, settings, keys, most, line, store, clock, draws))
         }
+        _ => perform_lent(alloc, command, &keys, line, store, clock, draws),
+    }
+}
+
+/// Does what is asked for, where that is to settle the store, to sign, or to make a URL; else it ends as where memory ran out. It
+/// draws nothing: the draws are lent for what is said of them.
+fn perform_lent<N: Line<W>, W: Swift, C: Clock, D: Draws>(
+    alloc: Global,
+    command: &Command,
+    keys: &Keys,
+    line: &mut N,
+    store: &mut W,
+    clock: &mut C,
+    draws: &D,
+) -> RunOutcome
+    requires proper { IsProper command.now }
+    requires keys { are_keys keys.now ≡ true }
+    ensures admits { (text : List ℕ) → keys.now ≡ keys_of text
+        → Admits (is_possible (task_of (Some command.now)) text) result }
+    ensures fits { Fits (task_of (Some command.now)) result }
+    ensures idle { (text : List ℕ) → keys.now ≡ keys_of text
+        → is_possible (task_of (Some command.now)) text ≡ false → (line.new ≡ line.old)
+        × (store.new ≡ store.old) × (clock.new ≡ clock.old) × (draws.now ≡ draws.now) }
+    ensures apart { Apart (task_of (Some command.now)) (line.new ≡ line.old) (store.new ≡ store.old)
+        (clock.new ≡ clock.old) (draws.now ≡ draws.now) }
+    ensures on { Continues
+        (world (N.model line.old) (W.history store.old) Unsure (C.model clock.old) (D.model draws.now))
+        (world (N.model line.new) (W.history store.new) Unsure (C.model clock.new) (D.model draws.now)) }
+    ensures does { (text : List ℕ) → keys.now ≡ keys_of text → Does (task_of (Some command.now)) text result
+        (world (N.model line.old) (W.history store.old) Unsure (C.model clock.old) (D.model draws.now))
+        (λ known. world (N.model line.new) (W.history store.new) known (C.model clock.new) (D.model draws.now)) }
+{
+    match command {
         Command::Recover => recover(alloc, store),
-        Command::Sign { key, region } => sign(alloc, &keys, key, region, line, store),
+        Command::Sign { key, region } => sign(alloc, keys, key, region, line, store),
         Command::Presign {
             key,
             region,
             expires,
-        } => presign(alloc, &keys, key, region, *expires, line, store, clock),
+        } => presign(alloc, keys, key, region, *expires, line, store, clock),
+        _ => RunOutcome::Plain(Status::Memory),
     }
 }
 

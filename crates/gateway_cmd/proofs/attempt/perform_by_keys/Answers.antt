@@ -1,7 +1,6 @@
 use Rattle.std.proofs.Common.{None, Some, sym, subst}
 use Rattle.gateway_cmd.specs.declared.status.RunOutcome.TheVariants.{Plain}
 use Rattle.gateway_cmd.specs.Report.{Fits}
-use Rattle.gateway_cmd.specs.Session.{was_settled}
 use Rattle.gateway_cmd.specs.Tasks.{task_of}
 use Rattle.gateway_cmd.proofs.Sessions.{as_region, run_session, session_fits}
 use Rattle.gateway_cmd.proofs.attempt.perform_by_keys.Goals as goal
@@ -19,15 +18,3 @@ returns-in-Session-clause-fits g c = subst (λ command. Fits (task_of (Some comm
 
 pub returns-in-Serve-clause-fits : goal.returns-in-Serve-clause-fits
 returns-in-Serve-clause-fits g c = subst (λ command. Fits (task_of (Some command)) (Plain c.serve-in-Serve.result)) (sym c.in-Serve.is) (session_fits (as_region c.in-Serve.region c.in-Serve.least_part (Some c.in-Serve.connections)) c.serve-in-Serve.result c.serve-in-Serve.ensures.line.ends)
-
-pub returns-in-Sign-clause-fits : goal.returns-in-Sign-clause-fits
-returns-in-Sign-clause-fits g c = subst (λ command. Fits (task_of (Some command)) c.sign.result) (sym c.in-Sign.is) (c.sign.ensures.fits c.in-Sign.key c.in-Sign.region)
-
-pub returns-in-Presign-clause-fits : goal.returns-in-Presign-clause-fits
-returns-in-Presign-clause-fits g c = subst (λ command. Fits (task_of (Some command)) c.presign.result) (sym c.in-Presign.is) (c.presign.ensures.fits c.in-Presign.key c.in-Presign.region c.in-Presign.expires)
-
-pub returns-in-Recover-clause-fits : goal.returns-in-Recover-clause-fits
-returns-in-Recover-clause-fits g c = subst (λ command. Fits (task_of (Some command)) c.recover.result) (sym c.in-Recover.is) c.recover.ensures.fits
-
-pub returns-in-Recover-clause-does : goal.returns-in-Recover-clause-does
-returns-in-Recover-clause-does g c = λ text is. rw c.in-Recover.is (was_settled c.recover.ensures.settles.0 c.recover.ensures.settles.1 c.recover.ensures.settles.2)
