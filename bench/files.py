@@ -17,7 +17,7 @@ from definitions import ROOT, finish
 PAGE = "docs/FILES.md"
 HEAD = """# Files
 
-To find the place of a thing from its name, and what a file is about: the crates in the order of `crates.txt`, of each what it is by its `lib.rt` or `main.rt`, then each file of its `src/`, with the file of `specs/` that has the same name behind it, and then the other files of `specs/`. `bench/files.py` writes this page from the first sentence of each file's comment; change those.
+To find the place of a thing from its name, and what a file is about: the crates in the order of `crates.txt`, of each what it is by its `lib.rt` or `main.rt`, then each file of its `src/`, with the file of `specs/` that has the same name behind it, and then the other files of `specs/`, but for `Lib.antt`, which names them. `bench/files.py` writes this page from the first sentence of each file's comment; change those.
 """
 ITEM = re.compile(r"(pub(?:\([a-z]+\))? )?(const (?!fn)|(?:const )?fn |struct |enum |trait |type )(\w+)")
 

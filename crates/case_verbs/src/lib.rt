@@ -1,5 +1,5 @@
-//! The verbs of case files: each tries a public function of a library that stands on no plan and no service, by a text and by
-//! bytes, and tells what it gives. `s3_verbs`, `http_verbs` and `swift_verbs` say what they take.
+//! The verbs of case files: each tries a public function of a library below plans and service, or of the server of
+//! `swiftd`, by a text and by bytes, and tells what it gives. `s3_verbs`, `http_verbs` and `swift_verbs` say what they take.
 #![tactic(auto)]
 
 mod http_verbs;

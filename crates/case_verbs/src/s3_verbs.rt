@@ -16,7 +16,7 @@ use s3_names::{
 use std::alloc::Global;
 use std::fmt::Debug;
 use swift_calls::ReadList;
-use upload_records::{acl, readers};
+use upload_records::{acl_of_container_readers, container_readers_of_acl};
 
 /// Tells what a verb gives, by the text behind the verb and by the bytes of its lines `>`.
 pub(crate) fn tell_s3_verb(alloc: Global, verb: &str, text: &str, given: &[u8], told: &mut Told) {
@@ -24,8 +24,11 @@ pub(crate) fn tell_s3_verb(alloc: Global, verb: &str, text: &str, given: &[u8], 
         "command" => tell_command(alloc, text, told),
         "may-read" => tell_may_read(text, told),
         "other-acl" => tell_other_acl(text, told),
-        "readers-of" => tell_value(&readers(acl_of_word(text, told)), told),
-        "acl-of" => tell_value(&acl(read_list_of_word(text, told)), told),
+        "readers-of" => tell_value(&container_readers_of_acl(acl_of_word(text, told)), told),
+        "acl-of" => tell_value(
+            &acl_of_container_readers(read_list_of_word(text, told)),
+            told,
+        ),
         _ => {
             let mut bytes = bytes_of_escaped_text(alloc, text, told);
             told.append(&mut bytes, given);

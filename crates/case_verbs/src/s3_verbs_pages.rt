@@ -127,34 +127,34 @@ fn reply_of_fields(
 }
 
 fn acl_reply_of_fields(fields: &[Pair], told: &mut Told) -> Reply {
-    Reply::AclOf(acl_of_word(text_in_field(fields, b"acl", told), told))
+    Reply::AclOf(acl_of_word(text_in_verb_field(fields, b"acl", told), told))
 }
 
 fn short_reply_of_fields(alloc: Global, name: &str, fields: &[Pair], told: &mut Told) -> Reply {
     match name {
         "made" => Reply::Made {
-            bucket: bytes_in_field(alloc, fields, b"bucket", told),
+            bucket: bytes_in_verb_field(alloc, fields, b"bucket", told),
         },
         "stored" => Reply::Stored {
-            etag: bytes_in_field(alloc, fields, b"etag", told),
+            etag: bytes_in_verb_field(alloc, fields, b"etag", told),
         },
         "location" => Reply::Location {
-            region: bytes_in_field(alloc, fields, b"region", told),
+            region: bytes_in_verb_field(alloc, fields, b"region", told),
         },
         "started" => Reply::Started {
-            bucket: bytes_in_field(alloc, fields, b"bucket", told),
-            key: bytes_in_field(alloc, fields, b"key", told),
+            bucket: bytes_in_verb_field(alloc, fields, b"bucket", told),
+            key: bytes_in_verb_field(alloc, fields, b"key", told),
             id: id_of_digits(first_value(fields, b"id"), told),
         },
         "completed" => Reply::Completed {
-            bucket: bytes_in_field(alloc, fields, b"bucket", told),
-            key: bytes_in_field(alloc, fields, b"key", told),
-            etag: bytes_in_field(alloc, fields, b"etag", told),
+            bucket: bytes_in_verb_field(alloc, fields, b"bucket", told),
+            key: bytes_in_verb_field(alloc, fields, b"key", told),
+            etag: bytes_in_verb_field(alloc, fields, b"etag", told),
         },
         "copied" => Reply::Copied {
-            part: is_field_yes(fields, b"part"),
-            etag: bytes_in_field(alloc, fields, b"etag", told),
-            modified: number_in_field(fields, b"modified", told),
+            part: is_verb_field_yes(fields, b"part"),
+            etag: bytes_in_verb_field(alloc, fields, b"etag", told),
+            modified: number_in_verb_field(fields, b"modified", told),
         },
         _ => Reply::Memory,
     }
@@ -163,19 +163,19 @@ fn short_reply_of_fields(alloc: Global, name: &str, fields: &[Pair], told: &mut 
 fn object_reply_of_fields(alloc: Global, fields: &[Pair], body: &Bytes, told: &mut Told) -> Reply {
     Reply::Object {
         head: object_head_of_fields(alloc, fields, told),
-        from: number_in_field(fields, b"from", told),
-        length: number_in_field(fields, b"length", told),
-        partial: is_field_yes(fields, b"partial"),
+        from: number_in_verb_field(fields, b"from", told),
+        length: number_in_verb_field(fields, b"length", told),
+        partial: is_verb_field_yes(fields, b"partial"),
         body: copy_of_bytes(alloc, body.as_slice(), told),
     }
 }
 
 fn object_head_of_fields(alloc: Global, fields: &[Pair], told: &mut Told) -> ObjectHead {
     ObjectHead {
-        etag: bytes_in_field(alloc, fields, b"etag", told),
-        modified: number_in_field(fields, b"modified", told),
-        size: number_in_field(fields, b"size", told),
-        content_type: bytes_in_field(alloc, fields, b"type", told),
+        etag: bytes_in_verb_field(alloc, fields, b"etag", told),
+        modified: number_in_verb_field(fields, b"modified", told),
+        size: number_in_verb_field(fields, b"size", told),
+        content_type: bytes_in_verb_field(alloc, fields, b"type", told),
         meta: metadata_of_fields(alloc, fields, told),
     }
 }
@@ -195,7 +195,7 @@ fn metadata_of_fields(alloc: Global, fields: &[Pair], told: &mut Told) -> Meta {
 
 /// A copy of the code of that name.
 fn code_of_fields(alloc: Global, fields: &[Pair], told: &mut Told) -> Code {
-    let name = text_in_field(fields, b"code", told);
+    let name = text_in_verb_field(fields, b"code", told);
     for code in &CODES {
         if is_code_named(alloc, code, name) {
             if let Ok(copied) = code.copy() {
@@ -296,10 +296,10 @@ impl FromWords for PartItem {
 
 fn objects_reply_of_fields(alloc: Global, fields: &[Pair], told: &mut Told) -> Reply {
     Reply::Objects {
-        bucket: bytes_in_field(alloc, fields, b"bucket", told),
+        bucket: bytes_in_verb_field(alloc, fields, b"bucket", told),
         asked: asked_of_fields(alloc, fields, told),
         items: items_of_fields(alloc, fields, told),
-        truncated: is_field_yes(fields, b"truncated"),
+        truncated: is_verb_field_yes(fields, b"truncated"),
     }
 }
 
@@ -318,20 +318,20 @@ fn asked_of_fields(alloc: Global, fields: &[Pair], told: &mut Told) -> Asked {
     let is_first = first_value(fields, b"version") == b"1".as_slice();
     Asked {
         version: if is_first { 1 } else { 2 },
-        prefix: bytes_in_field(alloc, fields, b"prefix", told),
-        delimiter: bytes_in_field(alloc, fields, b"delimiter", told),
-        marker: bytes_in_field(alloc, fields, b"marker", told),
-        start_after: bytes_in_field(alloc, fields, b"start-after", told),
+        prefix: bytes_in_verb_field(alloc, fields, b"prefix", told),
+        delimiter: bytes_in_verb_field(alloc, fields, b"delimiter", told),
+        marker: bytes_in_verb_field(alloc, fields, b"marker", told),
+        start_after: bytes_in_verb_field(alloc, fields, b"start-after", told),
         token: token_of_fields(alloc, fields, told),
-        max: small_number_in_field(fields, b"max", told),
-        url: is_field_yes(fields, b"url"),
-        owner: is_field_yes(fields, b"owner"),
+        max: small_number_in_verb_field(fields, b"max", told),
+        url: is_verb_field_yes(fields, b"url"),
+        owner: is_verb_field_yes(fields, b"owner"),
     }
 }
 
 fn token_of_fields(alloc: Global, fields: &[Pair], told: &mut Told) -> Option<Bytes> {
     if has_header(fields, b"token") {
-        Some(bytes_in_field(alloc, fields, b"token", told))
+        Some(bytes_in_verb_field(alloc, fields, b"token", told))
     } else {
         None
     }
@@ -339,32 +339,32 @@ fn token_of_fields(alloc: Global, fields: &[Pair], told: &mut Told) -> Option<By
 
 fn uploads_reply_of_fields(alloc: Global, fields: &[Pair], told: &mut Told) -> Reply {
     Reply::Uploads {
-        bucket: bytes_in_field(alloc, fields, b"bucket", told),
-        prefix: bytes_in_field(alloc, fields, b"prefix", told),
-        key_marker: bytes_in_field(alloc, fields, b"key-marker", told),
-        id_marker: bytes_in_field(alloc, fields, b"id-marker", told),
-        max: small_number_in_field(fields, b"max", told),
+        bucket: bytes_in_verb_field(alloc, fields, b"bucket", told),
+        prefix: bytes_in_verb_field(alloc, fields, b"prefix", told),
+        key_marker: bytes_in_verb_field(alloc, fields, b"key-marker", told),
+        id_marker: bytes_in_verb_field(alloc, fields, b"id-marker", told),
+        max: small_number_in_verb_field(fields, b"max", told),
         items: items_of_fields(alloc, fields, told),
-        truncated: is_field_yes(fields, b"truncated"),
+        truncated: is_verb_field_yes(fields, b"truncated"),
     }
 }
 
 fn parts_reply_of_fields(alloc: Global, fields: &[Pair], told: &mut Told) -> Reply {
     Reply::Parts {
-        bucket: bytes_in_field(alloc, fields, b"bucket", told),
-        key: bytes_in_field(alloc, fields, b"key", told),
+        bucket: bytes_in_verb_field(alloc, fields, b"bucket", told),
+        key: bytes_in_verb_field(alloc, fields, b"key", told),
         id: id_of_digits(first_value(fields, b"id"), told),
-        marker: small_number_in_field(fields, b"number-marker", told),
-        max: small_number_in_field(fields, b"max", told),
+        marker: small_number_in_verb_field(fields, b"number-marker", told),
+        max: small_number_in_verb_field(fields, b"max", told),
         items: items_of_fields(alloc, fields, told),
-        truncated: is_field_yes(fields, b"truncated"),
+        truncated: is_verb_field_yes(fields, b"truncated"),
     }
 }
 
 fn deleted_reply_of_fields(alloc: Global, fields: &[Pair], told: &mut Told) -> Reply {
     Reply::Deleted {
         keys: keys_of_fields(alloc, fields, told),
-        quiet: is_field_yes(fields, b"quiet"),
+        quiet: is_verb_field_yes(fields, b"quiet"),
     }
 }
 
@@ -381,24 +381,24 @@ fn keys_of_fields(alloc: Global, fields: &[Pair], told: &mut Told) -> List<Bytes
 }
 
 /// The bytes of a field; none where it is missing.
-fn bytes_in_field(alloc: Global, fields: &[Pair], name: &[u8], told: &mut Told) -> Bytes {
+fn bytes_in_verb_field(alloc: Global, fields: &[Pair], name: &[u8], told: &mut Told) -> Bytes {
     copy_of_bytes(alloc, first_value(fields, name), told)
 }
 
-fn text_in_field<'a>(fields: &'a [Pair], name: &[u8], told: &mut Told) -> &'a str {
+fn text_in_verb_field<'a>(fields: &'a [Pair], name: &[u8], told: &mut Told) -> &'a str {
     text_of_bytes(first_value(fields, name), told)
 }
 
 /// Whether a field says `yes`.
-fn is_field_yes(fields: &[Pair], name: &[u8]) -> bool {
+fn is_verb_field_yes(fields: &[Pair], name: &[u8]) -> bool {
     first_value(fields, name) == b"yes".as_slice()
 }
 
-fn number_in_field(fields: &[Pair], name: &[u8], told: &mut Told) -> u64 {
-    number_of_text(text_in_field(fields, name, told), told)
+fn number_in_verb_field(fields: &[Pair], name: &[u8], told: &mut Told) -> u64 {
+    number_of_text(text_in_verb_field(fields, name, told), told)
 }
 
-fn small_number_in_field(fields: &[Pair], name: &[u8], told: &mut Told) -> u32 {
+fn small_number_in_verb_field(fields: &[Pair], name: &[u8], told: &mut Told) -> u32 {
     small_number_of_bytes(first_value(fields, name), told)
 }
 

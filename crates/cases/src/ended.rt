@@ -39,11 +39,11 @@ fn tell_end_on_line(alloc: Global, line: &mut MemLine, told: &mut Told) {
 
 fn tell_end_over_store(alloc: Global, store: &mut MemSwift, line: &mut MemLine, told: &mut Told) {
     if let Some(service) = service_of_run(alloc, USUAL, told) {
-        tell_end_by_service(alloc, store, &service, line, told);
+        serve_and_tell_end(alloc, store, &service, line, told);
     }
 }
 
-fn tell_end_by_service(
+fn serve_and_tell_end(
     alloc: Global,
     store: &mut MemSwift,
     service: &Service,

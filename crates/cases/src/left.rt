@@ -11,7 +11,7 @@ pub(crate) const OTHER: Fault = Fault::Unread("a store that answers something el
 
 /// Tells the containers of a store whose calls don't fail, each with its readers, and how many objects it has; and the objects, and
 /// the bytes of each.
-pub(crate) fn tell_what_is_left<W: Swift>(
+pub(crate) fn tell_left_after_run<W: Swift>(
     alloc: Global,
     given: Given<'_>,
     store: &mut W,
@@ -96,7 +96,7 @@ fn tell_left_objects<W: Swift>(
             tell_left_head(alloc, store, container, &item.name, told);
         }
         if has_given_line(given, "tell bodies") {
-            tell_left_body(alloc, store, container, &item.name, told);
+            tell_left_object_body(alloc, store, container, &item.name, told);
         }
     }
 }
@@ -134,7 +134,7 @@ fn tell_left_object(name: &Bytes, answer: &Result<SwiftReply, SwiftFault>, told:
     told.say("\n");
 }
 
-fn tell_left_body<W: Swift>(
+fn tell_left_object_body<W: Swift>(
     alloc: Global,
     store: &mut W,
     container: &[u8],
@@ -147,11 +147,11 @@ fn tell_left_body<W: Swift>(
         range: None,
     };
     let answer = ask_store(store, request);
-    tell_left_bytes(&answer, told);
+    tell_left_object_bytes(&answer, told);
     drop(answer);
 }
 
-fn tell_left_bytes(answer: &Result<SwiftReply, SwiftFault>, told: &mut Told) {
+fn tell_left_object_bytes(answer: &Result<SwiftReply, SwiftFault>, told: &mut Told) {
     match answer {
         Ok(SwiftReply::Bytes { body, .. }) => {
             told.say("body ");

@@ -1,7 +1,7 @@
 //! A case is run by each of its sizes, and once over the wire. What came is told once, and what is otherwise in another run
 //! beside it.
 use crate::files::put_files_of_setup;
-use crate::left::tell_what_is_left;
+use crate::left::tell_left_after_run;
 use crate::machine::compare_case_with_machine;
 use crate::running::{
     empty_store_for_run, failing_store_for_run, run_program_on_store, unfailing_store_for_run,
@@ -102,7 +102,7 @@ fn play_case_after_setup(
 fn play_case_each_way(alloc: Global, first: &First, given: Given<'_>, told: &mut Told) {
     let sizes = given_numbers(alloc, given, "pieces", SIZES, told);
     match sizes.as_slice().split_last() {
-        Some((last, others)) => play_sizes(alloc, first, given, *last, others, told),
+        Some((last, others)) => play_case_by_sizes(alloc, first, given, *last, others, told),
         None => told.note_fault(Fault::Unread("no size of pieces")),
     }
     if has_given_line(given, "sweep") {
@@ -110,7 +110,7 @@ fn play_case_each_way(alloc: Global, first: &First, given: Given<'_>, told: &mut
     }
 }
 
-fn play_sizes(
+fn play_case_by_sizes(
     alloc: Global,
     first: &First,
     given: Given<'_>,
@@ -119,19 +119,19 @@ fn play_sizes(
     told: &mut Told,
 ) {
     let mut usual = Told::new(alloc);
-    play_size(alloc, first, given, last, &mut usual);
+    play_case_by_size(alloc, first, given, last, &mut usual);
     told.note_fault_of(&usual);
     told.say(usual.text());
     for size in others {
         let mut other = Told::new(alloc);
-        play_size(alloc, first, given, *size, &mut other);
+        play_case_by_size(alloc, first, given, *size, &mut other);
         told.say_if_other("by ", *size, &other, usual.text());
     }
     play_wire(alloc, first.given, given, last, usual.text(), told);
 }
 
 /// Tells what comes by a size, and what the machine answers where that is otherwise.
-fn play_size(alloc: Global, first: &First, given: Given<'_>, size: u64, told: &mut Told) {
+fn play_case_by_size(alloc: Global, first: &First, given: Given<'_>, size: u64, told: &mut Told) {
     if let Some(mut store) = store_after_setup(alloc, given, first.store, told) {
         play_case_on_store(alloc, first, given, size, &mut store, told);
     }
@@ -187,6 +187,6 @@ pub(crate) fn tell_run_of_case<W: Swift>(
 /// What a store keeps, by the calls of another that begins with it.
 fn tell_left_after_case(alloc: Global, given: Given<'_>, store: &MemSwift, told: &mut Told) {
     if let Some(mut later) = unfailing_store_for_run(alloc, store, store.calls(), told) {
-        tell_what_is_left(alloc, given, &mut later, told);
+        tell_left_after_run(alloc, given, &mut later, told);
     }
 }

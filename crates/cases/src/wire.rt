@@ -1,5 +1,5 @@
 //! A case over a store across the wire: each call of its run is an exchange of HTTP messages with a store in memory.
-use crate::left::tell_what_is_left;
+use crate::left::tell_left_after_run;
 use crate::play::{serve_setup_on_store, tell_run_of_case};
 use case_text::{Given, Told, given_numbers, given_text_behind, has_given_line, line_of_run};
 use case_verbs::place_of_store;
@@ -87,7 +87,7 @@ fn tell_left_over_wire<S: Shelf + Drop>(
         List::new(alloc),
         told,
     ) {
-        tell_what_is_left(alloc, given, &mut store, told);
+        tell_left_after_run(alloc, given, &mut store, told);
     }
 }
 

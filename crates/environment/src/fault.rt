@@ -97,14 +97,14 @@ impl Why {
 }
 
 /// The line that says why, with its end: the variable's name, a colon, and the cause. Nothing of the variable's text is in it.
-pub fn setup_line(alloc: Global, name: &str, why: Why) -> Result<Bytes, Memory> {
+pub fn variable_fault_line(alloc: Global, name: &str, why: Why) -> Result<Bytes, Memory> {
     let mut line = Bytes::from_slice(alloc, name.as_bytes())?;
-    append_why(&mut line, why)?;
+    append_variable_fault(&mut line, why)?;
     line.append(b"\n")?;
     Ok(line)
 }
 
-fn append_why(line: &mut Bytes, why: Why) -> Result<(), Memory> {
+fn append_variable_fault(line: &mut Bytes, why: Why) -> Result<(), Memory> {
     line.append(b": ")?;
     line.append(why.text())?;
     if let Why::NotNumber(most) = why {
@@ -115,10 +115,10 @@ fn append_why(line: &mut Bytes, why: Why) -> Result<(), Memory> {
 }
 
 /// Writes that the program can't begin, and why, to standard error: that line first, and then the one that says why.
-pub fn report_setup(rt: &HostRuntime, line: &[u8], name: &str, why: Why) {
+pub fn report_variable_fault(rt: &HostRuntime, line: &[u8], name: &str, why: Why) {
     let mut output = rt.stderr();
     let _ = output.write_all(line);
-    if let Ok(second) = setup_line(rt.alloc(), name, why) {
+    if let Ok(second) = variable_fault_line(rt.alloc(), name, why) {
         let _ = output.write_all(second.as_slice());
     }
 }

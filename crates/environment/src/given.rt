@@ -10,7 +10,7 @@ use std::io::ErrorKind;
 const LONGEST: usize = 1024;
 
 /// The runtime once more, for what owns one.
-pub fn own_runtime(rt: &HostRuntime) -> Result<HostRuntime, SetupFault> {
+pub fn clone_environment_runtime(rt: &HostRuntime) -> Result<HostRuntime, SetupFault> {
     match rt.clone() {
         Ok(own) => Ok(own),
         Err(_) => Err(SetupFault::Memory),
@@ -28,7 +28,7 @@ pub fn variable(rt: &HostRuntime, name: &'static str) -> Result<Option<String>, 
 }
 
 /// The number that a variable says, from 1 to the most that there may be, or else the usual one.
-pub fn number(
+pub fn number_in_variable(
     rt: &HostRuntime,
     name: &'static str,
     usual: u64,
@@ -44,7 +44,7 @@ pub fn number(
 }
 
 /// Whether a variable says `on`, as it does where it isn't there, or `off`.
-pub fn switch(rt: &HostRuntime, name: &'static str) -> Result<bool, SetupFault> {
+pub fn is_variable_on(rt: &HostRuntime, name: &'static str) -> Result<bool, SetupFault> {
     let Some(text) = variable(rt, name)? else {
         return Ok(true);
     };
@@ -56,17 +56,17 @@ pub fn switch(rt: &HostRuntime, name: &'static str) -> Result<bool, SetupFault> 
 }
 
 /// The bytes of a variable that has to be there: 1 to 1024 of visible ASCII.
-pub fn required_field(rt: &HostRuntime, name: &'static str) -> Result<Bytes, SetupFault> {
+pub fn required_variable(rt: &HostRuntime, name: &'static str) -> Result<Bytes, SetupFault> {
     let Some(text) = variable(rt, name)? else {
         return Err(SetupFault::Variable(name, Why::Missing));
     };
-    match field_fault(text.as_bytes()) {
+    match variable_text_fault(text.as_bytes()) {
         Some(why) => Err(SetupFault::Variable(name, why)),
         None => Ok(Bytes::from_slice(rt.alloc(), text.as_bytes())?),
     }
 }
 
-fn field_fault(text: &[u8]) -> Option<Why> {
+fn variable_text_fault(text: &[u8]) -> Option<Why> {
     if text.is_empty() {
         Some(Why::Empty)
     } else if text.len() > LONGEST || !text.iter().all(|byte| byte.is_ascii_graphic()) {

@@ -6,6 +6,9 @@ mod fault;
 mod given;
 mod place;
 
-pub use fault::{SetupFault, Why, report_setup, setup_line};
-pub use given::{number, own_runtime, required_field, switch, variable, words};
-pub use place::{listener, place_fault};
+pub use fault::{SetupFault, Why, report_variable_fault, variable_fault_line};
+pub use given::{
+    clone_environment_runtime, is_variable_on, number_in_variable, required_variable, variable,
+    words,
+};
+pub use place::{listener_at_variable_place, place_fault};

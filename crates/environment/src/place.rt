@@ -12,11 +12,11 @@ pub fn place_fault(text: &str) -> Option<Why> {
     } else if text.contains("://") {
         Some(Why::Scheme)
     } else {
-        parts_fault(text)
+        place_host_or_port_fault(text)
     }
 }
 
-fn parts_fault(text: &str) -> Option<Why> {
+fn place_host_or_port_fault(text: &str) -> Option<Why> {
     match text.rsplit_once(':') {
         Some(("", _)) => Some(Why::NoHost),
         Some((_, port)) if port.parse::<u16>().is_ok() => None,
@@ -25,7 +25,10 @@ fn parts_fault(text: &str) -> Option<Why> {
 }
 
 /// A listener at the place that a variable names.
-pub fn listener(rt: &HostRuntime, name: &'static str) -> Result<TcpListener, SetupFault> {
+pub fn listener_at_variable_place(
+    rt: &HostRuntime,
+    name: &'static str,
+) -> Result<TcpListener, SetupFault> {
     let Some(text) = variable(rt, name)? else {
         return Err(SetupFault::Variable(name, Why::Missing));
     };

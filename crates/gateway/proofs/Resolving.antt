@@ -14,7 +14,7 @@ use Rattle.sigv4.specs.declared.authorization.Authorization.{Authorization}
 use Rattle.sigv4.specs.declared.keys.AccessKey.{AccessKey}
 use Rattle.sigv4.specs.declared.refusal.Refusal.{Refusal}
 use Rattle.sigv4.specs.declared.refusal.Refusal.TheVariants as signature
-use Rattle.sigv4.specs.Verdict.{has_wrong_scope, leaves_unsigned, lacks_date, time_of, is_streaming, lacks_payload_hash, signature_differs, expected, payload_differs, claim_of, judged_with, judged, caller_or_refusal, Gives}
+use Rattle.sigv4.specs.Verdict.{has_wrong_scope, leaves_unsigned, lacks_date, time_of, has_signed_pieces, lacks_payload_hash, signature_differs, expected, payload_differs, claim_of, judged_with, judged, caller_or_refusal, Gives}
 use Rattle.presign.specs.declared.claim.Claim.{Claim}
 use Rattle.presign.specs.declared.refusal.QueryRefusal.{QueryRefusal}
 use Rattle.presign.specs.declared.refusal.QueryRefusal.TheVariants as url
@@ -48,7 +48,7 @@ secret_known (Some secret) region message target moment claim =
     (known_if (leaves_unsigned claim message.headers) signature.UnsignedHeader _ (λ e. cc)
     (known_if (lacks_date claim message.headers) signature.NoDate _ (λ e. cc)
     (known_if (is_skewed (time_of message.headers) moment) signature.Skewed _ (λ e. cc)
-    (known_if (is_streaming message.headers) signature.Streaming _ (λ e. cc)
+    (known_if (has_signed_pieces message.headers) signature.Streaming _ (λ e. cc)
     (known_if (lacks_payload_hash message.headers) signature.NoPayloadHash _ (λ e. cc)
     (known_if (signature_differs claim (expected secret region message target claim)) (signature.SignatureDiffers (expected secret region message target claim).canonical_hash) _ (λ e. cc)
     (known_if (payload_differs message) signature.PayloadDiffers (Ok Owner) (λ e. cc) (λ e. cc))))))))
@@ -135,7 +135,7 @@ query_secret_known None region message target moment claim = λ e. cc
 query_secret_known (Some secret) region message target moment claim =
     query_known_if (has_wrong_scope region claim.by) url.WrongScope _ (λ e. cc)
     (query_known_if (presigned.leaves_unsigned claim.by.names message.headers) url.UnsignedHeader _ (λ e. cc)
-    (query_known_if (is_streaming message.headers) url.Streaming _ (λ e. cc)
+    (query_known_if (has_signed_pieces message.headers) url.Streaming _ (λ e. cc)
     (query_known_if (presigned.is_out_of_time claim moment) url.OutOfTime _ (λ e. cc)
     (query_known_if (signature_differs claim.by (presigned.expected secret region message target claim)) (url.SignatureDiffers (presigned.expected secret region message target claim).canonical_hash) (Ok Owner) (λ e. cc) (λ e. cc)))))
 

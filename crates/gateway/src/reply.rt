@@ -83,7 +83,7 @@ fn settle_and_perform<W: Swift>(
 {
     match known {
         Known::Settled => {}
-        Known::Unsure => match settle(alloc, store, settings) {
+        Known::Unsure => match settle_before_operation(alloc, store, settings) {
             Ok(()) => *known = Known::Settled,
             Err(fault) => {
                 drop(op);
@@ -96,7 +96,11 @@ fn settle_and_perform<W: Swift>(
     answer.reply
 }
 
-fn settle<W: Swift>(alloc: Global, store: &mut W, settings: &Settings) -> Result<(), SettleFault>
+fn settle_before_operation<W: Swift>(
+    alloc: Global,
+    store: &mut W,
+    settings: &Settings,
+) -> Result<(), SettleFault>
     ensures { Settles (W.history store.old) (W.history store.new) result }
 {
     Unsure::open(alloc, store, settings).settle()

@@ -55,11 +55,11 @@ fn resolve_message<'a>(
     ensures is { Is result (request_of service.now moment message.entry.now) }
 {
     let end = end_of(message);
-    let understood = understand(alloc, service, message, moment);
+    let understood = resolve_target_and_meaning(alloc, service, message, moment);
     ResolvedRequest {
         caller: understood.caller,
         method: message.method.as_slice(),
-        resource: path_of(message.target.as_slice()),
+        resource: resolved_resource_path(message.target.as_slice()),
         means: understood.means,
         end,
     }
@@ -82,7 +82,7 @@ fn refused(code: Code) -> Understood
     }
 }
 
-fn understood_out_of_memory() -> Understood
+fn resolve_out_of_memory() -> Understood
     ensures means { result.means ≡ variant.Memory }
 {
     Understood {
@@ -92,7 +92,12 @@ fn understood_out_of_memory() -> Understood
 }
 
 /// The target is read, then the signature is verified, and then the meaning is found.
-fn understand(alloc: Global, service: &Service, message: &mut Message, moment: u64) -> Understood
+fn resolve_target_and_meaning(
+    alloc: Global,
+    service: &Service,
+    message: &mut Message,
+    moment: u64,
+) -> Understood
     ensures proper { IsProperMeant result.means }
     ensures means { result.means ≢ variant.Memory
         → result.means ≡ resolve_target service.now moment message.entry.now
@@ -104,7 +109,7 @@ fn understand(alloc: Global, service: &Service, message: &mut Message, moment: u
 {
     match Target::read(alloc, message.target.as_slice()) {
         Ok(target) => verify_and_understand(alloc, service, message, target, moment),
-        Err(NameFault::Memory) => understood_out_of_memory(),
+        Err(NameFault::Memory) => resolve_out_of_memory(),
         Err(
             NameFault::BadBucket
             | NameFault::EmptyKey
@@ -294,7 +299,7 @@ fn resolve_refused(kind: Kind, place: u64, head: bool) -> ResolvedRequest<'stati
         caller: Caller::Anonymous,
         method: method_for(head),
         resource: b"/",
-        means: Meant::Refused(code(kind)),
+        means: Meant::Refused(code_of_refused_front(kind)),
         end: Some(Ended::Refused { kind, place }),
     }
 }
@@ -305,7 +310,7 @@ fn method_for(head: bool) -> &'static [u8]
     if head { b"HEAD" } else { b"" }
 }
 
-fn code(kind: Kind) -> Code
+fn code_of_refused_front(kind: Kind) -> Code
     ensures { result ≡ code_of kind }
 {
     match kind {
@@ -320,16 +325,16 @@ fn code(kind: Kind) -> Code
 }
 
 // The text before a `?`.
-fn path_of(target: &[u8]) -> &[u8]
+fn resolved_resource_path(target: &[u8]) -> &[u8]
     ensures { result.now ≡ raw_path target.now }
 {
-    match question_mark(target) {
+    match question_mark_of_resolved_target(target) {
         Some(at) => &target[..at],
         None => target,
     }
 }
 
-fn question_mark(target: &[u8]) -> Option<usize>
+fn question_mark_of_resolved_target(target: &[u8]) -> Option<usize>
     ensures place { result ≡ position is_question_mark target.now }
     ensures within { IfSome result (λ at. at < length target.now) }
 {

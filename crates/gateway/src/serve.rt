@@ -46,7 +46,7 @@ pub fn serve_connection<N: Line<W>, W: Swift, C: Clock, D: Draws>(
 {
     let mut reader = match Reader::new(alloc) {
         Ok(reader) => reader,
-        Err(_) => return end_unread(line, store),
+        Err(_) => return end_connection_unread(line, store),
     };
     'requests: loop {
         match serve_next(
@@ -114,7 +114,7 @@ fn serve_next<N: Line<W>, W: Swift, C: Clock, D: Draws>(
         Ok(Got::End) => Some(Ended::End),
         Ok(Got::CutShort(place)) => Some(Ended::CutShort(place)),
         Err(ReadFault::Failed) => Some(Ended::LineFailed),
-        Err(ReadFault::Memory) => Some(end_unread(line, store)),
+        Err(ReadFault::Memory) => Some(end_connection_unread(line, store)),
     }
 }
 
@@ -147,7 +147,7 @@ fn answer<N: Line<W>, W: Swift, C: Clock, D: Draws>(
 }
 
 /// Ends a connection whose next request could not be read because memory ran out: the reply for that is written.
-fn end_unread<N: Line<W>, W: Swift>(line: &mut N, store: &W) -> Ended
+fn end_connection_unread<N: Line<W>, W: Swift>(line: &mut N, store: &W) -> Ended
     requires { IsTrue (N.model line.old).is_open }
     ensures writes { OnlyWrites (is_failed_end result) (N.model line.old) (N.model line.new) }
     ensures effect { IsTrue (N.model line.old).observable

@@ -29,8 +29,8 @@ abbrev pub is_region : List ℕ → Bool
 is_region text = nat_le 1 (length text) && nat_le (length text) 32 && list_all is_region_byte text
 
 -- 1 to 128 of these bytes
-abbrev pub is_key_id : List ℕ → Bool
-is_key_id text = nat_le 1 (length text) && nat_le (length text) 128 && list_all is_letter_or_digit text
+abbrev pub is_key_option : List ℕ → Bool
+is_key_option text = nat_le 1 (length text) && nat_le (length text) 128 && list_all is_letter_or_digit text
 
 -- 1 to `most`
 abbrev pub is_within : ℕ → ℕ → Bool
@@ -46,9 +46,9 @@ count_of None = Some 1000
 count_of (Some text) = number_in 1000000000 text
 
 -- the least part that is given, or the usual one, which is S3's 5 MiB; none where what is given isn't 1 to 16777216
-abbrev pub least_part_of : Option (List ℕ) → Option ℕ
-least_part_of None = Some 5242880
-least_part_of (Some text) = number_in 16777216 text
+abbrev pub least_part_option : Option (List ℕ) → Option ℕ
+least_part_option None = Some 5242880
+least_part_option (Some text) = number_in 16777216 text
 
 -- the number of seconds that is given, a second to a week; none where none is, or what is given isn't such a number
 abbrev pub span_of : Option (List ℕ) → Option ℕ
@@ -56,27 +56,27 @@ span_of None = None
 span_of (Some text) = number_in 604800 text
 
 -- the region that is given, or the usual one
-abbrev pub region_of : Option (List ℕ) → List ℕ
-region_of given = unwrap_or given (codes "us-east-1")
+abbrev pub region_option : Option (List ℕ) → List ℕ
+region_option given = unwrap_or given (codes "us-east-1")
 
 -- `session`, with the region and the least part that are given
-abbrev pub session_with : Option (List ℕ) → Option (List ℕ) → Option Command
-session_with given least = if is_region (region_of given) then option_map (Session (region_of given)) (least_part_of least) else None
+abbrev pub session_command_by_options : Option (List ℕ) → Option (List ℕ) → Option Command
+session_command_by_options given least = if is_region (region_option given) then option_map (Session (region_option given)) (least_part_option least) else None
 
 -- `serve`, with the region, the number of connections and the least part that are given
-abbrev pub serve_with : Option (List ℕ) → Option (List ℕ) → Option (List ℕ) → Option Command
-serve_with given connections least = if is_region (region_of given)
-    then option_and_then (λ n. option_map (Serve (region_of given) n) (least_part_of least)) (count_of connections) else None
+abbrev pub serve_command_by_options : Option (List ℕ) → Option (List ℕ) → Option (List ℕ) → Option Command
+serve_command_by_options given connections least = if is_region (region_option given)
+    then option_and_then (λ n. option_map (Serve (region_option given) n) (least_part_option least)) (count_of connections) else None
 
 -- `sign`, with the key and the region that are given
-abbrev pub sign_with : Option (List ℕ) → Option (List ℕ) → Option Command
-sign_with None given = None
-sign_with (Some key) given = if is_key_id key && is_region (region_of given) then Some (Sign key (region_of given)) else None
+abbrev pub sign_command_by_options : Option (List ℕ) → Option (List ℕ) → Option Command
+sign_command_by_options None given = None
+sign_command_by_options (Some key) given = if is_key_option key && is_region (region_option given) then Some (Sign key (region_option given)) else None
 
 -- `presign`, with the key, the region and the number of seconds that are given
-abbrev pub presign_with : Option (List ℕ) → Option (List ℕ) → Option (List ℕ) → Option Command
-presign_with None given expires = None
-presign_with (Some key) given expires = if is_key_id key && is_region (region_of given) then option_map (Presign key (region_of given)) (span_of expires) else None
+abbrev pub presign_command_by_options : Option (List ℕ) → Option (List ℕ) → Option (List ℕ) → Option Command
+presign_command_by_options None given expires = None
+presign_command_by_options (Some key) given expires = if is_key_option key && is_region (region_option given) then option_map (Presign key (region_option given)) (span_of expires) else None
 
 -- the command that has a name
 abbrev pub name_of : Text → Option CommandName
@@ -89,10 +89,10 @@ name_of text = if bytes_eq text (codes "session") then Some name.Session
 
 -- a command, with what `clap` found for it
 abbrev pub command_with : List Row → CommandName → Option Command
-command_with rows name.Session = session_with (first_of (codes "region") rows) (first_of (codes "least-part") rows)
-command_with rows name.Serve = serve_with (first_of (codes "region") rows) (first_of (codes "connections") rows) (first_of (codes "least-part") rows)
-command_with rows name.Sign = sign_with (first_of (codes "key") rows) (first_of (codes "region") rows)
-command_with rows name.Presign = presign_with (first_of (codes "key") rows) (first_of (codes "region") rows) (first_of (codes "expires") rows)
+command_with rows name.Session = session_command_by_options (first_of (codes "region") rows) (first_of (codes "least-part") rows)
+command_with rows name.Serve = serve_command_by_options (first_of (codes "region") rows) (first_of (codes "connections") rows) (first_of (codes "least-part") rows)
+command_with rows name.Sign = sign_command_by_options (first_of (codes "key") rows) (first_of (codes "region") rows)
+command_with rows name.Presign = presign_command_by_options (first_of (codes "key") rows) (first_of (codes "region") rows) (first_of (codes "expires") rows)
 command_with rows name.Recover = Some Recover
 
 -- the command of a name, with what `clap` found for it

@@ -13,46 +13,46 @@ pub(crate) fn gate<'a>(alloc: Global) -> Result<Command<'a>, AllocError>
     let bare = Command::new(alloc, "s3gate")
         .no_binary_name(true)
         .subcommand_required(true);
-    let one = with_session(alloc, bare)?;
-    let two = with_serve(alloc, one)?;
-    let three = with_sign(alloc, two)?;
-    let four = with_presign(alloc, three)?;
-    with_recover(alloc, four)
+    let one = with_session_description(alloc, bare)?;
+    let two = with_serve_description(alloc, one)?;
+    let three = with_sign_description(alloc, two)?;
+    let four = with_presign_description(alloc, three)?;
+    with_recover_description(alloc, four)
 }
 
-fn with_session<'a>(alloc: Global, gate: Command<'a>) -> Result<Command<'a>, AllocError>
+fn with_session_description<'a>(alloc: Global, gate: Command<'a>) -> Result<Command<'a>, AllocError>
     ensures { IfOk result
         (λ command. app_of command ≡ with_subcommand (app_of gate.entry) session_app.top) }
 {
-    let session = serving(alloc, "session")?;
+    let session = serving_description(alloc, "session")?;
     gate.subcommand(session)
 }
 
-fn with_serve<'a>(alloc: Global, gate: Command<'a>) -> Result<Command<'a>, AllocError>
+fn with_serve_description<'a>(alloc: Global, gate: Command<'a>) -> Result<Command<'a>, AllocError>
     ensures { IfOk result
         (λ command. app_of command ≡ with_subcommand (app_of gate.entry) serve_app.top) }
 {
-    let serve = serve(alloc)?;
+    let serve = serve_description(alloc)?;
     gate.subcommand(serve)
 }
 
-fn with_sign<'a>(alloc: Global, gate: Command<'a>) -> Result<Command<'a>, AllocError>
+fn with_sign_description<'a>(alloc: Global, gate: Command<'a>) -> Result<Command<'a>, AllocError>
     ensures { IfOk result
         (λ command. app_of command ≡ with_subcommand (app_of gate.entry) sign_app.top) }
 {
-    let sign = sign(alloc)?;
+    let sign = sign_description(alloc)?;
     gate.subcommand(sign)
 }
 
-fn with_presign<'a>(alloc: Global, gate: Command<'a>) -> Result<Command<'a>, AllocError>
+fn with_presign_description<'a>(alloc: Global, gate: Command<'a>) -> Result<Command<'a>, AllocError>
     ensures { IfOk result
         (λ command. app_of command ≡ with_subcommand (app_of gate.entry) presign_app.top) }
 {
-    let presign = presign(alloc)?;
+    let presign = presign_description(alloc)?;
     gate.subcommand(presign)
 }
 
-fn with_recover<'a>(alloc: Global, gate: Command<'a>) -> Result<Command<'a>, AllocError>
+fn with_recover_description<'a>(alloc: Global, gate: Command<'a>) -> Result<Command<'a>, AllocError>
     ensures { IfOk result
         (λ command. app_of command ≡ with_subcommand (app_of gate.entry) recover_app.top) }
 {
@@ -60,7 +60,7 @@ fn with_recover<'a>(alloc: Global, gate: Command<'a>) -> Result<Command<'a>, All
 }
 
 /// A command of that name that serves, with the options of what its service is set to.
-fn serving<'a>(alloc: Global, name: &'a str) -> Result<Command<'a>, AllocError>
+fn serving_description<'a>(alloc: Global, name: &'a str) -> Result<Command<'a>, AllocError>
     ensures app { IfOk result (λ command. app_of command ≡ serving_app name.now) }
     ensures local { IfOk result (λ command. (fields_of command).has_globals ≡ false) }
 {
@@ -73,17 +73,17 @@ fn serving<'a>(alloc: Global, name: &'a str) -> Result<Command<'a>, AllocError>
     Command::new(alloc, name).arg(region)?.arg(least_part)
 }
 
-fn serve<'a>(alloc: Global) -> Result<Command<'a>, AllocError>
+fn serve_description<'a>(alloc: Global) -> Result<Command<'a>, AllocError>
     ensures app { IfOk result (λ command. app_of command ≡ serve_app) }
     ensures local { IfOk result (λ command. (fields_of command).has_globals ≡ false) }
 {
     let connections = Arg::new(alloc, "connections")
         .long("connections")
         .action(ArgAction::Set);
-    serving(alloc, "serve")?.arg(connections)
+    serving_description(alloc, "serve")?.arg(connections)
 }
 
-fn sign<'a>(alloc: Global) -> Result<Command<'a>, AllocError>
+fn sign_description<'a>(alloc: Global) -> Result<Command<'a>, AllocError>
     ensures app { IfOk result (λ command. app_of command ≡ sign_app) }
     ensures local { IfOk result (λ command. (fields_of command).has_globals ≡ false) }
 {
@@ -97,7 +97,7 @@ fn sign<'a>(alloc: Global) -> Result<Command<'a>, AllocError>
     Command::new(alloc, "sign").arg(key)?.arg(region)
 }
 
-fn presign<'a>(alloc: Global) -> Result<Command<'a>, AllocError>
+fn presign_description<'a>(alloc: Global) -> Result<Command<'a>, AllocError>
     ensures app { IfOk result (λ command. app_of command ≡ presign_app) }
     ensures local { IfOk result (λ command. (fields_of command).has_globals ≡ false) }
 {
@@ -105,11 +105,11 @@ fn presign<'a>(alloc: Global) -> Result<Command<'a>, AllocError>
         .long("expires")
         .action(ArgAction::Set)
         .required(true);
-    let signer = signer(alloc)?;
+    let signer = signer_description(alloc)?;
     signer.arg(expires)
 }
 
-fn signer<'a>(alloc: Global) -> Result<Command<'a>, AllocError>
+fn signer_description<'a>(alloc: Global) -> Result<Command<'a>, AllocError>
     ensures app { IfOk result (λ command. app_of command ≡ signer_app) }
     ensures local { IfOk result (λ command. (fields_of command).has_globals ≡ false) }
 {

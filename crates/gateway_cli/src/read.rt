@@ -1,9 +1,9 @@
 ghost use Rattle.std.specs.Prelude.{◌≡◌, IfOk, map, option_and_then, option_map, string_bytes};
 ghost use Rattle.clap.specs.Words.{found_of, kind_of, rows_of, subcommand_rows_of};
-ghost use Rattle.gateway_cli.specs.Words.{FaultOf, IsProper, Parses, ReadsWords, command_in, command_of, command_with, count_of, least_part_of, name_of, presign_with, region_of, serve_with, session_with, sign_with, span_of};
+ghost use Rattle.gateway_cli.specs.Words.{FaultOf, IsProper, Parses, ReadsWords, command_in, command_of, command_with, count_of, least_part_option, name_of, presign_command_by_options, region_option, serve_command_by_options, session_command_by_options, sign_command_by_options, span_of};
 
 use crate::description::gate;
-use crate::text::{is_key_id, is_region, number_in};
+use crate::text::{is_key_option, is_region, number_in};
 use crate::{Command, WordsFault};
 use clap::error::ErrorKind;
 use clap::{ArgMatches, Error};
@@ -56,11 +56,11 @@ fn parse<'a>(alloc: Global, words: &'a [String]) -> Result<ArgMatches<'a>, Words
     let gate = gate(alloc)?;
     match gate.try_get_matches_from(words) {
         Ok(matches) => Ok(matches),
-        Err(error) => Err(fault_of(&error)),
+        Err(error) => Err(fault_of_command_words(&error)),
     }
 }
 
-fn fault_of(error: &Error) -> WordsFault
+fn fault_of_command_words(error: &Error) -> WordsFault
     ensures { FaultOf (kind_of error.now) result }
 {
     match error.kind() {
@@ -114,16 +114,20 @@ fn command_with(alloc: Global, name: CommandName, found: &ArgMatches) -> Result<
 {
     match name {
         CommandName::Session => {
-            session_with(alloc, found.get_str("region"), found.get_str("least-part"))
+            session_command_by_options(alloc, found.get_str("region"), found.get_str("least-part"))
         }
-        CommandName::Serve => serve_with(
+        CommandName::Serve => serve_command_by_options(
             alloc,
             found.get_str("region"),
             found.get_str("connections"),
             found.get_str("least-part"),
         ),
-        CommandName::Sign => sign_with(alloc, found.get_str("key"), found.get_str("region")),
-        CommandName::Presign => presign_with(
+        CommandName::Sign => sign_command_by_options(
+            alloc,
+            found.get_str("key"),
+            found.get_str("region"),
+        ),
+        CommandName::Presign => presign_command_by_options(
             alloc,
             found.get_str("key"),
             found.get_str("region"),
@@ -133,20 +137,20 @@ fn command_with(alloc: Global, name: CommandName, found: &ArgMatches) -> Result<
     }
 }
 
-fn session_with(
+fn session_command_by_options(
     alloc: Global,
     region: Option<&str>,
     least_part: Option<&str>,
 ) -> Result<Command, WordsFault>
-    ensures reads { ReadsWords (session_with (option_map (λ text. text.now) region.entry)
+    ensures reads { ReadsWords (session_command_by_options (option_map (λ text. text.now) region.entry)
         (option_map (λ text. text.now) least_part.entry)) result }
     ensures proper { IfOk result IsProper }
 {
-    let region = region_of(region);
+    let region = region_option(region);
     if !is_region(region) {
         return Err(WordsFault::Refused);
     }
-    let Some(least_part) = least_part_of(least_part) else {
+    let Some(least_part) = least_part_option(least_part) else {
         return Err(WordsFault::Refused);
     };
     Ok(Command::Session {
@@ -155,25 +159,25 @@ fn session_with(
     })
 }
 
-fn serve_with(
+fn serve_command_by_options(
     alloc: Global,
     region: Option<&str>,
     connections: Option<&str>,
     least_part: Option<&str>,
 ) -> Result<Command, WordsFault>
-    ensures reads { ReadsWords (serve_with (option_map (λ text. text.now) region.entry)
+    ensures reads { ReadsWords (serve_command_by_options (option_map (λ text. text.now) region.entry)
         (option_map (λ text. text.now) connections.entry)
         (option_map (λ text. text.now) least_part.entry)) result }
     ensures proper { IfOk result IsProper }
 {
-    let region = region_of(region);
+    let region = region_option(region);
     if !is_region(region) {
         return Err(WordsFault::Refused);
     }
     let Some(connections) = count_of(connections) else {
         return Err(WordsFault::Refused);
     };
-    let Some(least_part) = least_part_of(least_part) else {
+    let Some(least_part) = least_part_option(least_part) else {
         return Err(WordsFault::Refused);
     };
     Ok(Command::Serve {
@@ -183,8 +187,12 @@ fn serve_with(
     })
 }
 
-fn sign_with(alloc: Global, key: Option<&str>, region: Option<&str>) -> Result<Command, WordsFault>
-    ensures reads { ReadsWords (sign_with (option_map (λ text. text.now) key.entry)
+fn sign_command_by_options(
+    alloc: Global,
+    key: Option<&str>,
+    region: Option<&str>,
+) -> Result<Command, WordsFault>
+    ensures reads { ReadsWords (sign_command_by_options (option_map (λ text. text.now) key.entry)
         (option_map (λ text. text.now) region.entry)) result }
     ensures proper { IfOk result IsProper }
 {
@@ -192,8 +200,8 @@ fn sign_with(alloc: Global, key: Option<&str>, region: Option<&str>) -> Result<C
         return Err(WordsFault::Refused);
     };
     let key = key.as_bytes();
-    let region = region_of(region);
-    if !is_key_id(key) || !is_region(region) {
+    let region = region_option(region);
+    if !is_key_option(key) || !is_region(region) {
         return Err(WordsFault::Refused);
     }
     Ok(Command::Sign {
@@ -202,13 +210,13 @@ fn sign_with(alloc: Global, key: Option<&str>, region: Option<&str>) -> Result<C
     })
 }
 
-fn presign_with(
+fn presign_command_by_options(
     alloc: Global,
     key: Option<&str>,
     region: Option<&str>,
     expires: Option<&str>,
 ) -> Result<Command, WordsFault>
-    ensures reads { ReadsWords (presign_with (option_map (λ text. text.now) key.entry)
+    ensures reads { ReadsWords (presign_command_by_options (option_map (λ text. text.now) key.entry)
         (option_map (λ text. text.now) region.entry) (option_map (λ text. text.now) expires.entry))
         result }
     ensures proper { IfOk result IsProper }
@@ -217,8 +225,8 @@ fn presign_with(
         return Err(WordsFault::Refused);
     };
     let key = key.as_bytes();
-    let region = region_of(region);
-    if !is_key_id(key) || !is_region(region) {
+    let region = region_option(region);
+    if !is_key_option(key) || !is_region(region) {
         return Err(WordsFault::Refused);
     }
     let Some(expires) = span_of(expires) else {
@@ -231,8 +239,8 @@ fn presign_with(
     })
 }
 
-fn region_of<'a>(given: Option<&'a str>) -> &'a [u8]
-    ensures { result.now ≡ region_of (option_map (λ text. text.now) given.entry) }
+fn region_option<'a>(given: Option<&'a str>) -> &'a [u8]
+    ensures { result.now ≡ region_option (option_map (λ text. text.now) given.entry) }
 {
     match given {
         Some(region) => region.as_bytes(),
@@ -249,8 +257,8 @@ fn count_of(given: Option<&str>) -> Option<u64>
     }
 }
 
-fn least_part_of(given: Option<&str>) -> Option<u64>
-    ensures { result ≡ least_part_of (option_map (λ text. text.now) given.entry) }
+fn least_part_option(given: Option<&str>) -> Option<u64>
+    ensures { result ≡ least_part_option (option_map (λ text. text.now) given.entry) }
 {
     match given {
         Some(text) => number_in(text, MOST_LEAST_PART),

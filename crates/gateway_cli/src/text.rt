@@ -1,7 +1,7 @@
 ghost use Rattle.std.specs.Prelude.{◌≡◌};
 ghost use Rattle.std.specs.List.{list_all};
 ghost use Rattle.gate_base.specs.Ascii.{is_letter_or_digit};
-ghost use Rattle.gateway_cli.specs.Words.{is_key_id, is_region, is_region_byte, is_within, number_in};
+ghost use Rattle.gateway_cli.specs.Words.{is_key_option, is_region, is_region_byte, is_within, number_in};
 
 use text_forms::is_number;
 
@@ -17,10 +17,10 @@ const LONGEST_NUMBER: usize = 20;
 pub(crate) fn is_region(text: &[u8]) -> bool
     ensures { result ≡ is_region text.now }
 {
-    1 <= text.len() && text.len() <= LONGEST_REGION && all_region_bytes(text)
+    1 <= text.len() && text.len() <= LONGEST_REGION && are_region_option_bytes(text)
 }
 
-fn all_region_bytes(text: &[u8]) -> bool
+fn are_region_option_bytes(text: &[u8]) -> bool
     ensures { result ≡ list_all is_region_byte text.now }
 {
     text.iter().all(|byte| is_region_byte(*byte))
@@ -32,19 +32,19 @@ fn is_region_byte(byte: u8) -> bool
     byte.is_ascii_lowercase() || byte.is_ascii_digit() || byte == b'-'
 }
 
-pub(crate) fn is_key_id(text: &[u8]) -> bool
-    ensures { result ≡ is_key_id text.now }
+pub(crate) fn is_key_option(text: &[u8]) -> bool
+    ensures { result ≡ is_key_option text.now }
 {
-    1 <= text.len() && text.len() <= LONGEST_KEY_ID && all_letters_or_digits(text)
+    1 <= text.len() && text.len() <= LONGEST_KEY_ID && are_key_option_bytes(text)
 }
 
-fn all_letters_or_digits(text: &[u8]) -> bool
+fn are_key_option_bytes(text: &[u8]) -> bool
     ensures { result ≡ list_all is_letter_or_digit text.now }
 {
-    text.iter().all(|byte| is_letter_or_digit(*byte))
+    text.iter().all(|byte| is_key_option_byte(*byte))
 }
 
-fn is_letter_or_digit(byte: u8) -> bool
+fn is_key_option_byte(byte: u8) -> bool
     ensures { result ≡ is_letter_or_digit byte }
 {
     byte.is_ascii_digit() || byte.is_ascii_uppercase() || byte.is_ascii_lowercase()

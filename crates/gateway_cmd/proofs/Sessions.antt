@@ -28,7 +28,7 @@ use Rattle.gateway_cmd.specs.declared.status.RunOutcome.TheVariants.{Plain}
 use Rattle.gateway_cmd.specs.declared.status.Status.{Status}
 use Rattle.gateway_cmd.specs.declared.status.Status.TheVariants.{Done, Usage, Line, Store, Request, Memory}
 use Rattle.gateway_cmd.specs.Report.{is_failed_run, is_done, Admits, Fits}
-use Rattle.gateway_cmd.specs.Tasks.{settings_of, is_possible, Serving, service_of, Task, nothing, to_serve, to_sign, to_presign, to_recover}
+use Rattle.gateway_cmd.specs.Tasks.{Apart, settings_of, is_possible, Serving, service_of, Task, nothing, to_serve, to_sign, to_presign, to_recover}
 use Rattle.gateway_cmd.specs.Run.{run_cursor_of, RunTrace, none, more, RunTraces, RunTraced, RunStands, RunRefines}
 use Rattle.gateway_cmd.specs.Session.{is_end, NextCursor, LineServed, LineServesAll, RunServes, RunSigns, RunPresigns, IsIdle, out_of_memory, keys_refused, nothing_done, Does}
 use Rattle.gateway_cmd.proofs.Faulty.{none_faulty_of_none}
@@ -162,6 +162,14 @@ idle_usage task keys ended (keys_refused usage bad) same = impossible_by task ke
 idle_refused : (keys : List ℕ) (ended : RunOutcome) → IsIdle keys ended → ended ≢ Plain Memory → ended ≡ Plain Usage
 idle_refused keys ended (out_of_memory memory) other = absurd (other memory)
 idle_refused keys ended (keys_refused usage bad) other = usage
+
+-- what is left alone, where the draws are too
+pub draws_apart : (L S C D : Type 0) (task : Task) → Apart task L S C (Unit {0}) → D → Apart task L S C D
+draws_apart L S C D nothing left draws = (left.0, left.1, left.2, draws)
+draws_apart L S C D (to_serve serving) left draws = tt
+draws_apart L S C D (to_sign id region) left draws = (left.0, left.1, draws)
+draws_apart L S C D (to_presign id region expires) left draws = (left.0, draws)
+draws_apart L S C D to_recover left draws = (left.0, left.1, draws)
 
 pub idle_admits : (task : Task) (keys : List ℕ) (ended : RunOutcome) → IsIdle keys ended → Admits (is_possible task keys) ended
 idle_admits task keys ended idle = record { usage = idle_usage task keys ended idle; refused = λ no other. idle_refused keys ended idle other }

@@ -13,7 +13,7 @@ use Rattle.presign_cmd.specs.Presigning.{Presigns, AnswersFirst, SendsFirst, is_
 use Rattle.presign_cmd.specs.declared.first.Presigning.{Presigning}
 use Rattle.presign_cmd.specs.declared.first.Presigning.TheVariants.{Url, NoRequest, LineFailed, Memory}
 use Rattle.gateway_cmd.specs.declared.status.RunOutcome.{RunOutcome}
-use Rattle.gateway_cmd.specs.Report.{end_of_url, is_failed_run}
+use Rattle.gateway_cmd.specs.Report.{outcome_of_presigning, is_failed_run}
 
 -- the key that is found is of the form, and has the id
 one_is : (id secret : List ℕ) (key : AccessKey) → bytes_eq key.id id ≡ true → is_key key ≡ true → Some key.secret ≡ Some secret → is_key (record { id = id; secret = secret }) ≡ true
@@ -40,14 +40,14 @@ signer_is_key id other secret keys good same is =
     found_is id secret keys (and_parts (list_all is_key keys) (ids_differ keys) good).0 (ap (λ k. secret_of k keys) same ∙ sym is)
 
 -- whether the line failed is whether the run ends for it
-url_failed : (presigning : Presigning) → is_failed_run (end_of_url presigning) ≡ is_failed_presigning presigning
+url_failed : (presigning : Presigning) → is_failed_run (outcome_of_presigning presigning) ≡ is_failed_presigning presigning
 url_failed (Url url) = refl
 url_failed NoRequest = refl
 url_failed LineFailed = refl
 url_failed Memory = refl
 
-pub url_line : {at own : ℕ} {old new : LineModel} (ended : RunOutcome) (presigning : Presigning) → ended ≡ end_of_url presigning → at ≡ own → SignsOn (is_failed_presigning presigning) own old new → SignsOn (is_failed_run ended) at old new
-url_line {at = at} {old = old} {new = new} ended presigning is same on =
+pub url_report_line : {at own : ℕ} {old new : LineModel} (ended : RunOutcome) (presigning : Presigning) → ended ≡ outcome_of_presigning presigning → at ≡ own → SignsOn (is_failed_presigning presigning) own old new → SignsOn (is_failed_run ended) at old new
+url_report_line {at = at} {old = old} {new = new} ended presigning is same on =
     let failed : is_failed_run ended ≡ is_failed_presigning presigning = ap is_failed_run is ∙ url_failed presigning in
     subst (λ f. SignsOn f at old new) (sym failed) (subst (λ n. SignsOn (is_failed_presigning presigning) n old new) (sym same) on)
 

@@ -46,8 +46,8 @@ signed_lines signed =
     (((codes "canonical " ++ encode_lower signed.canonical_hash) ++ (line_feed ++ codes "signature ")) ++ encode_lower signed.signature) ++ line_feed
 
 -- the line of a URL
-abbrev pub url_line : List ℕ → List ℕ
-url_line url = codes "url " ++ (url ++ line_feed)
+abbrev pub url_report_line : List ℕ → List ℕ
+url_report_line url = codes "url " ++ (url ++ line_feed)
 
 -- the line that names an object of which the store answered what it doesn't over a consistent account
 abbrev pub inconsistent_line : List ℕ → List ℕ → List ℕ
@@ -66,11 +66,11 @@ end_of signing.LineFailed = Plain Line
 end_of signing.Memory = Plain Memory
 
 -- how a run ended that made a URL, or couldn't
-abbrev pub end_of_url : Presigning → RunOutcome
-end_of_url (presigning.Url url) = Told (Url url)
-end_of_url presigning.NoRequest = Plain Request
-end_of_url presigning.LineFailed = Plain Line
-end_of_url presigning.Memory = Plain Memory
+abbrev pub outcome_of_presigning : Presigning → RunOutcome
+outcome_of_presigning (presigning.Url url) = Told (Url url)
+outcome_of_presigning presigning.NoRequest = Plain Request
+outcome_of_presigning presigning.LineFailed = Plain Line
+outcome_of_presigning presigning.Memory = Plain Memory
 
 -- how a run ended that settled the store, or couldn't
 abbrev pub recovered : Result (Unit {0}) SettleFault → RunOutcome
@@ -82,7 +82,7 @@ recovered (Err (settling.Inconsistent container name)) = Inconsistent container 
 -- the lines that are reported of what a run has to tell
 abbrev pub lines_of : Reported → List ℕ
 lines_of (Signature signed) = signed_lines signed
-lines_of (Url url) = url_line url
+lines_of (Url url) = url_report_line url
 lines_of Settled = codes "settled" ++ line_feed
 
 -- the run ended with nothing to tell of what it did

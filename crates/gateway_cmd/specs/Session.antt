@@ -28,7 +28,7 @@ use Rattle.gateway_cmd.specs.declared.status.Status.{Status}
 use Rattle.gateway_cmd.specs.declared.status.Status.TheVariants.{Done, Usage, Line, Store, Request as NoRequest, Memory}
 use Rattle.gateway_cmd.specs.declared.status.RunOutcome.{RunOutcome}
 use Rattle.gateway_cmd.specs.declared.status.RunOutcome.TheVariants.{Plain}
-use Rattle.gateway_cmd.specs.Report.{end_of, end_of_url, recovered, is_failed_run, is_done}
+use Rattle.gateway_cmd.specs.Report.{end_of, outcome_of_presigning, recovered, is_failed_run, is_done}
 use Rattle.gateway_cmd.specs.Tasks.{Task, nothing, to_serve, to_sign, to_presign, to_recover, Serving, service_of}
 use Rattle.gateway_cmd.specs.Run.{run_cursor_of, ServesNext, RunTraces}
 
@@ -120,7 +120,7 @@ pub record RunPresigns (id region : List ℕ) (expires : ℕ) (keys : List ℕ) 
   pub effect : (secret : List ℕ) → are_keys (keys_of keys) ≡ true → secret_of id (keys_of keys) ≡ Some secret → IsTrue old.observable → ended ≢ Plain Memory
       → (moment : ℕ) × ClockNow clock moment clock'
       × (presigning : Presigning) × UrlFirst (Presigns secret id region moment expires) old.transcript.waiting presigning
-      × UrlSends at old.transcript presigning new.transcript × (ended ≡ end_of_url presigning)
+      × UrlSends at old.transcript presigning new.transcript × (ended ≡ outcome_of_presigning presigning)
 
 -- nothing was done: memory ran out before, or the keys are refused
 pub data IsIdle (keys : List ℕ) (ended : RunOutcome) : Type 0 where

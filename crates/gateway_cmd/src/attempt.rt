@@ -1,6 +1,6 @@
 //! A run but for its report: the words, and then the command that they name.
 ghost use Rattle.std.specs.Prelude.{◌≡◌, ◌≤◌, ℕ, true, false, IsTrue, List, Some, None};
-ghost use Rattle.gate_base.specs.Told.{ClockNow};
+ghost use Rattle.gate_base.specs.Told.{ClockNow, SourceModel};
 ghost use Rattle.recovery.specs.declared.state.Known.{Known as what_is_known};
 ghost use Rattle.recovery.specs.declared.state.Known.TheVariants.{Unsure};
 ghost use Rattle.sigv4.specs.Keys.{keys_of, are_keys, secret_of};
@@ -10,7 +10,7 @@ ghost use Rattle.presign_cmd.specs.Presigning.{Presigns, AnswersFirst as UrlFirs
 ghost use Rattle.presign_cmd.specs.declared.first.Presigning.{Presigning};
 ghost use Rattle.gateway_cli.specs.Words.{IsProper, is_region};
 ghost use Rattle.gateway.specs.World.{world, Continues, ServesOver};
-ghost use Rattle.gateway_cmd.specs.Report.{Admits, Fits, is_failed_run, end_of, end_of_url};
+ghost use Rattle.gateway_cmd.specs.Report.{Admits, Fits, is_failed_run, end_of, outcome_of_presigning};
 ghost use Rattle.gateway_cmd.specs.Tasks.{Apart, asked_for, is_possible, settings_of, task_of, to_sign, to_presign};
 ghost use Rattle.gateway_cmd.specs.declared.status.RunOutcome.TheVariants as ended;
 ghost use Rattle.gateway_cmd.specs.declared.status.Status.TheVariants as status;
@@ -143,20 +143,19 @@ fn perform_by_keys<N: Line<W>, W: Swift, C: Clock, D: Draws>(
             let most = Some(*connections);
             RunOutcome::Plain(serve(alloc, settings, keys, most, line, store, clock, draws))
         }
-        _ => perform_lent(alloc, command, &keys, line, store, clock, draws),
+        _ => perform_lent(alloc, command, &keys, line, store, clock),
     }
 }
 
 /// Does what is asked for, where that is to settle the store, to sign, or to make a URL; else it ends as where memory ran out. It
-/// draws nothing: the draws are lent for what is said of them.
-fn perform_lent<N: Line<W>, W: Swift, C: Clock, D: Draws>(
+/// draws nothing, so what is said of worlds is said whatever the draws are.
+fn perform_lent<N: Line<W>, W: Swift, C: Clock>(
     alloc: Global,
     command: &Command,
     keys: &Keys,
     line: &mut N,
     store: &mut W,
     clock: &mut C,
-    draws: &D,
 ) -> RunOutcome
     requires proper { IsProper command.now }
     requires keys { are_keys keys.now ≡ true }
@@ -165,15 +164,16 @@ fn perform_lent<N: Line<W>, W: Swift, C: Clock, D: Draws>(
     ensures fits { Fits (task_of (Some command.now)) result }
     ensures idle { (text : List ℕ) → keys.now ≡ keys_of text
         → is_possible (task_of (Some command.now)) text ≡ false → (line.new ≡ line.old)
-        × (store.new ≡ store.old) × (clock.new ≡ clock.old) × (draws.now ≡ draws.now) }
+        × (store.new ≡ store.old) × (clock.new ≡ clock.old) }
     ensures apart { Apart (task_of (Some command.now)) (line.new ≡ line.old) (store.new ≡ store.old)
-        (clock.new ≡ clock.old) (draws.now ≡ draws.now) }
-    ensures on { Continues
-        (world (N.model line.old) (W.history store.old) Unsure (C.model clock.old) (D.model draws.now))
-        (world (N.model line.new) (W.history store.new) Unsure (C.model clock.new) (D.model draws.now)) }
-    ensures does { (text : List ℕ) → keys.now ≡ keys_of text → Does (task_of (Some command.now)) text result
-        (world (N.model line.old) (W.history store.old) Unsure (C.model clock.old) (D.model draws.now))
-        (λ known. world (N.model line.new) (W.history store.new) known (C.model clock.new) (D.model draws.now)) }
+        (clock.new ≡ clock.old) (Unit {0}) }
+    ensures on { (draws : SourceModel) → Continues
+        (world (N.model line.old) (W.history store.old) Unsure (C.model clock.old) draws)
+        (world (N.model line.new) (W.history store.new) Unsure (C.model clock.new) draws) }
+    ensures does { (text : List ℕ) → keys.now ≡ keys_of text → (draws : SourceModel)
+        → Does (task_of (Some command.now)) text result
+        (world (N.model line.old) (W.history store.old) Unsure (C.model clock.old) draws)
+        (λ known. world (N.model line.new) (W.history store.new) known (C.model clock.new) draws) }
 {
     match command {
         Command::Recover => recover(alloc, store),
@@ -275,22 +275,24 @@ fn presign<N: Line<W>, W: Swift, C: Clock>(
         × UrlFirst (Presigns secret id.now region.now moment expires)
         (N.model line.old).transcript.waiting presigning
         × UrlSends (W.history store.now).called (N.model line.old).transcript presigning
-        (N.model line.new).transcript × (result ≡ end_of_url presigning) }
+        (N.model line.new).transcript × (result ≡ outcome_of_presigning presigning) }
 {
     match keys.secret(id.as_slice()) {
         Some(secret) => {
             let moment = clock.now();
             let id = id.as_slice();
             let region = region.as_slice();
-            end_of_url(presign_first(alloc, secret, id, region, moment, expires, line, store))
+            outcome_of_presigning(presign_first(
+                alloc, secret, id, region, moment, expires, line, store,
+            ))
         }
         None => RunOutcome::Plain(Status::Usage),
     }
 }
 
 /// How a run ends that was to make a URL.
-fn end_of_url(presigning: Presigning) -> RunOutcome
-    ensures { result ≡ end_of_url presigning }
+fn outcome_of_presigning(presigning: Presigning) -> RunOutcome
+    ensures { result ≡ outcome_of_presigning presigning }
 {
     match presigning {
         Presigning::Url(url) => RunOutcome::Told(Told::Url(url)),

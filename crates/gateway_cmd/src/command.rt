@@ -12,7 +12,7 @@ ghost use Rattle.sign_cmd.specs.declared.first.Signing.{Signing};
 ghost use Rattle.presign_cmd.specs.Presigning.{Presigns, AnswersFirst as UrlFirst, SendsFirst as UrlSends};
 ghost use Rattle.presign_cmd.specs.declared.first.Presigning.{Presigning};
 ghost use Rattle.gateway.specs.World.{world, IsObservable, Continues};
-ghost use Rattle.gateway_cmd.specs.Report.{is_plain, IsStatus, Fits, Says, Reports, end_of, end_of_url, recovered, code_of, line_of};
+ghost use Rattle.gateway_cmd.specs.Report.{is_plain, IsStatus, Fits, Says, Reports, end_of, outcome_of_presigning, recovered, code_of, line_of};
 ghost use Rattle.gateway_cmd.specs.Tasks.{Apart, asked_for, is_possible, is_serving, is_signing, is_upkeep, uses_line, tells, to_serve, to_sign, to_presign, to_recover, Serving, service_of};
 ghost use Rattle.gateway_cmd.specs.declared.status.RunOutcome.{RunOutcome as how};
 ghost use Rattle.gateway_cmd.specs.declared.status.RunOutcome.TheVariants as ends;
@@ -21,7 +21,7 @@ ghost use Rattle.gateway_cmd.specs.Run.{RunTraced, RunStands, RunRefines};
 ghost use Rattle.gateway_cmd.specs.Session.{Does, HasWorked, LineServed, StoreRecovered};
 
 use crate::attempt::attempt;
-use crate::status::{RunOutcome, Status, Told, inconsistent_line, told_lines};
+use crate::status::{RunOutcome, Status, Told, inconsistent_line, run_report_lines};
 use gate_base::{Bytes, Clock, Draws, Line, Sink};
 use std::alloc::Global;
 use swift_calls::Swift;
@@ -159,7 +159,7 @@ pub fn run<N: Line<W>, R: Sink, W: Swift, C: Clock, D: Draws>(
         × (presigning : Presigning)
         × UrlFirst (Presigns secret id region moment expires) (N.model line.old).transcript.waiting
         presigning × UrlSends (W.history store.old).called (N.model line.old).transcript presigning
-        (N.model line.new).transcript × (text : List ℕ) × Says (end_of_url presigning) result text
+        (N.model line.new).transcript × (text : List ℕ) × Says (outcome_of_presigning presigning) result text
         × Reports text (R.model report.old) (R.model report.new) }
 
     // The store was settled, and how that ended is what is reported.
@@ -188,12 +188,12 @@ fn tell<R: Sink>(alloc: Global, ended: RunOutcome, report: &mut R) -> u8
         RunOutcome::Inconsistent { container, name } => {
             tell_inconsistent(alloc, &container, &name, report)
         }
-        RunOutcome::Plain(status) => tell_plain(status, report),
+        RunOutcome::Plain(status) => tell_run_status(status, report),
     }
 }
 
 /// Reports how a run ended that has nothing to tell: nothing where all was done.
-fn tell_plain<R: Sink>(status: Status, report: &mut R) -> u8
+fn tell_run_status<R: Sink>(status: Status, report: &mut R) -> u8
     ensures code { result ≡ code_of status }
     ensures reports { Reports (line_of status) (R.model report.old) (R.model report.new) }
     ensures silent { status ≡ Done → report.new ≡ report.old }
@@ -212,12 +212,12 @@ fn tell_told<R: Sink>(alloc: Global, told: &Told, report: &mut R) -> u8
     ensures unreported { result ≡ 6 → Rose (R.model report.old).faults (R.model report.new).faults }
     ensures reported { result ≡ 0 → (R.model report.new).faults ≡ (R.model report.old).faults }
 {
-    match told_lines(alloc, told) {
+    match run_report_lines(alloc, told) {
         Ok(lines) => match report.put(lines.as_slice()) {
             Ok(()) => 0,
             Err(_) => 6,
         },
-        Err(_) => tell_plain(Status::Memory, report),
+        Err(_) => tell_run_status(Status::Memory, report),
     }
 }
 
@@ -232,6 +232,6 @@ fn tell_inconsistent<R: Sink>(alloc: Global, container: &Bytes, name: &Bytes, re
             let _ = report.put(line.as_slice());
             7
         }
-        Err(_) => tell_plain(Status::Memory, report),
+        Err(_) => tell_run_status(Status::Memory, report),
     }
 }

@@ -21,7 +21,7 @@ pub fn recover<W: Swift>(alloc: Global, store: &mut W) -> RunOutcome
         × Settles (W.history store.old) (W.history store.new) settled
         × (result ≡ recovered settled) }
 {
-    match settle(alloc, store) {
+    match settle_for_recover_command(alloc, store) {
         Ok(()) => RunOutcome::Told(Told::Settled),
         Err(SettleFault::Failed) => RunOutcome::Plain(Status::Store),
         Err(SettleFault::Memory) => RunOutcome::Plain(Status::Memory),
@@ -32,7 +32,7 @@ pub fn recover<W: Swift>(alloc: Global, store: &mut W) -> RunOutcome
 }
 
 /// Settles the store, by settings of no region and no least part: settling uses neither.
-fn settle<W: Swift>(alloc: Global, store: &mut W) -> Result<(), SettleFault>
+fn settle_for_recover_command<W: Swift>(alloc: Global, store: &mut W) -> Result<(), SettleFault>
     ensures { Settles (W.history store.old) (W.history store.new) result }
 {
     let settings = Settings {

@@ -37,7 +37,7 @@ pub fn session<N: Line<W>, W: Swift, C: Clock, D: Draws>(
         }
         match serve_another(alloc, service, line, store, known, clock, draws) {
             Some(status) => return status,
-            None => left = one_less(left),
+            None => left = session_limit_after_one(left),
         }
     }
 }
@@ -53,7 +53,7 @@ fn is_session_limit_reached(left: Option<u64>) -> bool
     }
 }
 
-fn one_less(left: Option<u64>) -> Option<u64>
+fn session_limit_after_one(left: Option<u64>) -> Option<u64>
     ensures { result ≡ option_map (λ n. n - 1) left }
 {
     match left {

@@ -1,5 +1,5 @@
 ghost use Rattle.std.specs.Prelude.{◌≡◌, IfOk};
-ghost use Rattle.gateway_cmd.specs.Report.{code_of, inconsistent_line, line_of, lines_of, signed_lines, url_line};
+ghost use Rattle.gateway_cmd.specs.Report.{code_of, inconsistent_line, line_of, lines_of, signed_lines, url_report_line};
 ghost use Rattle.gateway_cmd.specs.declared.status.Told.TheVariants.{Settled};
 
 use gate_base::{Bytes, Memory};
@@ -77,19 +77,19 @@ pub enum RunOutcome {
 }
 
 /// The lines that report what a run has to tell.
-pub fn told_lines(alloc: Global, told: &Told) -> Result<Bytes, Memory>
+pub fn run_report_lines(alloc: Global, told: &Told) -> Result<Bytes, Memory>
     ensures { IfOk result (λ lines. lines ≡ lines_of told.now) }
 {
     match told {
-        Told::Signature(signed) => signed_lines(alloc, signed),
-        Told::Url(url) => url_line(alloc, url.as_slice()),
-        Told::Settled => settled_line(alloc),
+        Told::Signature(signed) => signature_report_lines(alloc, signed),
+        Told::Url(url) => url_report_line(alloc, url.as_slice()),
+        Told::Settled => settled_report_line(alloc),
     }
 }
 
 /// The two lines that report a signature.
 #[tactic(auto, unfolding(crate::specs::Report::signed_lines))]
-fn signed_lines(alloc: Global, signed: &Signed) -> Result<Bytes, Memory>
+fn signature_report_lines(alloc: Global, signed: &Signed) -> Result<Bytes, Memory>
     ensures { IfOk result (λ lines. lines ≡ signed_lines signed.now) }
 {
     let mut lines = Bytes::from_slice(alloc, b"canonical ")?;
@@ -101,8 +101,8 @@ fn signed_lines(alloc: Global, signed: &Signed) -> Result<Bytes, Memory>
 }
 
 /// The line that reports a URL.
-fn url_line(alloc: Global, url: &[u8]) -> Result<Bytes, Memory>
-    ensures { IfOk result (λ line. line ≡ url_line url.now) }
+fn url_report_line(alloc: Global, url: &[u8]) -> Result<Bytes, Memory>
+    ensures { IfOk result (λ line. line ≡ url_report_line url.now) }
 {
     let mut line = Bytes::from_slice(alloc, b"url ")?;
     line.append(url)?;
@@ -111,7 +111,7 @@ fn url_line(alloc: Global, url: &[u8]) -> Result<Bytes, Memory>
 }
 
 /// The line that reports that the store is settled.
-fn settled_line(alloc: Global) -> Result<Bytes, Memory>
+fn settled_report_line(alloc: Global) -> Result<Bytes, Memory>
     ensures { IfOk result (λ line. line ≡ lines_of Settled) }
 {
     Bytes::from_slice(alloc, b"settled\n")

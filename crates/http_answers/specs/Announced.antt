@@ -11,11 +11,11 @@ use Rattle.http_answers.specs.declared.announced.Announced.{Announced}
 use Rattle.http_answers.specs.declared.announced.Announced.TheVariants.{More, Answer, Bad}
 
 -- the header says nothing against another exchange (RFC 9112, section 9.6)
-abbrev pub lets_on : Pair → Bool
-lets_on header = not (has_name (codes "connection") header) || bytes_eq (map to_ascii_lowercase header.value) (codes "keep-alive")
+abbrev pub answer_header_keeps_connection : Pair → Bool
+answer_header_keeps_connection header = not (has_name (codes "connection") header) || bytes_eq (map to_ascii_lowercase header.value) (codes "keep-alive")
 
 abbrev pub stays_open : List Pair → Bool
-stays_open headers = list_all lets_on headers
+stays_open headers = list_all answer_header_keeps_connection headers
 
 -- what the bytes that came so far announce
 abbrev pub Announces : Bool → List ℕ → Announced → Type 0

@@ -48,5 +48,5 @@ size_from (Some None) = None
 size_from (Some (Some value)) = number_of 19 value
 
 -- the one Content-Length, of 1 to 19 digits (RFC 9110, section 8.6)
-abbrev pub size_in : List Pair → Option ℕ
-size_in headers = size_from (field (codes "content-length") headers)
+abbrev pub answer_content_length : List Pair → Option ℕ
+answer_content_length headers = size_from (field (codes "content-length") headers)

@@ -4,7 +4,7 @@ use Rattle.gate_base.specs.declared.page.Pair.{Pair}
 use Rattle.httparse.specs.Grammar.{ResponseHead, ReadsResponse, NeverHasResponse, print_response, status_code}
 use Rattle.http_wire.specs.FirstMessage.{header_of}
 use Rattle.http_wire.specs.Headers.{has_header}
-use Rattle.http_answers.specs.Fields.{size_in}
+use Rattle.http_answers.specs.Fields.{answer_content_length}
 use Rattle.http_answers.specs.declared.head.TheConstants.{HEAD_LIMIT}
 use Rattle.http_answers.specs.declared.framing.End.{End}
 use Rattle.http_answers.specs.declared.framing.End.TheVariants.{More, At, Bad}
@@ -29,7 +29,7 @@ is_bodiless head status = head || (status == 204 || status == 304)
 abbrev pub expected : Bool → ℕ → List Pair → Option ℕ
 expected head status headers =
     if has_header (codes "transfer-encoding") headers then None
-    else (if is_bodiless head status then Some 0 else size_in headers)
+    else (if is_bodiless head status then Some 0 else answer_content_length headers)
 
 abbrev pub expected_of : Bool → ResponseHead → Option ℕ
 expected_of head h = expected head (status_code h) (headers_in h)

@@ -1,6 +1,6 @@
 //! What the head of an answer announces.
 ghost use Rattle.std.specs.Prelude.{◌≡◌, IfOk};
-ghost use Rattle.http_answers.specs.Announced.{Announces, lets_on, stays_open};
+ghost use Rattle.http_answers.specs.Announced.{Announces, answer_header_keeps_connection, stays_open};
 
 use crate::framing::expected;
 use crate::head::{Front, find_head};
@@ -25,7 +25,11 @@ pub enum Announced {
 /// What the head of an answer announces: with it known, its bytes can be counted as they come. `head` says that the
 /// request was HEAD. It fails only where memory runs out.
 #[tactic(auto, using(crate::proofs::AnnouncedLemmas::announces_open, crate::proofs::AnnouncedLemmas::announces_dead, crate::proofs::AnnouncedLemmas::announces_whole, crate::proofs::AnnouncedLemmas::announces_refused))]
-pub fn read_front(alloc: Global, head: bool, bytes: &[u8]) -> Result<Announced, Memory>
+pub fn announced_by_answer_head(
+    alloc: Global,
+    head: bool,
+    bytes: &[u8],
+) -> Result<Announced, Memory>
     ensures { IfOk result (λ announced. Announces head bytes.now announced) }
 {
     match find_head(alloc, bytes)? {
@@ -49,11 +53,13 @@ pub fn read_front(alloc: Global, head: bool, bytes: &[u8]) -> Result<Announced, 
 fn stays_open(headers: &[Pair]) -> bool
     ensures { result ≡ stays_open headers.now }
 {
-    headers.iter().all(|header| lets_on(header))
+    headers
+        .iter()
+        .all(|header| answer_header_keeps_connection(header))
 }
 
-fn lets_on(header: &Pair) -> bool
-    ensures { result ≡ lets_on header.now }
+fn answer_header_keeps_connection(header: &Pair) -> bool
+    ensures { result ≡ answer_header_keeps_connection header.now }
 {
     !has_name(header, b"connection") || header.value.as_slice().eq_ignore_ascii_case(b"keep-alive")
 }

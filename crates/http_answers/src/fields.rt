@@ -1,18 +1,18 @@
 //! The values of headers, each as it is read.
 ghost use Rattle.std.specs.Prelude.{◌≡◌, option_map};
 ghost use Rattle.std.specs.Option.{option_copied};
-ghost use Rattle.http_answers.specs.Fields.{field, only, size_in};
+ghost use Rattle.http_answers.specs.Fields.{field, only, answer_content_length};
 
 use crate::numbers::DIGITS;
 use gate_base::Pair;
-use http_wire::{first_value, has_header, has_one};
+use http_wire::{first_value, has_header, has_single_header};
 use text_forms::number_of;
 
 /// The value of a header that may be absent: `None` where it is given more than once.
 pub fn field<'a>(headers: &'a [Pair], name: &[u8]) -> Option<Option<&'a [u8]>>
     ensures { option_map option_copied result ≡ field name.now headers.now }
 {
-    if has_one(headers, name) {
+    if has_single_header(headers, name) {
         return Some(Some(first_value(headers, name)));
     }
     if has_header(headers, name) {
@@ -33,8 +33,8 @@ pub fn only<'a>(headers: &'a [Pair], name: &[u8]) -> Option<&'a [u8]>
 }
 
 /// The one Content-Length, of 1 to 19 digits.
-pub fn size_in(headers: &[Pair]) -> Option<u64>
-    ensures { result ≡ size_in headers.now }
+pub fn answer_content_length(headers: &[Pair]) -> Option<u64>
+    ensures { result ≡ answer_content_length headers.now }
 {
     number_of(only(headers, b"content-length")?, DIGITS)
 }

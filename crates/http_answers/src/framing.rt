@@ -2,7 +2,7 @@
 ghost use Rattle.std.specs.Prelude.{◌≡◌, Some, IfOk};
 ghost use Rattle.http_answers.specs.Framing.{Ends, expected, is_bodiless, answer_end_by};
 
-use crate::fields::size_in;
+use crate::fields::answer_content_length;
 use crate::head::{Front, find_head};
 use gate_base::{Copying, Memory, Pair};
 use http_wire::has_header;
@@ -53,12 +53,12 @@ fn answer_end_by(have: usize, len: usize, body: Option<u64>) -> End
     ensures { result ≡ answer_end_by have len body }
 {
     match body {
-        Some(size) => end_within(have, len, size),
+        Some(size) => answer_end_within(have, len, size),
         None => End::Bad,
     }
 }
 
-fn end_within(have: usize, len: usize, size: u64) -> End
+fn answer_end_within(have: usize, len: usize, size: u64) -> End
     ensures { result ≡ answer_end_by have len (Some size) }
 {
     match (len as u64).checked_add(size) {
@@ -77,7 +77,7 @@ pub fn expected(head: bool, status: u16, headers: &[Pair]) -> Option<u64>
     if is_bodiless(head, status) {
         return Some(0);
     }
-    size_in(headers)
+    answer_content_length(headers)
 }
 
 fn is_bodiless(head: bool, status: u16) -> bool

@@ -66,20 +66,24 @@ pub fn find_head(alloc: Global, bytes: &[u8]) -> Result<Front, Memory>
         Verdict::Whole(spans) => Ok(Front::Whole(head_at(alloc, bytes, &room, &spans)?)),
         Verdict::More => Ok(Front::More),
         Verdict::Dead => Ok(Front::Dead),
-        Verdict::Crowded => find_among_many(alloc, bytes),
+        Verdict::Crowded => find_crowded_answer_head(alloc, bytes),
     }
 }
 
 /// The same with room for every head.
-fn find_among_many(alloc: Global, bytes: &[u8]) -> Result<Front, Memory>
+fn find_crowded_answer_head(alloc: Global, bytes: &[u8]) -> Result<Front, Memory>
     ensures { IfOk result (λ front. Shows bytes.now front) }
 {
     let mut room = vec![in alloc; EMPTY_HEADER_SPAN; MOST_LINES]?;
-    find_within(alloc, bytes, &mut room)
+    find_answer_head_within(alloc, bytes, &mut room)
 }
 
 #[tactic(auto, using(crate::proofs::lemmas::HeadLemmas::dead_crowded, crate::proofs::lemmas::HeadLemmas::shows_whole))]
-fn find_within(alloc: Global, bytes: &[u8], room: &mut [HeaderSpan]) -> Result<Front, Memory>
+fn find_answer_head_within(
+    alloc: Global,
+    bytes: &[u8],
+    room: &mut [HeaderSpan],
+) -> Result<Front, Memory>
     requires { MOST_LINES ≤ length room.old }
     ensures { IfOk result (λ front. Shows bytes.now front) }
 {
@@ -145,13 +149,13 @@ fn headers_at(alloc: Global, bytes: &[u8], spans: &[HeaderSpan]) -> Result<List<
 {
     let mut headers = List::new(alloc);
     for span in spans {
-        headers.push(pair_at(alloc, bytes, span)?)?;
+        headers.push(answer_header_at(alloc, bytes, span)?)?;
     }
     Ok(headers)
 }
 
 /// The header that a span covers.
-fn pair_at(alloc: Global, bytes: &[u8], span: &HeaderSpan) -> Result<Pair, Memory>
+fn answer_header_at(alloc: Global, bytes: &[u8], span: &HeaderSpan) -> Result<Pair, Memory>
     requires { IsHeaderWithin (length bytes.now) span.now }
     ensures { IfOk result (λ header. header ≡ header_at bytes.now span.now) }
 {

@@ -7,8 +7,8 @@ mod framing;
 mod head;
 mod numbers;
 
-pub use announced::{Announced, read_front};
-pub use fields::{field, only, size_in};
+pub use announced::{Announced, announced_by_answer_head};
+pub use fields::{answer_content_length, field, only};
 pub use framing::{End, answer_end, expected};
 pub use head::{Front, HEAD_LIMIT, Head, find_head};
 pub use numbers::plain_number;

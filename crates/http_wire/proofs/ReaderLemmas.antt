@@ -11,7 +11,7 @@ use Rattle.http_wire.specs.declared.take.Taken.TheVariants.{Whole, Not}
 use Rattle.http_wire.specs.FirstMessage.{BeginsWith, HasHead, HasNoHead, cut_short, nothing, refused}
 use Rattle.http_wire.specs.Reading.{Pending, GivesFirstMessage, OnRequest, ends}
 use Rattle.http_wire.specs.Seen.{AtEnd, IsFound}
-use Rattle.http_wire.specs.Taken.{IsAnswer, IsHeadless, TakenFrom, headless}
+use Rattle.http_wire.specs.Taken.{AnswersHeadless, IsAnswer, TakenFrom}
 use Rattle.http_wire.proofs.FirstMessageLemmas.{front_bad, front_cut, front_ends, front_long, front_not, front_taken}
 use Rattle.http_wire.proofs.InterimLemmas.{empty_has_none}
 
@@ -38,45 +38,42 @@ gives_taken (Not kind head) all h n left old got new has taken goes is =
 
 -- the answer is the first message
 pub gives_headless : (found : Found) (came more all left : List ℕ) (headers : List HeaderSpan) (at : ℕ) (old : Pending) (got : Got) (new : Pending)
-    → IsHeadless found → got ≡ headless found at → IsFound came headers found → AtEnd found more → came ++ more ≡ all → left ≡ all
+    → AnswersHeadless found at got → IsFound came headers found → AtEnd found more → came ++ more ≡ all → left ≡ all
     → old.ended ≡ false → at ≡ old.place → new.place ≡ old.place → GivesFirstMessage old all got new left
-gives_headless (Head spans) came more all left headers at old got new none is found end whole stays goes place kept = absurd none
-gives_headless Bad came more all left headers at old got new none is found end whole stays goes place kept =
+gives_headless (Head spans) came more all left headers at old got new is found end whole stays goes place kept = absurd is
+gives_headless Bad came more all left headers at old got new is found end whole stays goes place kept =
     subst (λ v. GivesFirstMessage old all v new left) (sym is)
     (goes, subst (λ v. BeginsWith v (refused BadHead false)) whole (front_bad came more found), place, stays, kept)
-gives_headless Long came more all left headers at old got new none is found end whole stays goes place kept =
+gives_headless Long came more all left headers at old got new is found end whole stays goes place kept =
     subst (λ v. GivesFirstMessage old all v new left) (sym is)
     (goes, subst (λ v. BeginsWith v (refused LongHead false)) whole (front_long came more found.0 found.1 found.2), place, stays, kept)
-gives_headless Cut came more all left headers at old got new none is found end whole stays goes place kept =
+gives_headless Cut came more all left headers at old got new is found end whole stays goes place kept =
     subst (λ v. GivesFirstMessage old all v new left) (sym is)
     (goes, subst (λ v. BeginsWith v cut_short) whole (front_cut came more found.0 found.1 found.2 found.3 end), place, stays, kept)
-gives_headless Nothing came more all left headers at old got new none is found end whole stays goes place kept =
+gives_headless Nothing came more all left headers at old got new is found end whole stays goes place kept =
     subst (λ v. GivesFirstMessage old all v new left) (sym is)
     (inr (subst (λ v. BeginsWith v nothing) whole (front_ends came more found end)), stays, kept)
 
 -- so the bytes have none
-pub headless_has_none : (found : Found) (came more : List ℕ) (headers : List HeaderSpan) → IsHeadless found → IsFound came headers found
-    → AtEnd found more → HasNoHead (came ++ more)
-headless_has_none (Head spans) came more headers none found end = absurd none
-headless_has_none Bad came more headers none found end = (front_bad came more found).0
-headless_has_none Long came more headers none found end = (front_long came more found.0 found.1 found.2).0
-headless_has_none Cut came more headers none found end = (front_cut came more found.0 found.1 found.2 found.3 end).2
-headless_has_none Nothing came more headers none found end = empty_has_none came more found end
+pub headless_has_none : (found : Found) (came more : List ℕ) (headers : List HeaderSpan) (at : ℕ) (got : Got) → AnswersHeadless found at got
+    → IsFound came headers found → AtEnd found more → HasNoHead (came ++ more)
+headless_has_none (Head spans) came more headers at got is found end = absurd is
+headless_has_none Bad came more headers at got is found end = (front_bad came more found).0
+headless_has_none Long came more headers at got is found end = (front_long came more found.0 found.1 found.2).0
+headless_has_none Cut came more headers at got is found end = (front_cut came more found.0 found.1 found.2 found.3 end).2
+headless_has_none Nothing came more headers at got is found end = empty_has_none came more found end
 
 -- and it is no request
-pub headless_falls : (found : Found) (at : ℕ) (got : Got) (P : Type 0) → got ≡ headless found at → OnRequest (Ok got) P
-headless_falls (Head spans) at got P is = subst (λ v. OnRequest (Ok v) P) (sym is) tt
+pub headless_falls : (found : Found) (at : ℕ) (got : Got) (P : Type 0) → AnswersHeadless found at got → OnRequest (Ok got) P
+headless_falls (Head spans) at got P is = absurd is
 headless_falls Bad at got P is = subst (λ v. OnRequest (Ok v) P) (sym is) tt
 headless_falls Long at got P is = subst (λ v. OnRequest (Ok v) P) (sym is) tt
 headless_falls Cut at got P is = subst (λ v. OnRequest (Ok v) P) (sym is) tt
 headless_falls Nothing at got P is = subst (λ v. OnRequest (Ok v) P) (sym is) tt
 
-ends_headless : (found : Found) (at : ℕ) → true ≡ ends (Ok (headless found at))
-ends_headless (Head spans) at = refl
-ends_headless Bad at = refl
-ends_headless Long at = refl
-ends_headless Cut at = refl
-ends_headless Nothing at = refl
-
-pub headless_ends : (found : Found) (at : ℕ) (got : Got) → got ≡ headless found at → true ≡ ends (Ok got)
-headless_ends found at got is = subst (λ v. true ≡ ends (Ok v)) (sym is) (ends_headless found at)
+pub headless_ends : (found : Found) (at : ℕ) (got : Got) → AnswersHeadless found at got → true ≡ ends (Ok got)
+headless_ends (Head spans) at got is = absurd is
+headless_ends Bad at got is = subst (λ v. true ≡ ends (Ok v)) (sym is) refl
+headless_ends Long at got is = subst (λ v. true ≡ ends (Ok v)) (sym is) refl
+headless_ends Cut at got is = subst (λ v. true ≡ ends (Ok v)) (sym is) refl
+headless_ends Nothing at got is = subst (λ v. true ≡ ends (Ok v)) (sym is) refl

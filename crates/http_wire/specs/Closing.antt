@@ -8,15 +8,15 @@ use Rattle.http_wire.specs.Headers.{values_of}
 use Rattle.gate_base.specs.Ascii.{is_blank}
 
 -- the text behind the blanks at its start, and the text before those at its end
-abbrev pub behind_blanks : List ℕ → List ℕ
-behind_blanks text = drop (prefix_len is_blank text) text
+abbrev pub behind_header_blanks : List ℕ → List ℕ
+behind_header_blanks text = drop (prefix_len is_blank text) text
 
-abbrev pub before_blanks : List ℕ → List ℕ
-before_blanks text = take (length text - suffix_len is_blank text) text
+abbrev pub before_header_blanks : List ℕ → List ℕ
+before_header_blanks text = take (length text - suffix_len is_blank text) text
 
 -- the word `close` in any case, with blanks around it
 abbrev pub is_close : List ℕ → Bool
-is_close piece = bytes_eq (map to_ascii_lowercase (before_blanks (behind_blanks piece))) (codes "close")
+is_close piece = bytes_eq (map to_ascii_lowercase (before_header_blanks (behind_header_blanks piece))) (codes "close")
 
 abbrev pub is_comma : ℕ → Bool
 is_comma byte = byte == 44

@@ -20,8 +20,8 @@ abbrev pub has_header : List ℕ → List Pair → Bool
 has_header name headers = list_any (has_name name) headers
 
 -- exactly one header has the name
-abbrev pub has_one : List ℕ → List Pair → Bool
-has_one name headers = count_by (has_name name) headers == 1
+abbrev pub has_single_header : List ℕ → List Pair → Bool
+has_single_header name headers = count_by (has_name name) headers == 1
 
 -- the value of the first header of the name, no byte where there is none
 abbrev pub first_value : List ℕ → List Pair → List ℕ

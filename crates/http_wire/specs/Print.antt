@@ -53,13 +53,13 @@ abbrev pub header_line : Pair → List ℕ
 header_line header = header.name ++ codes ": " ++ header.value ++ crlf_bytes
 
 -- the header's name is Content-Length, in any case
-abbrev pub names_length : Pair → Bool
-names_length header = bytes_eq (map to_ascii_lowercase header.name) (codes "content-length")
+abbrev pub is_printed_content_length : Pair → Bool
+is_printed_content_length header = bytes_eq (map to_ascii_lowercase header.name) (codes "content-length")
 
 -- the length of the body, where the status has one and the page doesn't give it
 abbrev pub length_line : Page → List ℕ
 length_line page =
-    if is_bodiless page.status || list_any names_length page.headers then []
+    if is_bodiless page.status || list_any is_printed_content_length page.headers then []
     else codes "Content-Length: " ++ decimal (length page.body) ++ crlf_bytes
 
 -- the connection ends after the reply (RFC 9112, section 9.6)

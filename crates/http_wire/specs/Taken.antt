@@ -43,10 +43,10 @@ IsHeadless Long = Unit {0}
 IsHeadless Cut = Unit {0}
 IsHeadless Nothing = Unit {0}
 
--- the answer then, behind so many bytes of requests. Of a whole head it says nothing
-abbrev pub headless : Found → ℕ → Got
-headless (Head spans) place = End
-headless Bad place = Refused BadHead place false
-headless Long place = Refused LongHead place false
-headless Cut place = CutShort place
-headless Nothing place = End
+-- the answer then, behind so many bytes of requests; where a whole head was found there is none
+abbrev pub AnswersHeadless : Found → ℕ → Got → Type 0
+AnswersHeadless (Head spans) place got = ⊥
+AnswersHeadless Bad place got = got ≡ Refused BadHead place false
+AnswersHeadless Long place got = got ≡ Refused LongHead place false
+AnswersHeadless Cut place got = got ≡ CutShort place
+AnswersHeadless Nothing place got = got ≡ End

@@ -5,9 +5,9 @@ ghost use Rattle.http_wire.specs.Reading.{is_failed_read, weight};
 ghost use Rattle.http_wire.specs.Seen.{AtEnd, IsFound, IsOpen, end_of, window};
 
 use crate::ReadFault;
-use crate::fill::fill;
+use crate::fill::read_more_of_request;
 use crate::look::{Verdict, look};
-use crate::scan::has_empty;
+use crate::scan::has_empty_head_line;
 use gate_base::{Counted, Line};
 use httparse::spans::{HeaderSpan, RequestSpans};
 
@@ -68,13 +68,13 @@ pub(crate) fn advance<N: Line<C>, C: Counted>(
     let mut seen = 0;
     'come: loop {
         if is_due(pending, seen) {
-            match found_in(pending, headers) {
+            match head_found_in(pending, headers) {
                 Some(found) => return Ok(found),
                 None => seen = pending.len(),
             }
         }
-        if fill(pending, line, store)? == 0 {
-            return Ok(found_at_end(pending, headers));
+        if read_more_of_request(pending, line, store)? == 0 {
+            return Ok(head_found_at_end(pending, headers));
         }
     }
 }
@@ -88,11 +88,11 @@ fn is_due(bytes: &[u8], seen: usize) -> bool
 {
     bytes.len() >= HEAD_LIMIT
         || bytes.len() - seen > seen / 8
-        || has_empty(&bytes[seen.saturating_sub(LINE_ENDS)..])
+        || has_empty_head_line(&bytes[seen.saturating_sub(LINE_ENDS)..])
 }
 
 /// What stands first in bytes that more may follow. None where it isn't known yet.
-fn found_in(bytes: &[u8], headers: &mut [HeaderSpan]) -> Option<Found>
+fn head_found_in(bytes: &[u8], headers: &mut [HeaderSpan]) -> Option<Found>
     requires { 8192 ≤ length headers.old }
     ensures found { MatchOption result (IsOpen bytes.now) (IsFound bytes.now headers.new) }
     ensures at_end { IfSome result (λ found. (rest : List ℕ) → AtEnd found rest) }
@@ -111,19 +111,19 @@ fn found_in(bytes: &[u8], headers: &mut [HeaderSpan]) -> Option<Found>
 }
 
 /// What stands first in bytes that none follow.
-fn found_at_end(bytes: &[u8], headers: &mut [HeaderSpan]) -> Found
+fn head_found_at_end(bytes: &[u8], headers: &mut [HeaderSpan]) -> Found
     requires { 8192 ≤ length headers.old }
     ensures found { IsFound bytes.now headers.new result }
     ensures at_end { (rest : List ℕ) → rest ≡ [] → AtEnd result rest }
 {
-    match found_in(bytes, headers) {
+    match head_found_in(bytes, headers) {
         Some(found) => found,
-        None => ended(bytes),
+        None => head_missing_at_end(bytes),
     }
 }
 
 /// What the end of the connection says of bytes that have no whole head.
-fn ended(pending: &[u8]) -> Found
+fn head_missing_at_end(pending: &[u8]) -> Found
     ensures { result ≡ end_of pending.now }
 {
     match pending.split_first() {

@@ -3,7 +3,7 @@ ghost use Rattle.std.specs.Prelude.{◌≡◌, ◌≤◌, length, codes};
 ghost use Rattle.std.specs.List.{list_any, prefix_len, suffix_len};
 ghost use Rattle.gate_base.specs.Ascii.{is_blank};
 ghost use Rattle.http_wire.specs.Headers.{values_of};
-ghost use Rattle.http_wire.specs.Closing.{behind_blanks, before_blanks, is_close, is_comma, has_close, is_closing};
+ghost use Rattle.http_wire.specs.Closing.{behind_header_blanks, before_header_blanks, is_close, is_comma, has_close, is_closing};
 
 use crate::headers::has_name;
 use crate::message::Message;
@@ -21,7 +21,7 @@ fn close_header(headers: &[Pair]) -> bool
     ensures { result ≡ list_any has_close (values_of (codes "connection") headers.now) }
 {
     for header in headers {
-        if has_name(header, b"connection") && close_value(header.value.as_slice()) {
+        if has_name(header, b"connection") && header_value_has_close(header.value.as_slice()) {
             return true;
         }
     }
@@ -29,15 +29,15 @@ fn close_header(headers: &[Pair]) -> bool
 }
 
 /// Whether one of the pieces between the commas is the word.
-fn close_value(value: &[u8]) -> bool
+fn header_value_has_close(value: &[u8]) -> bool
     ensures { result ≡ has_close value.now }
 {
     value
-        .split(|byte| comma(*byte))
+        .split(|byte| is_header_comma(*byte))
         .any(|piece| close_word(piece))
 }
 
-fn comma(byte: u8) -> bool
+fn is_header_comma(byte: u8) -> bool
     ensures { result ≡ is_comma byte }
 {
     byte == b','
@@ -46,36 +46,41 @@ fn comma(byte: u8) -> bool
 fn close_word(piece: &[u8]) -> bool
     ensures { result ≡ is_close piece.now }
 {
-    before_blanks(behind_blanks(piece)).eq_ignore_ascii_case(b"close")
+    before_header_blanks(behind_header_blanks(piece)).eq_ignore_ascii_case(b"close")
 }
 
-fn behind_blanks(text: &[u8]) -> &[u8]
-    ensures { result.now ≡ behind_blanks text.now }
+fn behind_header_blanks(text: &[u8]) -> &[u8]
+    ensures { result.now ≡ behind_header_blanks text.now }
 {
-    &text[first_blanks(text)..]
+    &text[first_header_blanks(text)..]
 }
 
-fn before_blanks(text: &[u8]) -> &[u8]
-    ensures { result.now ≡ before_blanks text.now }
+fn before_header_blanks(text: &[u8]) -> &[u8]
+    ensures { result.now ≡ before_header_blanks text.now }
 {
-    &text[..text.len() - last_blanks(text)]
+    &text[..text.len() - last_header_blanks(text)]
 }
 
-fn first_blanks(text: &[u8]) -> usize
+fn first_header_blanks(text: &[u8]) -> usize
     ensures is { result ≡ prefix_len is_blank text.now }
     ensures within { result ≤ length text.now }
 {
-    text.iter().take_while(|byte| blank(**byte)).count()
+    text.iter()
+        .take_while(|byte| is_header_blank(**byte))
+        .count()
 }
 
-fn last_blanks(text: &[u8]) -> usize
+fn last_header_blanks(text: &[u8]) -> usize
     ensures is { result ≡ suffix_len is_blank text.now }
     ensures within { result ≤ length text.now }
 {
-    text.iter().rev().take_while(|byte| blank(**byte)).count()
+    text.iter()
+        .rev()
+        .take_while(|byte| is_header_blank(**byte))
+        .count()
 }
 
-fn blank(byte: u8) -> bool
+fn is_header_blank(byte: u8) -> bool
     ensures { result ≡ is_blank byte }
 {
     byte == b' ' || byte == b'\t'

@@ -11,7 +11,7 @@ use gate_base::{Counted, Line};
 pub(crate) const READ_SIZE: usize = 4_096;
 
 /// Reads once, and puts what came at the end of `pending`: no byte only at the connection's end.
-pub(crate) fn fill<N: Line<C>, C: Counted>(
+pub(crate) fn read_more_of_request<N: Line<C>, C: Counted>(
     pending: &mut Vec<u8>,
     line: &mut N,
     store: &C,

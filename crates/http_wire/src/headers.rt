@@ -1,7 +1,7 @@
 //! The headers of a message, looked up by their names, which are in lower case.
 ghost use Rattle.std.specs.Prelude.{◌≡◌, count_by, find, IfOk};
 ghost use Rattle.std.specs.Option.{option_copied};
-ghost use Rattle.http_wire.specs.Headers.{has_name, has_header, has_one, first_value, values_of, text_of};
+ghost use Rattle.http_wire.specs.Headers.{has_name, has_header, has_single_header, first_value, values_of, text_of};
 
 use crate::join::joined;
 use gate_base::{Bytes, Copying, List, Memory, Pair};
@@ -22,14 +22,14 @@ pub fn has_header(headers: &[Pair], name: &[u8]) -> bool
 }
 
 /// Whether exactly one header has the name.
-pub fn has_one(headers: &[Pair], name: &[u8]) -> bool
-    ensures { result ≡ has_one name.now headers.now }
+pub fn has_single_header(headers: &[Pair], name: &[u8]) -> bool
+    ensures { result ≡ has_single_header name.now headers.now }
 {
-    count(headers, name) == 1
+    count_headers(headers, name) == 1
 }
 
 /// How many headers have the name.
-pub(crate) fn count(headers: &[Pair], name: &[u8]) -> usize
+pub(crate) fn count_headers(headers: &[Pair], name: &[u8]) -> usize
     ensures { result ≡ count_by (has_name name.now) headers.now }
 {
     headers
@@ -42,13 +42,13 @@ pub(crate) fn count(headers: &[Pair], name: &[u8]) -> usize
 pub fn first_value<'a>(headers: &'a [Pair], name: &[u8]) -> &'a [u8]
     ensures { result.now ≡ first_value name.now headers.now }
 {
-    match first(headers, name) {
+    match first_header(headers, name) {
         Some(header) => header.value.as_slice(),
         None => b"",
     }
 }
 
-fn first<'a>(headers: &'a [Pair], name: &[u8]) -> Option<&'a Pair>
+fn first_header<'a>(headers: &'a [Pair], name: &[u8]) -> Option<&'a Pair>
     ensures { option_copied result ≡ find (has_name name.now) headers.now }
 {
     headers.iter().find(|header| has_name(header, name))

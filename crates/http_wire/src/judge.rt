@@ -3,7 +3,7 @@ ghost use Rattle.std.specs.Prelude.{◌≡◌, ◌≤◌, length, IfOk, codes, n
 ghost use Rattle.http_wire.specs.Headers.{values_of};
 ghost use Rattle.http_wire.specs.FirstMessage.{is_put, value_judged, length_judged, judge};
 
-use crate::headers::{count, first_value, has_header};
+use crate::headers::{count_headers, first_value, has_header};
 use crate::{Kind, Message};
 use gate_base::Pair;
 use text_forms::{digits_value, is_number};
@@ -25,7 +25,7 @@ pub(crate) fn judge(message: &Message) -> Result<usize, Kind>
     ensures within { IfOk result (λ size. size ≤ BODY_LIMIT) }
 {
     let headers = message.headers.as_slice();
-    if is_long(headers) {
+    if has_too_many_headers(headers) {
         return Err(Kind::ManyHeaders);
     }
     if has_header(headers, b"transfer-encoding") {
@@ -34,7 +34,7 @@ pub(crate) fn judge(message: &Message) -> Result<usize, Kind>
     judge_length(is_put(message.method.as_slice()), headers)
 }
 
-fn is_long(headers: &[Pair]) -> bool
+fn has_too_many_headers(headers: &[Pair]) -> bool
     ensures { result ≡ nat_lt 100 (length headers.now) }
 {
     headers.len() > HEADERS
@@ -51,7 +51,7 @@ fn judge_length(put: bool, headers: &[Pair]) -> Result<usize, Kind>
     ensures value { result ≡ length_judged put (values_of (codes "content-length") headers.now) }
     ensures within { IfOk result (λ size. size ≤ BODY_LIMIT) }
 {
-    let given = count(headers, LENGTH);
+    let given = count_headers(headers, LENGTH);
     if given > 1 {
         return Err(Kind::BadLength);
     }

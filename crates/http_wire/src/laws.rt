@@ -20,7 +20,7 @@ pub fn request_size()
 
 /// A request stands first where the first bytes spell its message, and these alone: no two different prefixes of one
 /// list spell a message.
-pub fn one_spelling()
+pub fn one_request_spelling()
     ensures one { (bytes : List ℕ) (a b : Message) (n m : ℕ) → n ≤ length bytes → m ≤ length bytes
         → Spells (take n bytes) a → Spells (take m bytes) b → (n ≡ m) × (a ≡ b) }
     ensures spelt { (bytes : List ℕ) (message : Message) (size : ℕ)

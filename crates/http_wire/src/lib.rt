@@ -17,9 +17,9 @@ mod scan;
 mod take;
 
 pub use closing::closes;
-pub use headers::{first_value, has_header, has_name, has_one, text_of, values_of};
+pub use headers::{first_value, has_header, has_name, has_single_header, text_of, values_of};
 pub use join::joined;
-pub use laws::{interim_owed, one_front, one_spelling, request_size};
+pub use laws::{interim_owed, one_front, one_request_spelling, request_size};
 pub use message::{Got, Kind, Message, ReadFault};
 pub use print::{print_memory, print_page};
 pub use reader::Reader;

@@ -140,7 +140,7 @@ impl From<AllocError> for ReadFault {
 }
 
 /// The message that the spans of a head give, with no body.
-pub(crate) fn message_at(
+pub(crate) fn message_at_head_spans(
     alloc: Global,
     bytes: &[u8],
     headers: &[HeaderSpan],
@@ -151,16 +151,16 @@ pub(crate) fn message_at(
         → IsRequestAt bytes.now headers.now spans.now h → message ≡ message_of h) }
 {
     Ok(Message {
-        method: text_at(alloc, bytes, spans.method)?,
-        target: text_at(alloc, bytes, spans.path)?,
+        method: text_at_head_span(alloc, bytes, spans.method)?,
+        target: text_at_head_span(alloc, bytes, spans.path)?,
         old: spans.version == 0,
-        headers: headers_at(alloc, bytes, &headers[..spans.headers])?,
+        headers: headers_at_head_spans(alloc, bytes, &headers[..spans.headers])?,
         body: Bytes::new(alloc),
     })
 }
 
 /// The bytes that a span covers.
-fn text_at(alloc: Global, bytes: &[u8], span: Span) -> Result<Bytes, Memory>
+fn text_at_head_span(alloc: Global, bytes: &[u8], span: Span) -> Result<Bytes, Memory>
     requires { IsWithin (length bytes.now) span }
     ensures { IfOk result (λ text. text ≡ span_bytes bytes.now span) }
 {
@@ -168,19 +168,23 @@ fn text_at(alloc: Global, bytes: &[u8], span: Span) -> Result<Bytes, Memory>
 }
 
 /// The headers that the spans cover.
-fn headers_at(alloc: Global, bytes: &[u8], spans: &[HeaderSpan]) -> Result<List<Pair>, Memory>
+fn headers_at_head_spans(
+    alloc: Global,
+    bytes: &[u8],
+    spans: &[HeaderSpan],
+) -> Result<List<Pair>, Memory>
     requires { All (IsHeaderWithin (length bytes.now)) spans.now }
     ensures { IfOk result (λ headers. headers ≡ map (header_at bytes.now) spans.now) }
 {
     let mut headers = List::new(alloc);
     for span in spans {
-        headers.push(pair_at(alloc, bytes, span)?)?;
+        headers.push(header_at_head_span(alloc, bytes, span)?)?;
     }
     Ok(headers)
 }
 
 /// The header that a span covers.
-fn pair_at(alloc: Global, bytes: &[u8], span: &HeaderSpan) -> Result<Pair, Memory>
+fn header_at_head_span(alloc: Global, bytes: &[u8], span: &HeaderSpan) -> Result<Pair, Memory>
     requires { IsHeaderWithin (length bytes.now) span.now }
     ensures { IfOk result (λ header. header ≡ header_at bytes.now span.now) }
 {
@@ -188,6 +192,6 @@ fn pair_at(alloc: Global, bytes: &[u8], span: &HeaderSpan) -> Result<Pair, Memor
     name.make_ascii_lowercase();
     Ok(Pair {
         name: Bytes::from_vec(name),
-        value: text_at(alloc, bytes, span.value)?,
+        value: text_at_head_span(alloc, bytes, span.value)?,
     })
 }

@@ -1,6 +1,6 @@
 ghost use Rattle.std.specs.Prelude.{◌≡◌, ◌++◌, flat_map, IfOk, OnOk};
 ghost use Rattle.std.specs.List.{list_any};
-ghost use Rattle.http_wire.specs.Print.{IsReplyStatus, page_text, memory_reply, status_line, header_line, length_line, closing_line, sent_body, is_bodiless, names_length, phrase_of};
+ghost use Rattle.http_wire.specs.Print.{IsReplyStatus, page_text, memory_reply, status_line, header_line, length_line, closing_line, sent_body, is_bodiless, is_printed_content_length, phrase_of};
 
 use gate_base::{Bytes, Memory, Page, Pair};
 use http::StatusCode;
@@ -85,7 +85,7 @@ fn append_header(text: &mut Bytes, header: &Pair) -> Result<(), Memory>
 fn append_length(text: &mut Bytes, page: &Page) -> Result<(), Memory>
     ensures { OnOk result (text.new ≡ text.old ++ length_line page.now) }
 {
-    if is_bodiless(page.status) || gives_length(page.headers.as_slice()) {
+    if is_bodiless(page.status) || has_printed_content_length(page.headers.as_slice()) {
         return Ok(());
     }
     text.append(b"Content-Length: ")?;
@@ -93,14 +93,14 @@ fn append_length(text: &mut Bytes, page: &Page) -> Result<(), Memory>
     text.append(b"\r\n")
 }
 
-fn gives_length(headers: &[Pair]) -> bool
-    ensures { result ≡ list_any names_length headers.now }
+fn has_printed_content_length(headers: &[Pair]) -> bool
+    ensures { result ≡ list_any is_printed_content_length headers.now }
 {
-    headers.iter().any(names_length)
+    headers.iter().any(is_printed_content_length)
 }
 
-fn names_length(header: &Pair) -> bool
-    ensures { result ≡ names_length header.now }
+fn is_printed_content_length(header: &Pair) -> bool
+    ensures { result ≡ is_printed_content_length header.now }
 {
     header
         .name

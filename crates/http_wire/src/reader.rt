@@ -2,7 +2,7 @@ ghost use Rattle.std.specs.Prelude.{◌≡◌, ◌≤◌, ◌<◌, ◌++◌, [],
 ghost use Rattle.gate_base.specs.Line.{LineServes};
 ghost use Rattle.http_wire.specs.Reading.{GivesFirstMessage, OnRequest, ends, is_failed_read, weight};
 ghost use Rattle.http_wire.specs.Interim.{OwesInterim, SendsOn};
-ghost use Rattle.http_wire.specs.Taken.{IsAnswer, IsHeadless, headless};
+ghost use Rattle.http_wire.specs.Taken.{AnswersHeadless, IsAnswer, IsHeadless};
 
 use crate::advance::{Found, HEAD_LIMIT, advance};
 use crate::fill::READ_SIZE;
@@ -141,12 +141,10 @@ fn got_of_taken(taken: Taken, given: &mut u64, over: &mut bool) -> Got
     }
 }
 
-/// The answer where no whole head was found, behind so many bytes. It says again that none was: in an arm that binds the
-/// rest to a name, the caller's proof has no name for that fact.
+/// The answer where no whole head was found, behind so many bytes.
 fn headless(found: Found, place: u64) -> Got
     requires { IsHeadless found }
-    ensures none { IsHeadless found }
-    ensures is { result ≡ headless found place }
+    ensures { AnswersHeadless found place result }
 {
     match found {
         Found::Bad => Got::Refused {

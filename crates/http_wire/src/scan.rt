@@ -9,12 +9,12 @@ ghost use Rattle.http_wire.specs.Scan.{has_empty, in_method, is_text, line_end_l
 pub(crate) fn ends_inside(bytes: &[u8]) -> bool
     ensures { IsTrue result ↔ EndsInside bytes.now }
 {
-    starts_method(skip_blank(bytes))
+    starts_method(skip_lines_before_request(bytes))
 }
 
 /// The bytes after the empty lines.
 #[tactic(auto, using(crate::proofs::ScanLemmas::skip_steps))]
-fn skip_blank(bytes: &[u8]) -> &[u8]
+fn skip_lines_before_request(bytes: &[u8]) -> &[u8]
     ensures { result.now ≡ skip_blank bytes.now }
 {
     let mut rest = bytes;
@@ -29,7 +29,7 @@ fn skip_blank(bytes: &[u8]) -> &[u8]
 
 /// Whether an empty line comes somewhere behind one that isn't empty.
 #[tactic(auto, unfolding(crate::specs::Scan::has_empty))]
-pub(crate) fn has_empty(bytes: &[u8]) -> bool
+pub(crate) fn has_empty_head_line(bytes: &[u8]) -> bool
     ensures { result ≡ has_empty bytes.now }
 {
     let mut rest = bytes;

@@ -14,7 +14,7 @@ use crate::advance::window;
 use crate::fill::read_room;
 use crate::interim::offer;
 use crate::judge::judge;
-use crate::message::message_at;
+use crate::message::message_at_head_spans;
 use crate::{Kind, Message, ReadFault};
 use gate_base::{Bytes, Counted, Line, drop};
 use httparse::spans::{HeaderSpan, RequestSpans};
@@ -67,14 +67,14 @@ pub(crate) fn take_message<N: Line<C>, C: Counted>(
         ++ (N.model line.old).transcript.rest) }
 {
     let alloc = *pending.allocator();
-    let mut message = message_at(alloc, window(pending), lines, spans)?;
+    let mut message = message_at_head_spans(alloc, window(pending), lines, spans)?;
     let size = match judge(&message) {
         Ok(size) => size,
-        Err(kind) => return Ok(not_taken(kind, message)),
+        Err(kind) => return Ok(request_not_taken(kind, message)),
     };
     match take_offered(pending, partial, &message, spans.len, size, line, store) {
         Ok(true) => {}
-        Ok(false) => return Ok(not_taken(Kind::ShortBody, message)),
+        Ok(false) => return Ok(request_not_taken(Kind::ShortBody, message)),
         Err(fault) => {
             drop(message);
             return Err(fault);
@@ -88,7 +88,7 @@ pub(crate) fn take_message<N: Line<C>, C: Counted>(
 }
 
 /// The request of this head is refused.
-fn not_taken(kind: Kind, message: Message) -> Taken
+fn request_not_taken(kind: Kind, message: Message) -> Taken
     ensures { result ≡ Not kind (is_head message.method) }
 {
     Taken::Not {
@@ -97,7 +97,7 @@ fn not_taken(kind: Kind, message: Message) -> Taken
     }
 }
 
-/// Writes the interim line, where the head asks for it, and then moves the body into `body`, as [`take_body`] does.
+/// Writes the interim line, where the head asks for it, and then moves the body into `body`, as [`take_request_body`] does.
 fn take_offered<N: Line<C>, C: Counted>(
     pending: &mut Vec<u8>,
     body: &mut Vec<u8>,
@@ -126,7 +126,7 @@ fn take_offered<N: Line<C>, C: Counted>(
         ++ (N.model line.old).transcript.rest) }
 {
     offer(message, size, line, store)?;
-    take_body(pending, body, start, size, line, store)
+    take_request_body(pending, body, start, size, line, store)
 }
 
 fn is_head(message: &Message) -> bool
@@ -137,7 +137,7 @@ fn is_head(message: &Message) -> bool
 
 /// Moves the `size` bytes behind the first `start` into `body`, and takes both away: of those that came already, and
 /// else of the line. False where the connection ends before.
-fn take_body<N: Line<C>, C: Counted>(
+fn take_request_body<N: Line<C>, C: Counted>(
     pending: &mut Vec<u8>,
     body: &mut Vec<u8>,
     start: usize,
@@ -161,11 +161,11 @@ fn take_body<N: Line<C>, C: Counted>(
 {
     if size <= pending.len() - start {
         body.extend_from_slice(&pending[start..start + size])?;
-        drop_front(pending, start + size);
+        drop_request_bytes(pending, start + size);
         return Ok(true);
     }
-    begin_body(pending, body, start, size)?;
-    if !finish_body(body, size, line, store)? {
+    begin_request_body(pending, body, start, size)?;
+    if !finish_request_body(body, size, line, store)? {
         return Ok(false);
     }
     pending.truncate(0);
@@ -173,7 +173,7 @@ fn take_body<N: Line<C>, C: Counted>(
 }
 
 /// Makes room for a body of `size` bytes, and moves into it what came of it already, behind the first `start` bytes.
-fn begin_body(
+fn begin_request_body(
     pending: &mut Vec<u8>,
     body: &mut Vec<u8>,
     start: usize,
@@ -192,7 +192,7 @@ fn begin_body(
 }
 
 /// Reads until `body` has `size` bytes. False where the connection ends before.
-fn finish_body<N: Line<C>, C: Counted>(
+fn finish_request_body<N: Line<C>, C: Counted>(
     body: &mut Vec<u8>,
     size: usize,
     line: &mut N,
@@ -230,7 +230,7 @@ fn finish_body<N: Line<C>, C: Counted>(
 }
 
 /// Takes the first `count` bytes away.
-fn drop_front(pending: &mut Vec<u8>, count: usize)
+fn drop_request_bytes(pending: &mut Vec<u8>, count: usize)
     requires { count ≤ length pending.old.items }
     ensures { pending.new.items ≡ drop count pending.old.items }
 {

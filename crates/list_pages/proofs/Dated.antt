@@ -5,7 +5,7 @@ use Rattle.std.specs.List.{ends_with}
 use Rattle.std.proofs.lemmas.Bool.{and_parts}
 use Rattle.std.proofs.lemmas.Bool.Decides.{nat_tests}
 use Rattle.gate_base.specs.Told.{moment_limit}
-use Rattle.swift_marks.specs.Number.{fits_id}
+use Rattle.swift_marks.specs.Number.{id_fits_tag}
 use Rattle.swift_marks.specs.Tag.{is_etag, tag_parts, stamp_of, is_stamp, stamp_text, read_stamp}
 use Rattle.swift_marks.specs.declared.tag.Stamp.{Stamp}
 use Rattle.swift_marks.proofs.lemmas.TagLaws.{kept}
@@ -13,7 +13,7 @@ use Rattle.swift_marks.proofs.lemmas.TagLaws.{kept}
 dated : (stamp : Stamp) → is_stamp stamp ≡ true → stamp.moment < moment_limit
 unfolding is_stamp
 dated stamp h =
-    let all = and_parts (is_etag stamp.etag && nat_lt stamp.moment moment_limit) (fits_id stamp.id) h in
+    let all = and_parts (is_etag stamp.etag && nat_lt stamp.moment moment_limit) (id_fits_tag stamp.id) h in
     let most = and_parts (is_etag stamp.etag) (nat_lt stamp.moment moment_limit) all.0 in
     grind (arith, nat_tests, most.1)
 

@@ -10,7 +10,7 @@ use Rattle.std.proofs.lemmas.List.Folds.{list_all-append}
 use Rattle.std.proofs.Math.Seq.{drop-cons}
 use Rattle.gate_base.specs.Maps.{name_cmp}
 use Rattle.swift_calls.specs.declared.heads.NameItem.{NameItem}
-use Rattle.list_pages.specs.Listing.{last_of, Ascends, IsPageOf, BreaksAt, is_name_with, follows, name_in}
+use Rattle.list_pages.specs.Listing.{last_of, Ascends, IsPageOf, BreaksAt, is_listed_name_with_prefix, follows, name_in}
 
 pub last_more : (marker : List ℕ) (names : List (List ℕ)) (name : List ℕ) → last_of marker (names ++ name ∷ []) ≡ name
 last_more marker [] name = refl
@@ -37,19 +37,19 @@ module _ (prefix marker : List ℕ) (names : List (List ℕ)) (name : List ℕ) 
   -- a name that follows makes a longer page
   pub page_more : length names < 1000 → follows prefix (last_of marker names) name ≡ true → IsPageOf prefix marker (names ++ name ∷ [])
   page_more room h =
-      let parts = and_parts (is_lt (name_cmp (last_of marker names) name)) (is_name_with prefix name) h in
+      let parts = and_parts (is_lt (name_cmp (last_of marker names) name)) (is_listed_name_with_prefix prefix name) h in
       record {
         within = omega (arith, length-append names (name ∷ []));
         ascends = ascends_more marker names name page.ascends (is_less (name_cmp (last_of marker names) name) parts.0);
-        named = list_all-append (is_name_with prefix) names (name ∷ []) ∙ and_from _ _ page.named (one (is_name_with prefix name) ∙ parts.1);
+        named = list_all-append (is_listed_name_with_prefix prefix) names (name ∷ []) ∙ and_from _ _ page.named (one (is_listed_name_with_prefix prefix name) ∙ parts.1);
       }
 
   -- and one that doesn't makes none
   pub page_not : follows prefix (last_of marker names) name ≡ false → IsPageOf prefix marker (names ++ name ∷ []) → ⊥
   page_not h more =
       let less = ascends_last marker names name more.ascends in
-      let both = and_parts (list_all (is_name_with prefix) names) (is_name_with prefix name && true) (sym (list_all-append (is_name_with prefix) names (name ∷ [])) ∙ more.named) in
-      let k : true ≡ false = sym (and_from _ _ (ap is_lt less) (sym (one (is_name_with prefix name)) ∙ both.1)) ∙ h in
+      let both = and_parts (list_all (is_listed_name_with_prefix prefix) names) (is_listed_name_with_prefix prefix name && true) (sym (list_all-append (is_listed_name_with_prefix prefix) names (name ∷ [])) ∙ more.named) in
+      let k : true ≡ false = sym (and_from _ _ (ap is_lt less) (sym (one (is_listed_name_with_prefix prefix name)) ∙ both.1)) ∙ h in
       cc k
 
   pub page_full : length names ≡ 1000 → IsPageOf prefix marker (names ++ name ∷ []) → ⊥

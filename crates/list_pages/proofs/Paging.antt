@@ -8,7 +8,7 @@ use Rattle.std.proofs.Math.Seq.{drop-cons}
 use Rattle.s3_machine.specs.Items.{begins}
 use Rattle.s3_machine.specs.declared.items.ItemHead.{ItemHead}
 use Rattle.swift_calls.specs.declared.heads.NameItem.{NameItem}
-use Rattle.list_pages.specs.Listing.{is_name_with, last_of, name_in}
+use Rattle.list_pages.specs.Listing.{is_listed_name_with_prefix, last_of, name_in}
 use Rattle.list_pages.specs.Rolling.{Before, Rises, Rolled}
 use Rattle.list_pages.specs.Rolls.{Rolls, rows_of, seen_of}
 use Rattle.list_pages.proofs.Follows.{last_more}
@@ -38,12 +38,12 @@ module _ {old now : Rolls} {page : List NameItem} {i : ℕ} (paged : Paged old n
   more = take_more page i item within ∙ ap (λ x. take i page ++ x ∷ []) (sym is)
 
   -- the name at the place begins with the prefix
-  pub paged_fits : list_all (is_name_with old.wanted.prefix) (map name_in page) ≡ true → begins now.wanted.prefix item.name ≡ true
+  pub paged_fits : list_all (is_listed_name_with_prefix old.wanted.prefix) (map name_in page) ≡ true → begins now.wanted.prefix item.name ≡ true
   paged_fits named =
-      let cut = sym (list_all-append (is_name_with old.wanted.prefix) (map name_in (take i page)) (item.name ∷ map name_in (drop (suc i) page)))
-      ∙ ap (list_all (is_name_with old.wanted.prefix)) (sym (ap (map name_in) here ∙ map-append name_in (take i page) (item ∷ drop (suc i) page))) ∙ named in
-      let rest = and_parts (list_all (is_name_with old.wanted.prefix) (map name_in (take i page))) (list_all (is_name_with old.wanted.prefix) (item.name ∷ map name_in (drop (suc i) page))) cut in
-      let one = and_parts (is_name_with old.wanted.prefix item.name) (list_all (is_name_with old.wanted.prefix) (map name_in (drop (suc i) page))) rest.1 in
+      let cut = sym (list_all-append (is_listed_name_with_prefix old.wanted.prefix) (map name_in (take i page)) (item.name ∷ map name_in (drop (suc i) page)))
+      ∙ ap (list_all (is_listed_name_with_prefix old.wanted.prefix)) (sym (ap (map name_in) here ∙ map-append name_in (take i page) (item ∷ drop (suc i) page))) ∙ named in
+      let rest = and_parts (list_all (is_listed_name_with_prefix old.wanted.prefix) (map name_in (take i page))) (list_all (is_listed_name_with_prefix old.wanted.prefix) (item.name ∷ map name_in (drop (suc i) page))) cut in
+      let one = and_parts (is_listed_name_with_prefix old.wanted.prefix item.name) (list_all (is_listed_name_with_prefix old.wanted.prefix) (map name_in (drop (suc i) page))) rest.1 in
       ap (λ w. begins w item.name) (ap (λ w. w.prefix) paged.wanted) ∙ (and_parts _ (begins old.wanted.prefix item.name) one.0).1
 
   module _ (new : Rolls) (wanted : new.wanted ≡ now.wanted) (rolled : (seen : List (List ℕ × ItemHead)) → Rolled now.wanted (rows_of now.items) now.more seen → Before item.name seen

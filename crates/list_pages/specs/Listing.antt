@@ -30,14 +30,14 @@ last_of marker [] = marker
 last_of marker (name ∷ names) = last_of name names
 
 -- the name of an object, 1 to 1024 bytes of UTF-8 without byte 0, that begins with a prefix
-abbrev pub is_name_with : List ℕ → List ℕ → Bool
-is_name_with prefix name = is_key name && begins prefix name
+abbrev pub is_listed_name_with_prefix : List ℕ → List ℕ → Bool
+is_listed_name_with_prefix prefix name = is_key name && begins prefix name
 
 -- the names that a page after a marker may have
 pub record IsPageOf (prefix marker : List ℕ) (names : List (List ℕ)) : Type 0 where
   pub within : length names ≤ MOST_NAMES
   pub ascends : Ascends marker names
-  pub named : list_all (is_name_with prefix) names ≡ true
+  pub named : list_all (is_listed_name_with_prefix prefix) names ≡ true
 
 -- the first name by which names are no such page: those before it are one, and with it they are none
 pub record BreaksAt (prefix marker : List ℕ) (names : List (List ℕ)) (name : List ℕ) : Type 0 where
@@ -54,7 +54,7 @@ FindsOdd prefix marker names (Some name) = BreaksAt prefix marker names name
 
 -- whether a name may come next after another
 abbrev pub follows : List ℕ → List ℕ → List ℕ → Bool
-follows prefix last name = is_lt (name_cmp last name) && is_name_with prefix name
+follows prefix last name = is_lt (name_cmp last name) && is_listed_name_with_prefix prefix name
 
 abbrev pub name_in : NameItem → List ℕ
 name_in item = item.name

@@ -2,7 +2,7 @@
 ghost use Rattle.std.specs.Prelude.{◌≡◌, map, option_copied, IfOk};
 ghost use Rattle.swift_calls.specs.History.{Calls};
 ghost use Rattle.swift_calls.specs.Step.{Fit};
-ghost use Rattle.list_pages.specs.Listing.{follows, is_name_with, name_in, page_request, AsksPage, ComesTo, FindsOdd, IsFaultOf, IsPageOf};
+ghost use Rattle.list_pages.specs.Listing.{follows, is_listed_name_with_prefix, name_in, page_request, AsksPage, ComesTo, FindsOdd, IsFaultOf, IsPageOf};
 
 use crate::PageFault;
 use gate_base::{Bytes, List, Memory};
@@ -32,13 +32,13 @@ pub fn names<W: Swift>(
         marker.now result }
     ensures page { IfOk result (λ items. IsPageOf prefix.now marker.now (map name_in items)) }
 {
-    let request = request(alloc, container, prefix, marker)?;
-    let reply = ask(store, request)?;
-    read_page(alloc, container, prefix, marker, reply)
+    let request = names_page_request(alloc, container, prefix, marker)?;
+    let reply = ask_names_page(store, request)?;
+    read_names_page(alloc, container, prefix, marker, reply)
 }
 
 /// Makes the call. It takes the request, so that the caller owns none where the call fails.
-fn ask<W: Swift>(store: &mut W, request: SwiftRequest) -> Result<SwiftReply, SwiftFault>
+fn ask_names_page<W: Swift>(store: &mut W, request: SwiftRequest) -> Result<SwiftReply, SwiftFault>
     requires { Fit request }
     ensures { Calls (W.history store.old) (W.history store.new) request result }
 {
@@ -46,7 +46,7 @@ fn ask<W: Swift>(store: &mut W, request: SwiftRequest) -> Result<SwiftReply, Swi
 }
 
 /// The call that asks for a page.
-fn request(
+fn names_page_request(
     alloc: Global,
     container: &[u8],
     prefix: &[u8],
@@ -63,7 +63,7 @@ fn request(
 }
 
 /// What the answer to a listing comes to.
-fn read_page(
+fn read_names_page(
     alloc: Global,
     container: &[u8],
     prefix: &[u8],
@@ -75,18 +75,18 @@ fn read_page(
 {
     match reply {
         SwiftReply::Names(items) => {
-            if let Some(name) = first_odd(prefix, marker, items.as_slice()) {
-                return Err(inconsistent(alloc, container, name.as_slice()));
+            if let Some(name) = first_odd_in_names_page(prefix, marker, items.as_slice()) {
+                return Err(inconsistent_names_page(alloc, container, name.as_slice()));
             }
             Ok(items)
         }
         SwiftReply::NotFound => Ok(List::new(alloc)),
-        _ => Err(inconsistent(alloc, container, b"")),
+        _ => Err(inconsistent_names_page(alloc, container, b"")),
     }
 }
 
 /// The fault of an answer that no listing of the container has.
-fn inconsistent(alloc: Global, container: &[u8], name: &[u8]) -> PageFault
+fn inconsistent_names_page(alloc: Global, container: &[u8], name: &[u8]) -> PageFault
     ensures { IsFaultOf container.now name.now result }
 {
     let folder = Bytes::from_slice(alloc, container);
@@ -98,7 +98,11 @@ fn inconsistent(alloc: Global, container: &[u8], name: &[u8]) -> PageFault
 }
 
 /// The first name by which the items are no page after the marker.
-fn first_odd<'a>(prefix: &[u8], marker: &'a [u8], items: &'a [NameItem]) -> Option<&'a Bytes>
+fn first_odd_in_names_page<'a>(
+    prefix: &[u8],
+    marker: &'a [u8],
+    items: &'a [NameItem],
+) -> Option<&'a Bytes>
     ensures { FindsOdd prefix.now marker.now (map name_in items.now) (option_copied result) }
 {
     let mut last = marker;
@@ -116,11 +120,11 @@ fn first_odd<'a>(prefix: &[u8], marker: &'a [u8], items: &'a [NameItem]) -> Opti
 fn follows(prefix: &[u8], last: &[u8], name: &[u8]) -> bool
     ensures { result ≡ follows prefix.now last.now name.now }
 {
-    last.cmp(name).is_lt() && is_name_with(prefix, name)
+    last.cmp(name).is_lt() && is_listed_name_with_prefix(prefix, name)
 }
 
-fn is_name_with(prefix: &[u8], name: &[u8]) -> bool
-    ensures { result ≡ is_name_with prefix.now name.now }
+fn is_listed_name_with_prefix(prefix: &[u8], name: &[u8]) -> bool
+    ensures { result ≡ is_listed_name_with_prefix prefix.now name.now }
 {
     is_key(name) && begins(prefix, name)
 }

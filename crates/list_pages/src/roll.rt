@@ -8,13 +8,13 @@ ghost use Rattle.list_pages.specs.Rolls.{wanted};
 ghost use Rattle.s3_machine.specs.Shown.{IsShownItem, IsShownItemHead};
 ghost use Rattle.s3_machine.specs.declared.items.ItemHead.{ItemHead};
 ghost use Rattle.swift_marks.specs.Tag.{read_stamp};
-ghost use Rattle.list_pages.specs.Listing.{is_name_with, last_of, name_in};
+ghost use Rattle.list_pages.specs.Listing.{is_listed_name_with_prefix, last_of, name_in};
 ghost use Rattle.list_pages.specs.Rolling.{Before, Rises, Rolled, ends};
 ghost use Rattle.list_pages.specs.Rolls.{head_in, row_view, rows_of, seen_of, under_of, HasUntagged, IsUntagged};
 ghost use Rattle.list_pages.specs.declared.fault.RollFault.TheVariants as fault;
 
 use crate::RollFault;
-use crate::text::text_end;
+use crate::text::roll_text_end;
 use gate_base::{Bytes, Copying, List, Memory};
 use s3_machine::{Asked, Item, ItemHead};
 use std::alloc::Global;
@@ -51,7 +51,7 @@ impl Model for Roll {
 
 /// The text after which a listing begins: version 1's marker; version 2's token, or what it starts after where it has no
 /// token.
-fn marker_of(asked: &Asked) -> &Bytes
+fn roll_marker(asked: &Asked) -> &Bytes
     ensures { result.now ≡ (wanted asked.now).marker }
 {
     if asked.version != 2 {
@@ -64,7 +64,7 @@ fn marker_of(asked: &Asked) -> &Bytes
 }
 
 /// The item of a text.
-fn make_item(alloc: Global, text: &[u8], up: bool, item: &NameItem) -> Result<Item, RollFault>
+fn make_roll_item(alloc: Global, text: &[u8], up: bool, item: &NameItem) -> Result<Item, RollFault>
     ensures row { IfOk result (λ made. row_view made ≡ (text.now, under_of up (head_in item.now))) }
     ensures shown { IfOk result IsShownItem }
     ensures no_tag { result ≡ Err fault.NoTag → (up ≡ false)
@@ -75,7 +75,7 @@ fn make_item(alloc: Global, text: &[u8], up: bool, item: &NameItem) -> Result<It
     if up {
         return Ok(Item { text, object: None });
     }
-    let head = read_head(alloc, item)?;
+    let head = read_roll_item_head(alloc, item)?;
     Ok(Item {
         text,
         object: Some(head),
@@ -84,7 +84,7 @@ fn make_item(alloc: Global, text: &[u8], up: bool, item: &NameItem) -> Result<It
 
 /// What a listing tells of an object, whose type ends in its stamp.
 #[tactic(auto, using(crate::proofs::Dated::stamp_is_dated))]
-fn read_head(alloc: Global, item: &NameItem) -> Result<ItemHead, RollFault>
+fn read_roll_item_head(alloc: Global, item: &NameItem) -> Result<ItemHead, RollFault>
     ensures head { IfOk result (λ head. head ≡ head_in item.now) }
     ensures shown { IfOk result IsShownItemHead }
     ensures no_tag { result ≡ Err fault.NoTag → read_stamp item.now.content_type ≡ None }
@@ -108,7 +108,7 @@ impl Roll {
           last = (wanted asked.now).marker;
         }) }
     {
-        let marker = marker_of(asked);
+        let marker = roll_marker(asked);
         Ok(Roll {
             alloc,
             prefix: asked.prefix.copy()?,
@@ -153,7 +153,7 @@ impl Roll {
     /// Takes the names of a page, of a listing that wants items and is not full yet, until the answer is full. False once
     /// it is. The faults are those of [`Roll::push`] for one of the names.
     pub fn push_page(&mut self, page: &[NameItem]) -> Result<bool, RollFault>
-        requires names { list_all (is_name_with self.old.wanted.prefix)
+        requires names { list_all (is_listed_name_with_prefix self.old.wanted.prefix)
             (map name_in page.now) ≡ true }
         requires wants { 0 < self.old.wanted.max }
         requires room { self.old.more ≡ false }
@@ -192,7 +192,7 @@ impl Roll {
         ensures err { OnErr result (self.new ≡ self.old) }
     {
         let name = item.name.as_slice();
-        let (end, up) = text_end(self.prefix.as_slice(), self.delimiter.as_slice(), name);
+        let (end, up) = roll_text_end(self.prefix.as_slice(), self.delimiter.as_slice(), name);
         let text = &name[..end];
         if !self.is_behind(text) {
             return Ok(());
@@ -201,7 +201,7 @@ impl Roll {
             return Ok(());
         }
         if self.items.len() < self.max as usize {
-            let row = make_item(self.alloc, text, up, item)?;
+            let row = make_roll_item(self.alloc, text, up, item)?;
             self.items.push(row)?;
             return Ok(());
         }

@@ -8,7 +8,7 @@ ghost use Rattle.s3_machine.specs.declared.items.ItemHead.{ItemHead};
 use s3_machine::begins;
 
 /// Where the first occurrence of a delimiter in a text ends.
-fn first_end(delimiter: &[u8], text: &[u8]) -> Option<usize>
+fn roll_delimiter_end(delimiter: &[u8], text: &[u8]) -> Option<usize>
     ensures text { option_map (λ n. take n text.now) result ≡ rolled delimiter.now text.now }
     ensures within { IfSome result (λ n. n ≤ length text.now) }
 {
@@ -22,7 +22,7 @@ fn first_end(delimiter: &[u8], text: &[u8]) -> Option<usize>
 }
 
 /// How many bytes of a key with the prefix are its text, and whether it rolled up.
-pub(crate) fn text_end(prefix: &[u8], delimiter: &[u8], key: &[u8]) -> (usize, bool)
+pub(crate) fn roll_text_end(prefix: &[u8], delimiter: &[u8], key: &[u8]) -> (usize, bool)
     requires { begins prefix.now key.now ≡ true }
     ensures within { result.0 ≤ length key.now }
     ensures row { (h : ItemHead)
@@ -33,7 +33,7 @@ pub(crate) fn text_end(prefix: &[u8], delimiter: &[u8], key: &[u8]) -> (usize, b
         return (key.len(), false);
     }
     let (_, rest) = key.split_at(prefix.len());
-    match first_end(delimiter, rest) {
+    match roll_delimiter_end(delimiter, rest) {
         None => (key.len(), false),
         Some(n) => (prefix.len() + n, true),
     }

@@ -24,7 +24,7 @@ use Rattle.s3_machine.specs.declared.operation.Settings.{Settings}
 use Rattle.swift_calls.specs.Account.{SwiftAccount, files}
 use Rattle.swift_calls.specs.History.{History, present}
 use Rattle.swift_marks.specs.Tag.{is_etag}
-use Rattle.upload_texts.specs.Sealed.{is_sealed_part}
+use Rattle.upload_texts.specs.Sealed.{part_fits_sealed_text}
 use Rattle.upload_texts.specs.declared.sealed.Sealed.{Sealed}
 use Rattle.upload_texts.specs.declared.sealed.SealedPart.{SealedPart}
 use Rattle.upload_records.specs.Consistent.{AreSealedParts}
@@ -44,7 +44,7 @@ use Rattle.recovery.proofs.lemmas.Quiet.{asks_same_state}
 use Rattle.plan_uploads.specs.Records.{InBucket, TellsFree}
 use Rattle.plan_uploads.proofs.lemmas.Free.{unused}
 use Rattle.many_keys.specs.Copies.{IsFoundSource, IsProperHead, content_of}
-use Rattle.many_keys.specs.CopiedLists.{AreOfCut, CopiesFirst, IsCopy, IsUnnamed, MayCopy, MayFill, MayPut, TellsCut, ascends_from, copy_as, is_cut, piece_in}
+use Rattle.many_keys.specs.CopiedLists.{AreOfCut, CopiesFirst, IsCopy, IsUnnamed, MayCopy, MayFill, MayPut, TellsCut, pieces_ascend_from, sealed_copy, is_cut, piece_in}
 use Rattle.many_keys.specs.declared.cut.Piece.{Piece}
 use Rattle.many_keys.proofs.CutCalls.{object_of_head}
 use Rattle.many_keys.proofs.Copying.{keeps_cut}
@@ -52,14 +52,14 @@ use Rattle.many_keys.proofs.SideFiles.{bucket_there}
 
 -- ---- what is put
 
-rises_as : (above : ℕ) (list : List SealedPart) → rises_from above (map listed_of list) ≡ ascends_from above (map piece_in list)
+rises_as : (above : ℕ) (list : List SealedPart) → rises_from above (map listed_of list) ≡ pieces_ascend_from above (map piece_in list)
 rises_as above [] = refl
 rises_as above (p ∷ list) = ap (λ t. nat_lt above p.number && t) (rises_as p.number list)
 
 -- a list that a copy may have
 pub record IsListWell (list : List SealedPart) : Type 0 where
   pub few : length list ≤ most_parts
-  pub proper : list_all is_sealed_part list ≡ true
+  pub proper : list_all part_fits_sealed_text list ≡ true
   pub ascends : rises_from 0 (map listed_of list) ≡ true
 
 pub cut_is_well : (size : ℕ) {cut walked : List Piece} {list : List SealedPart} → walked ≡ cut → is_cut size cut ≡ true → AreOfCut walked list → IsListWell list
@@ -67,12 +67,12 @@ cut_is_well size {cut = cut} {list = list} same is are =
     let keeps = keeps_cut size cut is in
     let few = keeps.few in
     let long : length list ≡ length cut = sym (length-map list piece_in) ∙ ap length (are.pieces ∙ same) in
-    record { few = omega (arith, few, long); proper = are.proper; ascends = rises_as 0 list ∙ ap (ascends_from 0) (are.pieces ∙ same) ∙ keeps.ascends }
+    record { few = omega (arith, few, long); proper = are.proper; ascends = rises_as 0 list ∙ ap (pieces_ascend_from 0) (are.pieces ∙ same) ∙ keeps.ascends }
 
 pub none_is_well : (list : List SealedPart) → list ≡ [] → IsListWell list
 none_is_well list none = subst IsListWell (sym none) (record { few = omega arith; proper = refl; ascends = refl })
 
-pub is_copy : {s : Sealed} {bucket key : List ℕ} {id : ℕ} (replaced : Option Replaced) {head : ObjectHead} {list : List SealedPart} {moment : ℕ} → s ≡ copy_as bucket key id replaced head list moment → IsPlace bucket key → s.id < 2 ^ 128
+pub is_copy : {s : Sealed} {bucket key : List ℕ} {id : ℕ} (replaced : Option Replaced) {head : ObjectHead} {list : List SealedPart} {moment : ℕ} → s ≡ sealed_copy bucket key id replaced head list moment → IsPlace bucket key → s.id < 2 ^ 128
     → IsProperReplaced (record { content_type = s.content_type; meta = s.meta }) → names_ascend s.meta ≡ true → IsProperHead head → 32 < length head.etag → IsListWell list → moment < moment_limit → IsCopy s
 is_copy replaced e place fits content ordered head of_parts well below = record {
   place = subst (λ (t : Sealed). IsPlace t.bucket t.key) (sym e) place;
@@ -83,7 +83,7 @@ is_copy replaced e place fits content ordered head of_parts well below = record 
   etag = subst (λ (t : Sealed). is_etag t.etag ≡ true) (sym e) head.etag;
   of_parts = subst (λ (t : Sealed). 32 < length t.etag) (sym e) of_parts;
   few = subst (λ (t : Sealed). length t.list ≤ most_parts) (sym e) well.few;
-  proper = subst (λ (t : Sealed). list_all is_sealed_part t.list ≡ true) (sym e) well.proper;
+  proper = subst (λ (t : Sealed). list_all part_fits_sealed_text t.list ≡ true) (sym e) well.proper;
   ascends = subst (λ (t : Sealed). rises_from 0 (map listed_of t.list) ≡ true) (sym e) well.ascends;
   started = subst (λ (t : Sealed). t.started < moment_limit) (sym e) below;
   dated = subst (λ (t : Sealed). t.moment < moment_limit) (sym e) below;
@@ -105,7 +105,7 @@ copy_is (Some r) o head bytes moment e same = λ i. object_as (Some r) (sym e i)
 
 module _ (bucket key : List ℕ) (acl : Acl) (id : ℕ) (from_bucket from_key : List ℕ) (replaced : Option Replaced) (head : ObjectHead) (list : List SealedPart) (moment : ℕ) where
   abbrev as_put : Sealed
-  as_put = copy_as bucket key id replaced head list moment
+  as_put = sealed_copy bucket key id replaced head list moment
 
   -- all bytes of the source stand beside the bucket
   filled_may_put : (old new : SwiftAccount) → s3_state new ≡ s3_state old → MayFill bucket acl id from_bucket from_key head old → CopiesFirst bucket id from_bucket from_key head.size moment old new list
@@ -242,7 +242,7 @@ module _ (bucket key from_bucket from_key : List ℕ) (acl : Option Acl) (list :
   -- the segments were copied, and the copy is put
   pub copy_goes_on : {id : ℕ} {walked : List Piece} (cut : List Piece) {a b c : History} {now : Settings} {s : Sealed} (parts : List SealedPart) {end : Result Reply PlanFault} → walked ≡ cut → now ≡ settings
       → Asks (always (2 * length walked)) a b (GivenOf (MayCopy bucket id from_bucket from_key head)) (CopiesFirst bucket id from_bucket from_key head.size label.moment) (Ok parts)
-      → s ≡ copy_as bucket key id replaced head parts label.moment → PutsListed b c now end s
+      → s ≡ sealed_copy bucket key id replaced head parts label.moment → PutsListed b c now end s
       → Plans (always (2 * length cut + 1)) a c settings (GivenOf (MayFill bucket list id from_bucket from_key head)) (CopyObject bucket key acl from_bucket from_key replaced) label Settled end
   copy_goes_on {id = id} {walked = walked} cut {b = b} {c = c} {now = now} parts {end = end} same kept asks e puts =
       goes_on_from {given = MayFill bucket list id from_bucket from_key head} (met_within may_copy) kept (asks_same_state asks) (subst (PutsListed b c now end) e puts acl list from_bucket from_key replaced label other onto refl)
@@ -251,7 +251,7 @@ module _ (bucket key from_bucket from_key : List ℕ) (acl : Option Acl) (list :
   -- an empty copy is put under the id
   pub id_puts : {draw n id : ℕ} {a b c : History} {now : Settings} {s : Sealed} (parts : List SealedPart) {end : Result Reply PlanFault} → UnusedIsAbandoned → is_bucket bucket ≡ true → now ≡ settings
       → Asks (by_account n) a b (GivenOf (InBucket bucket)) (TellsOf (TellsFree bucket draw)) (Ok id) → head.size ≡ 0 → parts ≡ []
-      → s ≡ copy_as bucket key id replaced head parts label.moment → PutsListed b c now end s
+      → s ≡ sealed_copy bucket key id replaced head parts label.moment → PutsListed b c now end s
       → Plans (by_account (n + 1)) a c settings (Given (IsFoundSource bucket list from_bucket from_key head)) (CopyObject bucket key acl from_bucket from_key replaced) label Settled end
   id_puts {id = id} {b = b} {c = c} {now = now} parts {end = end} law is kept asks empty none e puts =
       goes_on_from {given = Found bucket list from_bucket from_key head} (λ met. met) kept (asks_unnamed law is asks) (subst (PutsListed b c now end) e puts acl list from_bucket from_key replaced label other onto refl)

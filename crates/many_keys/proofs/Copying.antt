@@ -20,7 +20,7 @@ use Rattle.s3_machine.specs.Uploads.{IsPartNumber, greatest_part, most_parts}
 use Rattle.s3_machine.specs.declared.operation.ObjectHead.{ObjectHead}
 use Rattle.swift_calls.specs.Account.{SwiftObject, SwiftAccount, files}
 use Rattle.swift_calls.specs.History.{History}
-use Rattle.upload_texts.specs.Sealed.{is_sealed_part}
+use Rattle.upload_texts.specs.Sealed.{part_fits_sealed_text}
 use Rattle.upload_texts.specs.declared.sealed.SealedPart.{SealedPart}
 use Rattle.upload_records.specs.Consistent.{AreSealedParts, IsSealedPart}
 use Rattle.upload_records.specs.Layout.{segment_name, segments_name}
@@ -30,7 +30,7 @@ use Rattle.recovery.specs.declared.fault.PlanFault.{PlanFault}
 use Rattle.recovery.specs.declared.fault.PlanFault.TheVariants as fault
 use Rattle.recovery.proofs.lemmas.Idle.{grows_none, none_made}
 use Rattle.recovery.proofs.lemmas.Quiet.{asks_failed, asks_left, asks_no_memory, asks_same_state, asks_then, asks_under}
-use Rattle.many_keys.specs.CopiedLists.{AreDated, AreOfCut, CopiesFirst, CopiesPiece, modified_in, IsUnnamed, MayCopy, PutsSegment, TellsPiece, ascends_from, is_cut, is_piece, piece_in, size_of_cut}
+use Rattle.many_keys.specs.CopiedLists.{AreDated, AreOfCut, CopiesFirst, CopiesPiece, modified_in, IsUnnamed, MayCopy, PutsSegment, TellsPiece, pieces_ascend_from, is_cut, is_piece_to_copy, piece_in, size_of_cut}
 use Rattle.many_keys.specs.declared.cut.Piece.{Piece}
 use Rattle.many_keys.proofs.CutCalls.{segment_number}
 
@@ -59,8 +59,8 @@ module _ {bucket : List ℕ} {id : ℕ} {from_bucket from_key : List ℕ} {head 
 pub record KeepsCut (size : ℕ) (cut : List Piece) : Type 0 where
   pub some : 1 ≤ length cut
   pub few : length cut ≤ most_parts
-  pub pieces : list_all is_piece cut ≡ true
-  pub ascends : ascends_from 0 cut ≡ true
+  pub pieces : list_all is_piece_to_copy cut ≡ true
+  pub ascends : pieces_ascend_from 0 cut ≡ true
   pub whole : size_of_cut cut ≡ size
 
 pub keeps_cut : (size : ℕ) (cut : List Piece) → is_cut size cut ≡ true → KeepsCut size cut
@@ -68,22 +68,22 @@ unfolding is_cut
 keeps_cut size cut is =
     let some = and_parts (nat_le 1 (length cut)) _ is in
     let few = and_parts (nat_le (length cut) most_parts) _ some.1 in
-    let pieces = and_parts (list_all is_piece cut) _ few.1 in
-    let ascends = and_parts (ascends_from 0 cut) _ pieces.1 in
+    let pieces = and_parts (list_all is_piece_to_copy cut) _ few.1 in
+    let ascends = and_parts (pieces_ascend_from 0 cut) _ pieces.1 in
     record { some = leb-true 1 (length cut) some.0; few = leb-true (length cut) most_parts few.0; pieces = pieces.0; ascends = ascends.0; whole = eqb-true (size_of_cut cut) size ascends.1 }
 
-passes_at : (cut : List Piece) (i : ℕ) (d : Piece) → list_all is_piece cut ≡ true → i < length cut → is_piece (get_or cut i d) ≡ true
+passes_at : (cut : List Piece) (i : ℕ) (d : Piece) → list_all is_piece_to_copy cut ≡ true → i < length cut → is_piece_to_copy (get_or cut i d) ≡ true
 passes_at [] i d all below = absurd (omega (arith, below))
-passes_at (p ∷ cut) zero d all below = (and_parts (is_piece p) (list_all is_piece cut) all).0
-passes_at (p ∷ cut) (suc i) d all below = passes_at cut i d (and_parts (is_piece p) (list_all is_piece cut) all).1 (omega (arith, below))
+passes_at (p ∷ cut) zero d all below = (and_parts (is_piece_to_copy p) (list_all is_piece_to_copy cut) all).0
+passes_at (p ∷ cut) (suc i) d all below = passes_at cut i d (and_parts (is_piece_to_copy p) (list_all is_piece_to_copy cut) all).1 (omega (arith, below))
 
 -- a piece behind the first of them: their numbers are below its, and it is within what they make
-below_at : (above : ℕ) (cut : List Piece) (i : ℕ) (d : Piece) → ascends_from above cut ≡ true → i < length cut
+below_at : (above : ℕ) (cut : List Piece) (i : ℕ) (d : Piece) → pieces_ascend_from above cut ≡ true → i < length cut
     → (above < (get_or cut i d).number) × (list_all (λ (q : Piece). nat_lt q.number (get_or cut i d).number) (take i cut) ≡ true)
 below_at above [] i d up below = absurd (omega (arith, below))
-below_at above (p ∷ cut) zero d up below = (ltb-true above p.number (and_parts (nat_lt above p.number) (ascends_from p.number cut) up).0, refl)
+below_at above (p ∷ cut) zero d up below = (ltb-true above p.number (and_parts (nat_lt above p.number) (pieces_ascend_from p.number cut) up).0, refl)
 below_at above (p ∷ cut) (suc i) d up below =
-    let parts = and_parts (nat_lt above p.number) (ascends_from p.number cut) up in
+    let parts = and_parts (nat_lt above p.number) (pieces_ascend_from p.number cut) up in
     let low = ltb-true above p.number parts.0 in
     let rest = below_at p.number cut i d parts.1 (omega (arith, below)) in
     let high = rest.0 in
@@ -263,12 +263,12 @@ module _ {a b : History} {bucket : List ℕ} {id : ℕ} {from_bucket from_key : 
 
   pub copying_more : {c : History} {part : SealedPart} {at' : ℕ} {list' : List SealedPart} → piece.number ≤ greatest_part → list_all (λ (q : Piece). nat_lt q.number piece.number) first ≡ true
       → Asks (always 2) b c (GivenOf (MayCopy bucket id from_bucket from_key head)) (CopiesPiece bucket id from_bucket from_key at piece moment) (Ok part)
-      → piece_in part ≡ piece → is_sealed_part part ≡ true → at' ≡ at + piece.size → list' ≡ list ++ part ∷ [] → Copying a c bucket id from_bucket from_key head moment (first ++ piece ∷ []) at' list'
+      → piece_in part ≡ piece → part_fits_sealed_text part ≡ true → at' ≡ at + piece.size → list' ≡ list ++ part ∷ [] → Copying a c bucket id from_bucket from_key head moment (first ++ piece ∷ []) at' list'
   copying_more {c = c} {part = part} {at' = at'} {list' = list'} counted below asks of_piece proper far grown = record {
     at_is = let sum = size_more first piece in far ∙ ap (λ n. n + piece.size) copying.at_is ∙ sym sum;
     listed = record {
       pieces = ap (map piece_in) grown ∙ map-append piece_in list (part ∷ []) ∙ (λ i. copying.listed.pieces i ++ of_piece i ∷ []);
-      proper = ap (list_all is_sealed_part) grown ∙ list_all-append is_sealed_part list (part ∷ []) ∙ and_from _ _ copying.listed.proper (and_from _ _ proper refl);
+      proper = ap (list_all part_fits_sealed_text) grown ∙ list_all-append part_fits_sealed_text list (part ∷ []) ∙ and_from _ _ copying.listed.proper (and_from _ _ proper refl);
     };
     asks = asks_left {R = CopiesFirst bucket id from_bucket from_key at' moment} list' (omega arith) (then_one counted below asks)
         (λ old new sound same has told. subst (λ n. CopiesFirst bucket id from_bucket from_key n moment old new list') (sym far) (subst (CopiesFirst bucket id from_bucket from_key (at + piece.size) moment old new) (sym grown) told));
@@ -294,7 +294,7 @@ module _ {a b : History} {bucket : List ℕ} {id : ℕ} {from_bucket from_key : 
 pub copying_next : {a b c : History} {bucket : List ℕ} {id : ℕ} {from_bucket from_key : List ℕ} {head : ObjectHead} {moment : ℕ} (cut : List Piece) (i : ℕ) (d : Piece) {at at' : ℕ} {list list' : List SealedPart} {part : SealedPart}
     → Copying a b bucket id from_bucket from_key head moment (take i cut) at list → i < length cut → is_cut head.size cut ≡ true
     → Asks (always 2) b c (GivenOf (MayCopy bucket id from_bucket from_key head)) (CopiesPiece bucket id from_bucket from_key at (get_or cut i d) moment) (Ok part)
-    → piece_in part ≡ get_or cut i d → is_sealed_part part ≡ true → at' ≡ at + (get_or cut i d).size → list' ≡ list ++ part ∷ [] → Copying a c bucket id from_bucket from_key head moment (take (i + 1) cut) at' list'
+    → piece_in part ≡ get_or cut i d → part_fits_sealed_text part ≡ true → at' ≡ at + (get_or cut i d).size → list' ≡ list ++ part ∷ [] → Copying a c bucket id from_bucket from_key head moment (take (i + 1) cut) at' list'
 copying_next {a = a} {c = c} {bucket = bucket} {id = id} {from_bucket = from_bucket} {from_key = from_key} {head = head} {moment = moment} cut i d {at = at} {at' = at'} {list' = list'} copying below is asks of_piece proper far grown =
     subst (λ first. Copying a c bucket id from_bucket from_key head moment first at' list') (sym (take_more cut i d below))
     (let at_loop = piece_at head.size at i cut d is copying.at_is below in copying_more copying (get_or cut i d) at_loop.number.within at_loop.below asks of_piece proper far grown)

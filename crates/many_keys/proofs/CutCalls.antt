@@ -31,7 +31,7 @@ use Rattle.recovery.specs.Calls.{Given, HasObject}
 use Rattle.recovery.proofs.lemmas.One.{IsReadingOf}
 use Rattle.plan_uploads.specs.Listing.{digits_in}
 use Rattle.plan_uploads.proofs.lemmas.Digits.{digits_read}
-use Rattle.many_keys.specs.CopiedLists.{TellsCut, ascends_from, cut_by, cut_due, cut_of, is_cut, is_piece, number_at, piece_of, size_of_cut}
+use Rattle.many_keys.specs.CopiedLists.{TellsCut, pieces_ascend_from, cut_by, cut_due, cut_of, is_cut, is_piece_to_copy, number_at, piece_of, size_of_cut}
 use Rattle.many_keys.specs.declared.cut.Piece.{Piece}
 
 -- ---- the number of a name
@@ -56,13 +56,13 @@ segment_number id k n low high e = sym (number_read id k low) ∙ ap number_at e
 -- ---- the segments of an object are a cut
 
 module _ (segments : Names SwiftObject) (folder id : List ℕ) where
-  parts_ascend : (above : ℕ) (list : List Segment) → AreParts segments folder id above list → ascends_from above (cut_of list) ≡ true
+  parts_ascend : (above : ℕ) (list : List Segment) → AreParts segments folder id above list → pieces_ascend_from above (cut_of list) ≡ true
   parts_ascend above [] parts = refl
   parts_ascend above (s ∷ list) (number, low, high, listed, rest) =
-      subst (λ n. (nat_lt above n && ascends_from n (cut_of list)) ≡ true) (sym (ap number_at listed.named ∙ number_read id number high))
+      subst (λ n. (nat_lt above n && pieces_ascend_from n (cut_of list)) ≡ true) (sym (ap number_at listed.named ∙ number_read id number high))
       (and_from _ _ (lt-ltb above number low) (parts_ascend number list rest))
 
-  parts_are_pieces : (above : ℕ) (list : List Segment) → AreParts segments folder id above list → All (λ s. (0 < s.size) × (s.size ≤ most_body_bytes)) list → list_all is_piece (cut_of list) ≡ true
+  parts_are_pieces : (above : ℕ) (list : List Segment) → AreParts segments folder id above list → All (λ s. (0 < s.size) × (s.size ≤ most_body_bytes)) list → list_all is_piece_to_copy (cut_of list) ≡ true
   parts_are_pieces above [] parts sized = refl
   parts_are_pieces above (s ∷ list) (number, low, high, listed, rest) sized =
       let size = All-head (λ (s : Segment). (0 < s.size) × (s.size ≤ most_body_bytes)) s list sized in

@@ -23,7 +23,7 @@ use Rattle.swift_calls.specs.Step.{Answer, put_object, swift_step}
 use Rattle.swift_calls.specs.declared.calls.SwiftRequest.{SwiftRequest}
 use Rattle.swift_marks.specs.Tag.{tag_text}
 use Rattle.swift_marks.proofs.lemmas.TagLaws.{tag_text_reads}
-use Rattle.upload_texts.specs.Sealed.{is_sealed_part}
+use Rattle.upload_texts.specs.Sealed.{part_fits_sealed_text}
 use Rattle.upload_texts.specs.declared.sealed.SealedPart.{SealedPart}
 use Rattle.upload_records.specs.Consistent.{IsConsistent, IsPart, IsStored}
 use Rattle.upload_records.specs.Laws.{OrphanPut, file_put}
@@ -187,7 +187,7 @@ puts_segment {request = request} {told = told} {bucket = bucket} {id = id} {numb
 }
 
 -- the part is one that a completion may list
-pub part_is_sealed : (part : SealedPart) (number : ℕ) (body : List ℕ) → part.number ≡ number → part.etag ≡ body_etag body → part.size ≡ length body → IsPartNumber number → length body ≤ most_body_bytes → is_sealed_part part ≡ true
+pub part_is_sealed : (part : SealedPart) (number : ℕ) (body : List ℕ) → part.number ≡ number → part.etag ≡ body_etag body → part.size ≡ length body → IsPartNumber number → length body ≤ most_body_bytes → part_fits_sealed_text part ≡ true
 part_is_sealed part number body numbered of_body size counted sized =
     let low = counted.counted in
     and_from _ _ (and_from _ _ (and_from _ _ (le-leb 1 part.number (omega (arith, numbered, low))) (le-leb part.number greatest_part (subst (λ n. n ≤ greatest_part) (sym numbered) counted.within)))

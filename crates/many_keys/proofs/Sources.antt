@@ -24,7 +24,7 @@ use Rattle.recovery.specs.declared.fault.PlanFault.{PlanFault}
 use Rattle.recovery.specs.declared.fault.PlanFault.TheVariants.{Failed, Memory, Inconsistent}
 use Rattle.recovery.proofs.lemmas.Ends.{met_within}
 use Rattle.recovery.proofs.lemmas.Faults.{err_is}
-use Rattle.many_keys.specs.Copies.{IsProperHead, body_due, is_proper_head, is_source_body, proper_due}
+use Rattle.many_keys.specs.Copies.{IsProperHead, body_due, is_head_to_copy, is_body_to_copy, proper_due}
 
 -- ---- the head
 
@@ -33,12 +33,12 @@ object_by_head None head e = cc
 object_by_head (Some x) head e = (x, refl, cc)
 
 -- an object that may be put again has a head that says so
-stored_head : (o : Object) → IsProperStored o → is_proper_head (head_of o) ≡ true
+stored_head : (o : Object) → IsProperStored o → is_head_to_copy (head_of o) ≡ true
 stored_head o stored = and_from (is_content_type o.content_type && is_proper_meta o.meta) (is_etag o.etag)
     (and_from (is_content_type o.content_type) (is_proper_meta o.meta) stored.typed stored.described) stored.etag
 
 -- a head with the marks of one, and with a size that numbers hold
-pub proper_head : (head : ObjectHead) → is_proper_head head ≡ true → head.size < 2 ^ 63 → IsProperHead head
+pub proper_head : (head : ObjectHead) → is_head_to_copy head ≡ true → head.size < 2 ^ 63 → IsProperHead head
 proper_head head e sized =
     let parts = and_parts (is_content_type head.content_type && is_proper_meta head.meta) (is_etag head.etag) e in
     let first = and_parts (is_content_type head.content_type) (is_proper_meta head.meta) parts.0 in
@@ -46,14 +46,14 @@ proper_head head e sized =
 
 module _ (law : ObjectProper) (bucket key : List ℕ) (named : is_bucket bucket ≡ true) where
   -- so has each object of a state
-  told_head : (head : ObjectHead) (tree : SwiftAccount) → IsConsistent tree → IsSettled tree → TellsObject bucket key (s3_state tree) (Some head) → is_proper_head head ≡ true
+  told_head : (head : ObjectHead) (tree : SwiftAccount) → IsConsistent tree → IsSettled tree → TellsObject bucket key (s3_state tree) (Some head) → is_head_to_copy head ≡ true
   told_head head tree sound settled told =
       let it = object_by_head (object_at (get (s3_state tree) bucket) key) head told in
-      ap is_proper_head (sym it.2) ∙ stored_head it.0 (law tree bucket key it.0 named sound settled.none it.1)
+      ap is_head_to_copy (sym it.2) ∙ stored_head it.0 (law tree bucket key it.0 named sound settled.none it.1)
 
   -- what HEAD told is a head that an object has
   module _ {a b : History} where
-    by_test : (head : ObjectHead) (t : Bool) → is_proper_head head ≡ t → Asks (always 1) a b IsSettled (Tells (TellsObject bucket key)) (Ok (Some head))
+    by_test : (head : ObjectHead) (t : Bool) → is_head_to_copy head ≡ t → Asks (always 1) a b IsSettled (Tells (TellsObject bucket key)) (Ok (Some head))
         → Asks (always 1) a b IsSettled (Tells (TellsObject bucket key)) (cond t (Ok (Some head)) (Err Inconsistent))
     by_test head true e asks = asks
     by_test head false e asks = record {
@@ -69,7 +69,7 @@ module _ (law : ObjectProper) (bucket key : List ℕ) (named : is_bucket bucket 
     by_head : (told : Option ObjectHead) → Asks (always 1) a b IsSettled (Tells (TellsObject bucket key)) (Ok told)
         → Asks (always 1) a b IsSettled (Tells (TellsObject bucket key)) (proper_due told)
     by_head None asks = asks
-    by_head (Some head) asks = by_test head (is_proper_head head) refl asks
+    by_head (Some head) asks = by_test head (is_head_to_copy head) refl asks
 
     pub asks_proper : {told : Option ObjectHead} {result : Result (Option ObjectHead) PlanFault} → Asks (always 1) a b IsSettled (Tells (TellsObject bucket key)) (Ok told)
         → result ≡ proper_due told → Asks (always 1) a b IsSettled (Tells (TellsObject bucket key)) result
@@ -110,7 +110,7 @@ module _ (from_bucket from_key : List ℕ) (head : ObjectHead) (state : State) (
   object_read bytes read = record { object = it.0; there = it.1; has_head = it.2; has_bytes = some_same (sym told_bytes ∙ read) }
 
 -- an object that was put in one piece has a body with its ETag
-stored_body : (o : Object) → IsProperStored o → length o.etag ≤ 32 → is_source_body (head_of o) o.bytes ≡ true
+stored_body : (o : Object) → IsProperStored o → length o.etag ≤ 32 → is_body_to_copy (head_of o) o.bytes ≡ true
 stored_body o stored short =
     let whole = stored.whole short in
     let least : nat_le (length o.bytes) most_body_bytes ≡ true = let few = whole.1 in grind (arith, nat_tests) in
@@ -120,10 +120,10 @@ stored_body o stored short =
 
 module _ (law : ObjectProper) (from_bucket from_key : List ℕ) (named : is_bucket from_bucket ≡ true) (head : ObjectHead) (short : length head.etag ≤ 32) where
   -- so it is of a source that was read
-  body_is : (bytes : List ℕ) (tree : SwiftAccount) → IsConsistent tree → IsSettled tree → IsReadObject from_bucket from_key head bytes (s3_state tree) → is_source_body head bytes ≡ true
+  body_is : (bytes : List ℕ) (tree : SwiftAccount) → IsConsistent tree → IsSettled tree → IsReadObject from_bucket from_key head bytes (s3_state tree) → is_body_to_copy head bytes ≡ true
   body_is bytes tree sound settled read =
       let o = read.object in
-      subst (λ (h : ObjectHead). is_source_body h bytes ≡ true) read.has_head (subst (λ body. is_source_body (head_of o) body ≡ true) read.has_bytes
+      subst (λ (h : ObjectHead). is_body_to_copy h bytes ≡ true) read.has_head (subst (λ body. is_body_to_copy (head_of o) body ≡ true) read.has_bytes
       (stored_body o (law tree from_bucket from_key o named sound settled.none read.there) (subst (λ (h : ObjectHead). length h.etag ≤ 32) (sym read.has_head) short)))
 
   abbrev TellsBody : SwiftAccount → SwiftAccount → List ℕ → Type 0
@@ -152,7 +152,7 @@ module _ (law : ObjectProper) (from_bucket from_key : List ℕ) (named : is_buck
     never_read : (told : Option (List ℕ)) → Read told → (Met HasHead a → ⊥) → Asks (always 1) a b HasHead TellsBody (Err Inconsistent)
     never_read told asks never = record { grows = grows_under told asks; cause = asks.cause; effect = λ met. absurd (never met); settled = asks.settled }
 
-    by_body : (body : List ℕ) (t : Bool) → is_source_body head body ≡ t → Read (Some body) → Asks (always 1) a b HasHead TellsBody (cond t (Ok body) (Err Inconsistent))
+    by_body : (body : List ℕ) (t : Bool) → is_body_to_copy head body ≡ t → Read (Some body) → Asks (always 1) a b HasHead TellsBody (cond t (Ok body) (Err Inconsistent))
     by_body body true e asks = record {
       grows = grows_under (Some body) asks;
       cause = asks.cause;
@@ -165,7 +165,7 @@ module _ (law : ObjectProper) (from_bucket from_key : List ℕ) (named : is_buck
 
     by_bytes : (told : Option (List ℕ)) → Read told → Asks (always 1) a b HasHead TellsBody (body_due head told)
     by_bytes None asks = never_read None asks (λ met. not_gone from_bucket from_key head (s3_state (present a)) met.has.is (told_of None asks met))
-    by_bytes (Some body) asks = by_body body (is_source_body head body) refl asks
+    by_bytes (Some body) asks = by_body body (is_body_to_copy head body) refl asks
 
     pub asks_body : (told : Option (List ℕ)) (result : Result (List ℕ) PlanFault) → Read told → result ≡ body_due head told → Asks (always 1) a b HasHead TellsBody result
     asks_body told result asks due = subst (Asks (always 1) a b HasHead TellsBody) (sym due) (by_bytes told asks)
@@ -186,7 +186,7 @@ pub record IsSourceBody (head : ObjectHead) (body : List ℕ) : Type 0 where
   pub sized : length body ≤ most_body_bytes
   pub same : head.etag ≡ body_etag body
 
-pub source_body : (head : ObjectHead) (body : List ℕ) → is_source_body head body ≡ true → IsSourceBody head body
+pub source_body : (head : ObjectHead) (body : List ℕ) → is_body_to_copy head body ≡ true → IsSourceBody head body
 source_body head body e =
     let parts = and_parts (length body == head.size && nat_le (length body) most_body_bytes) (bytes_eq head.etag (body_etag body)) e in
     let few = (and_parts (length body == head.size) (nat_le (length body) most_body_bytes) parts.0).1 in

@@ -23,7 +23,7 @@ use Rattle.swift_calls.specs.declared.account.Content.TheVariants.{Plain}
 use Rattle.swift_calls.specs.declared.calls.SwiftReply.{SwiftReply}
 use Rattle.swift_calls.specs.declared.calls.SwiftReply.TheVariants.{Manifest}
 use Rattle.swift_marks.specs.Tag.{is_etag}
-use Rattle.upload_texts.specs.Sealed.{is_sealed_part}
+use Rattle.upload_texts.specs.Sealed.{part_fits_sealed_text}
 use Rattle.upload_texts.specs.declared.sealed.Sealed.{Sealed}
 use Rattle.upload_texts.specs.declared.sealed.SealedPart.{SealedPart}
 use Rattle.upload_records.specs.Layout.{segment_name, segments_name}
@@ -51,20 +51,20 @@ abbrev pub cut_of : List Segment → List Piece
 cut_of segments = map piece_of segments
 
 -- a piece that may be a part: it isn't empty, and no greater than a body
-abbrev pub is_piece : Piece → Bool
-is_piece p = nat_le p.number greatest_part && (nat_le 1 p.size && nat_le p.size most_body_bytes)
+abbrev pub is_piece_to_copy : Piece → Bool
+is_piece_to_copy p = nat_le p.number greatest_part && (nat_le 1 p.size && nat_le p.size most_body_bytes)
 
 -- the numbers ascend strictly, above this one
-abbrev pub ascends_from : ℕ → List Piece → Bool
-ascends_from above [] = true
-ascends_from above (p ∷ cut) = nat_lt above p.number && ascends_from p.number cut
+abbrev pub pieces_ascend_from : ℕ → List Piece → Bool
+pieces_ascend_from above [] = true
+pieces_ascend_from above (p ∷ cut) = nat_lt above p.number && pieces_ascend_from p.number cut
 
 abbrev pub size_of_cut : List Piece → ℕ
 size_of_cut cut = sum_by (λ (p : Piece). p.size) cut
 
 -- pieces that make so many bytes: at least one, no more than an object has parts, and with numbers that ascend
 unfoldable pub is_cut : ℕ → List Piece → Bool
-is_cut size cut = nat_le 1 (length cut) && (nat_le (length cut) most_parts && (list_all is_piece cut && (ascends_from 0 cut && (size_of_cut cut == size))))
+is_cut size cut = nat_le 1 (length cut) && (nat_le (length cut) most_parts && (list_all is_piece_to_copy cut && (pieces_ascend_from 0 cut && (size_of_cut cut == size))))
 
 abbrev pub cut_by : Bool → List Piece → Result (List Piece) PlanFault
 cut_by true cut = Ok cut
@@ -142,7 +142,7 @@ piece_in p = record { number = p.number; size = p.size }
 
 pub record AreOfCut (cut : List Piece) (list : List SealedPart) : Type 0 where
   pub pieces : map piece_in list ≡ cut
-  pub proper : list_all is_sealed_part list ≡ true
+  pub proper : list_all part_fits_sealed_text list ≡ true
 
 -- each of these parts was put at this moment
 abbrev pub AreDated : Names SwiftObject → List ℕ → ℕ → List SealedPart → Type 0
@@ -160,8 +160,8 @@ pub record CopiesFirst (bucket : List ℕ) (id : ℕ) (from_bucket from_key : Li
 -- ---- the copy
 
 -- what is put as the copy, under a new id: with the source's ETag, and as of the moment of the copy
-abbrev pub copy_as : List ℕ → List ℕ → ℕ → Option Replaced → ObjectHead → List SealedPart → ℕ → Sealed
-copy_as bucket key id replaced head list moment = record {
+abbrev pub sealed_copy : List ℕ → List ℕ → ℕ → Option Replaced → ObjectHead → List SealedPart → ℕ → Sealed
+sealed_copy bucket key id replaced head list moment = record {
   bucket = bucket;
   key = key;
   id = id;
@@ -183,7 +183,7 @@ pub record IsCopy (s : Sealed) : Type 0 where
   pub etag : is_etag s.etag ≡ true
   pub of_parts : 32 < length s.etag
   pub few : length s.list ≤ most_parts
-  pub proper : list_all is_sealed_part s.list ≡ true
+  pub proper : list_all part_fits_sealed_text s.list ≡ true
   pub ascends : rises_from 0 (map listed_of s.list) ≡ true
   pub started : s.started < moment_limit
   pub dated : s.moment < moment_limit

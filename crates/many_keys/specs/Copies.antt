@@ -23,25 +23,25 @@ pub record IsProperHead (head : ObjectHead) : Type 0 where
   pub sized : head.size < 2 ^ 63
 
 -- whether its marks are such
-abbrev pub is_proper_head : ObjectHead → Bool
-is_proper_head head = is_content_type head.content_type && is_proper_meta head.meta && is_etag head.etag
+abbrev pub is_head_to_copy : ObjectHead → Bool
+is_head_to_copy head = is_content_type head.content_type && is_proper_meta head.meta && is_etag head.etag
 
 -- what HEAD of a source comes to, by what it told: a head that no object has is the store's fault
 abbrev pub proper_due : Option ObjectHead → Result (Option ObjectHead) PlanFault
 proper_due None = Ok None
-proper_due (Some head) = if is_proper_head head then Ok (Some head) else Err Inconsistent
+proper_due (Some head) = if is_head_to_copy head then Ok (Some head) else Err Inconsistent
 
 -- ---- its bytes
 
 -- whether a body may be that of a source with this head, which was put in one piece: with its size, which a body may have, and
 -- its ETag
-abbrev pub is_source_body : ObjectHead → List ℕ → Bool
-is_source_body head body = length body == head.size && nat_le (length body) most_body_bytes && bytes_eq head.etag (body_etag body)
+abbrev pub is_body_to_copy : ObjectHead → List ℕ → Bool
+is_body_to_copy head body = length body == head.size && nat_le (length body) most_body_bytes && bytes_eq head.etag (body_etag body)
 
 -- what GET of a source that was put in one piece comes to, by what it told: an object that is gone is the store's fault too
 abbrev pub body_due : ObjectHead → Option (List ℕ) → Result (List ℕ) PlanFault
 body_due head None = Err Inconsistent
-body_due head (Some body) = if is_source_body head body then Ok body else Err Inconsistent
+body_due head (Some body) = if is_body_to_copy head body then Ok body else Err Inconsistent
 
 -- ---- what is given of the state
 

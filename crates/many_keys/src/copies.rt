@@ -12,10 +12,10 @@ ghost use Rattle.recovery.specs.Calls.{always, by_account, Any, Given, TellsBuck
 ghost use Rattle.recovery.specs.Lent.{Stays};
 ghost use Rattle.recovery.specs.Plan.{ended, Plans};
 ghost use Rattle.recovery.specs.declared.state.Known.TheVariants as known;
-ghost use Rattle.many_keys.specs.Copies.{IsFoundBucket, IsFoundSource, IsProperHead, IsReadSource, is_source_body};
+ghost use Rattle.many_keys.specs.Copies.{IsFoundBucket, IsFoundSource, IsProperHead, IsReadSource, is_body_to_copy};
 
-use crate::listed::copy_listed;
-use crate::source::{content_of, head_source, read_source};
+use crate::listed::copy_source_of_parts;
+use crate::source::{content_of, get_source_to_copy, head_source};
 use gate_base::Bytes;
 use recovery::{PlanFault, Settled, head_bucket, put_object};
 use s3_machine::{Code, Label, ObjectHead, Replaced, Reply, is_onto_itself, is_other_acl};
@@ -183,7 +183,7 @@ fn copy_found<W: Swift>(
         return Ok(Reply::Refused(Code::InvalidRequest));
     }
     if head.etag.len() <= 32 {
-        copy_plain(
+        copy_plain_source(
             alloc,
             state,
             bucket,
@@ -195,7 +195,7 @@ fn copy_found<W: Swift>(
             label,
         )
     } else {
-        copy_listed(
+        copy_source_of_parts(
             alloc,
             state,
             bucket,
@@ -212,7 +212,7 @@ fn copy_found<W: Swift>(
 }
 
 /// The rest of CopyObject, of a source that was put in one piece.
-fn copy_plain<W: Swift>(
+fn copy_plain_source<W: Swift>(
     alloc: Global,
     state: &mut Settled<'_, W>,
     bucket: Bytes,
@@ -236,7 +236,7 @@ fn copy_plain<W: Swift>(
         state.old.settings.now (Given (IsFoundSource bucket list from_bucket from_key head))
         (CopyObject bucket key acl from_bucket from_key replaced) label.now known.Settled result }
 {
-    let body = read_source(alloc, state, from_bucket, from_key, &head)?;
+    let body = get_source_to_copy(alloc, state, from_bucket, from_key, &head)?;
     put_copy(alloc, state, bucket, key, replaced, head, body, label)
 }
 
@@ -255,7 +255,7 @@ fn put_copy<W: Swift>(
     requires replaced { IfSome replaced IsProperReplaced }
     requires moment { label.now.moment < moment_limit }
     requires head { IsProperHead head }
-    requires source { is_source_body head body ≡ true }
+    requires source { is_body_to_copy head body ≡ true }
     ensures stays { Stays state.old state.new }
     ensures plans { (acl : Option Acl) (list : Acl) (from_bucket from_key : List ℕ) → is_other_acl acl list ≡ false
         → is_onto_itself bucket key from_bucket from_key replaced ≡ false
@@ -265,7 +265,7 @@ fn put_copy<W: Swift>(
 {
     let etag = head.etag;
     let content = content_of(replaced, head.content_type, head.meta);
-    copied_end(
+    end_copy_object_plan(
         put_object(
             alloc,
             state,
@@ -283,7 +283,7 @@ fn put_copy<W: Swift>(
 }
 
 /// The end of CopyObject after its last call.
-pub(crate) fn copied_end(
+pub(crate) fn end_copy_object_plan(
     end: Result<(), PlanFault>,
     etag: Bytes,
     modified: u64,

@@ -7,7 +7,7 @@ ghost use Rattle.recovery.specs.Interpret.{Gives};
 ghost use Rattle.recovery.specs.Lent.{Stays};
 ghost use Rattle.recovery.specs.Listing.{TellsOf};
 ghost use Rattle.recovery.specs.declared.fault.PlanFault.TheVariants as fault;
-ghost use Rattle.many_keys.specs.CopiedLists.{TellsCut, ascends_from, cut_by, cut_due, cut_of, is_cut, is_piece, number_at, piece_of, size_of_cut};
+ghost use Rattle.many_keys.specs.CopiedLists.{TellsCut, pieces_ascend_from, cut_by, cut_due, cut_of, is_cut, is_piece_to_copy, number_at, piece_of, size_of_cut};
 
 use gate_base::{Bytes, Copying, List, Memory};
 use plan_uploads::digits_in;
@@ -29,7 +29,7 @@ pub(crate) struct Piece {
 /// file's segments (Object Storage API v1, "Static large objects"). At most one call, and the S3 state stays. Failed comes only
 /// where the store's count of faults rose; Memory where memory ran out; Inconsistent where the list isn't one of parts that make
 /// so many bytes, and never over an observable consistent account whose object has these.
-pub(crate) fn get_cut<W: Swift>(
+pub(crate) fn get_pieces_to_copy<W: Swift>(
     alloc: Global,
     state: &mut Settled<'_, W>,
     bucket: &Bytes,
@@ -50,11 +50,15 @@ pub(crate) fn get_cut<W: Swift>(
     let container = bucket.copy()?;
     let name = key.copy()?;
     let reply = state.call(SwiftRequest::GetManifest { container, name })?;
-    cut_in(alloc, &reply, head.size)
+    pieces_to_copy_in_reply(alloc, &reply, head.size)
 }
 
 /// The answer to GET of the list of the segments of an object of so many bytes.
-fn cut_in(alloc: Global, reply: &SwiftReply, size: u64) -> Result<List<Piece>, PlanFault>
+fn pieces_to_copy_in_reply(
+    alloc: Global,
+    reply: &SwiftReply,
+    size: u64,
+) -> Result<List<Piece>, PlanFault>
     ensures due { Gives result (cut_due size reply.now) }
     ensures own { result ≢ Err fault.Failed }
     ensures proper { IfOk result (λ cut. is_cut size cut ≡ true) }
@@ -62,18 +66,18 @@ fn cut_in(alloc: Global, reply: &SwiftReply, size: u64) -> Result<List<Piece>, P
     match reply {
         SwiftReply::Manifest(segments) => {
             let cut = cut_of(alloc, segments.as_slice())?;
-            proper(cut, size)
+            proper_pieces_to_copy(cut, size)
         }
         _ => Err(PlanFault::Inconsistent),
     }
 }
 
-fn proper(cut: List<Piece>, size: u64) -> Result<List<Piece>, PlanFault>
+fn proper_pieces_to_copy(cut: List<Piece>, size: u64) -> Result<List<Piece>, PlanFault>
     ensures due { result ≡ cut_by (is_cut size cut) cut }
     ensures own { result ≢ Err fault.Failed }
     ensures proper { IfOk result (λ cut. is_cut size cut ≡ true) }
 {
-    if is_cut(size, cut.as_slice()) {
+    if are_whole_pieces_to_copy(size, cut.as_slice()) {
         Ok(cut)
     } else {
         Err(PlanFault::Inconsistent)
@@ -111,32 +115,32 @@ fn number_at(name: &[u8]) -> u32
 
 /// Whether pieces make so many bytes, as the parts of an object.
 #[tactic(auto, unfolding(crate::specs::CopiedLists::is_cut, s3_machine::specs::Uploads::most_parts))]
-fn is_cut(size: u64, cut: &[Piece]) -> bool
+fn are_whole_pieces_to_copy(size: u64, cut: &[Piece]) -> bool
     ensures { result ≡ is_cut size cut.now }
 {
     1 <= cut.len()
         && cut.len() <= MOST_PARTS
-        && are_pieces(cut)
-        && ascends_from(0, cut)
-        && is_size_of(size, cut)
+        && are_pieces_to_copy(cut)
+        && pieces_ascend_from(0, cut)
+        && is_size_of_copied_pieces(size, cut)
 }
 
-fn are_pieces(cut: &[Piece]) -> bool
-    ensures { result ≡ list_all is_piece cut.now }
+fn are_pieces_to_copy(cut: &[Piece]) -> bool
+    ensures { result ≡ list_all is_piece_to_copy cut.now }
 {
-    cut.iter().all(|piece| is_piece(*piece))
+    cut.iter().all(|piece| is_piece_to_copy(*piece))
 }
 
 #[tactic(auto, unfolding(s3_machine::specs::Uploads::greatest_part))]
-fn is_piece(piece: Piece) -> bool
-    ensures { result ≡ is_piece piece }
+fn is_piece_to_copy(piece: Piece) -> bool
+    ensures { result ≡ is_piece_to_copy piece }
 {
     piece.number <= GREATEST_PART_NUMBER && 1 <= piece.size && piece.size <= MOST_BODY_BYTES
 }
 
 /// Whether the numbers ascend strictly, above this one.
-fn ascends_from(above: u32, cut: &[Piece]) -> bool
-    ensures { result ≡ ascends_from above cut.now }
+fn pieces_ascend_from(above: u32, cut: &[Piece]) -> bool
+    ensures { result ≡ pieces_ascend_from above cut.now }
 {
     let mut last = above;
     for piece in cut {
@@ -149,7 +153,7 @@ fn ascends_from(above: u32, cut: &[Piece]) -> bool
 }
 
 /// Whether the pieces make so many bytes.
-fn is_size_of(size: u64, cut: &[Piece]) -> bool
+fn is_size_of_copied_pieces(size: u64, cut: &[Piece]) -> bool
     ensures { result ≡ (size_of_cut cut.now == size) }
 {
     let mut left = size;

@@ -19,15 +19,15 @@ ghost use Rattle.recovery.specs.Plan.{Plans};
 ghost use Rattle.recovery.specs.Rolls.{put_object_of};
 ghost use Rattle.recovery.specs.declared.state.Known.TheVariants as known;
 ghost use Rattle.many_keys.specs.Copies.{IsFoundSource, IsProperHead};
-ghost use Rattle.many_keys.specs.CopiedLists.{CopiesObject, HasCopy, IsCopy, MayFill, MayPut, copy_as, is_cut};
+ghost use Rattle.many_keys.specs.CopiedLists.{CopiesObject, HasCopy, IsCopy, MayFill, MayPut, sealed_copy, is_cut};
 
-use crate::copies::copied_end;
-use crate::cut::{Piece, get_cut};
-use crate::segments::copy_segments;
+use crate::copies::end_copy_object_plan;
+use crate::cut::{Piece, get_pieces_to_copy};
+use crate::segments::copy_source_segments;
 use crate::source::content_of;
 use gate_base::{Bytes, Copying, List, Memory, drop};
 use plan_uploads::free_id;
-use recovery::{PlanFault, Settled, kept_in, object_request};
+use recovery::{PlanFault, Settled, interpret_put_without_etag, object_request};
 use s3_machine::{Label, ObjectHead, Replaced, Reply};
 use s3_names::Acl;
 use std::alloc::Global;
@@ -42,7 +42,7 @@ use upload_texts::{Sealed, SealedPart};
 /// the bucket, and two for each segment of the source. An empty source is put under a new id without the calls on its segments. The
 /// reply is made before the last call, so that no memory is needed after it. After a fault some segments may be left that nothing
 /// names.
-pub(crate) fn copy_listed<W: Swift>(
+pub(crate) fn copy_source_of_parts<W: Swift>(
     alloc: Global,
     state: &mut Settled<'_, W>,
     bucket: Bytes,
@@ -72,10 +72,10 @@ pub(crate) fn copy_listed<W: Swift>(
         (CopyObject bucket key acl from_bucket from_key replaced) label.now known.Settled result }
 {
     if head.size == 0 {
-        return copy_empty(alloc, state, bucket, key, replaced, head, label);
+        return copy_empty_source(alloc, state, bucket, key, replaced, head, label);
     }
-    let cut = get_cut(alloc, state, &from_bucket, &from_key, &head)?;
-    copy_cut(
+    let cut = get_pieces_to_copy(alloc, state, &from_bucket, &from_key, &head)?;
+    copy_source_by_pieces(
         alloc,
         state,
         bucket,
@@ -90,7 +90,7 @@ pub(crate) fn copy_listed<W: Swift>(
 }
 
 /// The same of a source without a byte, whose file lists no segments.
-fn copy_empty<W: Swift>(
+fn copy_empty_source<W: Swift>(
     alloc: Global,
     state: &mut Settled<'_, W>,
     bucket: Bytes,
@@ -117,14 +117,14 @@ fn copy_empty<W: Swift>(
     law_unused_is_abandoned();
     let id = free_id(alloc, state, &bucket, label.draw)?;
     let parts = List::new(alloc);
-    let sealed = copy_as(bucket, key, id, replaced, head, parts, label.moment);
-    let end = put_listed(alloc, state, &sealed);
+    let sealed = sealed_copy(bucket, key, id, replaced, head, parts, label.moment);
+    let end = put_listed_copy(alloc, state, &sealed);
     drop(sealed);
     end
 }
 
 /// The rest of the copy, of a source whose bytes are cut so.
-fn copy_cut<W: Swift>(
+fn copy_source_by_pieces<W: Swift>(
     alloc: Global,
     state: &mut Settled<'_, W>,
     bucket: Bytes,
@@ -199,7 +199,7 @@ fn copy_under<W: Swift>(
         (CopyObject bucket key acl from_bucket.now from_key.now replaced) label.now known.Settled
         result }
 {
-    let parts = copy_segments(
+    let parts = copy_source_segments(
         alloc,
         state,
         &bucket,
@@ -210,14 +210,14 @@ fn copy_under<W: Swift>(
         cut.as_slice(),
         label.moment,
     )?;
-    let sealed = copy_as(bucket, key, id, replaced, head, parts, label.moment);
-    let end = put_listed(alloc, state, &sealed);
+    let sealed = sealed_copy(bucket, key, id, replaced, head, parts, label.moment);
+    let end = put_listed_copy(alloc, state, &sealed);
     drop(sealed);
     end
 }
 
 /// What is put as the copy, by the source's head. All is moved.
-fn copy_as(
+fn sealed_copy(
     bucket: Bytes,
     key: Bytes,
     id: u128,
@@ -228,7 +228,7 @@ fn copy_as(
 ) -> Sealed
     requires replaced { IfSome replaced IsProperReplaced }
     requires head { IsProperHead head }
-    ensures copy { result ≡ copy_as bucket key id replaced head list moment }
+    ensures copy { result ≡ sealed_copy bucket key id replaced head list moment }
     ensures content { IsProperReplaced
         (record { content_type = result.content_type; meta = result.meta }) }
     ensures ordered { names_ascend result.meta ≡ true }
@@ -249,7 +249,7 @@ fn copy_as(
 }
 
 /// The last call of the copy, and the reply, which is made before it.
-fn put_listed<W: Swift>(
+fn put_listed_copy<W: Swift>(
     alloc: Global,
     state: &mut Settled<'_, W>,
     sealed: &Sealed,
@@ -266,14 +266,14 @@ fn put_listed<W: Swift>(
         known.Settled result }
 {
     let etag = sealed.etag.copy()?;
-    copied_end(put_sealed(alloc, state, sealed), etag, sealed.moment)
+    end_copy_object_plan(put_copy_file(alloc, state, sealed), etag, sealed.moment)
 }
 
 /// Puts the copy, whose parts stand beside the bucket, by PUT of its file (Object Storage API v1, "Static large objects"): the one
 /// call that commits. At most one call. After Ok the S3 state has the copy in place of what stood under the key. After Failed, which
 /// comes only where the store's count of faults rose, and after Memory the state is the old one or that. Inconsistent never comes
 /// over an observable consistent account of which this is so.
-fn put_sealed<W: Swift>(
+fn put_copy_file<W: Swift>(
     alloc: Global,
     state: &mut Settled<'_, W>,
     sealed: &Sealed,
@@ -286,31 +286,31 @@ fn put_sealed<W: Swift>(
         (CopiesObject sealed.now.bucket sealed.now.key from_bucket from_key replaced
         sealed.now.moment) result }
 {
-    let request = copy_request(alloc, sealed)?;
+    let request = copy_file_request(alloc, sealed)?;
     let reply = state.call(request)?;
-    kept_in(&reply)
+    interpret_put_without_etag(&reply)
 }
 
 /// The PUT of the copy's file.
-fn copy_request(alloc: Global, sealed: &Sealed) -> Result<SwiftRequest, Memory>
+fn copy_file_request(alloc: Global, sealed: &Sealed) -> Result<SwiftRequest, Memory>
     requires copy { IsCopy sealed.now }
     ensures request { IfOk result (λ request. request ≡ put_object_of sealed.now) }
     ensures fits { IfOk result Fit }
 {
     if sealed.list.is_empty() {
-        return empty_request(alloc, sealed);
+        return empty_copy_file_request(alloc, sealed);
     }
     object_request(alloc, sealed)
 }
 
 /// The PUT of a copy without a byte.
-fn empty_request(alloc: Global, sealed: &Sealed) -> Result<SwiftRequest, Memory>
+fn empty_copy_file_request(alloc: Global, sealed: &Sealed) -> Result<SwiftRequest, Memory>
     requires copy { IsCopy sealed.now }
     requires none { sealed.now.list ≡ [] }
     ensures request { IfOk result (λ request. request ≡ put_object_of sealed.now) }
     ensures fits { IfOk result Fit }
 {
-    let content_type = copy_type(alloc, sealed)?;
+    let content_type = tag_of_copy_file(alloc, sealed)?;
     let meta = pack(alloc, &sealed.meta)?;
     let container = sealed.bucket.copy()?;
     let name = sealed.key.copy()?;
@@ -324,7 +324,7 @@ fn empty_request(alloc: Global, sealed: &Sealed) -> Result<SwiftRequest, Memory>
 }
 
 /// The tag of the copy, as its file has it.
-fn copy_type(alloc: Global, sealed: &Sealed) -> Result<Bytes, Memory>
+fn tag_of_copy_file(alloc: Global, sealed: &Sealed) -> Result<Bytes, Memory>
     requires { IsCopy sealed.now }
     ensures { IfOk result (λ text. text ≡ tag_text (sealed_tag sealed.now)) }
 {

@@ -11,7 +11,7 @@ ghost use Rattle.recovery.specs.Plan.{Plans, Answered};
 use crate::copies::copy_object;
 use crate::deletions::delete_objects;
 use gate_base::{Bytes, List, drop};
-use plan_uploads::copy_part;
+use plan_uploads::plan_upload_part_copy;
 use recovery::{PlanFault, Settled, reply_of, taken_text};
 use s3_machine::{Label, Op, Reply};
 use std::alloc::Global;
@@ -86,7 +86,7 @@ fn plan<W: Swift>(
             from_bucket,
             from_key,
             range,
-        } => copy_part(
+        } => plan_upload_part_copy(
             alloc,
             state,
             bucket,

@@ -6,7 +6,7 @@ ghost use Rattle.s3_machine.specs.ETag.{body_etag};
 ghost use Rattle.s3_machine.specs.Limits.{most_body_bytes};
 ghost use Rattle.s3_machine.specs.Step.{IsPlace};
 ghost use Rattle.s3_machine.specs.Uploads.{IsPartNumber};
-ghost use Rattle.upload_texts.specs.Sealed.{is_sealed_part};
+ghost use Rattle.upload_texts.specs.Sealed.{part_fits_sealed_text};
 ghost use Rattle.recovery.specs.Calls.{always, Asks, Given, GivenOf, HasObject, Tells};
 ghost use Rattle.recovery.specs.Interpret.{stored_due};
 ghost use Rattle.recovery.specs.Lent.{Stays};
@@ -16,7 +16,7 @@ ghost use Rattle.many_keys.specs.CopiedLists.{AreOfCut, CopiesFirst, CopiesPiece
 use crate::cut::Piece;
 use gate_base::{Bytes, Copying, List, drop};
 use plan_uploads::part_request;
-use recovery::{PlanFault, Settled, get_object, stored_in};
+use recovery::{PlanFault, Settled, get_object, interpret_put_with_etag};
 use s3_machine::{ObjectHead, body_etag};
 use std::alloc::Global;
 use swift_calls::{Swift, SwiftReply};
@@ -28,7 +28,7 @@ use upload_texts::SealedPart;
 /// replace object"). At most two calls for each, and the S3 state stays. What is told are the parts that were put. The faults are
 /// those of the calls; Inconsistent also where a range has another size, and never over an observable consistent account whose
 /// object has this head.
-pub(crate) fn copy_segments<W: Swift>(
+pub(crate) fn copy_source_segments<W: Swift>(
     alloc: Global,
     state: &mut Settled<'_, W>,
     bucket: &Bytes,
@@ -94,17 +94,17 @@ fn copy_piece<W: Swift>(
     requires moment { moment < moment_limit }
     ensures stays { Stays state.old state.new }
     ensures part { IfOk result (λ part. piece_in part ≡ piece) }
-    ensures proper { IfOk result (λ part. is_sealed_part part ≡ true) }
+    ensures proper { IfOk result (λ part. part_fits_sealed_text part ≡ true) }
     ensures asks { Asks (always 2) (W.history state.old.store.now) (W.history state.new.store.now)
         (GivenOf (MayCopy bucket.now id from_bucket.now from_key.now head.now))
         (CopiesPiece bucket.now id from_bucket.now from_key.now at piece moment) result }
 {
-    let bytes = get_piece(alloc, state, from_bucket, from_key, head, at, piece.size)?;
-    put_segment(alloc, state, bucket, id, piece.number, bytes, moment)
+    let bytes = get_piece_to_copy(alloc, state, from_bucket, from_key, head, at, piece.size)?;
+    put_copied_segment(alloc, state, bucket, id, piece.number, bytes, moment)
 }
 
 /// So many bytes of an object from this place on, by GET of the range.
-fn get_piece<W: Swift>(
+fn get_piece_to_copy<W: Swift>(
     alloc: Global,
     state: &mut Settled<'_, W>,
     bucket: &Bytes,
@@ -134,10 +134,10 @@ fn get_piece<W: Swift>(
         head.size,
         Some((at, at + size - 1)),
     )?;
-    sized(told, size)
+    piece_to_copy_of_size(told, size)
 }
 
-fn sized(told: Option<Bytes>, size: u64) -> Result<Bytes, PlanFault>
+fn piece_to_copy_of_size(told: Option<Bytes>, size: u64) -> Result<Bytes, PlanFault>
     ensures due { result ≡ sized_due size told }
     ensures own { result ≢ Err fault.Failed }
     ensures sized { IfOk result (λ bytes. length bytes ≡ size) }
@@ -158,7 +158,7 @@ fn sized(told: Option<Bytes>, size: u64) -> Result<Bytes, PlanFault>
 /// replace object"). At most one call, and the S3 state stays. The moment is in seconds since the beginning of 1970, before the
 /// year 10000. Inconsistent never comes over an observable consistent account on which the bucket is there and nothing names the
 /// id.
-fn put_segment<W: Swift>(
+fn put_copied_segment<W: Swift>(
     alloc: Global,
     state: &mut Settled<'_, W>,
     bucket: &Bytes,
@@ -174,7 +174,7 @@ fn put_segment<W: Swift>(
     ensures stays { Stays state.old state.new }
     ensures number { IfOk result (λ part. part.number ≡ number) }
     ensures size { IfOk result (λ part. part.size ≡ length body) }
-    ensures proper { IfOk result (λ part. is_sealed_part part ≡ true) }
+    ensures proper { IfOk result (λ part. part_fits_sealed_text part ≡ true) }
     ensures asks { Asks (always 1) (W.history state.old.store.now) (W.history state.new.store.now)
         (GivenOf (IsUnnamed bucket.now id)) (PutsSegment bucket.now id number body moment) result }
 {
@@ -184,11 +184,11 @@ fn put_segment<W: Swift>(
         etag: Bytes::from_slice(alloc, &etag)?,
         size: body.len() as u64,
     };
-    put_part_file(alloc, state, bucket, id, part, body, &etag, moment)
+    put_copied_segment_file(alloc, state, bucket, id, part, body, &etag, moment)
 }
 
 /// Puts the segment that is this part, of bytes with this ETag.
-fn put_part_file<W: Swift>(
+fn put_copied_segment_file<W: Swift>(
     alloc: Global,
     state: &mut Settled<'_, W>,
     bucket: &Bytes,
@@ -214,16 +214,20 @@ fn put_part_file<W: Swift>(
     law_orphan_put();
     let request = part_request(alloc, bucket, id, part.number, body, etag, moment)?;
     let reply = state.call(request)?;
-    told_in(reply, etag, part)
+    copied_segment_in_reply(reply, etag, part)
 }
 
 /// The answer to PUT of the segment that is this part, whose bytes have this ETag.
-fn told_in(reply: SwiftReply, etag: &[u8], part: SealedPart) -> Result<SealedPart, PlanFault>
+fn copied_segment_in_reply(
+    reply: SwiftReply,
+    etag: &[u8],
+    part: SealedPart,
+) -> Result<SealedPart, PlanFault>
     ensures due { result ≡ told_due part (stored_due etag.now reply) }
     ensures own { result ≢ Err fault.Failed }
     ensures told { IfOk result (λ told. told ≡ part) }
 {
-    let stored = stored_in(&reply, etag);
+    let stored = interpret_put_with_etag(&reply, etag);
     drop(reply);
     match stored {
         Ok(()) => Ok(part),

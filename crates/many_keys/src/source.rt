@@ -6,7 +6,7 @@ ghost use Rattle.recovery.specs.Calls.{always, Asks, Given, Tells, TellsBytes, T
 ghost use Rattle.recovery.specs.Interpret.{IsShownHead};
 ghost use Rattle.recovery.specs.Lent.{Stays};
 ghost use Rattle.s3_machine.specs.Limits.{is_content_type, is_proper_meta};
-ghost use Rattle.many_keys.specs.Copies.{IsProperHead, body_due, content_of, is_proper_head, is_source_body, proper_due};
+ghost use Rattle.many_keys.specs.Copies.{IsProperHead, body_due, content_of, is_head_to_copy, is_body_to_copy, proper_due};
 
 use gate_base::Bytes;
 use recovery::{PlanFault, Settled, get_object, head_object};
@@ -33,18 +33,18 @@ pub(crate) fn head_source<W: Swift>(
 {
     law_object_proper();
     let told = head_object(alloc, state, bucket, key)?;
-    proper(told)
+    proper_head_to_copy(told)
 }
 
 /// What HEAD of a source comes to, by what it told.
-fn proper(told: Option<ObjectHead>) -> Result<Option<ObjectHead>, PlanFault>
+fn proper_head_to_copy(told: Option<ObjectHead>) -> Result<Option<ObjectHead>, PlanFault>
     requires shown { IsShownHead told }
     ensures due { result ≡ proper_due told }
     ensures proper { IfOk result (λ told. IfSome told IsProperHead) }
 {
     match told {
         Some(head) => {
-            if is_proper_head(&head) {
+            if is_head_to_copy(&head) {
                 Ok(Some(head))
             } else {
                 Err(PlanFault::Inconsistent)
@@ -54,8 +54,8 @@ fn proper(told: Option<ObjectHead>) -> Result<Option<ObjectHead>, PlanFault>
     }
 }
 
-fn is_proper_head(head: &ObjectHead) -> bool
-    ensures { result ≡ is_proper_head head.now }
+fn is_head_to_copy(head: &ObjectHead) -> bool
+    ensures { result ≡ is_head_to_copy head.now }
 {
     is_content_type(head.content_type.as_slice())
         && is_proper_meta(&head.meta)
@@ -65,7 +65,7 @@ fn is_proper_head(head: &ObjectHead) -> bool
 /// The bytes of an object with this head, which was put in one piece ([`recovery::get_object`]), by one call. They are hashed:
 /// bytes of another size or with another ETag than the head has are Inconsistent, and so is an object that is gone. The other
 /// faults are those of the call.
-pub(crate) fn read_source<W: Swift>(
+pub(crate) fn get_source_to_copy<W: Swift>(
     alloc: Global,
     state: &mut Settled<'_, W>,
     bucket: Bytes,
@@ -78,7 +78,7 @@ pub(crate) fn read_source<W: Swift>(
     ensures asks { Asks (always 1) (W.history state.old.store.now) (W.history state.new.store.now)
         (Given (λ s. TellsObject bucket key s (Some head.now)))
         (Tells (λ s body. TellsBytes bucket key None s (Some body))) result }
-    ensures body { IfOk result (λ body. is_source_body head.now body ≡ true) }
+    ensures body { IfOk result (λ body. is_body_to_copy head.now body ≡ true) }
 {
     law_object_proper();
     let told = get_object(
@@ -90,26 +90,26 @@ pub(crate) fn read_source<W: Swift>(
         head.size,
         None,
     )?;
-    body_of(head, told)
+    body_to_copy(head, told)
 }
 
 /// What GET of a source with this head comes to, by what it told.
-fn body_of(head: &ObjectHead, told: Option<Bytes>) -> Result<Bytes, PlanFault>
+fn body_to_copy(head: &ObjectHead, told: Option<Bytes>) -> Result<Bytes, PlanFault>
     ensures due { result ≡ body_due head.now told }
-    ensures body { IfOk result (λ body. is_source_body head.now body ≡ true) }
+    ensures body { IfOk result (λ body. is_body_to_copy head.now body ≡ true) }
 {
     let Some(bytes) = told else {
         return Err(PlanFault::Inconsistent);
     };
     let body = Body::new(bytes);
-    if !is_source_body(head, &body) {
+    if !is_body_to_copy(head, &body) {
         return Err(PlanFault::Inconsistent);
     }
     Ok(body.into_bytes())
 }
 
-fn is_source_body(head: &ObjectHead, body: &Body) -> bool
-    ensures { result ≡ is_source_body head.now body.now }
+fn is_body_to_copy(head: &ObjectHead, body: &Body) -> bool
+    ensures { result ≡ is_body_to_copy head.now body.now }
 {
     let size = body.as_slice().len() as u64;
     size == head.size && size <= MOST_BODY_BYTES && head.etag.as_slice() == body.etag().as_slice()

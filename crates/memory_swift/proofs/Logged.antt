@@ -13,7 +13,7 @@ use Rattle.gate_base.specs.Causes.{RisesIf, Rose}
 use Rattle.swift_calls.specs.Account.{SwiftAccount}
 use Rattle.swift_calls.specs.Step.{Fit, swift_step}
 use Rattle.swift_calls.specs.History.{Extends}
-use Rattle.swift_calls.specs.Replay.{loses_none, outcome_at}
+use Rattle.swift_calls.specs.Replay.{loses_none, replay_outcome_at}
 use Rattle.swift_calls.specs.declared.calls.SwiftRequest.{SwiftRequest}
 use Rattle.swift_calls.specs.declared.memory.Outcome.{Outcome}
 use Rattle.swift_calls.specs.declared.memory.Outcome.TheVariants.{Answered, LostAfter}
@@ -45,7 +45,7 @@ pub sure_noted : {T : Type 0} (own : T → Bool) (old new later : T) (before aft
 sure_noted own old new later before after before' after' keep stays = sure_kept _ _ _ _ _ _ (λ s. ap own stays ∙ keep s)
 
 -- no exchange is lost
-pub never_lost : (own : Bool) (before after : List ℕ) (number : ℕ) (outcome : Outcome) (lost : Bool) → outcome ≡ outcome_at before after 0 number → lost ≡ true
+pub never_lost : (own : Bool) (before after : List ℕ) (number : ℕ) (outcome : Outcome) (lost : Bool) → outcome ≡ replay_outcome_at before after 0 number → lost ≡ true
     → (outcome ≡ Answered → IsTrue own → lost ≡ false) → IsTrue (is_sure_by own before after) → ⊥
 never_lost own before after number outcome lost is is_lost none sure =
     let p = and_parts _ _ sure in true≢false (sym is_lost ∙ none (is ∙ all_answered before after 0 number p.1) p.0)

@@ -1,5 +1,5 @@
-//! A Swift store in memory for tests, reached through the same HTTP messages as one over a network: a client whose link
-//! hands each request to a store at hand, and loses messages by their numbers.
+//! A Swift store in memory, for tests and for the command `session`, reached through the same HTTP messages as one over a
+//! network: a client whose link hands each request to a store at hand, and loses messages by their numbers.
 #![tactic(auto)]
 
 mod made;

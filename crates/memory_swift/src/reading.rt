@@ -9,22 +9,22 @@ use http_wire::{Got, Message, ReadFault, Reader};
 use std::alloc::Global;
 
 /// The message that the bytes are; none where they are no message, or where others stand behind it.
-pub(crate) fn message_in(alloc: Global, bytes: &[u8]) -> Result<Option<Message>, Memory>
+pub(crate) fn message_at_hand(alloc: Global, bytes: &[u8]) -> Result<Option<Message>, Memory>
     ensures { IfOk result (IsMessageIn bytes.now) }
 {
-    let mut line = open_line_over(alloc, bytes)?;
+    let mut line = open_line_at_hand(alloc, bytes)?;
     let mut reader = Reader::new(alloc)?;
-    read_alone(&mut reader, &mut line)
+    read_message_at_hand(&mut reader, &mut line)
 }
 
 /// The message that is all of the bytes on the line.
-fn read_alone(reader: &mut Reader, line: &mut MemLine) -> Result<Option<Message>, Memory>
+fn read_message_at_hand(reader: &mut Reader, line: &mut MemLine) -> Result<Option<Message>, Memory>
     requires open { IsTrue (is_open_of line.old) }
     requires goes { reader.old.ended ≡ false }
     ensures { IfOk result (IsMessageIn (reader.old.bytes ++ (transcript_of line.old).rest)) }
 {
-    match next_of(reader, line)? {
-        Got::Request(message) => match next_of(reader, line)? {
+    match read_next_at_hand(reader, line)? {
+        Got::Request(message) => match read_next_at_hand(reader, line)? {
             Got::End => Ok(Some(message)),
             Got::Request(_) => Ok(None),
             Got::CutShort(_) => Ok(None),
@@ -38,7 +38,7 @@ fn read_alone(reader: &mut Reader, line: &mut MemLine) -> Result<Option<Message>
 
 /// What stands next on the line. It is in memory, so it fails only where memory runs out: for the interim line that the
 /// reader writes.
-fn next_of(reader: &mut Reader, line: &mut MemLine) -> Result<Got, Memory>
+fn read_next_at_hand(reader: &mut Reader, line: &mut MemLine) -> Result<Got, Memory>
     requires open { IsTrue (is_open_of line.old) }
     ensures open { IsTrue (is_open_of line.new) }
     ensures ends { IfOk result (λ got. reader.new.ended ≡ ends (Ok got)) }
@@ -54,7 +54,7 @@ fn next_of(reader: &mut Reader, line: &mut MemLine) -> Result<Got, Memory>
 }
 
 /// A line whose open connection has the bytes.
-fn open_line_over(alloc: Global, bytes: &[u8]) -> Result<MemLine, Memory>
+fn open_line_at_hand(alloc: Global, bytes: &[u8]) -> Result<MemLine, Memory>
     ensures open { IfOk result (λ line. IsTrue (is_open_of line)) }
     ensures rest { IfOk result (λ line. (transcript_of line).rest ≡ bytes.now) }
 {

@@ -9,7 +9,7 @@ ghost use Rattle.swift_requests.specs.Place.{IsPlace};
 ghost use Rattle.swift_store.specs.Serving.{Served};
 ghost use Rattle.swift_store.specs.Shelf.{ShelfKeeps};
 
-use crate::reading::message_in;
+use crate::reading::message_at_hand;
 use gate_base::{Bytes, Memory};
 use http_wire::Message;
 use std::alloc::Global;
@@ -76,7 +76,7 @@ impl<S: Shelf> Store<S> {
             result }
     {
         law_reads_back();
-        match message_in(self.alloc, bytes)? {
+        match message_at_hand(self.alloc, bytes)? {
             Some(message) => match self.serve(message, out) {
                 Ok(()) => Ok(false),
                 Err(StoreFault::Failed) => Ok(true),

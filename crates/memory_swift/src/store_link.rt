@@ -6,7 +6,7 @@ ghost use Rattle.std.proofs.lemmas.List.{take-take};
 ghost use Rattle.std.proofs.lemmas.List.Sums.{sum_by-take-le};
 ghost use Rattle.gate_base.specs.Causes.{Rose};
 ghost use Rattle.swift_calls.specs.History.{budget};
-ghost use Rattle.swift_calls.specs.Replay.{outcome_at};
+ghost use Rattle.swift_calls.specs.Replay.{replay_outcome_at};
 ghost use Rattle.swift_calls.specs.Step.{Fit};
 ghost use Rattle.swift_calls.specs.declared.calls.SwiftRequest.{SwiftRequest};
 ghost use Rattle.swift_requests.specs.Calls.{SpellsRequest};
@@ -63,7 +63,7 @@ impl<S: Shelf> StoreLink<S> {
 
     /// How the exchange of a number goes.
     fn outcome(&self, number: u64) -> Outcome
-        ensures { result ≡ outcome_at self.now.before self.now.after 0 number }
+        ensures { result ≡ replay_outcome_at self.now.before self.now.after 0 number }
     {
         if self.before.as_slice().contains(&number) {
             Outcome::LostBefore
@@ -89,7 +89,7 @@ impl<S: Shelf> StoreLink<S> {
 
 /// Hands a request to the store, as the outcome says. True where no answer comes.
 #[tactic(auto, using(crate::proofs::Logged::served_untold))]
-fn hand_by<S: Shelf>(
+fn hand_or_lose_message<S: Shelf>(
     outcome: Outcome,
     store: &mut Store<S>,
     request: &[u8],
@@ -193,7 +193,7 @@ impl<S: Shelf> Link for StoreLink<S> {
         let was = Snapshot::of(&self.store);
         let mut answer = Bytes::new(self.store.alloc);
         let outcome = self.outcome(number);
-        let lost = hand_by(outcome, &mut self.store, request, &mut answer)?;
+        let lost = hand_or_lose_message(outcome, &mut self.store, request, &mut answer)?;
         self.note(was, lost);
         if lost {
             return Err(LinkFault::Failed);

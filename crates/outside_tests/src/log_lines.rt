@@ -2,7 +2,9 @@
 //! docs/OPERATING.md.
 use gate_base::{Bytes, Memory};
 use std::alloc::Global;
-use wire_log::{Cause, Entry, append_request, entry_line, moment_text, unread_cause};
+use wire_log::{
+    Cause, Entry, append_request_for_log, log_entry_line, logged_cause_of_answer, moment_text,
+};
 
 #[test]
 fn moments_are_written(rt: HostRuntime) {
@@ -30,7 +32,7 @@ fn moments_are_written(rt: HostRuntime) {
 /// What the log shows of a request with that first line.
 fn shown(alloc: Global, line: &[u8]) -> Result<Bytes, Memory> {
     let mut text = Bytes::new(alloc);
-    append_request(&mut text, line)?;
+    append_request_for_log(&mut text, line)?;
     Ok(text)
 }
 
@@ -98,7 +100,7 @@ fn an_entry_has_nine_fields(rt: HostRuntime) {
         took: 12,
     };
     let wanted: &[u8] = b"2026-11-28T12:34:56.789Z 17 GET /photos/a 200 c0ffee 1834 3 12\n";
-    let line = entry_line(rt.alloc(), &entry);
+    let line = log_entry_line(rt.alloc(), &entry);
     assert!(rt; line.is_ok_and(|line| line.as_slice() == wanted));
     let unknown = Entry {
         moment: 0,
@@ -111,20 +113,23 @@ fn an_entry_has_nine_fields(rt: HostRuntime) {
         took: 0,
     };
     let wanted: &[u8] = b"1970-01-01T00:00:00.000Z 1 - - 503 - - 0 0\n";
-    let line = entry_line(rt.alloc(), &unknown);
+    let line = log_entry_line(rt.alloc(), &unknown);
     assert!(rt; line.is_ok_and(|line| line.as_slice() == wanted));
 }
 
 #[test]
 fn an_answer_that_spells_nothing_has_a_cause(rt: HostRuntime) {
     assert_eq!(rt;
-        unread_cause(b"HTTP/1.1 401 Unauthorized\r\n\r\n"),
+        logged_cause_of_answer(b"HTTP/1.1 401 Unauthorized\r\n\r\n"),
         Cause::Answered(401)
     );
     assert_eq!(rt;
-        unread_cause(b"HTTP/1.1 403 Forbidden\r\n\r\n"),
+        logged_cause_of_answer(b"HTTP/1.1 403 Forbidden\r\n\r\n"),
         Cause::Answered(403)
     );
-    assert_eq!(rt; unread_cause(b"HTTP/1.1 500 x\r\n\r\n"), Cause::Unread(500));
-    assert_eq!(rt; unread_cause(b""), Cause::Other);
+    assert_eq!(rt;
+        logged_cause_of_answer(b"HTTP/1.1 500 x\r\n\r\n"),
+        Cause::Unread(500)
+    );
+    assert_eq!(rt; logged_cause_of_answer(b""), Cause::Other);
 }

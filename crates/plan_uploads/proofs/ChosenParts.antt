@@ -11,7 +11,7 @@ use Rattle.s3_machine.specs.declared.items.PartItem.{PartItem}
 use Rattle.s3_machine.specs.declared.operation.Listed.{Listed}
 use Rattle.upload_records.specs.Native.{listed_of}
 use Rattle.upload_texts.specs.declared.sealed.SealedPart.{SealedPart}
-use Rattle.plan_uploads.specs.Completing.{by_number, has_small, listed_part, listed_parts, size_listed}
+use Rattle.plan_uploads.specs.Completing.{by_number, has_small_chosen_part, listed_part, listed_parts, size_of_chosen_part}
 use Rattle.plan_uploads.proofs.PartsListed.{part_with}
 
 -- a part of a list, and the part of the upload that it names
@@ -46,7 +46,7 @@ etags_in : (parts : Numbers Part) (rows : List Row) → AllByRecursion (Names pa
 etags_in parts [] names = refl
 etags_in parts (row ∷ rows) names = λ i. names.0.same i ∷ etags_in parts rows names.1 i
 
-small_in : (least : ℕ) (rows : List Row) → is_too_small least (map part_in rows) ≡ has_small least (map sealed_in rows)
+small_in : (least : ℕ) (rows : List Row) → is_too_small least (map part_in rows) ≡ has_small_chosen_part least (map sealed_in rows)
 small_in least [] = refl
 small_in least (row ∷ []) = refl
 small_in least (row ∷ (next ∷ rows)) = ap (λ t. nat_lt (length row.1.bytes) least || t) (small_in least (next ∷ rows))
@@ -67,8 +67,8 @@ module _ {parts : Numbers Part} {list : List Listed} {ps : List Part} {sealed : 
   pub sealed_have_etags : map (λ (p : SealedPart). p.etag) sealed ≡ map etag_listed list
   sealed_have_etags = ap (map (λ (p : SealedPart). p.etag)) chooses.seals ∙ sealed_etags chooses.rows ∙ ap (map etag_listed) (sym chooses.lists)
 
-  pub same_small : (least : ℕ) → is_too_small least ps ≡ has_small least sealed
-  same_small least = ap (is_too_small least) chooses.takes ∙ small_in least chooses.rows ∙ ap (has_small least) (sym chooses.seals)
+  pub same_small : (least : ℕ) → is_too_small least ps ≡ has_small_chosen_part least sealed
+  same_small least = ap (is_too_small least) chooses.takes ∙ small_in least chooses.rows ∙ ap (has_small_chosen_part least) (sym chooses.seals)
 
   -- what is sealed lists the same
   pub same_list : map listed_of sealed ≡ list
@@ -99,7 +99,7 @@ module _ (parts : Numbers Part) (items : List PartItem) (found : (q : ℕ) → g
   tested l list p is false other (Some sealed) taken (ps, takes, chooses) = ap (chosen_two (Some p) l.etag) takes ∙ ap (λ t. cond t (Some (p ∷ ps)) None) other
 
   one : (l : Listed) (list : List Listed) (v : Option Part) → get parts l.number ≡ v → (r : Option (List SealedPart)) (taken : Option (List Part)) → Choice list r taken
-      → Choice (l ∷ list) (listed_part (size_listed (option_map (λ p. part_item (l.number, p)) v) l.etag) l r) (chosen_two v l.etag taken)
+      → Choice (l ∷ list) (listed_part (size_of_chosen_part (option_map (λ p. part_item (l.number, p)) v) l.etag) l r) (chosen_two v l.etag taken)
   one l list None none r taken rest = refl
   one l list (Some p) is r taken rest = tested l list p is (bytes_eq p.etag l.etag) refl r taken rest
 
@@ -107,7 +107,7 @@ module _ (parts : Numbers Part) (items : List PartItem) (found : (q : ℕ) → g
   unfolding listed_parts chosen
   choice [] = ([], refl, record { rows = []; names = tt; lists = refl; takes = refl; seals = refl })
   choice (l ∷ list) =
-      subst (λ o. Choice (l ∷ list) (listed_part (size_listed o l.etag) l (listed_parts (by_number items) list)) (chosen_two (get parts l.number) l.etag (chosen parts list))) (sym (found l.number))
+      subst (λ o. Choice (l ∷ list) (listed_part (size_of_chosen_part o l.etag) l (listed_parts (by_number items) list)) (chosen_two (get parts l.number) l.etag (chosen parts list))) (sym (found l.number))
       (one l list (get parts l.number) refl (listed_parts (by_number items) list) (chosen parts list) (choice list))
 
   -- where a part of the list isn't there, the machine finds none either

@@ -26,7 +26,7 @@ use Rattle.s3_machine.specs.declared.operation.Settings.{Settings}
 use Rattle.swift_calls.specs.Account.{SwiftAccount, SwiftObject, files}
 use Rattle.swift_calls.specs.Bodies.{plain_bytes}
 use Rattle.upload_texts.specs.Places.{is_part_count, json_or_null}
-use Rattle.upload_texts.specs.Records.{has_record_text, is_kept_content, read_record, record_in, record_text}
+use Rattle.upload_texts.specs.Records.{has_record_text, content_fits_record_text, read_record, record_in, record_text}
 use Rattle.upload_texts.specs.Sealed.{has_sealed_text}
 use Rattle.upload_texts.specs.declared.record.Record.{Record}
 use Rattle.upload_texts.specs.declared.record.Record.TheVariants.{Open}
@@ -37,7 +37,7 @@ use Rattle.upload_records.specs.Native.{listed_of, part_at, parts_of, record_at,
 use Rattle.upload_records.specs.Consistent.{Agrees, IsConsistent, SealedIn}
 use Rattle.recovery.specs.Listing.{TellsOf}
 use Rattle.plan_uploads.specs.declared.completed.Opened.{Opened}
-use Rattle.plan_uploads.specs.Completing.{Ascend, HasParts, IsOpenAs, MayComplete, by_number, completion_of, finishes, has_small, listed_parts}
+use Rattle.plan_uploads.specs.Completing.{Ascend, HasParts, IsOpenAs, MayComplete, by_number, completion_of, finishes, has_small_chosen_part, listed_parts}
 use Rattle.plan_uploads.specs.Records.{TellsParts, items_above}
 use Rattle.plan_uploads.proofs.ByNumber.{all_listed, found_by_number, items_ascend}
 use Rattle.plan_uploads.proofs.ChosenParts.{Chooses, chosen_found, chosen_missing, same_etags, same_list, same_small, sealed_have_etags}
@@ -72,13 +72,13 @@ stands_with_text records text r reads = by (get records text) reads
 
 -- what a record of an open upload keeps
 pub record KeepsOpen (content_type : List ℕ) (meta : List Pair) (started : ℕ) : Type 0 where
-  pub content : is_kept_content content_type meta ≡ true
+  pub content : content_fits_record_text content_type meta ≡ true
   pub dated : nat_lt started moment_limit ≡ true
 
 keeps_open : (key content_type : List ℕ) (meta : List Pair) (started : ℕ) → has_record_text (Open key content_type meta started) ≡ true → KeepsOpen content_type meta started
 unfolding has_record_text
 keeps_open key content_type meta started has =
-    let rest = and_parts (is_kept_content content_type meta) (nat_lt started moment_limit) (and_parts (is_key key) _ has).1 in
+    let rest = and_parts (content_fits_record_text content_type meta) (nat_lt started moment_limit) (and_parts (is_key key) _ has).1 in
     record { content = rest.0; dated = rest.1 }
 
 few_parts : (n : ℕ) → n ≤ most_parts → n ≤ 10000
@@ -93,8 +93,8 @@ pub listed_as : (parts : List PartItem) {slice list : List Listed} {told : Optio
 listed_as parts same tells value is ascend = ap (listed_parts (by_number parts)) (sym same) ∙ sym (tells ascend) ∙ is
 
 -- and whether one is too small
-pub small_as : {here settings : Settings} {slice sealed : List SealedPart} {told : Bool} → here ≡ settings → slice ≡ sealed → told ≡ has_small here.least_part slice → (value : Bool) → told ≡ value → has_small settings.least_part sealed ≡ value
-small_as set same tells value is = (λ k. has_small (sym set k).least_part (sym same k)) ∙ sym tells ∙ is
+pub small_as : {here settings : Settings} {slice sealed : List SealedPart} {told : Bool} → here ≡ settings → slice ≡ sealed → told ≡ has_small_chosen_part here.least_part slice → (value : Bool) → told ≡ value → has_small_chosen_part settings.least_part sealed ≡ value
+small_as set same tells value is = (λ k. has_small_chosen_part (sym set k).least_part (sym same k)) ∙ sym tells ∙ is
 
 -- ---- an upload that is open under the text of its id
 
@@ -129,11 +129,11 @@ module _ (tree : SwiftAccount) (bucket key : List ℕ) (opened : Opened) (parts 
         chose = chosen_found (parts_of segments text) parts found list sealed (lists parts_ascend)
 
         -- one is too small
-        pub too_small : has_small settings.least_part sealed ≡ true → S3Step settings (s3_state tree) (CompleteUpload bucket key text list) label (Refused EntityTooSmall) (s3_state tree)
+        pub too_small : has_small_chosen_part settings.least_part sealed ≡ true → S3Step settings (s3_state tree) (CompleteUpload bucket key text list) label (Refused EntityTooSmall) (s3_state tree)
         too_small small = small_refused tree bucket key text opened is has.opens settings list label ascends chose.0 chose.1 (same_small chose.2 settings.least_part ∙ small)
 
   module _ (has : HasParts bucket key id opened parts tree) (settings : Settings) (list : List Listed) (label : Label) (ascends : rises list ≡ true)
-      (sealed : List SealedPart) (lists : Ascend parts → listed_parts (by_number parts) list ≡ Some sealed) (large : has_small settings.least_part sealed ≡ false) where
+      (sealed : List SealedPart) (lists : Ascend parts → listed_parts (by_number parts) list ≡ Some sealed) (large : has_small_chosen_part settings.least_part sealed ≡ false) where
     abbrev s : Sealed
     s = completion_of bucket key opened sealed list label.moment
 
@@ -203,7 +203,7 @@ module _ (tree : SwiftAccount) (bucket key : List ℕ) (opened : Opened) (parts 
 
   -- so it is under whatever text is that of its id
   pub may_complete : (text : List ℕ) → HasParts bucket key text opened parts tree → (settings : Settings) (list : List Listed) (label : Label) → rises list ≡ true
-      → (sealed : List SealedPart) → (Ascend parts → listed_parts (by_number parts) list ≡ Some sealed) → has_small settings.least_part sealed ≡ false
+      → (sealed : List SealedPart) → (Ascend parts → listed_parts (by_number parts) list ≡ Some sealed) → has_small_chosen_part settings.least_part sealed ≡ false
       → IsPlace bucket key → IsProperList list → label.moment < moment_limit → opened.id < 2 ^ 128 → MayComplete settings text list label (completion_of bucket key opened sealed list label.moment) tree
   may_complete text has settings list label ascends sealed lists large place proper dated small =
       subst (λ t. MayComplete settings t list label (completion_of bucket key opened sealed list label.moment) tree) (sym has.opens.is)

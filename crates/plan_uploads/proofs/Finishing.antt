@@ -28,7 +28,7 @@ use Rattle.recovery.specs.declared.state.Known.TheVariants.{Settled, Unsure}
 use Rattle.recovery.proofs.lemmas.Agree.{last_within, passes_once, passes_rest, passes_still}
 use Rattle.recovery.proofs.lemmas.Ends.{met_within}
 use Rattle.recovery.proofs.lemmas.Idle.{goes_trans}
-use Rattle.plan_uploads.specs.Completing.{CompletesBy, MaySeal, Seals, completing_by, finishes}
+use Rattle.plan_uploads.specs.Completing.{CompletesBy, MaySeal, Seals, end_complete_upload_sealed, finishes}
 use Rattle.plan_uploads.specs.declared.complete.Completing.{Completing}
 use Rattle.plan_uploads.proofs.Behind.{commits_agree}
 
@@ -133,19 +133,19 @@ module _ (settings : Settings) (s : Sealed) (text : List ℕ) (list : List Liste
     }
 
     cause_by : (finished : Result (Unit {0}) PlanFault) → CausesFault b.faults c.faults finished
-        → CausesEnd (ends_by_commit (asked s text list) (reply_of (completing_by finished (completes s)).end)) a.faults c.faults (completing_by finished (completes s)).end
+        → CausesEnd (ends_by_commit (asked s text list) (reply_of (end_complete_upload_sealed finished (completes s)).end)) a.faults c.faults (end_complete_upload_sealed finished (completes s)).end
     cause_by (Ok done) cause = λ e. cc
     cause_by (Err Failed) cause = λ e. cc
     cause_by (Err Memory) cause = λ e. cc
     cause_by (Err Inconsistent) cause = cause ∙ seals.cause
 
-    own_by : (finished : Result (Unit {0}) PlanFault) → IfOk (completing_by finished (completes s)).end IsOwnReply
+    own_by : (finished : Result (Unit {0}) PlanFault) → IfOk (end_complete_upload_sealed finished (completes s)).end IsOwnReply
     own_by (Ok done) = completed_is_own s
     own_by (Err Failed) = completed_is_own s
     own_by (Err Memory) = completed_is_own s
     own_by (Err Inconsistent) = tt
 
-    knows_by : (finished : Result (Unit {0}) PlanFault) → (finished ≡ Ok tt → IsSettled (present c)) → IsKnown (completing_by finished (completes s)).known (present c)
+    knows_by : (finished : Result (Unit {0}) PlanFault) → (finished ≡ Ok tt → IsSettled (present c)) → IsKnown (end_complete_upload_sealed finished (completes s)).known (present c)
     knows_by (Ok done) settled = λ is. settled refl
     knows_by (Err Failed) settled = λ is. absurd (let no : Unsure ≡ Settled = is in cc)
     knows_by (Err Memory) settled = λ is. absurd (let no : Unsure ≡ Settled = is in cc)
@@ -164,7 +164,7 @@ module _ (settings : Settings) (s : Sealed) (text : List ℕ) (list : List Liste
         consistent = λ e. cc;
       }
 
-      ends_by : (finished : Result (Unit {0}) PlanFault) → Keeps c b.called c.called (Leaves IsSettled) finished → EndsPlan settings c a.called c.called (asked s text list) label (completing_by finished (completes s)).end
+      ends_by : (finished : Result (Unit {0}) PlanFault) → Keeps c b.called c.called (Leaves IsSettled) finished → EndsPlan settings c a.called c.called (asked s text list) label (end_complete_upload_sealed finished (completes s)).end
       ends_by (Ok done) keeps = completed_by keeps.0
       ends_by (Err Failed) keeps = completed_by keeps.0
       ends_by (Err Memory) keeps = completed_by keeps.0
@@ -172,7 +172,7 @@ module _ (settings : Settings) (s : Sealed) (text : List ℕ) (list : List Liste
 
     -- they amount to the operation
     amounts : Plans (always 4) a c settings (GivenOf (CompletesBy settings text list label s)) (asked s text list) label
-        (completing_by finished (completes s)).known (completing_by finished (completes s)).end
+        (end_complete_upload_sealed finished (completes s)).known (end_complete_upload_sealed finished (completes s)).end
     amounts = record {
       grows = record { on = goes_trans seals.grows.on asks.grows.on; calls = let near = seals.grows.calls in let far = asks.grows.calls in omega (arith, near, far) };
       cause = cause_by finished asks.cause;
@@ -188,7 +188,7 @@ module _ (settings : Settings) (s : Sealed) (text : List ℕ) (list : List Liste
     }
 
     -- what is handed on of them is their end
-    pub finished_then : (completing : Completing) (reply : Reply) → completing ≡ completing_by finished reply → reply ≡ completes s
+    pub finished_then : (completing : Completing) (reply : Reply) → completing ≡ end_complete_upload_sealed finished reply → reply ≡ completes s
         → Plans (always 4) a c settings (GivenOf (CompletesBy settings text list label s)) (asked s text list) label completing.known completing.end
     finished_then completing reply is same =
-        subst (λ (x : Completing). Plans (always 4) a c settings (GivenOf (CompletesBy settings text list label s)) (asked s text list) label x.known x.end) (sym (is ∙ ap (completing_by finished) same)) amounts
+        subst (λ (x : Completing). Plans (always 4) a c settings (GivenOf (CompletesBy settings text list label s)) (asked s text list) label x.known x.end) (sym (is ∙ ap (end_complete_upload_sealed finished) same)) amounts

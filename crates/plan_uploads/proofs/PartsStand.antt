@@ -19,7 +19,7 @@ use Rattle.slo_manifest.specs.Segments.{is_etag}
 use Rattle.swift_calls.specs.Account.{SwiftObject, SwiftAccount, files}
 use Rattle.swift_calls.specs.Bodies.{etag_text, plain_bytes}
 use Rattle.swift_calls.specs.declared.account.Content.TheVariants.{Plain}
-use Rattle.upload_texts.specs.Sealed.{is_sealed_part}
+use Rattle.upload_texts.specs.Sealed.{part_fits_sealed_text}
 use Rattle.upload_texts.specs.declared.sealed.SealedPart.{SealedPart}
 use Rattle.upload_records.specs.Layout.{segment_name, segments_name}
 use Rattle.upload_records.specs.Native.{part_at, part_by, part_bytes, part_of, parts_of, sealed_bytes}
@@ -101,7 +101,7 @@ module _ (tree : SwiftAccount) (bucket id : List ℕ) (is : is_bucket bucket ≡
         sealed_parts rows names.1,
       )
 
-  one_fits : (row : Row) → Names (parts_of segments id) row → is_sealed_part (sealed_in row) ≡ true
+  one_fits : (row : Row) → Names (parts_of segments id) row → part_fits_sealed_text (sealed_in row) ≡ true
   one_fits row names =
       let stand = stands row.0.number row.1 names.there in
       let low = stand.counted.counted in
@@ -109,7 +109,7 @@ module _ (tree : SwiftAccount) (bucket id : List ℕ) (is : is_bucket bucket ≡
       and_from _ _ (and_from _ _ (and_from _ _ (le-leb 1 row.0.number low) (le-leb row.0.number greatest_part high)) (ap is_etag (sym names.same ∙ stand.etag) ∙ part_etag row.1.bytes))
       (le-leb (length row.1.bytes) most_body_bytes stand.sized)
 
-  parts_fit : (rows : List Row) → AllByRecursion (Names (parts_of segments id)) rows → list_all is_sealed_part (map sealed_in rows) ≡ true
+  parts_fit : (rows : List Row) → AllByRecursion (Names (parts_of segments id)) rows → list_all part_fits_sealed_text (map sealed_in rows) ≡ true
   parts_fit [] names = refl
   parts_fit (row ∷ rows) names = and_from _ _ (one_fits row names.0) (parts_fit rows names.1)
 
@@ -123,5 +123,5 @@ module _ (tree : SwiftAccount) (bucket id : List ℕ) (is : is_bucket bucket ≡
     are_sealed = subst (AreSealedParts segments id) (sym chooses.seals) (sealed_parts chooses.rows chooses.names)
 
     -- and a text may have each
-    pub parts_have_text : list_all is_sealed_part sealed ≡ true
-    parts_have_text = ap (list_all is_sealed_part) chooses.seals ∙ parts_fit chooses.rows chooses.names
+    pub parts_have_text : list_all part_fits_sealed_text sealed ≡ true
+    parts_have_text = ap (list_all part_fits_sealed_text) chooses.seals ∙ parts_fit chooses.rows chooses.names

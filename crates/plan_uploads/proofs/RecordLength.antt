@@ -17,7 +17,7 @@ use Rattle.s3_names.specs.Key.{is_key}
 use Rattle.s3_names.specs.Meta.{names_ascend}
 use Rattle.s3_names.proofs.lemmas.KeyLemmas.{key_length}
 use Rattle.s3_machine.specs.Limits.{bare_name, is_content_type, is_proper_meta, is_proper_pair, pair_bytes}
-use Rattle.upload_texts.specs.Places.{array_of, pair_value}
+use Rattle.upload_texts.specs.Places.{array_of, metadata_pair_json}
 use Rattle.upload_texts.specs.Records.{has_record_text, record_text}
 use Rattle.upload_texts.specs.declared.record.Record.TheVariants.{Open}
 use Rattle.plan_uploads.specs.Interpret.{most_open_text}
@@ -51,7 +51,7 @@ quoted_short s = let inner = escape_short s in let size = length-append (escape 
 abbrev pair_size : Pair → ℕ
 pair_size pair = length pair.name + length pair.value
 
-pair_short : (pair : Pair) → length (compact_text (pair_value pair)) ≤ 6 * pair_size pair + 7
+pair_short : (pair : Pair) → length (compact_text (metadata_pair_json pair)) ≤ 6 * pair_size pair + 7
 pair_short pair =
     let name = quoted_short pair.name in
     let value = quoted_short pair.value in
@@ -59,19 +59,19 @@ pair_short pair =
     let outer = length-append (quoted pair.name) (44 ∷ (quoted pair.value ++ 93 ∷ [])) in
     omega (arith, name, value, inner, outer)
 
-pairs_short : (later : Bool) (pairs : List Pair) → length (items_text later (items_of (map pair_value pairs))) ≤ 6 * sum_by pair_size pairs + 8 * length pairs + 1
+pairs_short : (later : Bool) (pairs : List Pair) → length (items_text later (items_of (map metadata_pair_json pairs))) ≤ 6 * sum_by pair_size pairs + 8 * length pairs + 1
 pairs_short later [] = omega arith
 pairs_short true (pair ∷ pairs) =
     let one = pair_short pair in
     let more = pairs_short true pairs in
     let sum = sum_by-cons pair_size pair pairs in
-    let size = length-append (compact_text (pair_value pair)) (items_text true (items_of (map pair_value pairs))) in
+    let size = length-append (compact_text (metadata_pair_json pair)) (items_text true (items_of (map metadata_pair_json pairs))) in
     omega (arith, one, more, sum, size)
 pairs_short false (pair ∷ pairs) =
     let one = pair_short pair in
     let more = pairs_short true pairs in
     let sum = sum_by-cons pair_size pair pairs in
-    let size = length-append (compact_text (pair_value pair)) (items_text true (items_of (map pair_value pairs))) in
+    let size = length-append (compact_text (metadata_pair_json pair)) (items_text true (items_of (map metadata_pair_json pairs))) in
     omega (arith, one, more, sum, size)
 
 -- what counts of a name is the name without the `-` before it
@@ -91,7 +91,7 @@ sizes (pair ∷ pairs) =
     let bytes = sum_by-cons pair_bytes pair pairs in
     omega (arith, name, more, sum, bytes)
 
-meta_short : (meta : List Pair) → is_proper_meta meta ≡ true → length (compact_text (array_of pair_value meta)) ≤ 13194
+meta_short : (meta : List Pair) → is_proper_meta meta ≡ true → length (compact_text (array_of metadata_pair_json meta)) ≤ 13194
 unfolding is_proper_meta
 meta_short meta e =
     let outer = and_parts (nat_le (length meta) 64 && list_all is_proper_pair meta) (nat_le (sum_by pair_bytes meta) 2048) e in
@@ -135,7 +135,7 @@ abbrev from_state : List ℕ → Members
 from_state content_type = member (codes "state") (string (codes "open")) (from_type content_type)
 
 abbrev from_meta : List ℕ → List Pair → Members
-from_meta content_type meta = member (codes "meta") (array_of pair_value meta) (from_state content_type)
+from_meta content_type meta = member (codes "meta") (array_of metadata_pair_json meta) (from_state content_type)
 
 abbrev from_key : List ℕ → List ℕ → List Pair → Members
 from_key key content_type meta = member (codes "key") (string key) (from_meta content_type meta)
@@ -155,7 +155,7 @@ open_short key content_type meta started keyed typed described below =
     let v = member_short true (codes "v") (number (unsigned 1)) no_members 1 1 (omega arith) version (omega arith) in
     let t = member_short true (codes "type") (string content_type) from_version 1538 36 (omega arith) (omega (arith, types, type_text)) v in
     let s = member_short true (codes "state") (string (codes "open")) (from_type content_type) 26 1608 (omega arith) (omega (arith, state)) t in
-    let m = member_short true (codes "meta") (array_of pair_value meta) (from_state content_type) 13194 1668 (omega arith) (meta_short meta described) s in
+    let m = member_short true (codes "meta") (array_of metadata_pair_json meta) (from_state content_type) 13194 1668 (omega arith) (meta_short meta described) s in
     let k = member_short true (codes "key") (string key) (from_meta content_type meta) 6146 14896 (omega arith) (omega (arith, keys, key_text)) m in
     let all = member_short false (codes "at") (number (unsigned started)) (from_key key content_type meta) 12 21076 (omega arith) moment k in
     omega (arith, all)

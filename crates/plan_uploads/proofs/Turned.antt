@@ -13,7 +13,7 @@ use Rattle.s3_machine.specs.Items.{begins, behind, with_prefix}
 use Rattle.swift_calls.specs.Account.{SwiftObject}
 use Rattle.swift_calls.specs.Limits.{IsMarker}
 use Rattle.swift_calls.specs.declared.heads.NameItem.{NameItem}
-use Rattle.list_pages.specs.Listing.{is_name_with, name_in}
+use Rattle.list_pages.specs.Listing.{is_listed_name_with_prefix, name_in}
 use Rattle.list_pages.proofs.lemmas.Sorted.{sorted_filter}
 use Rattle.list_pages.proofs.lemmas.Turning.{page_turned}
 use Rattle.recovery.proofs.lemmas.Names.{object_name}
@@ -71,9 +71,9 @@ key_is_marker name is =
     let within = text.within in
     record { within = omega (arith, within); utf8 = text.utf8; no_zero = text.no_zero }
 
-pub next_is_marker : (prefix : List ℕ) (names : List (List ℕ)) (next : List ℕ) → list_all (is_name_with prefix) names ≡ true → next_after names ≡ Some next → IsMarker next
+pub next_is_marker : (prefix : List ℕ) (names : List (List ℕ)) (next : List ℕ) → list_all (is_listed_name_with_prefix prefix) names ≡ true → next_after names ≡ Some next → IsMarker next
 next_is_marker prefix names next named is =
-    key_is_marker next (and_parts (is_key next) (begins prefix next) (all_at (is_name_with prefix) names (length names - 1) next named (next_is names next is).1)).0
+    key_is_marker next (and_parts (is_key next) (begins prefix next) (all_at (is_listed_name_with_prefix prefix) names (length names - 1) next named (next_is names next is).1)).0
 
 -- ---- what is left behind it
 
@@ -121,6 +121,6 @@ module _ (prefix marker : List ℕ) (fs : Names SwiftObject) where
       is ∙ short 1000 (items_after prefix marker fs) (omega (arith, few, length-map told name_in, ap length is))
 
 -- the marker of the next page may be one
-pub next_may_be : (prefix : List ℕ) (page : List NameItem) (next : Option (List ℕ)) → next ≡ next_after (map name_in page) → list_all (is_name_with prefix) (map name_in page) ≡ true → IfSome next IsMarker
+pub next_may_be : (prefix : List ℕ) (page : List NameItem) (next : Option (List ℕ)) → next ≡ next_after (map name_in page) → list_all (is_listed_name_with_prefix prefix) (map name_in page) ≡ true → IfSome next IsMarker
 next_may_be prefix page None is named = tt
 next_may_be prefix page (Some next) is named = next_is_marker prefix (map name_in page) next named (sym is)

@@ -22,10 +22,10 @@ use Rattle.swift_calls.specs.Bodies.{plain_bytes}
 use Rattle.swift_calls.specs.History.{History, present}
 use Rattle.swift_calls.specs.declared.account.Content.{Content}
 use Rattle.swift_calls.specs.declared.account.Content.TheVariants.{Plain, Segments}
-use Rattle.upload_texts.specs.Records.{has_record_text, is_kept_content, read_record}
+use Rattle.upload_texts.specs.Records.{has_record_text, content_fits_record_text, read_record}
 use Rattle.upload_texts.specs.declared.record.Record.{Record}
 use Rattle.upload_texts.specs.declared.record.Record.TheVariants.{Open}
-use Rattle.upload_texts.proofs.Back.{record_has_one}
+use Rattle.upload_texts.proofs.lemmas.Back.{record_has_one}
 use Rattle.upload_records.specs.Layout.{uploads_name}
 use Rattle.upload_records.specs.Native.{record_of, record_at, IsSettled}
 use Rattle.recovery.specs.declared.fault.PlanFault.{PlanFault}
@@ -55,8 +55,8 @@ shown_more new rows place item is dated shown = subst AllShown (sym is) (shown_b
 open_dated : (key content_type : List ℕ) (meta : List Pair) (started : ℕ) → has_record_text (Open key content_type meta started) ≡ true → started < moment_limit
 unfolding has_record_text
 open_dated key content_type meta started h =
-    let a = and_parts (is_key key) (is_kept_content content_type meta && nat_lt started moment_limit) h in
-    let b = and_parts (is_kept_content content_type meta) (nat_lt started moment_limit) a.1 in
+    let a = and_parts (is_key key) (content_fits_record_text content_type meta && nat_lt started moment_limit) h in
+    let b = and_parts (content_fits_record_text content_type meta) (nat_lt started moment_limit) a.1 in
     grind (arith, nat_tests, b.1)
 
 content_dated : (content : Content) (key content_type : List ℕ) (meta : List Pair) (started : ℕ) → option_and_then read_record (plain_bytes content) ≡ Some (Open key content_type meta started) → started < moment_limit

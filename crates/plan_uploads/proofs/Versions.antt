@@ -26,47 +26,47 @@ use Rattle.s3_machine.specs.declared.operation.Listed.{Listed}
 use Rattle.s3_names.specs.Key.{is_key}
 use Rattle.slo_manifest.specs.Segments.{is_etag}
 use Rattle.swift_marks.specs.Tag as mark
-use Rattle.upload_texts.specs.Places.{json_or_null, listed_value, pair_value, is_part_count, is_part_number, version_in, version_of}
-use Rattle.upload_texts.specs.Records.{has_record_text, is_dated, is_kept_content, is_kept_list, is_kept_part, is_known_version, read_record, record_in, record_text, record_value, unless_known}
+use Rattle.upload_texts.specs.Places.{json_or_null, record_part_json, metadata_pair_json, is_part_count, part_number_fits_record_text, version_in, version_of}
+use Rattle.upload_texts.specs.Records.{has_record_text, is_dated, content_fits_record_text, list_fits_record_text, part_fits_record_text, is_known_version, read_record, record_in, record_text, record_value, unless_known_record_version}
 use Rattle.upload_texts.specs.declared.record.Record.{Record}
 use Rattle.upload_texts.specs.declared.record.Record.TheVariants.{Open, Done}
 
 -- ---- the value of a record is read back from its text
 
-part_small : (n : ℕ) → is_part_number n ≡ true → n < 2 ^ 64
+part_small : (n : ℕ) → part_number_fits_record_text n ≡ true → n < 2 ^ 64
 unfolding greatest_part
 part_small n e = let near = leb-true n greatest_part (and_parts (nat_le 1 n) (nat_le n greatest_part) e).1 in omega (arith, near)
 
 dated_small : (n : ℕ) → nat_lt n moment_limit ≡ true → n < 2 ^ 64
 dated_small n e = let near = ltb-true n moment_limit e in omega (arith, near)
 
-pairs_read : (ps : List Pair) → of_items (items_outline (items_of (map pair_value ps))) ≡ Some (items_of (map pair_value ps))
+pairs_read : (ps : List Pair) → of_items (items_outline (items_of (map metadata_pair_json ps))) ≡ Some (items_of (map metadata_pair_json ps))
 pairs_read [] = refl
 pairs_read (p ∷ ps) = rw (pairs_read ps) refl
 
-pairs_numbers : (ps : List Pair) → ItemsHaveNumbers (items_outline (items_of (map pair_value ps)))
+pairs_numbers : (ps : List Pair) → ItemsHaveNumbers (items_outline (items_of (map metadata_pair_json ps)))
 pairs_numbers [] = tt
 pairs_numbers (p ∷ ps) = ((tt, (tt, tt)), pairs_numbers ps)
 
-pairs_depth : (ps : List Pair) → tree.items_depth (items_outline (items_of (map pair_value ps))) ≤ 1
+pairs_depth : (ps : List Pair) → tree.items_depth (items_outline (items_of (map metadata_pair_json ps))) ≤ 1
 pairs_depth [] = omega arith
 pairs_depth (p ∷ ps) = let later = pairs_depth ps in omega arith
 
-listed_read : (ls : List Listed) → list_all is_kept_part ls ≡ true → of_items (items_outline (items_of (map listed_value ls))) ≡ Some (items_of (map listed_value ls))
+listed_read : (ls : List Listed) → list_all part_fits_record_text ls ≡ true → of_items (items_outline (items_of (map record_part_json ls))) ≡ Some (items_of (map record_part_json ls))
 listed_read [] e = refl
 listed_read (l ∷ ls) e =
-    let parts = and_parts (is_kept_part l) (list_all is_kept_part ls) e in
-    let small = part_small l.number (and_parts (is_part_number l.number) (is_etag l.etag) parts.0).0 in
+    let parts = and_parts (part_fits_record_text l) (list_all part_fits_record_text ls) e in
+    let small = part_small l.number (and_parts (part_number_fits_record_text l.number) (is_etag l.etag) parts.0).0 in
     rw (number_of-decimal l.number small, listed_read ls parts.1) refl
 
-listed_numbers : (ls : List Listed) → list_all is_kept_part ls ≡ true → ItemsHaveNumbers (items_outline (items_of (map listed_value ls)))
+listed_numbers : (ls : List Listed) → list_all part_fits_record_text ls ≡ true → ItemsHaveNumbers (items_outline (items_of (map record_part_json ls)))
 listed_numbers [] e = tt
 listed_numbers (l ∷ ls) e =
-    let parts = and_parts (is_kept_part l) (list_all is_kept_part ls) e in
-    let small = part_small l.number (and_parts (is_part_number l.number) (is_etag l.etag) parts.0).0 in
+    let parts = and_parts (part_fits_record_text l) (list_all part_fits_record_text ls) e in
+    let small = part_small l.number (and_parts (part_number_fits_record_text l.number) (is_etag l.etag) parts.0).0 in
     ((IsNumber-decimal l.number small, (tt, tt)), listed_numbers ls parts.1)
 
-listed_depth : (ls : List Listed) → tree.items_depth (items_outline (items_of (map listed_value ls))) ≤ 1
+listed_depth : (ls : List Listed) → tree.items_depth (items_outline (items_of (map record_part_json ls))) ≤ 1
 listed_depth [] = omega arith
 listed_depth (l ∷ ls) = let later = listed_depth ls in omega arith
 
@@ -79,19 +79,19 @@ record IsReadBack (d : Data) : Type 0 where
 started_open : (key content_type : List ℕ) (meta : List Pair) (started : ℕ) → has_record_text (Open key content_type meta started) ≡ true → started < 2 ^ 64
 unfolding has_record_text
 started_open key content_type meta started has =
-    dated_small started (and_parts (is_kept_content content_type meta) (nat_lt started moment_limit) (and_parts (is_key key) _ has).1).1
+    dated_small started (and_parts (content_fits_record_text content_type meta) (nat_lt started moment_limit) (and_parts (is_key key) _ has).1).1
 
 record OfDone (list : List Listed) (started : ℕ) (moment : Option ℕ) : Type 0 where
-  kept : list_all is_kept_part list ≡ true
+  kept : list_all part_fits_record_text list ≡ true
   small : started < 2 ^ 64
   dated : is_dated moment ≡ true
 
 of_done : (key : List ℕ) (list : List Listed) (etag : List ℕ) (started : ℕ) (moment : Option ℕ) → has_record_text (Done key list etag started moment) ≡ true → OfDone list started moment
 unfolding has_record_text
 of_done key list etag started moment has =
-    let listed = and_parts (is_kept_list list) _ (and_parts (is_key key) _ has).1 in
+    let listed = and_parts (list_fits_record_text list) _ (and_parts (is_key key) _ has).1 in
     let last = and_parts (nat_lt started moment_limit) (is_dated moment) (and_parts (mark.is_etag etag) _ listed.1).1 in
-    record { kept = (and_parts (is_part_count (length list)) (list_all is_kept_part list) listed.0).1; small = dated_small started last.0; dated = last.1 }
+    record { kept = (and_parts (is_part_count (length list)) (list_all part_fits_record_text list) listed.0).1; small = dated_small started last.0; dated = last.1 }
 
 one_small : 1 < 2 ^ 64
 one_small = omega arith
@@ -136,7 +136,7 @@ text_reads d back =
 
 -- ---- the version
 
-version_known : (r : Record) → unless_known is_known_version (version_in (record_value r)) ≡ None
+version_known : (r : Record) → unless_known_record_version is_known_version (version_in (record_value r)) ≡ None
 version_known (Open key content_type meta started) = refl
 version_known (Done key list etag started None) = refl
 version_known (Done key list etag started (Some moment)) = refl
@@ -146,8 +146,8 @@ module _ (text : List ℕ) (r : Record) (has : has_record_text r ≡ true) (is :
   unfolding record_text
   value_read = ap read is ∙ text_reads (record_value r) (reads_back r has)
 
-  version_by : (utf8 : Bool) → unless_known is_known_version (version_in (unwrap_or (cond utf8 (read text) None) null)) ≡ None
-  version_by true = ap (λ v. unless_known is_known_version (version_in (unwrap_or v null))) value_read ∙ version_known r
+  version_by : (utf8 : Bool) → unless_known_record_version is_known_version (version_in (unwrap_or (cond utf8 (read text) None) null)) ≡ None
+  version_by true = ap (λ v. unless_known_record_version is_known_version (version_in (unwrap_or v null))) value_read ∙ version_known r
   version_by false = refl
 
 -- a value that passes the test and has the text is found, and no other one
@@ -155,7 +155,7 @@ found_of : {A : Type 0} (a b : A) (t : Bool) → cond t (Some a) None ≡ Some b
 found_of a b true same = (refl, cc)
 found_of a b false never = cc
 
-known_by : (text : List ℕ) (r : Record) → read_record text ≡ Some r → unless_known is_known_version (version_of text) ≡ None
+known_by : (text : List ℕ) (r : Record) → read_record text ≡ Some r → unless_known_record_version is_known_version (version_of text) ≡ None
 unfolding read_record
 known_by text r reads =
     let s = record_in (json_or_null text) in
@@ -164,7 +164,7 @@ known_by text r reads =
     version_by text s parts.0 (sym ((bytes_eq-Decides (record_text s) text).0 parts.1)) (is_utf8 text)
 
 -- a text of another version is no record
-pub none_of_version : (text : List ℕ) (version : ℕ) → unless_known is_known_version (version_of text) ≡ Some version → read_record text ≡ None
+pub none_of_version : (text : List ℕ) (version : ℕ) → unless_known_record_version is_known_version (version_of text) ≡ Some version → read_record text ≡ None
 none_of_version text version other = by (read_record text) refl
   where
     by : (o : Option Record) → read_record text ≡ o → o ≡ None

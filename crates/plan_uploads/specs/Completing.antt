@@ -101,9 +101,9 @@ unfoldable pub Ascend : List PartItem → Type 0
 Ascend items = T (is_sorted nat_cmp (map row_of_part items))
 
 -- the size of a part of the list, where it is there with its ETag
-abbrev pub size_listed : Option PartItem → List ℕ → Option ℕ
-size_listed None etag = None
-size_listed (Some item) etag = cond (bytes_eq item.etag etag) (Some item.size) None
+abbrev pub size_of_chosen_part : Option PartItem → List ℕ → Option ℕ
+size_of_chosen_part None etag = None
+size_of_chosen_part (Some item) etag = cond (bytes_eq item.etag etag) (Some item.size) None
 
 -- it, and then the rest of them
 abbrev pub listed_part : Option ℕ → Listed → Option (List SealedPart) → Option (List SealedPart)
@@ -114,13 +114,13 @@ listed_part (Some size) l (Some rest) = Some (record { number = l.number; etag =
 -- the parts that are listed, where each is there with its ETag
 unfoldable pub listed_parts : Numbers PartItem → List Listed → Option (List SealedPart)
 listed_parts parts [] = Some []
-listed_parts parts (l ∷ list) = listed_part (size_listed (get parts l.number) l.etag) l (listed_parts parts list)
+listed_parts parts (l ∷ list) = listed_part (size_of_chosen_part (get parts l.number) l.etag) l (listed_parts parts list)
 
 -- a part other than the last has fewer bytes than the least that it may have
-abbrev pub has_small : ℕ → List SealedPart → Bool
-has_small least [] = false
-has_small least (p ∷ []) = false
-has_small least (p ∷ (q ∷ rest)) = nat_lt p.size least || has_small least (q ∷ rest)
+abbrev pub has_small_chosen_part : ℕ → List SealedPart → Bool
+has_small_chosen_part least [] = false
+has_small_chosen_part least (p ∷ []) = false
+has_small_chosen_part least (p ∷ (q ∷ rest)) = nat_lt p.size least || has_small_chosen_part least (q ∷ rest)
 
 -- ---- the call that seals a completion
 
@@ -198,8 +198,8 @@ LeavesUnsureOnly result = known_in result ≡ known.Unsure → may_be_sealed (re
 
 -- the end behind the call that seals. That the store failed there, or that memory ran out, is no failure of the operation, and a
 -- completion may be sealed still
-abbrev pub completing_by : Result (Unit {0}) PlanFault → Reply → Completing
-completing_by (Ok done) reply = record { end = Ok reply; known = known.Settled }
-completing_by (Err Failed) reply = record { end = Ok reply; known = known.Unsure }
-completing_by (Err Memory) reply = record { end = Ok reply; known = known.Unsure }
-completing_by (Err Inconsistent) reply = record { end = Err Inconsistent; known = known.Unsure }
+abbrev pub end_complete_upload_sealed : Result (Unit {0}) PlanFault → Reply → Completing
+end_complete_upload_sealed (Ok done) reply = record { end = Ok reply; known = known.Settled }
+end_complete_upload_sealed (Err Failed) reply = record { end = Ok reply; known = known.Unsure }
+end_complete_upload_sealed (Err Memory) reply = record { end = Ok reply; known = known.Unsure }
+end_complete_upload_sealed (Err Inconsistent) reply = record { end = Err Inconsistent; known = known.Unsure }

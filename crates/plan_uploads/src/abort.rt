@@ -75,11 +75,11 @@ fn abort_open<W: Swift>(
 {
     let folder = segments_container(alloc, bucket.as_slice())?;
     let prefix = segments_prefix(alloc, id)?;
-    drop_and_purge(alloc, state, bucket, id, &folder, &prefix)
+    plan_abort_and_purge_upload(alloc, state, bucket, id, &folder, &prefix)
 }
 
 /// The calls of AbortUpload from the one that commits on.
-fn drop_and_purge<W: Swift>(
+fn plan_abort_and_purge_upload<W: Swift>(
     alloc: Global,
     state: &mut Settled<'_, W>,
     bucket: &Bytes,
@@ -103,11 +103,11 @@ fn drop_and_purge<W: Swift>(
         (W.history state.new.store.now) (GivenOf (IsOpenUpload bucket.now key text id)) result }
 {
     drop_record(alloc, state, bucket, id)?;
-    gone_end(purge(alloc, state, bucket, folder, prefix))
+    end_abort_upload_plan(purge(alloc, state, bucket, folder, prefix))
 }
 
 /// The end of AbortUpload behind the call that commits.
-fn gone_end(end: Result<(), PlanFault>) -> Result<Reply, PlanFault>
+fn end_abort_upload_plan(end: Result<(), PlanFault>) -> Result<Reply, PlanFault>
     ensures { result ≡ gone_behind end }
 {
     match end {

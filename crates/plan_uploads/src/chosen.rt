@@ -2,7 +2,7 @@
 ghost use Rattle.std.specs.Prelude.{◌≡◌, IfOk};
 ghost use Rattle.std.specs.FinMap.{get};
 ghost use Rattle.std.specs.Option.{option_copied};
-ghost use Rattle.plan_uploads.specs.Completing.{Ascend, by_number, has_small, listed_parts, size_listed};
+ghost use Rattle.plan_uploads.specs.Completing.{Ascend, by_number, has_small_chosen_part, listed_parts, size_of_chosen_part};
 
 use gate_base::{Copying, List, Memory};
 use s3_machine::{Listed, PartItem};
@@ -21,18 +21,18 @@ pub(crate) fn chosen_parts(
 {
     let mut chosen = List::new(alloc);
     for listed in list {
-        let Some(size) = size_listed(parts, listed) else {
+        let Some(size) = size_of_chosen_part(parts, listed) else {
             return Ok(None);
         };
-        chosen.push(sealed_part(listed, size)?)?;
+        chosen.push(chosen_part_with_size(listed, size)?)?;
     }
     Ok(Some(chosen))
 }
 
 /// The size of a part of a list, where it is there with its ETag.
-fn size_listed(parts: &[PartItem], listed: &Listed) -> Option<u64>
+fn size_of_chosen_part(parts: &[PartItem], listed: &Listed) -> Option<u64>
     ensures { Ascend parts.now
-        → result ≡ size_listed (get (by_number parts.now) listed.now.number) listed.now.etag }
+        → result ≡ size_of_chosen_part (get (by_number parts.now) listed.now.number) listed.now.etag }
 {
     match part_of(parts, listed.number) {
         Some(part) if part.etag.as_slice() == listed.etag.as_slice() => Some(part.size),
@@ -50,7 +50,7 @@ fn part_of(parts: &[PartItem], number: u32) -> Option<&PartItem>
     }
 }
 
-fn sealed_part(listed: &Listed, size: u64) -> Result<SealedPart, Memory>
+fn chosen_part_with_size(listed: &Listed, size: u64) -> Result<SealedPart, Memory>
     ensures { IfOk result (λ part. part ≡ record
         { number = listed.now.number; etag = listed.now.etag; size = size }) }
 {
@@ -63,8 +63,8 @@ fn sealed_part(listed: &Listed, size: u64) -> Result<SealedPart, Memory>
 }
 
 /// Whether a part other than the last has fewer bytes than the least that it may have.
-pub(crate) fn has_small(least: u64, parts: &[SealedPart]) -> bool
-    ensures { result ≡ has_small least parts.now }
+pub(crate) fn has_small_chosen_part(least: u64, parts: &[SealedPart]) -> bool
+    ensures { result ≡ has_small_chosen_part least parts.now }
 {
     for i in 1..parts.len() {
         if parts[i - 1].size < least {

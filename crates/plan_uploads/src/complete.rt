@@ -15,8 +15,8 @@ ghost use Rattle.recovery.specs.Lent.{Stays};
 ghost use Rattle.recovery.specs.Plan.{Plans};
 ghost use Rattle.plan_uploads.specs.Completing.{Ascend, HasParts, IsOpenAs, LeavesUnsureOnly, MayComplete, answered_by, by_number, completion_of, end_in, known_in, listed_parts};
 
-use crate::chosen::{chosen_parts, has_small};
-use crate::completed::{Opened, ToComplete, find_completion};
+use crate::chosen::{chosen_parts, has_small_chosen_part};
+use crate::completed::{Opened, ToComplete, find_upload_to_complete};
 use crate::listed_parts::list_parts;
 use crate::seal::seal_and_finish;
 use gate_base::{Bytes, Copying, List, Memory, drop};
@@ -58,16 +58,16 @@ pub(crate) fn complete_upload<W: Swift>(
         (known_in result) (end_in result) }
     ensures unsure { LeavesUnsureOnly result }
 {
-    match find_completion(alloc, state, bucket, key, text, list.as_slice())? {
-        ToComplete::NoBucket => Ok(refused(Code::NoSuchBucket)),
-        ToComplete::NoUpload => Ok(refused(Code::NoSuchUpload)),
-        ToComplete::Again(etag) => Ok(again(bucket, key, etag)?),
+    match find_upload_to_complete(alloc, state, bucket, key, text, list.as_slice())? {
+        ToComplete::NoBucket => Ok(end_complete_upload_refused(Code::NoSuchBucket)),
+        ToComplete::NoUpload => Ok(end_complete_upload_refused(Code::NoSuchUpload)),
+        ToComplete::Again(etag) => Ok(end_complete_upload_again(bucket, key, etag)?),
         ToComplete::Open(opened) => complete_open(alloc, state, bucket, key, opened, list, label),
     }
 }
 
 /// A completion that is refused, or was done before: nothing is sealed.
-fn answered(reply: Reply) -> Completing
+fn end_complete_upload_unsealed(reply: Reply) -> Completing
     ensures { result ≡ answered_by reply }
 {
     Completing {
@@ -76,19 +76,19 @@ fn answered(reply: Reply) -> Completing
     }
 }
 
-fn refused(code: Code) -> Completing
+fn end_complete_upload_refused(code: Code) -> Completing
     ensures { result ≡ answered_by (Reply.Refused code) }
 {
-    answered(Reply::Refused(code))
+    end_complete_upload_unsealed(Reply::Refused(code))
 }
 
-fn again(bucket: &Bytes, key: &Bytes, etag: Bytes) -> Result<Completing, Memory>
+fn end_complete_upload_again(bucket: &Bytes, key: &Bytes, etag: Bytes) -> Result<Completing, Memory>
     ensures { IfOk result
         (λ completing. completing ≡ answered_by (Reply.Completed bucket.now key.now etag)) }
 {
     let bucket = bucket.copy()?;
     let key = key.copy()?;
-    Ok(answered(Reply::Completed { bucket, key, etag }))
+    Ok(end_complete_upload_unsealed(Reply::Completed { bucket, key, etag }))
 }
 
 /// The rest of CompleteUpload, of an upload that is open.
@@ -115,7 +115,7 @@ fn complete_open<W: Swift>(
     ensures unsure { LeavesUnsureOnly result }
 {
     if !rises(list.as_slice()) {
-        return Ok(refused(Code::InvalidPartOrder));
+        return Ok(end_complete_upload_refused(Code::InvalidPartOrder));
     }
     let (parts, _) = list_parts(alloc, state, bucket, opened.id, 0, MOST_ITEMS)?;
     complete_by(
@@ -154,7 +154,7 @@ fn complete_by<W: Swift>(
     ensures unsure { LeavesUnsureOnly result }
 {
     let Some(chosen) = chosen_parts(alloc, parts, list.as_slice())? else {
-        return Ok(refused(Code::InvalidPart));
+        return Ok(end_complete_upload_refused(Code::InvalidPart));
     };
     complete_chosen(alloc, state, bucket, key, opened, chosen, list, label)
 }
@@ -183,17 +183,25 @@ fn complete_chosen<W: Swift>(
         (end_in result) }
     ensures unsure { LeavesUnsureOnly result }
 {
-    if has_small(state.settings().least_part, chosen.as_slice()) {
-        return Ok(refused(Code::EntityTooSmall));
+    if has_small_chosen_part(state.settings().least_part, chosen.as_slice()) {
+        return Ok(end_complete_upload_refused(Code::EntityTooSmall));
     }
-    let sealed = sealed_of(alloc, bucket, key, opened, chosen, list, label.moment)?;
+    let sealed = completion_of_chosen_parts(
+        alloc,
+        bucket,
+        key,
+        opened,
+        chosen,
+        list,
+        label.moment,
+    )?;
     let completing = complete_sealed(alloc, state, &sealed);
     drop(sealed);
     completing
 }
 
 /// The completion of an upload by parts that are there.
-fn sealed_of(
+fn completion_of_chosen_parts(
     alloc: Global,
     bucket: &Bytes,
     key: &Bytes,

@@ -9,7 +9,7 @@ ghost use Rattle.recovery.specs.Listing.{TellsOf};
 ghost use Rattle.plan_uploads.specs.Completing.{TellsToComplete, done_by, opened_by, to_complete_by};
 ghost use Rattle.plan_uploads.specs.Records.{InBucket};
 
-use crate::ids::read_id;
+use crate::ids::read_upload_id_to_find;
 use crate::records::get_record;
 use gate_base::Bytes;
 use recovery::{PlanFault, Settled, head_bucket};
@@ -45,7 +45,7 @@ pub(crate) enum ToComplete {
 /// Looks for the upload that a completion by a list of parts is of, by the text of its id: HEAD of the bucket's container, then
 /// GET of the upload's record, where the text is that of an id. At most two calls, and the S3 state stays. The faults are those
 /// of the calls.
-pub(crate) fn find_completion<W: Swift>(
+pub(crate) fn find_upload_to_complete<W: Swift>(
     alloc: Global,
     state: &mut Settled<'_, W>,
     bucket: &Bytes,
@@ -61,7 +61,7 @@ pub(crate) fn find_completion<W: Swift>(
     let Some(_) = head_bucket(state, bucket)? else {
         return Ok(ToComplete::NoBucket);
     };
-    let Some(id) = read_id(text.as_slice()) else {
+    let Some(id) = read_upload_id_to_find(text.as_slice()) else {
         return Ok(ToComplete::NoUpload);
     };
     find_recorded(alloc, state, bucket, key, id, list)
@@ -97,7 +97,7 @@ fn to_complete(found: Option<Record>, key: &Bytes, id: u128, list: &[Listed]) ->
                 meta,
                 started,
             },
-        ) => of_open(under, key, id, content_type, meta, started),
+        ) => open_upload_to_complete(under, key, id, content_type, meta, started),
         Some(
             Record::Done {
                 key: under,
@@ -105,12 +105,12 @@ fn to_complete(found: Option<Record>, key: &Bytes, id: u128, list: &[Listed]) ->
                 etag,
                 ..
             },
-        ) => of_done(under, key, kept.as_slice(), list, etag),
+        ) => done_upload_to_complete(under, key, kept.as_slice(), list, etag),
         None => ToComplete::NoUpload,
     }
 }
 
-fn of_open(
+fn open_upload_to_complete(
     under: Bytes,
     key: &Bytes,
     id: u128,
@@ -131,7 +131,13 @@ fn of_open(
     })
 }
 
-fn of_done(under: Bytes, key: &Bytes, kept: &[Listed], list: &[Listed], etag: Bytes) -> ToComplete
+fn done_upload_to_complete(
+    under: Bytes,
+    key: &Bytes,
+    kept: &[Listed],
+    list: &[Listed],
+    etag: Bytes,
+) -> ToComplete
     ensures { result ≡ done_by under key.now kept.now list.now etag }
 {
     if under.as_slice() != key.as_slice() || !same_list(kept, list) {

@@ -32,7 +32,7 @@ use swift_calls::Swift;
 /// the range, and EntityTooLarge where more than `MOST_BODY_BYTES` bytes are wanted come in this order, and the state stays. The
 /// reply is made before the PUT, so that no memory is needed after it. The faults are those of the calls; Inconsistent also where
 /// GET gives another number of bytes than was asked for.
-pub fn copy_part<W: Swift>(
+pub fn plan_upload_part_copy<W: Swift>(
     alloc: Global,
     state: &mut Settled<'_, W>,
     bucket: &Bytes,
@@ -58,7 +58,7 @@ pub fn copy_part<W: Swift>(
     match find_upload(alloc, state, bucket, key, text)? {
         Found::NoBucket => Ok(Reply::Refused(Code::NoSuchBucket)),
         Found::NoUpload => Ok(Reply::Refused(Code::NoSuchUpload)),
-        Found::Open(id) => copy_into(
+        Found::Open(id) => plan_part_copy_into_upload(
             alloc,
             state,
             bucket,
@@ -73,7 +73,7 @@ pub fn copy_part<W: Swift>(
 }
 
 /// The rest of CopyPart, of an upload that is open.
-fn copy_into<W: Swift>(
+fn plan_part_copy_into_upload<W: Swift>(
     alloc: Global,
     state: &mut Settled<'_, W>,
     bucket: &Bytes,
@@ -99,7 +99,7 @@ fn copy_into<W: Swift>(
     let Some(_) = head_bucket(state, &from_bucket)? else {
         return Ok(Reply::Refused(Code::NoSuchBucket));
     };
-    copy_from(
+    plan_part_copy_from_bucket(
         alloc,
         state,
         bucket,
@@ -113,7 +113,7 @@ fn copy_into<W: Swift>(
 }
 
 /// The rest of CopyPart, of a source whose bucket is there.
-fn copy_from<W: Swift>(
+fn plan_part_copy_from_bucket<W: Swift>(
     alloc: Global,
     state: &mut Settled<'_, W>,
     bucket: &Bytes,
@@ -139,7 +139,7 @@ fn copy_from<W: Swift>(
     let Some(head) = head_object(alloc, state, &from_bucket, &from_key)? else {
         return Ok(Reply::Refused(Code::NoSuchKey));
     };
-    copy_of(
+    plan_part_copy_of_source(
         alloc,
         state,
         bucket,
@@ -155,7 +155,7 @@ fn copy_from<W: Swift>(
 
 /// The rest of CopyPart, of a source that is there with this head: whether its bytes may be copied. None are asked for where none
 /// is wanted.
-fn copy_of<W: Swift>(
+fn plan_part_copy_of_source<W: Swift>(
     alloc: Global,
     state: &mut Settled<'_, W>,
     bucket: &Bytes,
@@ -189,9 +189,9 @@ fn copy_of<W: Swift>(
         return Ok(Reply::Refused(Code::EntityTooLarge));
     }
     if wanted == 0 {
-        return put_copy(alloc, state, bucket, id, number, Bytes::new(alloc), label);
+        return plan_put_part_copy(alloc, state, bucket, id, number, Bytes::new(alloc), label);
     }
-    copy_bytes(
+    plan_part_copy_of_bytes(
         alloc,
         state,
         bucket,
@@ -207,7 +207,7 @@ fn copy_of<W: Swift>(
 }
 
 /// The rest of CopyPart, of as many bytes as are wanted of a source with this head.
-fn copy_bytes<W: Swift>(
+fn plan_part_copy_of_bytes<W: Swift>(
     alloc: Global,
     state: &mut Settled<'_, W>,
     bucket: &Bytes,
@@ -245,11 +245,11 @@ fn copy_bytes<W: Swift>(
     if body.len() as u64 != wanted {
         return Err(PlanFault::Inconsistent);
     }
-    put_copy(alloc, state, bucket, id, number, body, label)
+    plan_put_part_copy(alloc, state, bucket, id, number, body, label)
 }
 
 /// The rest of CopyPart, of these bytes.
-fn put_copy<W: Swift>(
+fn plan_put_part_copy<W: Swift>(
     alloc: Global,
     state: &mut Settled<'_, W>,
     bucket: &Bytes,
@@ -272,7 +272,7 @@ fn put_copy<W: Swift>(
 {
     let body = Body::new(bytes);
     let etag = body.etag();
-    put_bytes(
+    plan_part_copy_with_etag(
         alloc,
         state,
         bucket,
@@ -285,7 +285,7 @@ fn put_copy<W: Swift>(
 }
 
 /// The PUT of CopyPart, of bytes that have this ETag.
-fn put_bytes<W: Swift>(
+fn plan_part_copy_with_etag<W: Swift>(
     alloc: Global,
     state: &mut Settled<'_, W>,
     bucket: &Bytes,
@@ -310,7 +310,7 @@ fn put_bytes<W: Swift>(
 {
     let text = Bytes::from_slice(alloc, etag)?;
     let moment = label.moment;
-    copied_end(
+    end_upload_part_copy_plan(
         put_part(alloc, state, bucket, id, number, bytes, etag, moment),
         text,
         moment,
@@ -318,7 +318,11 @@ fn put_bytes<W: Swift>(
 }
 
 /// The end of CopyPart after its last call.
-fn copied_end(end: Result<(), PlanFault>, etag: Bytes, modified: u64) -> Result<Reply, PlanFault>
+fn end_upload_part_copy_plan(
+    end: Result<(), PlanFault>,
+    etag: Bytes,
+    modified: u64,
+) -> Result<Reply, PlanFault>
     ensures { result ≡ ended end (λ done. Copied true etag modified) }
 {
     match end {

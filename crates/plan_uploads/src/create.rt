@@ -51,7 +51,7 @@ pub(crate) fn create_upload<W: Swift>(
     let Some(list) = head_bucket(state, &bucket)? else {
         return Ok(Reply::Refused(Code::NoSuchBucket));
     };
-    create_within(
+    plan_create_upload_within(
         alloc,
         state,
         bucket,
@@ -65,7 +65,7 @@ pub(crate) fn create_upload<W: Swift>(
 }
 
 /// The rest of CreateUpload, in a bucket that has this access control list.
-fn create_within<W: Swift>(
+fn plan_create_upload_within<W: Swift>(
     alloc: Global,
     state: &mut Settled<'_, W>,
     bucket: Bytes,
@@ -133,7 +133,7 @@ fn start<W: Swift>(
         (W.history state.new.store.now) (GivenOf (MayStart bucket list label.now.draw id)) result }
 {
     let name = key.copy()?;
-    started_end(
+    end_create_upload_plan(
         put_record(
             alloc,
             state,
@@ -151,7 +151,7 @@ fn start<W: Swift>(
 }
 
 /// The end of CreateUpload after its last call.
-fn started_end(
+fn end_create_upload_plan(
     end: Result<(), PlanFault>,
     bucket: Bytes,
     key: Bytes,

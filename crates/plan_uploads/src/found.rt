@@ -9,7 +9,7 @@ ghost use Rattle.recovery.specs.Listing.{TellsOf};
 ghost use Rattle.plan_uploads.specs.Plans.{TellsUpload, found_by};
 ghost use Rattle.plan_uploads.specs.Records.{InBucket};
 
-use crate::ids::read_id;
+use crate::ids::read_upload_id_to_find;
 use crate::records::get_record;
 use gate_base::Bytes;
 use recovery::{PlanFault, Settled, head_bucket};
@@ -45,14 +45,14 @@ pub(crate) fn find_upload<W: Swift>(
     let Some(_) = head_bucket(state, bucket)? else {
         return Ok(Found::NoBucket);
     };
-    let Some(id) = read_id(text.as_slice()) else {
+    let Some(id) = read_upload_id_to_find(text.as_slice()) else {
         return Ok(Found::NoUpload);
     };
-    find_within(alloc, state, bucket, key, id)
+    find_upload_by_id(alloc, state, bucket, key, id)
 }
 
 /// The same by an id, in a bucket that is there.
-fn find_within<W: Swift>(
+fn find_upload_by_id<W: Swift>(
     alloc: Global,
     state: &mut Settled<'_, W>,
     bucket: &Bytes,

@@ -13,7 +13,7 @@ ghost use Rattle.plan_uploads.specs.Taken.{TellsRecorded, TellsSegmented};
 
 use gate_base::Bytes;
 use recovery::{PlanFault, Settled};
-use s3_names::{id_digits, id_of};
+use s3_names::{id_digits, read_id_digits};
 use std::alloc::Global;
 use swift_calls::{Swift, SwiftReply, SwiftRequest};
 use upload_records::{segments_container, segments_prefix, uploads_container};
@@ -23,10 +23,10 @@ use upload_records::{segments_container, segments_prefix, uploads_container};
 const MOST_TRIES: u32 = 1_000_000;
 
 /// The id of which a text is the 32 lower-case hexadecimal digits; `None` for every other text.
-pub(crate) fn read_id(text: &[u8]) -> Option<u128>
+pub(crate) fn read_upload_id_to_find(text: &[u8]) -> Option<u128>
     ensures { ReadsId text.now result }
 {
-    let id = id_of(text)?;
+    let id = read_id_digits(text)?;
     if id_digits(id).as_slice() != text {
         return None;
     }
@@ -48,14 +48,14 @@ fn is_taken<W: Swift>(
     ensures asks { Asks (always 2) (W.history state.old.store.now) (W.history state.new.store.now)
         (GivenOf (InBucket bucket.now)) (TellsOf (TellsTaken bucket.now id)) result }
 {
-    if has_record(alloc, state, bucket, id)? {
+    if is_taken_by_record(alloc, state, bucket, id)? {
         return Ok(true);
     }
-    has_segment(alloc, state, bucket, id)
+    is_taken_by_segment(alloc, state, bucket, id)
 }
 
 /// Whether the record of an id is there, by HEAD of its file.
-fn has_record<W: Swift>(
+fn is_taken_by_record<W: Swift>(
     alloc: Global,
     state: &mut Settled<'_, W>,
     bucket: &Bytes,
@@ -69,11 +69,11 @@ fn has_record<W: Swift>(
     let container = uploads_container(alloc, bucket.as_slice())?;
     let name = Bytes::from_slice(alloc, &id_digits(id))?;
     let reply = state.call(SwiftRequest::HeadObject { container, name })?;
-    there_in(&reply)
+    is_taken_by_record_reply(&reply)
 }
 
 /// The answer to HEAD of a record's file.
-fn there_in(reply: &SwiftReply) -> Result<bool, PlanFault>
+fn is_taken_by_record_reply(reply: &SwiftReply) -> Result<bool, PlanFault>
     ensures due { result ≡ there_due reply.now }
     ensures own { result ≢ Err fault.Failed }
 {
@@ -85,7 +85,7 @@ fn there_in(reply: &SwiftReply) -> Result<bool, PlanFault>
 }
 
 /// Whether a segment stands under an id, by a listing of one.
-fn has_segment<W: Swift>(
+fn is_taken_by_segment<W: Swift>(
     alloc: Global,
     state: &mut Settled<'_, W>,
     bucket: &Bytes,
@@ -104,11 +104,11 @@ fn has_segment<W: Swift>(
         marker: Bytes::new(alloc),
         limit: 1,
     })?;
-    any_in(&reply)
+    is_taken_by_segment_reply(&reply)
 }
 
 /// The answer to a listing of one segment.
-fn any_in(reply: &SwiftReply) -> Result<bool, PlanFault>
+fn is_taken_by_segment_reply(reply: &SwiftReply) -> Result<bool, PlanFault>
     ensures due { result ≡ any_due reply.now }
     ensures own { result ≢ Err fault.Failed }
 {

@@ -18,7 +18,7 @@ mod records;
 mod seal;
 mod uploads;
 
-pub use copied_part::copy_part;
+pub use copied_part::plan_upload_part_copy;
 pub use ids::free_id;
 pub use listed_parts::digits_in;
 pub use operation::{Replied, answer};

@@ -19,7 +19,7 @@ ghost use Rattle.plan_uploads.specs.Listing.{digits_in, number_in, part_due, Add
 ghost use Rattle.plan_uploads.specs.Records.{InBucket, TellsParts};
 
 use gate_base::{Bytes, List};
-use recovery::{PlanFault, Settled, file_page, next_marker};
+use recovery::{PlanFault, Settled, next_marker, settled_file_page};
 use s3_machine::{GREATEST_PART_NUMBER, PartItem};
 use std::alloc::Global;
 use swift_calls::{NameItem, Swift};
@@ -105,7 +105,7 @@ fn segments_page<W: Swift>(
         Any (TellsOf (TellsFiles (segments_name bucket.now) prefix.now marker.now)) result }
 {
     let folder = segments_container(alloc, bucket.as_slice())?;
-    file_page(
+    settled_file_page(
         alloc,
         state,
         folder.as_slice(),
@@ -136,11 +136,11 @@ fn next_parts<W: Swift>(
         (segments_prefix (id_digits id)) marker.now parts.old parts.new)) result }
 {
     let prefix = segments_prefix(alloc, id)?;
-    next_under(alloc, state, bucket, &prefix, marker, parts)
+    next_parts_under_prefix(alloc, state, bucket, &prefix, marker, parts)
 }
 
 /// The same by what the names of the parts begin with.
-fn next_under<W: Swift>(
+fn next_parts_under_prefix<W: Swift>(
     alloc: Global,
     state: &mut Settled<'_, W>,
     bucket: &Bytes,
@@ -168,7 +168,7 @@ fn next_under<W: Swift>(
 }
 
 /// The first items, and whether one is left over; where none is asked for, none is.
-fn cut_to(items: List<PartItem>, max: u32) -> (List<PartItem>, bool)
+fn first_listed_parts(items: List<PartItem>, max: u32) -> (List<PartItem>, bool)
     ensures cut { result ≡ cut max items }
     ensures dated { All IsShownPart items → All IsShownPart result.0 }
 {
@@ -209,10 +209,10 @@ pub(crate) fn list_parts<W: Swift>(
     'pages: loop {
         match next_parts(alloc, state, bucket, id, &behind, &mut parts)? {
             Some(next) => behind = next,
-            None => return Ok(cut_to(parts, max)),
+            None => return Ok(first_listed_parts(parts, max)),
         }
         if parts.len() > max as usize {
-            return Ok(cut_to(parts, max));
+            return Ok(first_listed_parts(parts, max));
         }
     }
 }

@@ -32,9 +32,9 @@ ghost use Rattle.plan_uploads.specs.Records.{InBucket, TellsUploads};
 use crate::records::get_record;
 use gate_base::{Bytes, Copying, List, MOMENT_LIMIT, Memory};
 use name_table::Table;
-use recovery::{PlanFault, Settled, file_page, next_marker};
+use recovery::{PlanFault, Settled, next_marker, settled_file_page};
 use s3_machine::{UploadItem, begins};
-use s3_names::{id_digits, id_of};
+use s3_names::{id_digits, read_id_digits};
 use std::alloc::Global;
 use swift_calls::{NameItem, Swift};
 use upload_records::uploads_container;
@@ -47,7 +47,7 @@ fn add_ids(ids: &mut List<u128>, page: &[NameItem]) -> Result<(), PlanFault>
     ensures { Adds id_due ids.old ids.new page.now result }
 {
     for item in page {
-        let Some(id) = id_of(item.name.as_slice()) else {
+        let Some(id) = read_id_digits(item.name.as_slice()) else {
             return Err(PlanFault::Inconsistent);
         };
         ids.push(id)?;
@@ -56,7 +56,7 @@ fn add_ids(ids: &mut List<u128>, page: &[NameItem]) -> Result<(), PlanFault>
 }
 
 /// Adds a page of ids. What is told is the marker of the next page, and `None` after the last one.
-fn next_ids<W: Swift>(
+fn next_record_ids<W: Swift>(
     alloc: Global,
     state: &mut Settled<'_, W>,
     bucket: &Bytes,
@@ -75,7 +75,7 @@ fn next_ids<W: Swift>(
         result }
 {
     let folder = uploads_container(alloc, bucket.as_slice())?;
-    let page = file_page(alloc, state, folder.as_slice(), b"", marker.as_slice())?;
+    let page = settled_file_page(alloc, state, folder.as_slice(), b"", marker.as_slice())?;
     add_ids(ids, page.as_slice())?;
     Ok(next_marker(page.as_slice())?)
 }
@@ -95,7 +95,7 @@ fn record_ids<W: Swift>(
     let mut ids = List::new(alloc);
     let mut behind = Bytes::new(alloc);
     'pages: loop {
-        match next_ids(alloc, state, bucket, &behind, &mut ids)? {
+        match next_record_ids(alloc, state, bucket, &behind, &mut ids)? {
             Some(next) => behind = next,
             None => return Ok(ids),
         }
@@ -113,7 +113,7 @@ struct AskedUploads {
 }
 
 /// Whether an upload of this key and id comes after the markers.
-fn is_after(key_marker: &[u8], id_marker: &[u8], key: &[u8], id: &[u8]) -> bool
+fn is_upload_after_markers(key_marker: &[u8], id_marker: &[u8], key: &[u8], id: &[u8]) -> bool
     ensures { result ≡ is_upload_after key_marker.now id_marker.now key.now id.now }
 {
     key.cmp(key_marker).is_gt()
@@ -121,7 +121,7 @@ fn is_after(key_marker: &[u8], id_marker: &[u8], key: &[u8], id: &[u8]) -> bool
 }
 
 /// Where an upload stands among others.
-fn place(alloc: Global, key: &[u8], id: &[u8]) -> Result<Bytes, Memory>
+fn listed_upload_place(alloc: Global, key: &[u8], id: &[u8]) -> Result<Bytes, Memory>
     ensures { IfOk result (λ place. place ≡ upload_place key.now id.now) }
 {
     let mut place = Bytes::from_slice(alloc, key)?;
@@ -136,7 +136,7 @@ impl AskedUploads {
             && is_upload_after self.now.key_marker self.now.id_marker key.now id.now) }
     {
         begins(self.prefix.as_slice(), key)
-            && is_after(
+            && is_upload_after_markers(
                 self.key_marker.as_slice(),
                 self.id_marker.as_slice(),
                 key,
@@ -146,7 +146,11 @@ impl AskedUploads {
 }
 
 /// Adds a row at its place, unless one is there. Where memory runs out, the rows are as before.
-fn add_row(rows: &mut Table<UploadItem>, place: &[u8], item: UploadItem) -> Result<(), Memory>
+fn add_open_upload_row(
+    rows: &mut Table<UploadItem>,
+    place: &[u8],
+    item: UploadItem,
+) -> Result<(), Memory>
     ensures { OnOk result (rows.new ≡ added (place.now, item) rows.old) }
 {
     if rows.get(place).is_some() {
@@ -174,8 +178,8 @@ fn add_open(
     if started >= MOMENT_LIMIT {
         return Err(PlanFault::Inconsistent);
     }
-    let place = place(alloc, key.as_slice(), &digits)?;
-    add_row(rows, place.as_slice(), UploadItem { key, id, started })?;
+    let place = listed_upload_place(alloc, key.as_slice(), &digits)?;
+    add_open_upload_row(rows, place.as_slice(), UploadItem { key, id, started })?;
     Ok(())
 }
 
@@ -201,7 +205,7 @@ fn add_upload<W: Swift>(
 }
 
 /// The uploads of these ids, where they are open and listed.
-fn upload_rows<W: Swift>(
+fn open_uploads_of_ids<W: Swift>(
     alloc: Global,
     state: &mut Settled<'_, W>,
     bucket: &Bytes,
@@ -224,7 +228,10 @@ fn upload_rows<W: Swift>(
 // ---- the listing
 
 /// The items in the order of their places.
-fn items_in(alloc: Global, rows: &Table<UploadItem>) -> Result<List<UploadItem>, Memory>
+fn open_uploads_in_order(
+    alloc: Global,
+    rows: &Table<UploadItem>,
+) -> Result<List<UploadItem>, Memory>
     ensures { IfOk result (λ items. items ≡ map (λ row. row.1) (entries rows.now)) }
 {
     let mut items = List::new(alloc);
@@ -235,7 +242,7 @@ fn items_in(alloc: Global, rows: &Table<UploadItem>) -> Result<List<UploadItem>,
 }
 
 /// The first items, and whether one is left over; where none is asked for, none is.
-fn cut_to(items: List<UploadItem>, max: u32) -> (List<UploadItem>, bool)
+fn first_listed_uploads(items: List<UploadItem>, max: u32) -> (List<UploadItem>, bool)
     ensures cut { result ≡ cut max items }
     ensures dated { All IsShownUpload items → All IsShownUpload result.0 }
 {
@@ -247,7 +254,7 @@ fn cut_to(items: List<UploadItem>, max: u32) -> (List<UploadItem>, bool)
 }
 
 /// All open uploads of a bucket that are listed, by their places.
-fn listed_rows<W: Swift>(
+fn open_uploads_of_bucket<W: Swift>(
     alloc: Global,
     state: &mut Settled<'_, W>,
     bucket: &Bytes,
@@ -262,7 +269,7 @@ fn listed_rows<W: Swift>(
         (GivenOf (InBucket bucket.now)) (TellsOf (TellsListed asked.now bucket.now)) result }
 {
     let ids = record_ids(alloc, state, bucket)?;
-    upload_rows(alloc, state, bucket, asked, ids.as_slice())
+    open_uploads_of_ids(alloc, state, bucket, asked, ids.as_slice())
 }
 
 /// The first open uploads of a bucket after two markers, whose keys begin with a prefix, at most so many, by key and then by id,
@@ -292,11 +299,15 @@ pub(crate) fn list_uploads<W: Swift>(
     if max == 0 {
         return Ok((List::new(alloc), false));
     }
-    let asked = asked_by(prefix, key_marker, id_marker)?;
-    list_asked(alloc, state, bucket, &asked, max)
+    let asked = asked_open_uploads(prefix, key_marker, id_marker)?;
+    list_asked_uploads(alloc, state, bucket, &asked, max)
 }
 
-fn asked_by(prefix: &Bytes, key_marker: &Bytes, id_marker: &Bytes) -> Result<AskedUploads, Memory>
+fn asked_open_uploads(
+    prefix: &Bytes,
+    key_marker: &Bytes,
+    id_marker: &Bytes,
+) -> Result<AskedUploads, Memory>
     ensures { IfOk result (λ asked. asked ≡ record
         { prefix = prefix.now; key_marker = key_marker.now; id_marker = id_marker.now }) }
 {
@@ -308,7 +319,7 @@ fn asked_by(prefix: &Bytes, key_marker: &Bytes, id_marker: &Bytes) -> Result<Ask
 }
 
 /// The same by what is asked, of more than none.
-fn list_asked<W: Swift>(
+fn list_asked_uploads<W: Swift>(
     alloc: Global,
     state: &mut Settled<'_, W>,
     bucket: &Bytes,
@@ -325,7 +336,7 @@ fn list_asked<W: Swift>(
         (Tells (TellsUploads bucket.now asked.now.prefix asked.now.key_marker
         asked.now.id_marker max)) result }
 {
-    let rows = listed_rows(alloc, state, bucket, asked)?;
-    let items = items_in(alloc, &rows)?;
-    Ok(cut_to(items, max))
+    let rows = open_uploads_of_bucket(alloc, state, bucket, asked)?;
+    let items = open_uploads_in_order(alloc, &rows)?;
+    Ok(first_listed_uploads(items, max))
 }

@@ -48,13 +48,13 @@ pub fn answer<W: Swift>(alloc: Global, state: &mut Settled<'_, W>, op: Op, label
         label.now result.known result.reply }
 {
     let mut op = op;
-    let replied = answer_lent(alloc, state, &mut op, label);
+    let replied = answer_upload_operation(alloc, state, &mut op, label);
     drop(op);
     replied
 }
 
 /// Answers an operation that its owner lends, and takes of it what the reply is made of.
-fn answer_lent<W: Swift>(
+fn answer_upload_operation<W: Swift>(
     alloc: Global,
     state: &mut Settled<'_, W>,
     op: &mut Op,

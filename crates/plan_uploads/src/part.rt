@@ -70,7 +70,7 @@ fn part_into<W: Swift>(
         (UploadPart bucket.now key text number body) label.now known.Settled result }
 {
     let etag = body.etag();
-    put_bytes(
+    plan_upload_part_bytes(
         alloc,
         state,
         bucket,
@@ -83,7 +83,7 @@ fn part_into<W: Swift>(
 }
 
 /// The PUT of UploadPart, of a body that has this ETag.
-fn put_bytes<W: Swift>(
+fn plan_upload_part_bytes<W: Swift>(
     alloc: Global,
     state: &mut Settled<'_, W>,
     bucket: &Bytes,
@@ -105,14 +105,14 @@ fn put_bytes<W: Swift>(
         (UploadPart bucket.now key text number body) label.now known.Settled result }
 {
     let text = Bytes::from_slice(alloc, etag)?;
-    stored_end(
+    end_upload_part_plan(
         put_part(alloc, state, bucket, id, number, body, etag, label.moment),
         text,
     )
 }
 
 /// The end of UploadPart after its last call.
-fn stored_end(end: Result<(), PlanFault>, etag: Bytes) -> Result<Reply, PlanFault>
+fn end_upload_part_plan(end: Result<(), PlanFault>, etag: Bytes) -> Result<Reply, PlanFault>
     ensures { result ≡ ended end (λ done. Stored etag) }
 {
     match end {

@@ -13,7 +13,7 @@ ghost use Rattle.plan_uploads.specs.Interpret.{part_tag, put_part_of};
 ghost use Rattle.plan_uploads.specs.Records.{HasOpen, puts_part};
 
 use gate_base::{Bytes, List, Memory};
-use recovery::{PlanFault, Settled, stored_in};
+use recovery::{PlanFault, Settled, interpret_put_with_etag};
 use std::alloc::Global;
 use swift_calls::{Swift, SwiftRequest};
 use swift_marks::Tag;
@@ -46,7 +46,7 @@ pub(crate) fn put_part<W: Swift>(
     law_part_put();
     let request = part_request(alloc, bucket, id, number, body, etag, moment)?;
     let reply = state.call(request)?;
-    stored_in(&reply, etag)
+    interpret_put_with_etag(&reply, etag)
 }
 
 /// The PUT of a part's file, whose body has this ETag.
@@ -68,7 +68,7 @@ pub fn part_request(
         (λ request. request ≡ put_part_of bucket.now id number body moment) }
     ensures fits { IfOk result Fit }
 {
-    let content_type = part_type(alloc, etag, moment, id)?;
+    let content_type = part_tag_text(alloc, etag, moment, id)?;
     let container = segments_container(alloc, bucket.as_slice())?;
     let name = segment_name(alloc, id, number)?;
     Ok(SwiftRequest::PutObject {
@@ -81,7 +81,7 @@ pub fn part_request(
 }
 
 /// The tag of a part with the ETag of its bytes, as its file has it.
-fn part_type(alloc: Global, etag: &[u8], moment: u64, id: u128) -> Result<Bytes, Memory>
+fn part_tag_text(alloc: Global, etag: &[u8], moment: u64, id: u128) -> Result<Bytes, Memory>
     requires { has_text (part_tag etag.now moment id) ≡ true }
     ensures { IfOk result (λ text. text ≡ tag_text (part_tag etag.now moment id)) }
 {

@@ -18,7 +18,7 @@ ghost use Rattle.plan_uploads.specs.Interpret.{most_open_text, put_record_of, re
 ghost use Rattle.plan_uploads.specs.Records.{HasOpen, InBucket, MayClear, MayOpen, TellsRecord, drops_upload, opens_upload};
 
 use gate_base::{Bytes, List, Memory};
-use recovery::{PlanFault, Settled, gone_in, stored_in};
+use recovery::{PlanFault, Settled, interpret_file_delete, interpret_put_with_etag};
 use s3_machine::body_etag;
 use s3_names::{Meta, id_digits};
 use std::alloc::Global;
@@ -58,14 +58,14 @@ fn record_in(alloc: Global, reply: &SwiftReply) -> Result<Option<Record>, PlanFa
     ensures own { result ≢ Err fault.Failed }
 {
     match reply {
-        SwiftReply::Bytes { body, .. } => read_record(alloc, body.as_slice()),
+        SwiftReply::Bytes { body, .. } => record_in_fetched_file(alloc, body.as_slice()),
         SwiftReply::NotFound => Ok(None),
         _ => Err(PlanFault::Inconsistent),
     }
 }
 
 /// The record that the bytes of a file are.
-fn read_record(alloc: Global, text: &[u8]) -> Result<Option<Record>, PlanFault>
+fn record_in_fetched_file(alloc: Global, text: &[u8]) -> Result<Option<Record>, PlanFault>
     ensures due { Gives result (known (read_record text.now)) }
     ensures own { result ≢ Err fault.Failed }
 {
@@ -102,15 +102,15 @@ pub(crate) fn put_record<W: Swift>(
         (GivenOf (MayOpen bucket.now id)) (Becomes (opens_upload bucket.now id key content_type meta started)) result }
 {
     law_upload_opened();
-    let text = open_text(alloc, key, content_type, meta, started)?;
+    let text = text_for_put_record(alloc, key, content_type, meta, started)?;
     let etag = body_etag(text.as_slice());
-    let request = open_request(alloc, bucket, id, text)?;
+    let request = request_for_put_record(alloc, bucket, id, text)?;
     let reply = state.call(request)?;
-    stored_in(&reply, &etag)
+    interpret_put_with_etag(&reply, &etag)
 }
 
 /// The text of the record of an upload that is open.
-fn open_text(
+fn text_for_put_record(
     alloc: Global,
     key: Bytes,
     content_type: Bytes,
@@ -136,7 +136,7 @@ fn open_text(
 }
 
 /// The PUT of a record of this text.
-fn open_request(
+fn request_for_put_record(
     alloc: Global,
     bucket: &Bytes,
     id: u128,
@@ -178,5 +178,5 @@ pub(crate) fn drop_record<W: Swift>(
     let container = uploads_container(alloc, bucket.as_slice())?;
     let name = Bytes::from_slice(alloc, &id_digits(id))?;
     let reply = state.call(SwiftRequest::DeleteObject { container, name })?;
-    gone_in(&reply)
+    interpret_file_delete(&reply)
 }

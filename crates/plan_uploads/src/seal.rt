@@ -8,11 +8,11 @@ ghost use Rattle.upload_texts.specs.Sealed.{has_sealed_text};
 ghost use Rattle.recovery.specs.Calls.{always, GivenOf};
 ghost use Rattle.recovery.specs.Lent.{Stays};
 ghost use Rattle.recovery.specs.Plan.{Plans};
-ghost use Rattle.plan_uploads.specs.Completing.{CompletesBy, LeavesUnsureOnly, Seals, completing_by, most_sealed_text, put_sealed_text};
+ghost use Rattle.plan_uploads.specs.Completing.{CompletesBy, LeavesUnsureOnly, Seals, end_complete_upload_sealed, most_sealed_text, put_sealed_text};
 
 use crate::complete::Completing;
 use gate_base::{Bytes, List, Memory, drop};
-use recovery::{Known, PlanFault, Settled, stored_in};
+use recovery::{Known, PlanFault, Settled, interpret_put_with_etag};
 use s3_machine::{Reply, body_etag};
 use std::alloc::Global;
 use swift_calls::{Swift, SwiftRequest};
@@ -38,7 +38,7 @@ pub(crate) fn seal<W: Swift>(
     let etag = body_etag(text.as_slice());
     let request = sealed_request(alloc, text)?;
     let reply = state.call(request)?;
-    stored_in(&reply, &etag)
+    interpret_put_with_etag(&reply, &etag)
 }
 
 /// The PUT of a sealed completion of this text.
@@ -80,7 +80,7 @@ pub(crate) fn seal_and_finish<W: Swift>(
     ensures unsure { LeavesUnsureOnly (Ok result) }
 {
     match seal(alloc, state, sealed) {
-        Ok(()) => completing_by(state.roll_forward(alloc, sealed), reply),
+        Ok(()) => end_complete_upload_sealed(state.roll_forward(alloc, sealed), reply),
         Err(fault) => {
             drop(reply);
             Completing {
@@ -92,8 +92,8 @@ pub(crate) fn seal_and_finish<W: Swift>(
 }
 
 /// The end of a completion behind the call that seals it.
-fn completing_by(finished: Result<(), PlanFault>, reply: Reply) -> Completing
-    ensures { result ≡ completing_by finished reply }
+fn end_complete_upload_sealed(finished: Result<(), PlanFault>, reply: Reply) -> Completing
+    ensures { result ≡ end_complete_upload_sealed finished reply }
 {
     match finished {
         Ok(()) => Completing {

@@ -48,12 +48,12 @@ pub(crate) fn plan_list_parts<W: Swift>(
     match find_upload(alloc, state, &bucket, &key, text)? {
         Found::NoBucket => Ok(Reply::Refused(Code::NoSuchBucket)),
         Found::NoUpload => Ok(Reply::Refused(Code::NoSuchUpload)),
-        Found::Open(id) => parts_within(alloc, state, bucket, key, id, marker, max),
+        Found::Open(id) => plan_list_parts_within(alloc, state, bucket, key, id, marker, max),
     }
 }
 
 /// The rest of ListParts, of an upload that is open.
-fn parts_within<W: Swift>(
+fn plan_list_parts_within<W: Swift>(
     alloc: Global,
     state: &mut Settled<'_, W>,
     bucket: Bytes,
@@ -73,11 +73,11 @@ fn parts_within<W: Swift>(
         known.Settled result }
 {
     let listed = list_parts(alloc, state, &bucket, id, marker, max)?;
-    Ok(parts_reply(bucket, key, id, marker, max, listed))
+    Ok(end_list_parts_plan(bucket, key, id, marker, max, listed))
 }
 
 /// The reply of the parts, and whether one is left over.
-fn parts_reply(
+fn end_list_parts_plan(
     bucket: Bytes,
     key: Bytes,
     id: u128,
@@ -124,11 +124,11 @@ pub(crate) fn plan_list_uploads<W: Swift>(
     let Some(_) = head_bucket(state, &bucket)? else {
         return Ok(Reply::Refused(Code::NoSuchBucket));
     };
-    uploads_within(alloc, state, bucket, prefix, key_marker, id_marker, max)
+    plan_list_uploads_within(alloc, state, bucket, prefix, key_marker, id_marker, max)
 }
 
 /// The rest of ListUploads, in a bucket that is there, whatever list it has.
-fn uploads_within<W: Swift>(
+fn plan_list_uploads_within<W: Swift>(
     alloc: Global,
     state: &mut Settled<'_, W>,
     bucket: Bytes,
@@ -149,11 +149,11 @@ fn uploads_within<W: Swift>(
         (ListUploads bucket prefix key_marker id_marker max) label known.Settled result }
 {
     let listed = list_uploads(alloc, state, &bucket, &prefix, &key_marker, &id_marker, max)?;
-    Ok(uploads_reply(bucket, prefix, key_marker, id_marker, max, listed))
+    Ok(end_list_uploads_plan(bucket, prefix, key_marker, id_marker, max, listed))
 }
 
 /// The reply of the uploads, and whether one is left over.
-fn uploads_reply(
+fn end_list_uploads_plan(
     bucket: Bytes,
     prefix: Bytes,
     key_marker: Bytes,

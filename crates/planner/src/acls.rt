@@ -11,7 +11,7 @@ ghost use Rattle.planner.specs.Buckets.{set_reply};
 ghost use Rattle.recovery.specs.Plan.{Plans, ended};
 
 use gate_base::Bytes;
-use recovery::{PlanFault, Settled, head_bucket, set_acl};
+use recovery::{PlanFault, Settled, head_bucket, post_bucket_container};
 use s3_machine::{Code, Reply};
 use s3_names::Acl;
 use std::alloc::Global;
@@ -46,11 +46,11 @@ pub(crate) fn put_bucket_acl<W: Swift>(
         → Plans (always 1) (W.history state.old.store.now) (W.history state.new.store.now)
         state.old.settings.now (Given Any) (PutBucketAcl bucket acl) label known.Settled result }
 {
-    set_end(set_acl(state, bucket, acl))
+    end_put_bucket_acl_plan(post_bucket_container(state, bucket, acl))
 }
 
 /// The end of PutBucketAcl after its call.
-fn set_end(end: Result<bool, PlanFault>) -> Result<Reply, PlanFault>
+fn end_put_bucket_acl_plan(end: Result<bool, PlanFault>) -> Result<Reply, PlanFault>
     ensures { result ≡ ended end set_reply }
 {
     match end {
@@ -78,11 +78,11 @@ pub(crate) fn get_object_acl<W: Swift>(
     let Some(list) = head_bucket(state, bucket)? else {
         return Ok(Reply::Refused(Code::NoSuchBucket));
     };
-    acl_within(alloc, state, bucket, key, list)
+    plan_object_acl_within(alloc, state, bucket, key, list)
 }
 
 /// The rest of GetObjectAcl, in a bucket that has this access control list.
-fn acl_within<W: Swift>(
+fn plan_object_acl_within<W: Swift>(
     alloc: Global,
     state: &mut Settled<'_, W>,
     bucket: &Bytes,

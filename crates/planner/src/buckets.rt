@@ -17,7 +17,8 @@ ghost use Rattle.recovery.specs.Plan.{Plans, ended};
 
 use gate_base::{Bytes, Copying};
 use recovery::{
-    Dropped, PlanFault, Settled, drop_bucket, head_bucket, make_beside, make_bucket, purge,
+    Dropped, PlanFault, Settled, delete_bucket_container, head_bucket, purge, put_bucket_container,
+    put_container_beside,
 };
 use s3_machine::{Code, Label, Reply, may_read};
 use s3_names::Acl;
@@ -43,14 +44,14 @@ pub(crate) fn create_bucket<W: Swift>(
         (Given Any) (CreateBucket bucket acl) label.now known.Settled result }
 {
     match head_bucket(state, &bucket)? {
-        None => make_missing(alloc, state, bucket, acl, label),
+        None => plan_create_missing_bucket(alloc, state, bucket, acl, label),
         Some(_) => Ok(Reply::Refused(Code::BucketAlreadyOwnedByYou)),
     }
 }
 
 /// The rest of CreateBucket, where the bucket is missing: the names of the containers beside it are written, and the first of them
 /// is made.
-fn make_missing<W: Swift>(
+fn plan_create_missing_bucket<W: Swift>(
     alloc: Global,
     state: &mut Settled<'_, W>,
     bucket: Bytes,
@@ -66,12 +67,12 @@ fn make_missing<W: Swift>(
 {
     let uploads = uploads_container(alloc, bucket.as_slice())?;
     let segments = segments_container(alloc, bucket.as_slice())?;
-    make_beside(state, &bucket, &uploads)?;
-    make_segments(alloc, state, bucket, &uploads, &segments, acl, label)
+    put_container_beside(state, &bucket, &uploads)?;
+    plan_create_bucket_segments(alloc, state, bucket, &uploads, &segments, acl, label)
 }
 
 /// The second of them is made.
-fn make_segments<W: Swift>(
+fn plan_create_bucket_segments<W: Swift>(
     alloc: Global,
     state: &mut Settled<'_, W>,
     bucket: Bytes,
@@ -89,7 +90,7 @@ fn make_segments<W: Swift>(
         (W.history state.old.store.now) (W.history state.new.store.now) state.old.settings.now
         (GivenOf (HasUploads bucket)) (CreateBucket bucket acl) label.now known.Settled result }
 {
-    make_beside(state, &bucket, segments)?;
+    put_container_beside(state, &bucket, segments)?;
     empty_uploads(alloc, state, bucket, uploads, segments, acl, label)
 }
 
@@ -137,11 +138,11 @@ fn empty_segments<W: Swift>(
 {
     let all = Bytes::new(alloc);
     purge(alloc, state, &bucket, segments, &all)?;
-    make_bare(state, bucket, acl, label)
+    plan_create_bare_bucket(state, bucket, acl, label)
 }
 
 /// The bucket is made, where both containers beside it are there without a file.
-fn make_bare<W: Swift>(
+fn plan_create_bare_bucket<W: Swift>(
     state: &mut Settled<'_, W>,
     bucket: Bytes,
     acl: Acl,
@@ -155,11 +156,11 @@ fn make_bare<W: Swift>(
         known.Settled result }
 {
     let name = bucket.copy()?;
-    made_end(make_bucket(state, bucket, acl, label.moment), name)
+    end_create_bucket_plan(put_bucket_container(state, bucket, acl, label.moment), name)
 }
 
 /// The end of CreateBucket after its last call.
-fn made_end(end: Result<(), PlanFault>, bucket: Bytes) -> Result<Reply, PlanFault>
+fn end_create_bucket_plan(end: Result<(), PlanFault>, bucket: Bytes) -> Result<Reply, PlanFault>
     ensures { result ≡ ended end (λ done. Made bucket) }
 {
     match end {
@@ -194,11 +195,11 @@ pub(crate) fn delete_bucket<W: Swift>(
         → Plans (always 1) (W.history state.old.store.now) (W.history state.new.store.now)
         state.old.settings.now (Given Any) (DeleteBucket bucket) label known.Settled result }
 {
-    dropped_end(drop_bucket(state, bucket))
+    end_delete_bucket_plan(delete_bucket_container(state, bucket))
 }
 
 /// The end of DeleteBucket after its call.
-fn dropped_end(end: Result<Dropped, PlanFault>) -> Result<Reply, PlanFault>
+fn end_delete_bucket_plan(end: Result<Dropped, PlanFault>) -> Result<Reply, PlanFault>
     ensures { result ≡ ended end dropped_reply }
 {
     match end {
@@ -210,7 +211,7 @@ fn dropped_end(end: Result<Dropped, PlanFault>) -> Result<Reply, PlanFault>
 }
 
 /// HeadBucket: HEAD of the container. At most one call, which doesn't commit. The faults are those of the call.
-pub(crate) fn show_bucket<W: Swift>(
+pub(crate) fn plan_head_bucket<W: Swift>(
     state: &mut Settled<'_, W>,
     bucket: &Bytes,
     label: &Label,

@@ -41,11 +41,11 @@ pub(crate) fn list_objects<W: Swift>(
     let Some(list) = head_bucket(state, &bucket)? else {
         return Ok(Reply::Refused(Code::NoSuchBucket));
     };
-    list_within(alloc, state, bucket, asked, list, label)
+    plan_list_objects_within(alloc, state, bucket, asked, list, label)
 }
 
 /// The rest of ListObjects, in a bucket that has this access control list.
-fn list_within<W: Swift>(
+fn plan_list_objects_within<W: Swift>(
     alloc: Global,
     state: &mut Settled<'_, W>,
     bucket: Bytes,
@@ -66,11 +66,11 @@ fn list_within<W: Swift>(
         return Ok(Reply::Refused(Code::AccessDenied));
     }
     let listed = recovery::list_objects(alloc, state, &bucket, &asked)?;
-    Ok(objects(bucket, asked, listed))
+    Ok(end_list_objects_plan(bucket, asked, listed))
 }
 
 /// The reply of the items, and whether one is left over.
-fn objects(bucket: Bytes, asked: Asked, listed: (List<Item>, bool)) -> Reply
+fn end_list_objects_plan(bucket: Bytes, asked: Asked, listed: (List<Item>, bool)) -> Reply
     ensures { result ≡ objects_reply bucket asked listed }
 {
     let (items, truncated) = listed;

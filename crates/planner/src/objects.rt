@@ -53,7 +53,7 @@ pub(crate) fn put_object<W: Swift>(
     let Some(list) = head_bucket(state, &bucket)? else {
         return Ok(Reply::Refused(Code::NoSuchBucket));
     };
-    put_into(
+    plan_put_object_within(
         alloc,
         state,
         bucket,
@@ -68,7 +68,7 @@ pub(crate) fn put_object<W: Swift>(
 }
 
 /// The rest of PutObject, in a bucket that has this access control list.
-fn put_into<W: Swift>(
+fn plan_put_object_within<W: Swift>(
     alloc: Global,
     state: &mut Settled<'_, W>,
     bucket: Bytes,
@@ -92,7 +92,7 @@ fn put_into<W: Swift>(
         return Ok(Reply::Refused(Code::NotImplemented));
     }
     let etag = body.etag();
-    put_bytes(
+    plan_put_object_bytes(
         alloc,
         state,
         bucket,
@@ -108,7 +108,7 @@ fn put_into<W: Swift>(
 }
 
 /// The PUT of PutObject, of a body that has this ETag.
-fn put_bytes<W: Swift>(
+fn plan_put_object_bytes<W: Swift>(
     alloc: Global,
     state: &mut Settled<'_, W>,
     bucket: Bytes,
@@ -132,7 +132,7 @@ fn put_bytes<W: Swift>(
         (PutObject bucket key acl content_type meta.now body) label.now known.Settled result }
 {
     let text = Bytes::from_slice(alloc, etag)?;
-    stored_end(
+    end_put_object_plan(
         recovery::put_object(
             alloc,
             state,
@@ -149,7 +149,7 @@ fn put_bytes<W: Swift>(
 }
 
 /// The end of PutObject after its last call.
-fn stored_end(end: Result<(), PlanFault>, etag: Bytes) -> Result<Reply, PlanFault>
+fn end_put_object_plan(end: Result<(), PlanFault>, etag: Bytes) -> Result<Reply, PlanFault>
     ensures { result ≡ ended end (λ done. Stored etag) }
 {
     match end {
@@ -179,11 +179,11 @@ pub(crate) fn get_object<W: Swift>(
     let Some(list) = head_bucket(state, &bucket)? else {
         return Ok(Reply::Refused(Code::NoSuchBucket));
     };
-    get_within(alloc, state, bucket, key, range, conditions, list, label)
+    plan_get_object_within(alloc, state, bucket, key, range, conditions, list, label)
 }
 
 /// The rest of GetObject, in a bucket that has this access control list.
-fn get_within<W: Swift>(
+fn plan_get_object_within<W: Swift>(
     alloc: Global,
     state: &mut Settled<'_, W>,
     bucket: Bytes,
@@ -205,11 +205,11 @@ fn get_within<W: Swift>(
     let Some(head) = recovery::head_object(alloc, state, &bucket, &key)? else {
         return Ok(Reply::Refused(Code::NoSuchKey));
     };
-    get_judged(alloc, state, bucket, key, range, conditions, head)
+    plan_get_readable_object(alloc, state, bucket, key, range, conditions, head)
 }
 
 /// The rest of GetObject, for an object that is there and may be read, whatever list its bucket has and whoever asks.
-fn get_judged<W: Swift>(
+fn plan_get_readable_object<W: Swift>(
     alloc: Global,
     state: &mut Settled<'_, W>,
     bucket: Bytes,
@@ -230,14 +230,14 @@ fn get_judged<W: Swift>(
         Judged::PreconditionFailed => Ok(Reply::Refused(Code::PreconditionFailed)),
         Judged::NotModified => Ok(Reply::NotModified(head)),
         Judged::InvalidRange => Ok(Reply::Refused(Code::InvalidRange)),
-        Judged::Bytes { span, partial } => get_span(
+        Judged::Bytes { span, partial } => plan_get_object_span(
             alloc, state, bucket, key, range, conditions, head, span, partial,
         ),
     }
 }
 
 /// The rest of GetObject, where these bytes are asked for.
-fn get_span<W: Swift>(
+fn plan_get_object_span<W: Swift>(
     alloc: Global,
     state: &mut Settled<'_, W>,
     bucket: Bytes,
@@ -270,7 +270,7 @@ fn get_span<W: Swift>(
     let Some(body) = told else {
         return Err(PlanFault::Inconsistent);
     };
-    part(head, span, partial, body)
+    end_get_object_plan(head, span, partial, body)
 }
 
 /// The range that is asked of the store for these bytes, by the numbers of the first and the last: none where they are all
@@ -288,7 +288,12 @@ fn range_of(span: Span, partial: bool) -> Option<(u64, u64)>
 }
 
 /// The reply to GetObject. A store whose GET gives another number of bytes than were asked for is inconsistent.
-fn part(head: ObjectHead, span: Span, partial: bool, body: Bytes) -> Result<Reply, PlanFault>
+fn end_get_object_plan(
+    head: ObjectHead,
+    span: Span,
+    partial: bool,
+    body: Bytes,
+) -> Result<Reply, PlanFault>
     requires shown { IsShown head span.from span.length partial }
     ensures own { IfOk result IsOwnReply }
     ensures no_failure { result ≢ Err Failed }
@@ -326,11 +331,11 @@ pub(crate) fn head_object<W: Swift>(
     let Some(list) = head_bucket(state, bucket)? else {
         return Ok(Reply::Refused(Code::NoSuchBucket));
     };
-    head_within(alloc, state, bucket, key, range, conditions, list, label)
+    plan_head_object_within(alloc, state, bucket, key, range, conditions, list, label)
 }
 
 /// The rest of HeadObject, in a bucket that has this access control list.
-fn head_within<W: Swift>(
+fn plan_head_object_within<W: Swift>(
     alloc: Global,
     state: &mut Settled<'_, W>,
     bucket: &Bytes,
@@ -352,11 +357,16 @@ fn head_within<W: Swift>(
     let Some(head) = recovery::head_object(alloc, state, bucket, key)? else {
         return Ok(Reply::Refused(Code::NoSuchKey));
     };
-    Ok(headed(alloc, range, conditions, head))
+    Ok(end_head_object_plan(alloc, range, conditions, head))
 }
 
 /// The reply to HeadObject for an object with this head: what GetObject is answered, without the bytes.
-fn headed(alloc: Global, range: Option<Range>, conditions: &Conditions, head: ObjectHead) -> Reply
+fn end_head_object_plan(
+    alloc: Global,
+    range: Option<Range>,
+    conditions: &Conditions,
+    head: ObjectHead,
+) -> Reply
     requires shown { IsShownHead (Some head) }
     ensures own { IsOwnReply result }
     ensures reply { result ≡ headed_reply range conditions.now head }
@@ -391,11 +401,11 @@ pub(crate) fn delete_object<W: Swift>(
     let Some(list) = head_bucket(state, &bucket)? else {
         return Ok(Reply::Refused(Code::NoSuchBucket));
     };
-    delete_from(state, bucket, key)
+    plan_delete_object_within(state, bucket, key)
 }
 
 /// The rest of DeleteObject, in a bucket that is there, whatever list it has.
-fn delete_from<W: Swift>(
+fn plan_delete_object_within<W: Swift>(
     state: &mut Settled<'_, W>,
     bucket: Bytes,
     key: Bytes,
@@ -407,11 +417,11 @@ fn delete_from<W: Swift>(
         state.old.settings.now (Given (λ s. TellsBucket bucket s (Some list)))
         (DeleteObject bucket key) label known.Settled result }
 {
-    gone_end(recovery::delete_object(state, bucket, key))
+    end_delete_object_plan(recovery::delete_object(state, bucket, key))
 }
 
 /// The end of DeleteObject after its last call.
-fn gone_end(end: Result<(), PlanFault>) -> Result<Reply, PlanFault>
+fn end_delete_object_plan(end: Result<(), PlanFault>) -> Result<Reply, PlanFault>
     ensures { result ≡ ended end (λ done. Gone) }
 {
     match end {

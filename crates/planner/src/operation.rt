@@ -9,7 +9,7 @@ ghost use Rattle.recovery.specs.Lent.{Stays};
 ghost use Rattle.recovery.specs.Plan.{Plans, Answered};
 
 use crate::acls::{get_bucket_acl, get_object_acl, put_bucket_acl};
-use crate::buckets::{create_bucket, delete_bucket, get_location, list_buckets, show_bucket};
+use crate::buckets::{create_bucket, delete_bucket, get_location, list_buckets, plan_head_bucket};
 use crate::listing::list_objects;
 use crate::objects::{delete_object, get_object, head_object, put_object};
 use gate_base::{Bytes, drop};
@@ -64,7 +64,7 @@ fn plan<W: Swift>(
             alloc,
             state,
             taken_text(alloc, bucket),
-            taken_asked(alloc, asked),
+            taken_for_list_objects_plan(alloc, asked),
             label,
         ),
         _ => plan_of_key(alloc, state, op, label),
@@ -139,7 +139,7 @@ fn plan_lent<W: Swift>(
 {
     match op {
         Op::ListBuckets => list_buckets(alloc, state),
-        Op::HeadBucket { bucket } => show_bucket(state, bucket, label),
+        Op::HeadBucket { bucket } => plan_head_bucket(state, bucket, label),
         Op::GetLocation { bucket } => get_location(state, bucket),
         Op::GetBucketAcl { bucket } => get_bucket_acl(state, bucket),
         Op::HeadObject {
@@ -154,7 +154,7 @@ fn plan_lent<W: Swift>(
 }
 
 /// Takes what a listing asks for, and leaves there that it asks for no item. It takes no memory.
-fn taken_asked(alloc: Global, asked: &mut Asked) -> Asked
+fn taken_for_list_objects_plan(alloc: Global, asked: &mut Asked) -> Asked
     ensures { result ≡ asked.old }
 {
     let none = Asked {

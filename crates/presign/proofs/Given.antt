@@ -8,7 +8,7 @@ use Rattle.std.proofs.lemmas.List.Sorted.{list_any-IsPermutation}
 use Rattle.std.proofs.lemmas.Slice.Eq.{bytes_eq-Decides}
 use Rattle.gate_base.specs.Ascii.{is_slash}
 use Rattle.gate_base.specs.declared.page.Pair.{Pair}
-use Rattle.http_wire.specs.Headers.{value_of, has_name, has_header, has_one, first_value}
+use Rattle.http_wire.specs.Headers.{value_of, has_name, has_header, has_single_header, first_value}
 use Rattle.sigv4.specs.Authorization.{is_hex, is_formed, behind_id, behind_date, behind_region, behind_service}
 use Rattle.sigv4.specs.declared.authorization.Authorization.{Authorization}
 use Rattle.sigv4.specs.Moment.{is_time}
@@ -16,7 +16,7 @@ use Rattle.sigv4.specs.Sign.{date_of}
 use Rattle.sigv4.proofs.lemmas.Signatures.{host_is_names}
 use Rattle.sigv4.proofs.lemmas.Cuts.{before_of, after_of}
 use Rattle.presign.specs.Parameters.{has_each_once, parameter}
-use Rattle.presign.specs.Claim.{span_of, parts_from, parts_of, time_in, is_labelled, is_dated, formed_parts, claim_for, claim_of}
+use Rattle.presign.specs.Claim.{span_of, parts_from, parts_of, presigned_time_in, is_labelled, is_dated, formed_presigned_parts, claim_for, claim_of}
 use Rattle.presign.specs.Url.{has_signature_name, credential_for, scope_parameters, span_parameters, host_alone}
 use Rattle.presign.proofs.Finds.{moved_count, moved_find, behind_count, behind_find, behind_any}
 use Rattle.presign.proofs.Parts.{IsPart}
@@ -61,7 +61,7 @@ module _ (target made : List Pair) (credential time seconds signature : List ℕ
       let single : count_by (has_name name) all ≡ 1 = behind_count (has_name name) target (six credential time seconds signature) none ∙ one in
       ap (λ found. option_map_or value_of found []) (moved_find (has_name name) all made moved single ∙ behind_find (has_name name) target (six credential time seconds signature) none)
 
-  one_of : (name : List ℕ) → has_header name target ≡ false → count_by (has_name name) (six credential time seconds signature) ≡ 1 → has_one name made ≡ true
+  one_of : (name : List ℕ) → has_header name target ≡ false → count_by (has_name name) (six credential time seconds signature) ≡ 1 → has_single_header name made ≡ true
   one_of name none one = ap (λ n. eqb n 1) (once name none one)
 
   pub each_once : has_each_once made ≡ true
@@ -103,9 +103,9 @@ module _ (target made : List Pair) (credential time seconds signature : List ℕ
       let algorithm : bytes_eq (parameter (codes "X-Amz-Algorithm") made) (codes "AWS4-HMAC-SHA256") ≡ true = (bytes_eq-Decides _ _).1 algorithm_is in
       let service : bytes_eq (behind_service (parameter (codes "X-Amz-Credential") made)) (codes "aws4_request") ≡ true = (bytes_eq-Decides _ _).1 (ap behind_service credential_is ∙ ends) in
       let labelled : is_labelled headers made ≡ true = and_from _ _ (and_from _ _ (and_from _ _ (ap not unauthorized) each_once) algorithm) service in
-      let dated : is_dated (time_in made) (parts_of made).date ≡ true = and_from _ _ (ap is_time date_is ∙ timed) ((bytes_eq-Decides _ _).1 (ap date_of date_is ∙ (sym day ∙ sym (ap (λ (p : Authorization). p.date) all)))) in
-      let tests : (is_labelled headers made && (is_formed (parts_of made) && is_dated (time_in made) (parts_of made).date)) ≡ true = and_from _ _ labelled (and_from _ _ (ap is_formed all ∙ formed) dated) in
-      let said : formed_parts headers made ≡ Some parts = ap (λ b. cond b (Some (parts_of made)) None) tests ∙ ap Some all in
+      let dated : is_dated (presigned_time_in made) (parts_of made).date ≡ true = and_from _ _ (ap is_time date_is ∙ timed) ((bytes_eq-Decides _ _).1 (ap date_of date_is ∙ (sym day ∙ sym (ap (λ (p : Authorization). p.date) all)))) in
+      let tests : (is_labelled headers made && (is_formed (parts_of made) && is_dated (presigned_time_in made) (parts_of made).date)) ≡ true = and_from _ _ labelled (and_from _ _ (ap is_formed all ∙ formed) dated) in
+      let said : formed_presigned_parts headers made ≡ Some parts = ap (λ b. cond b (Some (parts_of made)) None) tests ∙ ap Some all in
       λ i. claim_for (date_is i) ((ap span_of expires_is ∙ span) i) (said i)
 
 -- ---- the parts of the credential

@@ -13,15 +13,15 @@ use Rattle.s3_names.specs.Escapes.{escaped_path}
 use Rattle.s3_names.specs.Query.{without}
 use Rattle.s3_names.specs.Target.{target_of}
 use Rattle.http_wire.specs.declared.message.Message.{Message}
-use Rattle.sigv4.specs.Canonical.{clean, canonical_query, canonical_headers, canonical_of}
+use Rattle.sigv4.specs.Canonical.{clean_header_value, canonical_query, canonical_headers, canonical_of}
 use Rattle.sigv4.specs.Keys.{secret_of}
-use Rattle.sigv4.specs.Moment.{unix_seconds}
+use Rattle.sigv4.specs.Moment.{signing_time_seconds}
 use Rattle.sigv4.specs.Sign.{date_of, signed_of}
 use Rattle.sigv4.specs.Verdict.{is_among, must_be_signed}
 use Rattle.sigv4.specs.declared.keys.AccessKey.{AccessKey}
 use Rattle.presign.specs.declared.claim.Claim.{Claim}
 use Rattle.presign.specs.Claim.{claim_of}
-use Rattle.presign.specs.Parameters.{has_parameter, is_presigned}
+use Rattle.presign.specs.Parameters.{has_presigned_parameter, is_presigned}
 use Rattle.presign.specs.Url.{host_alone, credential_for, url_text, signing_query, url_of}
 use Rattle.presign.specs.Verdict.{is_left_out, leaves_unsigned, signed_text, expected, owner_or_refusal}
 use Rattle.presign.specs.Laws.{IsMade, IsSent, InTime, IsWhole, AsksTheSame}
@@ -61,7 +61,7 @@ all_signed_of message sent sends =
 
 same_headers : (message sent : Message) → IsSent message sent → canonical_headers sent.headers host_alone ≡ canonical_headers message.headers host_alone
 same_headers message sent sends =
-    ap (λ (values : List (List ℕ)). flat_map (λ name. name ++ 58 ∷ [] ++ join_with_byte 44 (map clean values) ++ 10 ∷ []) host_alone) sends.host
+    ap (λ (values : List (List ℕ)). flat_map (λ name. name ++ 58 ∷ [] ++ join_with_byte 44 (map clean_header_value values) ++ 10 ∷ []) host_alone) sends.host
 
 -- a request that is sent signs to the same, where its path and its query do
 same_text : (message sent : Message) (path other : List ℕ) (query pairs : List Pair) → IsSent message sent → other ≡ path → canonical_query pairs ≡ canonical_query query → signed_text sent other pairs host_alone ≡ signed_text message path query host_alone
@@ -138,7 +138,7 @@ module _ (secret id region : List ℕ) (message : Message) (target : Target) (mo
 
     pub is_presigned_of : is_presigned read.query ≡ true
     is_presigned_of =
-        ap (λ b. b || has_parameter (codes "X-Amz-Signature") read.query) (shown target.query read.query credential time (decimal expires) signature lacks moved)
+        ap (λ b. b || has_presigned_parameter (codes "X-Amz-Signature") read.query) (shown target.query read.query credential time (decimal expires) signature lacks moved)
 
     abbrev claim : Claim
     claim = record { by = parts id (date_of time) region signature of_id of_date of_region; time = time; expires = expires }
@@ -163,8 +163,8 @@ module _ (secret id region : List ℕ) (message : Message) (target : Target) (mo
             let found = taken_is keys region sent read now h in
             let both : Some found.claim ≡ Some claim = sym found.said ∙ said in
             let same : found.claim ≡ claim = cc in
-            let begun : unix_seconds time ≤ now + 900 = subst (λ (c : Claim). unix_seconds c.time ≤ now + 900) same found.begun in
-            let not_over : now ≤ unix_seconds time + expires = subst (λ (c : Claim). now ≤ unix_seconds c.time + c.expires) same found.not_over in
+            let begun : signing_time_seconds time ≤ now + 900 = subst (λ (c : Claim). signing_time_seconds c.time ≤ now + 900) same found.begun in
+            let not_over : now ≤ signing_time_seconds time + expires = subst (λ (c : Claim). now ≤ signing_time_seconds c.time + c.expires) same found.not_over in
             (subst (λ s. s ≤ now + 900) made.made.1.1 begun, subst (λ s. now ≤ s + expires) made.made.1.1 not_over)
 
         in_turn : InTime moment expires now → owner_or_refusal keys region sent read now ≡ Ok Owner

@@ -14,7 +14,7 @@ use Rattle.hex.specs.Hex.{encode_lower}
 use Rattle.gate_base.specs.Ascii.{is_digit, is_letter_or_digit, is_lower_hex, is_slash}
 use Rattle.s3_names.specs.Text.{has_zero, is_text}
 use Rattle.s3_names.specs.Escapes.{is_unreserved, upper_digit, escaped_unless, escaped_all}
-use Rattle.sigv4.specs.Authorization.{is_part_byte, is_part, is_hex}
+use Rattle.sigv4.specs.Authorization.{is_credential_byte, is_part, is_hex}
 use Rattle.sigv4.specs.Keys.{is_key}
 use Rattle.sigv4.specs.Moment.{is_time}
 use Rattle.sigv4.specs.Sign.{is_date_time, date_of, signed_of}
@@ -22,7 +22,7 @@ use Rattle.sigv4.proofs.lemmas.Signatures.{signature_is_hex}
 use Rattle.sigv4.proofs.lemmas.Cuts.{is_free, all_joined, all_weaker, all_in_join}
 use Rattle.text_forms.specs.Numbers.{is_number}
 use Rattle.text_forms.proofs.lemmas.Decimals.{decimal_digits, decimal_is_number, decimal_value}
-use Rattle.presign.specs.Claim.{is_span, span_of}
+use Rattle.presign.specs.Claim.{is_expiry_span, span_of}
 use Rattle.presign.specs.Laws.{IsBytes}
 use Rattle.presign.specs.Url.{is_region_byte, is_region, credential_for}
 use Rattle.presign.proofs.Times.{time_has_form}
@@ -59,7 +59,7 @@ text_by text h =
 letter_is_plain : (b : ℕ) → is_letter_or_digit b ≡ true → is_plain b ≡ true
 letter_is_plain b h = grind (arith, nat_tests)
 
-letter_is_part : (b : ℕ) → is_letter_or_digit b ≡ true → is_part_byte b ≡ true
+letter_is_part : (b : ℕ) → is_letter_or_digit b ≡ true → is_credential_byte b ≡ true
 letter_is_part b h = grind (arith, nat_tests)
 
 digit_is_letter : (b : ℕ) → is_digit b ≡ true → is_letter_or_digit b ≡ true
@@ -68,10 +68,10 @@ digit_is_letter b h = grind (arith, nat_tests)
 region_is_plain : (b : ℕ) → is_region_byte b ≡ true → is_plain b ≡ true
 region_is_plain b h = grind (arith, nat_tests)
 
-region_is_part : (b : ℕ) → is_region_byte b ≡ true → is_part_byte b ≡ true
+region_is_part : (b : ℕ) → is_region_byte b ≡ true → is_credential_byte b ≡ true
 region_is_part b h = grind (arith, nat_tests)
 
-part_is_free : (b : ℕ) → is_part_byte b ≡ true → not (is_slash b) ≡ true
+part_is_free : (b : ℕ) → is_credential_byte b ≡ true → not (is_slash b) ≡ true
 part_is_free b h = grind (arith, nat_tests)
 
 hex_is_plain : (b : ℕ) → is_lower_hex b ≡ true → is_plain b ≡ true
@@ -88,12 +88,12 @@ pub record IsPart (text : List ℕ) : Type 0 where
   pub free : is_free is_slash text ≡ true
   pub plain : list_all is_plain text ≡ true
 
-part_by : (text : List ℕ) → 1 ≤ length text → list_all is_part_byte text ≡ true → list_all is_plain text ≡ true → IsPart text
+part_by : (text : List ℕ) → 1 ≤ length text → list_all is_credential_byte text ≡ true → list_all is_plain text ≡ true → IsPart text
 part_by text some parts plain =
     let filled : nat_lt 0 (length text) ≡ true = grind (arith, nat_tests) in
     record {
-      part = and_from (nat_lt 0 (length text)) (list_all is_part_byte text) filled parts;
-      free = all_weaker is_part_byte (λ b. not (is_slash b)) part_is_free text parts;
+      part = and_from (nat_lt 0 (length text)) (list_all is_credential_byte text) filled parts;
+      free = all_weaker is_credential_byte (λ b. not (is_slash b)) part_is_free text parts;
       plain = plain;
     }
 
@@ -107,7 +107,7 @@ pub region_part : (region : List ℕ) → is_region region ≡ true → IsPart r
 region_part region h =
     let parts = three_parts (nat_le 1 (length region)) (nat_le (length region) 32) (list_all is_region_byte region) h in
     let least = parts.0 in
-    part_by region (grind (arith, nat_tests)) (all_weaker is_region_byte is_part_byte region_is_part region parts.2) (all_weaker is_region_byte is_plain region_is_plain region parts.2)
+    part_by region (grind (arith, nat_tests)) (all_weaker is_region_byte is_credential_byte region_is_part region parts.2) (all_weaker is_region_byte is_plain region_is_plain region parts.2)
 
 pub id_part : (id secret : List ℕ) → is_key (record { id = id; secret = secret }) ≡ true → IsPart id
 id_part id secret h =
@@ -115,7 +115,7 @@ id_part id secret h =
     let inner = and_parts (nat_le 1 (length id) && nat_le (length id) 128 && list_all is_letter_or_digit id) _ outer.0 in
     let parts = three_parts (nat_le 1 (length id)) (nat_le (length id) 128) (list_all is_letter_or_digit id) inner.0 in
     let least = parts.0 in
-    part_by id (grind (arith, nat_tests)) (all_weaker is_letter_or_digit is_part_byte letter_is_part id parts.2) (all_weaker is_letter_or_digit is_plain letter_is_plain id parts.2)
+    part_by id (grind (arith, nat_tests)) (all_weaker is_letter_or_digit is_credential_byte letter_is_part id parts.2) (all_weaker is_letter_or_digit is_plain letter_is_plain id parts.2)
 
 -- ---- a time
 
@@ -152,7 +152,7 @@ date_part time h =
     let form = form_of time (time_has_form time h) in
     let long = form.long in
     let least : 1 ≤ length (take 8 time) = omega (arith, length-take 8 time) in
-    part_by (take 8 time) least (all_weaker is_digit is_part_byte (λ b d. letter_is_part b (digit_is_letter b d)) (take 8 time) form.date) (digits_are_plain (take 8 time) form.date)
+    part_by (take 8 time) least (all_weaker is_digit is_credential_byte (λ b d. letter_is_part b (digit_is_letter b d)) (take 8 time) form.date) (digits_are_plain (take 8 time) form.date)
 
 -- what is behind a place is the byte there and what is behind it
 behind_plain : (text : List ℕ) (i : ℕ) → i < length text → is_plain (slice_index text i) ≡ true → list_all is_plain (drop (suc i) text) ≡ true → list_all is_plain (drop i text) ≡ true
@@ -192,7 +192,7 @@ span_back n least most =
     let number : is_number 6 (decimal n) ≡ true = decimal_is_number 6 n (omega arith) (omega (arith, most)) (omega (arith, most)) in
     let low : nat_le 1 n ≡ true = grind (arith, nat_tests) in
     let high : nat_le n 604800 ≡ true = grind (arith, nat_tests) in
-    let span : is_span n ≡ true = and_from (nat_le 1 n) (nat_le n 604800) low high in
+    let span : is_expiry_span n ≡ true = and_from (nat_le 1 n) (nat_le n 604800) low high in
     rw (value, number, span) refl
 
 -- ---- the signature

@@ -8,8 +8,8 @@ use Rattle.gate_base.specs.declared.caller.Caller.TheVariants.{Owner}
 use Rattle.s3_names.specs.declared.target.Target.{Target}
 use Rattle.http_wire.specs.declared.message.Message.{Message}
 use Rattle.sigv4.specs.Keys.{secret_of}
-use Rattle.sigv4.specs.Moment.{unix_seconds}
-use Rattle.sigv4.specs.Verdict.{has_wrong_scope, is_streaming, signature_differs}
+use Rattle.sigv4.specs.Moment.{signing_time_seconds}
+use Rattle.sigv4.specs.Verdict.{has_wrong_scope, has_signed_pieces, signature_differs}
 use Rattle.sigv4.specs.declared.keys.AccessKey.{AccessKey}
 use Rattle.presign.specs.declared.claim.Claim.{Claim}
 use Rattle.presign.specs.declared.refusal.QueryRefusal.{QueryRefusal}
@@ -55,10 +55,10 @@ module _ (keys : List AccessKey) (region : List ℕ) (message : Message) (target
       let due = expected secret region message target claim in
       let first = passes (has_wrong_scope region claim.by) WrongScope _ h in
       let second = passes (leaves_unsigned claim.by.names message.headers) UnsignedHeader _ first.1 in
-      let third = passes (is_streaming message.headers) Streaming _ second.1 in
+      let third = passes (has_signed_pieces message.headers) Streaming _ second.1 in
       let fourth = passes (is_out_of_time claim moment) OutOfTime _ third.1 in
       let fifth = passes (signature_differs claim.by due) (SignatureDiffers due.canonical_hash) (Ok Owner) fourth.1 in
-      let times = in_time (unix_seconds claim.time) moment claim.expires fourth.0 in
+      let times = in_time (signing_time_seconds claim.time) moment claim.expires fourth.0 in
       record {
         claim = claim;
         said = said;
@@ -84,11 +84,11 @@ module _ (keys : List AccessKey) (region : List ℕ) (message : Message) (target
   unfolding owner_or_refusal
   is_taken said =
       let due = expected said.secret region message target said.claim in
-      let seconds = unix_seconds said.claim.time in
+      let seconds = signing_time_seconds said.claim.time in
       ap (judged keys region message target moment) said.said
       ∙ ap (λ secret. judged_with secret region message target moment said.claim) said.of_key
       ∙ skips (has_wrong_scope region said.claim.by) WrongScope _ said.scope
       ∙ skips (leaves_unsigned said.claim.by.names message.headers) UnsignedHeader _ said.all_signed
-      ∙ skips (is_streaming message.headers) Streaming _ said.whole
+      ∙ skips (has_signed_pieces message.headers) Streaming _ said.whole
       ∙ skips (is_out_of_time said.claim moment) OutOfTime _ (no_reason (nat_lt 900 (seconds - moment)) (nat_lt said.claim.expires (moment - seconds)) (late_is seconds moment 900 said.begun) (late_is moment seconds said.claim.expires said.not_over))
       ∙ skips (signature_differs said.claim.by due) (SignatureDiffers due.canonical_hash) (Ok Owner) (is_same said.claim.by.signature (encode_lower due.signature) said.signature)

@@ -11,7 +11,7 @@ use Rattle.jiff_core.proofs.CalendarLemmas.{day_count-epoch, day_count-lt_year, 
 use Rattle.jiff_core.proofs.DateLemmas.{civil}
 use Rattle.jiff_core.proofs.SignedLemmas.{signed_arith}
 use Rattle.gate_base.specs.Ascii.{is_digit}
-use Rattle.sigv4.specs.Moment.{two_digits, year_of, is_year, is_month, is_day, is_time, day_number}
+use Rattle.sigv4.specs.Moment.{two_digits, year_of, is_year, is_month, is_day, is_time, signing_day_number}
 use Rattle.sigv4.specs.Sign.{is_date_time}
 use Rattle.presign.specs.Url.{IsTimeOf}
 
@@ -71,7 +71,7 @@ month_is : (m : ℕ) → 1 ≤ m → m ≤ 12 → is_month m ≡ true
 month_is m low high = grind (arith, nat_tests)
 
 -- a date of the calendar, by its parts
-pub dated_is : (d : Date) (year n : ℕ) → pos year ≡ d.year → is_year year ≡ true → epoch_day d ≡ pos n → (is_day year d.month d.day ≡ true) × (day_number year d.month d.day ≡ n)
+pub dated_is : (d : Date) (year n : ℕ) → pos year ≡ d.year → is_year year ≡ true → epoch_day d ≡ pos n → (is_day year d.month d.day ≡ true) × (signing_day_number year d.month d.day ≡ n)
 dated_is d year n same late is =
     let days : d.day ≤ days_in_month (pos year) d.month = subst (λ y. d.day ≤ days_in_month y d.month) (sym same) d.day_in.1 in
     let month : is_month d.month ≡ true = month_is d.month d.month_in.0 d.month_in.1 in
@@ -108,7 +108,7 @@ form_is century rest month day hour minute second a b c d e f g =
     and_from _ true (and_from _ _ (and_from _ true (and_from true _ refl date) refl) clock) refl
 
 text_is_of : (century rest month day hour minute second : ℕ) → century < 100 → rest < 100 → is_day (century * 100 + rest) month day ≡ true → month < 100 → day < 100 → hour < 24 → minute < 60 → second < 60
-    → IsTimeOf (day_number (century * 100 + rest) month day * 86400 + hour * 3600 + minute * 60 + second) (text_of century rest month day hour minute second)
+    → IsTimeOf (signing_day_number (century * 100 + rest) month day * 86400 + hour * 3600 + minute * 60 + second) (text_of century rest month day hour minute second)
 text_is_of century rest month day hour minute second a b is c d e f g =
     let form = form_is century rest month day hour minute second a b c d (omega arith) (omega arith) (omega arith) in
     rw (two_is century, two_is rest, two_is month, two_is day, two_is hour, two_is minute, two_is second)
@@ -118,12 +118,12 @@ day_parts : (year month day : ℕ) → is_day year month day ≡ true → (year 
 day_parts year month day h = grind (arith, nat_tests)
 
 pub text_is : (year month day second : ℕ) → is_day year month day ≡ true → second < 86400
-    → IsTimeOf (day_number year month day * 86400 + second) (text_of (year / 100) (year % 100) month day (second / 3600) (second / 60 % 60) (second % 60))
+    → IsTimeOf (signing_day_number year month day * 86400 + second) (text_of (year / 100) (year % 100) month day (second / 3600) (second / 60 % 60) (second % 60))
 text_is year month day second is short =
     let parts = day_parts year month day is in
     let most = (days_in_month_bounds (pos year) month).0 in
     let same : year / 100 * 100 + year % 100 ≡ year = omega arith in
     let shown = text_is_of (year / 100) (year % 100) month day (second / 3600) (second / 60 % 60) (second % 60) (omega (arith, parts.0)) (omega arith) (subst (λ y. is_day y month day ≡ true) (sym same) is) (omega (arith, parts.1)) (omega (arith, parts.2, most)) (omega arith) (omega arith) (omega arith) in
-    let sum : day_number (year / 100 * 100 + year % 100) month day * 86400 + second / 3600 * 3600 + second / 60 % 60 * 60 + second % 60 ≡ day_number year month day * 86400 + second =
-    ap (λ y. day_number y month day * 86400 + second / 3600 * 3600 + second / 60 % 60 * 60 + second % 60) same ∙ omega arith in
+    let sum : signing_day_number (year / 100 * 100 + year % 100) month day * 86400 + second / 3600 * 3600 + second / 60 % 60 * 60 + second % 60 ≡ signing_day_number year month day * 86400 + second =
+    ap (λ y. signing_day_number y month day * 86400 + second / 3600 * 3600 + second / 60 % 60 * 60 + second % 60) same ∙ omega arith in
     (shown.0, shown.1 ∙ sum)

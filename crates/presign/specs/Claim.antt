@@ -15,12 +15,12 @@ use Rattle.presign.specs.declared.claim.Claim.{Claim}
 use Rattle.presign.specs.Parameters.{has_each_once, parameter}
 
 -- a second to a week
-abbrev pub is_span : ℕ → Bool
-is_span seconds = nat_le 1 seconds && nat_le seconds 604_800
+abbrev pub is_expiry_span : ℕ → Bool
+is_expiry_span seconds = nat_le 1 seconds && nat_le seconds 604_800
 
 -- the seconds that a text writes, where it writes so many in so few digits
 unfoldable pub span_of : List ℕ → Option ℕ
-span_of text = if is_number 6 text && is_span (digits_value 10 text) then Some (digits_value 10 text) else None
+span_of text = if is_number 6 text && is_expiry_span (digits_value 10 text) then Some (digits_value 10 text) else None
 
 -- id "/" date "/" region "/" service "/aws4_request"
 abbrev pub credential_in : List Pair → List ℕ
@@ -43,8 +43,8 @@ parts_of query =
     parts_from (credential_in query) (parameter (codes "X-Amz-SignedHeaders") query) (parameter (codes "X-Amz-Signature") query)
 
 -- the time for which the request was signed
-abbrev pub time_in : List Pair → List ℕ
-time_in query = parameter (codes "X-Amz-Date") query
+abbrev pub presigned_time_in : List Pair → List ℕ
+presigned_time_in query = parameter (codes "X-Amz-Date") query
 
 -- the signature is in the query alone, each parameter stands once, and the algorithm and the end of the credential are the ones
 -- that there are
@@ -59,9 +59,9 @@ abbrev pub is_dated : List ℕ → List ℕ → Bool
 is_dated time day = is_time time && bytes_eq (date_of time) day
 
 -- the parts, where each has its form and the time is of the credential's day
-abbrev pub formed_parts : List Pair → List Pair → Option Authorization
-formed_parts headers query =
-    if is_labelled headers query && (is_formed (parts_of query) && is_dated (time_in query) (parts_of query).date) then Some (parts_of query)
+abbrev pub formed_presigned_parts : List Pair → List Pair → Option Authorization
+formed_presigned_parts headers query =
+    if is_labelled headers query && (is_formed (parts_of query) && is_dated (presigned_time_in query) (parts_of query).date) then Some (parts_of query)
     else None
 
 -- what is said for so many seconds, where they and the parts are given
@@ -71,4 +71,4 @@ claim_for time _ _ = None
 
 -- what the query of a request with these headers says, where it has the form
 unfoldable pub claim_of : List Pair → List Pair → Option Claim
-claim_of headers query = claim_for (time_in query) (span_of (parameter (codes "X-Amz-Expires") query)) (formed_parts headers query)
+claim_of headers query = claim_for (presigned_time_in query) (span_of (parameter (codes "X-Amz-Expires") query)) (formed_presigned_parts headers query)

@@ -11,8 +11,8 @@ use Rattle.s3_names.specs.Text.{is_text}
 use Rattle.http_wire.specs.Headers.{has_header, values_of}
 use Rattle.http_wire.specs.declared.message.Message.{Message}
 use Rattle.sigv4.specs.Keys.{is_key, secret_of}
-use Rattle.sigv4.specs.Moment.{unix_seconds}
-use Rattle.sigv4.specs.Verdict.{has_wrong_scope, is_streaming}
+use Rattle.sigv4.specs.Moment.{signing_time_seconds}
+use Rattle.sigv4.specs.Verdict.{has_wrong_scope, has_signed_pieces}
 use Rattle.sigv4.specs.declared.keys.AccessKey.{AccessKey}
 use Rattle.presign.specs.declared.claim.Claim.{Claim}
 use Rattle.presign.specs.Claim.{claim_of}
@@ -29,9 +29,9 @@ pub record IsSignedInTime (keys : List AccessKey) (region : List ℕ) (message :
   pub of_key : secret_of claim.by.id keys ≡ Some secret
   pub scope : has_wrong_scope region claim.by ≡ false
   pub all_signed : leaves_unsigned claim.by.names message.headers ≡ false
-  pub whole : is_streaming message.headers ≡ false
-  pub begun : unix_seconds claim.time ≤ moment + 900
-  pub not_over : moment ≤ unix_seconds claim.time + claim.expires
+  pub whole : has_signed_pieces message.headers ≡ false
+  pub begun : signing_time_seconds claim.time ≤ moment + 900
+  pub not_over : moment ≤ signing_time_seconds claim.time + claim.expires
   pub signature : claim.by.signature ≡ encode_lower (expected secret region message target claim).signature
 
 -- a presigned request is the owner's exactly where it is signed and in time
@@ -67,7 +67,7 @@ pub record IsSent (message sent : Message) : Type 0 where
   pub unauthorized : has_header (codes "authorization") sent.headers ≡ false
   pub alone : (header : Pair) → Contains sent.headers header → starts_with nat_eq header.name (codes "x-amz-") ≡ true
       → header.name ≡ codes "x-amz-content-sha256"
-  pub whole : is_streaming sent.headers ≡ false
+  pub whole : has_signed_pieces sent.headers ≡ false
 
 -- from 900 seconds before the moment of the URL to the seconds behind it that it is good for
 abbrev pub InTime : ℕ → ℕ → ℕ → Type 0

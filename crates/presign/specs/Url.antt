@@ -9,17 +9,17 @@ use Rattle.s3_names.specs.Escapes.{escaped_path}
 use Rattle.s3_names.specs.declared.target.Target.{Target}
 use Rattle.http_wire.specs.declared.message.Message.{Message}
 use Rattle.sigv4.specs.Canonical.{canonical_query}
-use Rattle.sigv4.specs.Moment.{is_time, unix_seconds}
+use Rattle.sigv4.specs.Moment.{is_time, signing_time_seconds}
 use Rattle.sigv4.specs.Sign.{date_of, signed_of}
-use Rattle.presign.specs.Parameters.{has_parameter}
+use Rattle.presign.specs.Parameters.{has_presigned_parameter}
 use Rattle.presign.specs.Verdict.{signed_text}
 
 -- some parameter has one of the six names of a signature
 abbrev pub has_signature_name : List Pair → Bool
 has_signature_name query =
-    has_parameter (codes "X-Amz-Algorithm") query || has_parameter (codes "X-Amz-Credential") query
-    || has_parameter (codes "X-Amz-Date") query || has_parameter (codes "X-Amz-Expires") query
-    || has_parameter (codes "X-Amz-SignedHeaders") query || has_parameter (codes "X-Amz-Signature") query
+    has_presigned_parameter (codes "X-Amz-Algorithm") query || has_presigned_parameter (codes "X-Amz-Credential") query
+    || has_presigned_parameter (codes "X-Amz-Date") query || has_presigned_parameter (codes "X-Amz-Expires") query
+    || has_presigned_parameter (codes "X-Amz-SignedHeaders") query || has_presigned_parameter (codes "X-Amz-Signature") query
 
 -- `a` to `z`, `0` to `9`, `-`
 abbrev pub is_region_byte : ℕ → Bool
@@ -31,7 +31,7 @@ is_region text = nat_le 1 (length text) && nat_le (length text) 32 && list_all i
 
 -- the time of the calendar that is a moment
 abbrev pub IsTimeOf : ℕ → List ℕ → Type 0
-IsTimeOf moment time = (is_time time ≡ true) × (unix_seconds time ≡ moment)
+IsTimeOf moment time = (is_time time ≡ true) × (signing_time_seconds time ≡ moment)
 
 -- id "/" date "/" region "/s3/aws4_request"
 abbrev pub credential_for : List ℕ → List ℕ → List ℕ → List ℕ

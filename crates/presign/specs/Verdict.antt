@@ -12,9 +12,9 @@ use Rattle.http_wire.specs.Headers.{has_header}
 use Rattle.http_wire.specs.declared.message.Message.{Message}
 use Rattle.sigv4.specs.Canonical.{canonical_of}
 use Rattle.sigv4.specs.Keys.{secret_of}
-use Rattle.sigv4.specs.Moment.{unix_seconds}
+use Rattle.sigv4.specs.Moment.{signing_time_seconds}
 use Rattle.sigv4.specs.Sign.{signed_of}
-use Rattle.sigv4.specs.Verdict.{has_wrong_scope, is_among, must_be_signed, is_streaming, signature_differs}
+use Rattle.sigv4.specs.Verdict.{has_wrong_scope, is_among, must_be_signed, has_signed_pieces, signature_differs}
 use Rattle.sigv4.specs.declared.keys.AccessKey.{AccessKey}
 use Rattle.sigv4.specs.declared.signature.Signed.{Signed}
 use Rattle.presign.specs.declared.claim.Claim.{Claim}
@@ -34,7 +34,7 @@ leaves_unsigned names headers = not (has_header (codes "host") headers) || list_
 
 -- the moment is more than 900 seconds before the time of the signature, or more seconds behind it than the signature holds
 abbrev pub is_out_of_time : Claim → ℕ → Bool
-is_out_of_time claim moment = nat_lt 900 (unix_seconds claim.time - moment) || nat_lt claim.expires (moment - unix_seconds claim.time)
+is_out_of_time claim moment = nat_lt 900 (signing_time_seconds claim.time - moment) || nat_lt claim.expires (moment - signing_time_seconds claim.time)
 
 -- a request as it is signed: nothing is said of its body
 abbrev pub signed_text : Message → List ℕ → List Pair → List (List ℕ) → List ℕ
@@ -60,7 +60,7 @@ abbrev pub reasons : List ℕ → List ℕ → Message → Target → ℕ → Cl
 reasons secret region message target moment claim =
     record { holds = has_wrong_scope region claim.by; refusal = WrongScope }
     ∷ record { holds = leaves_unsigned claim.by.names message.headers; refusal = UnsignedHeader }
-    ∷ record { holds = is_streaming message.headers; refusal = Streaming }
+    ∷ record { holds = has_signed_pieces message.headers; refusal = Streaming }
     ∷ record { holds = is_out_of_time claim moment; refusal = OutOfTime }
     ∷ record {
       holds = signature_differs claim.by (expected secret region message target claim);

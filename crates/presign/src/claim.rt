@@ -2,9 +2,9 @@
 ghost use Rattle.std.specs.Prelude.{◌≡◌, true, IfOk, IfSome};
 ghost use Rattle.std.specs.Bool.{OnTrue};
 ghost use Rattle.sigv4.specs.Moment.{is_time};
-ghost use Rattle.presign.specs.Claim.{parts_from, parts_of, time_in, is_labelled, is_dated, formed_parts, claim_of};
+ghost use Rattle.presign.specs.Claim.{parts_from, parts_of, presigned_time_in, is_labelled, is_dated, formed_presigned_parts, claim_of};
 
-use crate::number::span_of;
+use crate::number::expiry_span_of;
 use crate::parameters::{
     ALGORITHM, CREDENTIAL, DATE, EXPIRES, SIGNATURE, SIGNED_HEADERS, has_each_once, parameter,
 };
@@ -24,7 +24,7 @@ pub struct Claim {
 
 /// What the query of a request with these headers says; none exactly where it hasn't the form.
 #[tactic(auto, unfolding(crate::specs::Claim::claim_of))]
-pub(crate) fn claim_of(
+pub(crate) fn presigned_claim_of(
     alloc: Global,
     headers: &[Pair],
     query: &[Pair],
@@ -32,33 +32,33 @@ pub(crate) fn claim_of(
     ensures claim { IfOk result (λ claim. claim ≡ claim_of headers.now query.now) }
     ensures timed { IfOk result (λ claim. IfSome claim (λ said. is_time said.time ≡ true)) }
 {
-    let Some(expires) = span_of(parameter(query, EXPIRES)) else {
+    let Some(expires) = expiry_span_of(parameter(query, EXPIRES)) else {
         return Ok(None);
     };
-    let Some(by) = formed_parts(alloc, headers, query)? else {
+    let Some(by) = formed_presigned_parts(alloc, headers, query)? else {
         return Ok(None);
     };
     Ok(Some(Claim {
         by,
-        time: Bytes::from_slice(alloc, time_in(query))?,
+        time: Bytes::from_slice(alloc, presigned_time_in(query))?,
         expires,
     }))
 }
 
 /// The parts of the query, where each has its form and the time is of the credential's day.
-fn formed_parts(
+fn formed_presigned_parts(
     alloc: Global,
     headers: &[Pair],
     query: &[Pair],
 ) -> Result<Option<Authorization>, Memory>
-    ensures parts { IfOk result (λ parts. parts ≡ formed_parts headers.now query.now) }
-    ensures timed { IfOk result (λ parts. IfSome parts (λ _. is_time (time_in query.now) ≡ true)) }
+    ensures parts { IfOk result (λ parts. parts ≡ formed_presigned_parts headers.now query.now) }
+    ensures timed { IfOk result (λ parts. IfSome parts (λ _. is_time (presigned_time_in query.now) ≡ true)) }
 {
     if !is_labelled(headers, query) {
         return Ok(None);
     }
     let parts = parts_of(alloc, query)?;
-    if is_formed(&parts) && is_dated(time_in(query), parts.date.as_slice()) {
+    if is_formed(&parts) && is_dated(presigned_time_in(query), parts.date.as_slice()) {
         Ok(Some(parts))
     } else {
         Ok(None)
@@ -82,8 +82,8 @@ fn is_labelled(headers: &[Pair], query: &[Pair]) -> bool
         && behind_service(parameter(query, CREDENTIAL)) == b"aws4_request".as_slice()
 }
 
-fn time_in(query: &[Pair]) -> &[u8]
-    ensures { result.now ≡ time_in query.now }
+fn presigned_time_in(query: &[Pair]) -> &[u8]
+    ensures { result.now ≡ presigned_time_in query.now }
 {
     parameter(query, DATE)
 }
@@ -92,7 +92,7 @@ fn parts_of(alloc: Global, query: &[Pair]) -> Result<Authorization, Memory>
     ensures { IfOk result (λ parts. parts ≡ parts_of query.now) }
 {
     let names = parameter(query, SIGNED_HEADERS);
-    parts_from(
+    presigned_parts_from(
         alloc,
         parameter(query, CREDENTIAL),
         names,
@@ -101,7 +101,7 @@ fn parts_of(alloc: Global, query: &[Pair]) -> Result<Authorization, Memory>
 }
 
 #[tactic(auto, unfolding(crate::specs::Claim::parts_from))]
-fn parts_from(
+fn presigned_parts_from(
     alloc: Global,
     credential: &[u8],
     names: &[u8],

@@ -1,10 +1,10 @@
 //! The parameters of a query by their names, which are looked up byte by byte, as those of headers are.
 ghost use Rattle.std.specs.Prelude.{◌≡◌, codes, IfOk};
 ghost use Rattle.s3_names.specs.Query.{without};
-ghost use Rattle.presign.specs.Parameters.{has_parameter, has_one_parameter, has_each_once, parameter, is_presigned, without_names, without_signature};
+ghost use Rattle.presign.specs.Parameters.{has_presigned_parameter, has_one_presigned_parameter, has_each_once, parameter, is_presigned, without_names, without_signature};
 
 use gate_base::{Memory, Pair};
-use http_wire::{first_value, has_header, has_one};
+use http_wire::{first_value, has_header, has_single_header};
 use s3_names::{Query, Target};
 use std::alloc::Global;
 
@@ -26,7 +26,7 @@ pub fn is_presigned(target: &Target) -> bool
     ensures { result ≡ is_presigned target.now.query }
 {
     let query = target.query.pairs();
-    has_parameter(query, ALGORITHM) || has_parameter(query, SIGNATURE)
+    has_presigned_parameter(query, ALGORITHM) || has_presigned_parameter(query, SIGNATURE)
 }
 
 /// The query without the six names of a signature, which say nothing of what is asked for (Amazon S3 API Reference,
@@ -52,28 +52,28 @@ fn without_names(
     rest.without(alloc, third)
 }
 
-pub(crate) fn has_parameter(query: &[Pair], name: &[u8]) -> bool
-    ensures { result ≡ has_parameter name.now query.now }
+pub(crate) fn has_presigned_parameter(query: &[Pair], name: &[u8]) -> bool
+    ensures { result ≡ has_presigned_parameter name.now query.now }
 {
     has_header(query, name)
 }
 
-fn has_one_parameter(query: &[Pair], name: &[u8]) -> bool
-    ensures { result ≡ has_one_parameter name.now query.now }
+fn has_one_presigned_parameter(query: &[Pair], name: &[u8]) -> bool
+    ensures { result ≡ has_one_presigned_parameter name.now query.now }
 {
-    has_one(query, name)
+    has_single_header(query, name)
 }
 
 /// Whether each of the six names stands exactly once.
 pub(crate) fn has_each_once(query: &[Pair]) -> bool
     ensures { result ≡ has_each_once query.now }
 {
-    has_one_parameter(query, ALGORITHM)
-        && has_one_parameter(query, CREDENTIAL)
-        && has_one_parameter(query, DATE)
-        && has_one_parameter(query, EXPIRES)
-        && has_one_parameter(query, SIGNED_HEADERS)
-        && has_one_parameter(query, SIGNATURE)
+    has_one_presigned_parameter(query, ALGORITHM)
+        && has_one_presigned_parameter(query, CREDENTIAL)
+        && has_one_presigned_parameter(query, DATE)
+        && has_one_presigned_parameter(query, EXPIRES)
+        && has_one_presigned_parameter(query, SIGNED_HEADERS)
+        && has_one_presigned_parameter(query, SIGNATURE)
 }
 
 /// The value of the first parameter of a name, no byte where there is none.

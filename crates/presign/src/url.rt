@@ -2,16 +2,16 @@
 ghost use Rattle.std.specs.Prelude.{◌≡◌, ◌≤◌, ◌<◌, ◌++◌, ◌∷◌, [], true, false, IfOk, OnOk, codes, decimal};
 ghost use Rattle.hex.specs.Hex.{encode_lower};
 ghost use Rattle.gate_base.specs.declared.outside.TheConstants.{MOMENT_LIMIT as moment_limit};
-ghost use Rattle.http_wire.specs.Headers.{has_one as has_one_header};
+ghost use Rattle.http_wire.specs.Headers.{has_single_header as has_one_header};
 ghost use Rattle.sigv4.specs.Keys.{is_key};
 ghost use Rattle.sigv4.specs.Moment.{is_time};
 ghost use Rattle.sigv4.specs.Sign.{date_of};
 ghost use Rattle.presign.specs.Url.{has_signature_name, is_region, credential_for, scope_parameters, span_parameters, with_credential, signing_query, url_of, IsPresigned};
 
 use crate::parameters::{
-    ALGORITHM, CREDENTIAL, DATE, EXPIRES, SIGNATURE, SIGNED_HEADERS, has_parameter,
+    ALGORITHM, CREDENTIAL, DATE, EXPIRES, SIGNATURE, SIGNED_HEADERS, has_presigned_parameter,
 };
-use crate::time::time_at;
+use crate::time::presigned_time_at;
 use crate::verdict::signed_text;
 use gate_base::{Bytes, Copying, List, Memory, Pair};
 use http_wire::Message;
@@ -25,12 +25,12 @@ pub fn has_signature_name(target: &Target) -> bool
     ensures { result ≡ has_signature_name target.now.query }
 {
     let query = target.query.pairs();
-    has_parameter(query, ALGORITHM)
-        || has_parameter(query, CREDENTIAL)
-        || has_parameter(query, DATE)
-        || has_parameter(query, EXPIRES)
-        || has_parameter(query, SIGNED_HEADERS)
-        || has_parameter(query, SIGNATURE)
+    has_presigned_parameter(query, ALGORITHM)
+        || has_presigned_parameter(query, CREDENTIAL)
+        || has_presigned_parameter(query, DATE)
+        || has_presigned_parameter(query, EXPIRES)
+        || has_presigned_parameter(query, SIGNED_HEADERS)
+        || has_presigned_parameter(query, SIGNATURE)
 }
 
 /// A presigned URL for the method and the `host` of a message and for this target, from its path on: whoever has it may send
@@ -57,10 +57,10 @@ pub fn presign(
     ensures { IfOk result
         (IsPresigned secret.now id.now region.now message.now target.now moment expires) }
 {
-    let time = time_at(moment);
+    let time = presigned_time_at(moment);
     let query = signing_query(alloc, id, region, &time, expires, target.query.pairs())?;
     let path = target.path.as_slice();
-    url_of(
+    presigned_url_of(
         alloc,
         secret,
         region,
@@ -73,7 +73,7 @@ pub fn presign(
 
 /// The path and the query of the URL.
 #[tactic(auto, using(crate::proofs::Times::time_has_form), unfolding(crate::specs::Url::url_of))]
-fn url_of(
+fn presigned_url_of(
     alloc: Global,
     secret: &[u8],
     region: &[u8],
@@ -119,7 +119,7 @@ fn signing_query(
         (λ pairs. pairs ≡ signing_query id.now region.now time.now expires query.now) }
 {
     let credential = credential_for(alloc, id, time, region)?;
-    let mut pairs = pairs_of(alloc, query)?;
+    let mut pairs = presigned_pairs_of(alloc, query)?;
     add_parameters(alloc, &mut pairs, credential.as_slice(), time, expires)?;
     Ok(pairs)
 }
@@ -135,13 +135,13 @@ fn add_parameters(
     ensures { OnOk result
         (pairs.new ≡ pairs.old ++ with_credential credential.now time.now expires) }
 {
-    let seconds = seconds_text(alloc, expires)?;
+    let seconds = expiry_seconds_text(alloc, expires)?;
     add_credential_parameters(alloc, pairs, credential, time)?;
     add_span_parameters(alloc, pairs, seconds.as_slice())?;
     Ok(())
 }
 
-fn seconds_text(alloc: Global, expires: u64) -> Result<Bytes, Memory>
+fn expiry_seconds_text(alloc: Global, expires: u64) -> Result<Bytes, Memory>
     ensures { IfOk result (λ text. text ≡ decimal expires) }
 {
     let mut buffer = Buffer::new();
@@ -186,7 +186,7 @@ fn add_parameter(
     pairs.push(pair)
 }
 
-fn pairs_of(alloc: Global, query: &[Pair]) -> Result<List<Pair>, Memory>
+fn presigned_pairs_of(alloc: Global, query: &[Pair]) -> Result<List<Pair>, Memory>
     ensures { IfOk result (λ pairs. pairs ≡ query.now) }
 {
     let mut pairs = List::new(alloc);
@@ -203,11 +203,11 @@ fn credential_for(alloc: Global, id: &[u8], time: &[u8], region: &[u8]) -> Resul
         (λ credential. credential ≡ credential_for id.now (date_of time.now) region.now) }
 {
     let mut credential = Bytes::from_slice(alloc, id)?;
-    append_scope(&mut credential, date_of(time), region)?;
+    append_presigned_scope(&mut credential, date_of(time), region)?;
     Ok(credential)
 }
 
-fn append_scope(text: &mut Bytes, date: &[u8], region: &[u8]) -> Result<(), Memory>
+fn append_presigned_scope(text: &mut Bytes, date: &[u8], region: &[u8]) -> Result<(), Memory>
     ensures { OnOk result (text.new ≡ text.old ++ 47 ∷ [] ++ date.now ++ 47 ∷ [] ++ region.now
         ++ codes "/s3/aws4_request") }
 {

@@ -6,14 +6,14 @@ ghost use Rattle.presign.specs.Parameters.{is_presigned};
 ghost use Rattle.presign.specs.Verdict.{is_left_out, leaves_unsigned, is_out_of_time, signed_text, expected, first_refusal, reasons, judged_with, owner_or_refusal, Gives};
 
 use crate::QueryRefusal;
-use crate::claim::{Claim, claim_of};
+use crate::claim::{Claim, presigned_claim_of};
 use crate::parameters::SIGNATURE;
 use gate_base::{Bytes, Caller, Memory, Pair};
 use http_wire::{Message, has_header};
 use s3_names::Target;
 use sigv4::{
-    Keys, Signed, canonical_with, has_wrong_scope, is_among, is_streaming, must_be_signed, sign,
-    signature_differs, unix_seconds,
+    Keys, Signed, canonical_with, has_signed_pieces, has_wrong_scope, is_among, must_be_signed,
+    sign, signature_differs, signing_time_seconds,
 };
 use std::alloc::Global;
 
@@ -36,7 +36,7 @@ pub fn verify_query(
     requires { is_presigned target.now.query ≡ true }
     ensures { Gives result (owner_or_refusal keys.now region.now message.now target.now moment) }
 {
-    match claim_of(alloc, message.headers.as_slice(), target.query.pairs())? {
+    match presigned_claim_of(alloc, message.headers.as_slice(), target.query.pairs())? {
         Some(claim) => judge_query_claim(alloc, keys, region, message, target, moment, &claim),
         None => Err(QueryRefusal::QueryMalformed),
     }
@@ -85,13 +85,13 @@ fn judge_query_by_secret(
     if leaves_unsigned(claim.by.names.as_slice(), headers) {
         return Err(QueryRefusal::UnsignedHeader);
     }
-    if is_streaming(headers) {
+    if has_signed_pieces(headers) {
         return Err(QueryRefusal::Streaming);
     }
     if is_out_of_time(claim, moment) {
         return Err(QueryRefusal::OutOfTime);
     }
-    let due = expected(alloc, secret, region, message, target, claim)?;
+    let due = expected_query_signature(alloc, secret, region, message, target, claim)?;
     if signature_differs(alloc, &claim.by, &due)? {
         return Err(QueryRefusal::SignatureDiffers(due.canonical_hash));
     }
@@ -101,10 +101,10 @@ fn judge_query_by_secret(
 fn leaves_unsigned(names: &[Bytes], headers: &[Pair]) -> bool
     ensures { result ≡ leaves_unsigned names.now headers.now }
 {
-    !has_header(headers, b"host") || leaves_some_out(names, headers)
+    !has_header(headers, b"host") || query_leaves_some_out(names, headers)
 }
 
-fn leaves_some_out(names: &[Bytes], headers: &[Pair]) -> bool
+fn query_leaves_some_out(names: &[Bytes], headers: &[Pair]) -> bool
     ensures { result ≡ list_any (is_left_out names.now) headers.now }
 {
     headers.iter().any(|header| is_left_out(names, header))
@@ -125,13 +125,13 @@ fn is_out_of_time(claim: &Claim, moment: u64) -> bool
     requires { is_time claim.now.time ≡ true }
     ensures { result ≡ is_out_of_time claim.now moment }
 {
-    let seconds = unix_seconds(claim.time.as_slice());
+    let seconds = signing_time_seconds(claim.time.as_slice());
     seconds.saturating_sub(moment) > EARLY || moment.saturating_sub(seconds) > claim.expires
 }
 
 /// What the request signs to by a secret: with the query but for the signature itself, and nothing is said of its body.
 #[tactic(auto, using(crate::proofs::Times::time_has_form), unfolding(crate::specs::Verdict::expected))]
-fn expected(
+fn expected_query_signature(
     alloc: Global,
     secret: &[u8],
     region: &[u8],

@@ -11,7 +11,7 @@ use Rattle.http_wire.specs.FirstMessage.{FirstMessage, asks, cut_short, refused,
 use Rattle.http_wire.specs.Reading.{Pending, GivesFirstMessage}
 use Rattle.http_wire.specs.Interim.{OwesInterim, SendsInterim}
 use Rattle.presign.specs.Url.{IsPresigned, has_signature_name}
-use Rattle.presign_cmd.specs.Presigning.{has_host, unsigned_target, Presigns, Answers, AnswersFrom, SendsBy, is_failed_presigning}
+use Rattle.presign_cmd.specs.Presigning.{has_host, target_to_presign, Presigns, Answers, AnswersFrom, SendsBy, is_failed_presigning}
 use Rattle.presign_cmd.specs.declared.first.Presigning.{Presigning}
 use Rattle.presign_cmd.specs.declared.first.Presigning.TheVariants.{Url, NoRequest, LineFailed, Memory}
 
@@ -20,16 +20,16 @@ plain_by : (test : Bool) (own target : Target) → cond test None (Some own) ≡
 plain_by true own target is = absurd (let no : None ≡ Some target = is in cc)
 plain_by false own target is = cc
 
-plain_is : (read : Result Target NameFault) (target : Target) → unsigned_target read ≡ Some target → read ≡ Ok target
+plain_is : (read : Result Target NameFault) (target : Target) → target_to_presign read ≡ Some target → read ≡ Ok target
 plain_is (Ok own) target is = ap Ok (plain_by (has_signature_name own.query) own target is)
 plain_is (Err fault) target is = absurd (let no : None ≡ Some target = is in cc)
 
 -- the URL that is made of a request is its own
 pub presigns_of : (secret id region : List ℕ) (moment expires : ℕ) (message : Message) (text url : List ℕ) (target : Target) (read : Option Target)
-    → has_host message ≡ true → text ≡ message.target → read ≡ unsigned_target (target_of text) → read ≡ Some target
+    → has_host message ≡ true → text ≡ message.target → read ≡ target_to_presign (target_of text) → read ≡ Some target
     → IsPresigned secret id region message target moment expires url → Presigns secret id region moment expires message url
 presigns_of secret id region moment expires message text url target read host text_is read_is some made =
-    let found : unsigned_target (target_of message.target) ≡ Some target = ap (λ t. unsigned_target (target_of t)) (sym text_is) ∙ (sym read_is ∙ some) in
+    let found : target_to_presign (target_of message.target) ≡ Some target = ap (λ t. target_to_presign (target_of t)) (sym text_is) ∙ (sym read_is ∙ some) in
     ((λ i. host i && is_some (found i)), target, plain_is (target_of message.target) target found, made)
 
 -- a reader that has read nothing yet

@@ -8,7 +8,7 @@ use Rattle.s3_names.specs.declared.target.Target.{Target}
 use Rattle.s3_names.specs.Target.{target_of}
 use Rattle.http_wire.specs.declared.message.Message.{Message}
 use Rattle.http_wire.specs.FirstMessage.{FirstMessage, asks, nothing, cut_short, refused, BeginsWith}
-use Rattle.http_wire.specs.Headers.{has_one}
+use Rattle.http_wire.specs.Headers.{has_single_header}
 use Rattle.http_wire.specs.Interim.{SendsInterim, MaySendInterim, CutsInterim}
 use Rattle.presign.specs.Url.{IsPresigned, has_signature_name}
 use Rattle.sign_cmd.specs.Signing.{OwesFirst}
@@ -17,16 +17,16 @@ use Rattle.presign_cmd.specs.declared.first.Presigning.TheVariants.{Url, NoReque
 
 -- exactly one header is `host`
 abbrev pub has_host : Message → Bool
-has_host message = has_one (codes "host") message.headers
+has_host message = has_single_header (codes "host") message.headers
 
 -- the target, where it reads and its query has none of the names of a signature
-abbrev pub unsigned_target : Result Target NameFault → Option Target
-unsigned_target (Ok target) = if has_signature_name target.query then None else Some target
-unsigned_target (Err fault) = None
+abbrev pub target_to_presign : Result Target NameFault → Option Target
+target_to_presign (Ok target) = if has_signature_name target.query then None else Some target
+target_to_presign (Err fault) = None
 
 -- a request is presigned where it has one host and such a target
 abbrev pub can_presign : Message → Bool
-can_presign message = has_host message && is_some (unsigned_target (target_of message.target))
+can_presign message = has_host message && is_some (target_to_presign (target_of message.target))
 
 -- the URL of a request, by the secret of a key for a region, at a moment for so many seconds
 abbrev pub Presigns : List ℕ → List ℕ → List ℕ → ℕ → ℕ → Message → List ℕ → Type 0

@@ -4,10 +4,10 @@ ghost use Rattle.gate_base.specs.Told.{moment_limit};
 ghost use Rattle.s3_names.specs.Target.{target_of};
 ghost use Rattle.sigv4.specs.Keys.{is_key};
 ghost use Rattle.presign.specs.Url.{IsPresigned, is_region, has_signature_name};
-ghost use Rattle.presign_cmd.specs.Presigning.{can_presign, has_host, unsigned_target, Presigns};
+ghost use Rattle.presign_cmd.specs.Presigning.{can_presign, has_host, target_to_presign, Presigns};
 
 use gate_base::{Bytes, Memory};
-use http_wire::{Message, has_one};
+use http_wire::{Message, has_single_header};
 use presign::{has_signature_name, presign};
 use s3_names::{NameFault, Target};
 use std::alloc::Global;
@@ -33,7 +33,7 @@ pub(crate) fn presign_message(
     if !has_host(message) {
         return Ok(None);
     }
-    match unsigned_target(alloc, message.target.as_slice())? {
+    match target_to_presign(alloc, message.target.as_slice())? {
         Some(target) => Ok(Some(presign(
             alloc, secret, id, region, message, &target, moment, expires,
         )?)),
@@ -45,12 +45,12 @@ pub(crate) fn presign_message(
 fn has_host(message: &Message) -> bool
     ensures { result ≡ has_host message.now }
 {
-    has_one(message.headers.as_slice(), b"host")
+    has_single_header(message.headers.as_slice(), b"host")
 }
 
 /// The target, where the text is one and its query has none of the names of a signature.
-fn unsigned_target(alloc: Global, text: &[u8]) -> Result<Option<Target>, Memory>
-    ensures { IfOk result (λ read. read ≡ unsigned_target (target_of text.now)) }
+fn target_to_presign(alloc: Global, text: &[u8]) -> Result<Option<Target>, Memory>
+    ensures { IfOk result (λ read. read ≡ target_to_presign (target_of text.now)) }
 {
     match Target::read(alloc, text) {
         Ok(target) => Ok(target_if_unsigned(target)),
@@ -60,7 +60,7 @@ fn unsigned_target(alloc: Global, text: &[u8]) -> Result<Option<Target>, Memory>
 }
 
 fn target_if_unsigned(target: Target) -> Option<Target>
-    ensures { result ≡ unsigned_target (Ok target) }
+    ensures { result ≡ target_to_presign (Ok target) }
 {
     if has_signature_name(&target) {
         None

@@ -40,7 +40,7 @@ use Rattle.upload_records.proofs.lemmas.Off.{same_put_file, same_delete_file}
 use Rattle.upload_records.proofs.lemmas.Settled.{unsealed_of, settled_same}
 use Rattle.recovery.specs.Calls.{Given, TellsBucket, TellsObject, TellsBytes, HasObject, acl_of_bucket, bytes_in, Any, Becomes, HasBucket, puts_object, drops_object}
 use Rattle.recovery.specs.declared.fault.PlanFault.TheVariants.{Inconsistent}
-use Rattle.recovery.specs.Interpret.{agrees_with_tag, known, head_by, head_due, unchanged_by, is_unchanged, bytes_due, stored_due, gone_due, plain_tag, put_of}
+use Rattle.recovery.specs.Interpret.{object_head_agrees_with_tag, known, head_by, head_due, unchanged_by, is_unchanged, bytes_due, stored_due, gone_due, plain_tag, put_of}
 use Rattle.recovery.proofs.lemmas.Etags.{etag_agrees}
 use Rattle.recovery.proofs.lemmas.Fits.{has_a_pack, tag_has_text}
 use Rattle.recovery.proofs.lemmas.Forms.{Says, object_said, said, says_of}
@@ -60,7 +60,7 @@ said_head : {segments : Names SwiftObject} {folder : List ℕ} {file : SwiftObje
 said_head says = λ i. record { etag = says.tag.etag; modified = says.tag.moment; size = says.sized i; content_type = says.tag.content_type; meta = says.meta }
 
 -- a file that says this ETag and this size
-said_unchanged : {segments : Names SwiftObject} {folder : List ℕ} {file : SwiftObject} (says : Says segments folder file) → agrees_with_tag (bodies.head_of file) says.tag ≡ true
+said_unchanged : {segments : Names SwiftObject} {folder : List ℕ} {file : SwiftObject} (says : Says segments folder file) → object_head_agrees_with_tag (bodies.head_of file) says.tag ≡ true
     → (etag : List ℕ) (size : ℕ) → says.tag.etag ≡ etag → length says.bytes ≡ size → is_unchanged etag size (bodies.head_of file) ≡ true
 said_unchanged {file = file} says agreed etag size same_etag same_size =
     ap (unchanged_by etag size (bodies.head_of file)) says.tagged
@@ -78,7 +78,7 @@ module _ (tree : SwiftAccount) (bucket key : List ℕ) (sound : IsConsistent tre
     there_says : object_at (get (s3_state tree) bucket) key ≡ Some (object_said says)
     there_says = found.3 ∙ sym found.2 ∙ said key says
 
-    agrees_there : agrees_with_tag (bodies.head_of file) says.tag ≡ true
+    agrees_there : object_head_agrees_with_tag (bodies.head_of file) says.tag ≡ true
     agrees_there = says.as_tagged (sound.stored bucket key file at).sized
 
   head_told_by : (o : Option SwiftObject) → find_object tree bucket key ≡ o → FindsObject tree bucket key o → (reply : SwiftReply) → reply ≡ head_reply o

@@ -29,7 +29,7 @@ use Rattle.upload_records.specs.Consistent.{IsConsistent, IsObject}
 use Rattle.upload_records.proofs.lemmas.Listing.{objects_there, objects_missing}
 use Rattle.upload_records.proofs.lemmas.Objects.{file_is_object}
 use Rattle.upload_records.proofs.lemmas.Settled.{unsealed_of}
-use Rattle.list_pages.specs.Listing.{Ascends, IsPageOf, is_name_with, name_in, page_request}
+use Rattle.list_pages.specs.Listing.{Ascends, IsPageOf, is_listed_name_with_prefix, name_in, page_request}
 use Rattle.list_pages.specs.Rolls.{head_by, seen_of}
 use Rattle.list_pages.proofs.lemmas.Pages.{parts}
 use Rattle.list_pages.proofs.lemmas.PickedEntries.{entries_picked}
@@ -145,23 +145,23 @@ module _ (tree : SwiftAccount) (bucket : List ℕ) (is : is_bucket bucket ≡ tr
     | false ↦ stamped p (suc n) es h.1
   ]
 
-  named : (prefix marker : List ℕ) (n : ℕ) (es : List (List ℕ × SwiftObject)) → AllByRecursion Kept es → list_all (is_name_with prefix) (take n (map (λ e. e.0) (filter (λ e. is_listed prefix marker e.0) es))) ≡ true
+  named : (prefix marker : List ℕ) (n : ℕ) (es : List (List ℕ × SwiftObject)) → AllByRecursion Kept es → list_all (is_listed_name_with_prefix prefix) (take n (map (λ e. e.0) (filter (λ e. is_listed prefix marker e.0) es))) ≡ true
   named prefix marker n [] h = none n
     where
-      none : (n : ℕ) → list_all (is_name_with prefix) (take n []) ≡ true
+      none : (n : ℕ) → list_all (is_listed_name_with_prefix prefix) (take n []) ≡ true
       none zero = refl
       none (suc n) = refl
   named prefix marker zero (e ∷ es) h = none (map (λ e. e.0) (filter (λ e. is_listed prefix marker e.0) (e ∷ es)))
     where
-      none : (xs : List (List ℕ)) → list_all (is_name_with prefix) (take 0 xs) ≡ true
+      none : (xs : List (List ℕ)) → list_all (is_listed_name_with_prefix prefix) (take 0 xs) ≡ true
       none [] = refl
       none (x ∷ xs) = refl
   named prefix marker (suc n) (e ∷ es) h =
       elim (is_listed prefix marker e.0) as (λ t. is_listed prefix marker e.0 ≡ t
-      → list_all (is_name_with prefix) (take (suc n) (map (λ e. e.0) (cond t (e ∷ filter (λ e. is_listed prefix marker e.0) es) (filter (λ e. is_listed prefix marker e.0) es)))) ≡ true) [
+      → list_all (is_listed_name_with_prefix prefix) (take (suc n) (map (λ e. e.0) (cond t (e ∷ filter (λ e. is_listed prefix marker e.0) es) (filter (λ e. is_listed prefix marker e.0) es)))) ≡ true) [
         | true ↦ λ listed.
             let fits = (and_parts (is_lt (name_cmp marker e.0)) (begins prefix e.0) (sym (listed_is prefix marker e) ∙ listed)).1 in
-            ap (λ t. t && list_all (is_name_with prefix) (take n (map (λ e. e.0) (filter (λ e. is_listed prefix marker e.0) es)))) (and_from _ _ (key_of segments (segments_name bucket) e.1 e.0 (object e h.0)) fits) ∙ named prefix marker n es h.1
+            ap (λ t. t && list_all (is_listed_name_with_prefix prefix) (take n (map (λ e. e.0) (filter (λ e. is_listed prefix marker e.0) es)))) (and_from _ _ (key_of segments (segments_name bucket) e.1 e.0 (object e h.0)) fits) ∙ named prefix marker n es h.1
         | false ↦ λ listed. named prefix marker (suc n) es h.1
       ] refl
 

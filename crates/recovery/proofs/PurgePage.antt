@@ -12,7 +12,7 @@ use Rattle.swift_calls.specs.Account.{SwiftAccount, files}
 use Rattle.swift_calls.specs.History.{History, present}
 use Rattle.swift_calls.specs.Limits.{IsMarker}
 use Rattle.swift_calls.specs.declared.heads.NameItem.{NameItem}
-use Rattle.list_pages.specs.Listing.{IsPageOf, is_name_with, name_in}
+use Rattle.list_pages.specs.Listing.{IsPageOf, is_listed_name_with_prefix, name_in}
 use Rattle.upload_records.specs.Native.{IsSettled}
 use Rattle.recovery.specs.declared.fault.PlanFault.{PlanFault}
 use Rattle.recovery.specs.declared.fault.PlanFault.TheVariants as fault
@@ -26,17 +26,17 @@ use Rattle.recovery.proofs.lemmas.Removal.{IsNext, first_names, next_is, page_be
 
 -- ---- the names of a page
 
-key_of_name : (prefix name : List ℕ) → is_name_with prefix name ≡ true → is_key name ≡ true
+key_of_name : (prefix name : List ℕ) → is_listed_name_with_prefix prefix name ≡ true → is_key name ≡ true
 key_of_name prefix name e = (and_parts (is_key name) (begins prefix name) e).0
 
-pub all_keys : (prefix : List ℕ) (names : List (List ℕ)) → list_all (is_name_with prefix) names ≡ true → list_all is_key names ≡ true
+pub all_keys : (prefix : List ℕ) (names : List (List ℕ)) → list_all (is_listed_name_with_prefix prefix) names ≡ true → list_all is_key names ≡ true
 all_keys prefix [] all = refl
-all_keys prefix (name ∷ names) all = let a = and_parts (is_name_with prefix name) (list_all (is_name_with prefix) names) all in and_from _ _ (key_of_name prefix name a.0) (all_keys prefix names a.1)
+all_keys prefix (name ∷ names) all = let a = and_parts (is_listed_name_with_prefix prefix name) (list_all (is_listed_name_with_prefix prefix) names) all in and_from _ _ (key_of_name prefix name a.0) (all_keys prefix names a.1)
 
-pub all_under : (prefix : List ℕ) (names : List (List ℕ)) → list_all (is_name_with prefix) names ≡ true → list_all (begins prefix) names ≡ true
+pub all_under : (prefix : List ℕ) (names : List (List ℕ)) → list_all (is_listed_name_with_prefix prefix) names ≡ true → list_all (begins prefix) names ≡ true
 all_under prefix [] all = refl
 all_under prefix (name ∷ names) all =
-    let a = and_parts (is_name_with prefix name) (list_all (is_name_with prefix) names) all in
+    let a = and_parts (is_listed_name_with_prefix prefix name) (list_all (is_listed_name_with_prefix prefix) names) all in
     and_from _ _ (and_parts (is_key name) (begins prefix name) a.0).1 (all_under prefix names a.1)
 
 at_index : (p : List ℕ → Bool) (names : List (List ℕ)) (i : ℕ) (d : List ℕ) → i < length names → list_all p names ≡ true → p (get_or names i d) ≡ true

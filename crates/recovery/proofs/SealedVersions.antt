@@ -25,15 +25,15 @@ use Rattle.s3_machine.specs.Limits.{most_body_bytes}
 use Rattle.s3_machine.specs.Uploads.{greatest_part}
 use Rattle.slo_manifest.specs.Segments.{is_etag}
 use Rattle.swift_marks.specs.Tag as mark
-use Rattle.upload_texts.specs.Places.{json_or_null, pair_value, is_part_count, is_part_number, version_in, version_of}
-use Rattle.upload_texts.specs.Records.{is_kept_content, unless_known}
-use Rattle.upload_texts.specs.Sealed.{has_sealed_text, is_first_version, is_sealed_dated, is_sealed_list, is_sealed_part, is_sealed_place, part_value, read_sealed, sealed_in, sealed_text, sealed_value}
+use Rattle.upload_texts.specs.Places.{json_or_null, metadata_pair_json, is_part_count, part_number_fits_record_text, version_in, version_of}
+use Rattle.upload_texts.specs.Records.{content_fits_record_text, unless_known_record_version}
+use Rattle.upload_texts.specs.Sealed.{has_sealed_text, is_first_version, is_sealed_dated, is_sealed_list, part_fits_sealed_text, is_sealed_place, sealed_part_json, read_sealed, sealed_in, sealed_text, sealed_value}
 use Rattle.upload_texts.specs.declared.sealed.Sealed.{Sealed}
 use Rattle.upload_texts.specs.declared.sealed.SealedPart.{SealedPart}
 
 -- ---- the value of a sealed completion is read back from its text
 
-part_small : (n : ℕ) → is_part_number n ≡ true → n < 2 ^ 64
+part_small : (n : ℕ) → part_number_fits_record_text n ≡ true → n < 2 ^ 64
 unfolding greatest_part
 part_small n e = let near = leb-true n greatest_part (and_parts (nat_le 1 n) (nat_le n greatest_part) e).1 in omega (arith, near)
 
@@ -43,15 +43,15 @@ size_small n e = let near = leb-true n most_body_bytes e in omega (arith, near)
 dated_small : (n : ℕ) → nat_lt n moment_limit ≡ true → n < 2 ^ 64
 dated_small n e = let near = ltb-true n moment_limit e in omega (arith, near)
 
-pairs_read : (ps : List Pair) → of_items (items_outline (items_of (map pair_value ps))) ≡ Some (items_of (map pair_value ps))
+pairs_read : (ps : List Pair) → of_items (items_outline (items_of (map metadata_pair_json ps))) ≡ Some (items_of (map metadata_pair_json ps))
 pairs_read [] = refl
 pairs_read (p ∷ ps) = rw (pairs_read ps) refl
 
-pairs_numbers : (ps : List Pair) → ItemsHaveNumbers (items_outline (items_of (map pair_value ps)))
+pairs_numbers : (ps : List Pair) → ItemsHaveNumbers (items_outline (items_of (map metadata_pair_json ps)))
 pairs_numbers [] = tt
 pairs_numbers (p ∷ ps) = ((tt, (tt, tt)), pairs_numbers ps)
 
-pairs_depth : (ps : List Pair) → tree.items_depth (items_outline (items_of (map pair_value ps))) ≤ 1
+pairs_depth : (ps : List Pair) → tree.items_depth (items_outline (items_of (map metadata_pair_json ps))) ≤ 1
 pairs_depth [] = omega arith
 pairs_depth (p ∷ ps) = let later = pairs_depth ps in omega arith
 
@@ -59,26 +59,26 @@ record IsSmall (p : SealedPart) : Type 0 where
   number : p.number < 2 ^ 64
   size : p.size < 2 ^ 64
 
-small_part : (p : SealedPart) → is_sealed_part p ≡ true → IsSmall p
+small_part : (p : SealedPart) → part_fits_sealed_text p ≡ true → IsSmall p
 small_part p e =
-    let parts = and_parts (is_part_number p.number && is_etag p.etag) (nat_le p.size most_body_bytes) e in
-    record { number = part_small p.number (and_parts (is_part_number p.number) (is_etag p.etag) parts.0).0; size = size_small p.size parts.1 }
+    let parts = and_parts (part_number_fits_record_text p.number && is_etag p.etag) (nat_le p.size most_body_bytes) e in
+    record { number = part_small p.number (and_parts (part_number_fits_record_text p.number) (is_etag p.etag) parts.0).0; size = size_small p.size parts.1 }
 
-parts_read : (ps : List SealedPart) → list_all is_sealed_part ps ≡ true → of_items (items_outline (items_of (map part_value ps))) ≡ Some (items_of (map part_value ps))
+parts_read : (ps : List SealedPart) → list_all part_fits_sealed_text ps ≡ true → of_items (items_outline (items_of (map sealed_part_json ps))) ≡ Some (items_of (map sealed_part_json ps))
 parts_read [] e = refl
 parts_read (p ∷ ps) e =
-    let parts = and_parts (is_sealed_part p) (list_all is_sealed_part ps) e in
+    let parts = and_parts (part_fits_sealed_text p) (list_all part_fits_sealed_text ps) e in
     let small = small_part p parts.0 in
     rw (number_of-decimal p.number small.number, number_of-decimal p.size small.size, parts_read ps parts.1) refl
 
-parts_numbers : (ps : List SealedPart) → list_all is_sealed_part ps ≡ true → ItemsHaveNumbers (items_outline (items_of (map part_value ps)))
+parts_numbers : (ps : List SealedPart) → list_all part_fits_sealed_text ps ≡ true → ItemsHaveNumbers (items_outline (items_of (map sealed_part_json ps)))
 parts_numbers [] e = tt
 parts_numbers (p ∷ ps) e =
-    let parts = and_parts (is_sealed_part p) (list_all is_sealed_part ps) e in
+    let parts = and_parts (part_fits_sealed_text p) (list_all part_fits_sealed_text ps) e in
     let small = small_part p parts.0 in
     ((IsNumber-decimal p.number small.number, (tt, (IsNumber-decimal p.size small.size, tt))), parts_numbers ps parts.1)
 
-parts_depth : (ps : List SealedPart) → tree.items_depth (items_outline (items_of (map part_value ps))) ≤ 1
+parts_depth : (ps : List SealedPart) → tree.items_depth (items_outline (items_of (map sealed_part_json ps))) ≤ 1
 parts_depth [] = omega arith
 parts_depth (p ∷ ps) = let later = parts_depth ps in omega arith
 
@@ -89,18 +89,18 @@ record IsReadBack (d : Data) : Type 0 where
   same : of_json (outline d) ≡ Some d
 
 record OfSealed (s : Sealed) : Type 0 where
-  parts : list_all is_sealed_part s.list ≡ true
+  parts : list_all part_fits_sealed_text s.list ≡ true
   started : s.started < 2 ^ 64
   moment : s.moment < 2 ^ 64
 
 of_sealed : (s : Sealed) → has_sealed_text s ≡ true → OfSealed s
 unfolding has_sealed_text
 of_sealed s has =
-    let rest = and_parts (is_kept_content s.content_type s.meta) _ (and_parts (nat_lt s.id (2 ^ 128)) _ (and_parts (is_sealed_place s) _ has).1).1 in
+    let rest = and_parts (content_fits_record_text s.content_type s.meta) _ (and_parts (nat_lt s.id (2 ^ 128)) _ (and_parts (is_sealed_place s) _ has).1).1 in
     let listed = and_parts (is_sealed_list s.list) _ rest.1 in
     let dates = and_parts (nat_lt s.started moment_limit) (nat_lt s.moment moment_limit) (and_parts (mark.is_etag s.etag) (is_sealed_dated s) listed.1).1 in
     record {
-      parts = (and_parts (is_part_count (length s.list)) (list_all is_sealed_part s.list) listed.0).1;
+      parts = (and_parts (is_part_count (length s.list)) (list_all part_fits_sealed_text s.list) listed.0).1;
       started = dated_small s.started dates.0;
       moment = dated_small s.moment dates.1;
     }
@@ -129,7 +129,7 @@ text_reads d back =
 
 -- ---- the version
 
-version_known : (s : Sealed) → unless_known is_first_version (version_in (sealed_value s)) ≡ None
+version_known : (s : Sealed) → unless_known_record_version is_first_version (version_in (sealed_value s)) ≡ None
 version_known s = refl
 
 module _ (text : List ℕ) (s : Sealed) (has : has_sealed_text s ≡ true) (is : text ≡ sealed_text s) where
@@ -137,8 +137,8 @@ module _ (text : List ℕ) (s : Sealed) (has : has_sealed_text s ≡ true) (is :
   unfolding sealed_text
   value_read = ap read is ∙ text_reads (sealed_value s) (reads_back s has)
 
-  version_by : (utf8 : Bool) → unless_known is_first_version (version_in (unwrap_or (cond utf8 (read text) None) null)) ≡ None
-  version_by true = ap (λ v. unless_known is_first_version (version_in (unwrap_or v null))) value_read ∙ version_known s
+  version_by : (utf8 : Bool) → unless_known_record_version is_first_version (version_in (unwrap_or (cond utf8 (read text) None) null)) ≡ None
+  version_by true = ap (λ v. unless_known_record_version is_first_version (version_in (unwrap_or v null))) value_read ∙ version_known s
   version_by false = refl
 
 -- a value that passes the test and has the text is found, and no other one
@@ -146,7 +146,7 @@ found_of : {A : Type 0} (a b : A) (t : Bool) → cond t (Some a) None ≡ Some b
 found_of a b true same = (refl, cc)
 found_of a b false never = cc
 
-known_by : (text : List ℕ) (s : Sealed) → read_sealed text ≡ Some s → unless_known is_first_version (version_of text) ≡ None
+known_by : (text : List ℕ) (s : Sealed) → read_sealed text ≡ Some s → unless_known_record_version is_first_version (version_of text) ≡ None
 unfolding read_sealed
 known_by text s reads =
     let found = sealed_in (json_or_null text) in
@@ -155,7 +155,7 @@ known_by text s reads =
     version_by text found parts.0 (sym ((bytes_eq-Decides (sealed_text found) text).0 parts.1)) (is_utf8 text)
 
 -- a text of another version is no sealed completion
-pub none_of_version : (text : List ℕ) (version : ℕ) → unless_known is_first_version (version_of text) ≡ Some version → read_sealed text ≡ None
+pub none_of_version : (text : List ℕ) (version : ℕ) → unless_known_record_version is_first_version (version_of text) ≡ Some version → read_sealed text ≡ None
 none_of_version text version other = by (read_sealed text) refl
   where
     by : (o : Option Sealed) → read_sealed text ≡ o → o ≡ None

@@ -7,17 +7,17 @@ use Rattle.std.proofs.lemmas.List.{map-append, take_all, take_more}
 use Rattle.std.proofs.lemmas.List.Elements.{filter-append}
 use Rattle.slo_manifest.specs.declared.Segment.{Segment}
 use Rattle.s3_machine.specs.declared.operation.Listed.{Listed}
-use Rattle.upload_texts.specs.Sealed.{is_sealed_part}
+use Rattle.upload_texts.specs.Sealed.{part_fits_sealed_text}
 use Rattle.upload_texts.specs.declared.sealed.SealedPart.{SealedPart}
 use Rattle.upload_records.specs.Native.{filled_parts, listed_of, listing_of, part_segment}
 
-passes_at : (parts : List SealedPart) (i : ℕ) (d : SealedPart) → list_all is_sealed_part parts ≡ true → i < length parts → is_sealed_part (get_or parts i d) ≡ true
+passes_at : (parts : List SealedPart) (i : ℕ) (d : SealedPart) → list_all part_fits_sealed_text parts ≡ true → i < length parts → part_fits_sealed_text (get_or parts i d) ≡ true
 passes_at [] i d h below = absurd (omega arith)
-passes_at (p ∷ parts) zero d h below = (and_parts (is_sealed_part p) (list_all is_sealed_part parts) h).0
-passes_at (p ∷ parts) (suc i) d h below = passes_at parts i d (and_parts (is_sealed_part p) (list_all is_sealed_part parts) h).1 (omega arith)
+passes_at (p ∷ parts) zero d h below = (and_parts (part_fits_sealed_text p) (list_all part_fits_sealed_text parts) h).0
+passes_at (p ∷ parts) (suc i) d h below = passes_at parts i d (and_parts (part_fits_sealed_text p) (list_all part_fits_sealed_text parts) h).1 (omega arith)
 
-pub part_there : (parts : List SealedPart) (i : ℕ) (p : SealedPart) → list_all is_sealed_part parts ≡ true → i < length parts → p ≡ get_or parts i p → is_sealed_part p ≡ true
-part_there parts i p h below same = ap is_sealed_part same ∙ passes_at parts i p h below
+pub part_there : (parts : List SealedPart) (i : ℕ) (p : SealedPart) → list_all part_fits_sealed_text parts ≡ true → i < length parts → p ≡ get_or parts i p → part_fits_sealed_text p ≡ true
+part_there parts i p h below same = ap part_fits_sealed_text same ∙ passes_at parts i p h below
 
 -- one part more
 more : (parts : List SealedPart) (i : ℕ) (p : SealedPart) → i < length parts → p ≡ get_or parts i p → take (i + 1) parts ≡ take i parts ++ p ∷ []

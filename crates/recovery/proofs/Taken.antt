@@ -18,7 +18,7 @@ use Rattle.swift_calls.specs.Account.{SwiftAccount}
 use Rattle.swift_calls.specs.Limits.{IsMarker}
 use Rattle.swift_calls.specs.declared.heads.NameItem.{NameItem}
 use Rattle.upload_records.specs.Native.{s3_state}
-use Rattle.list_pages.specs.Listing.{is_name_with, last_of, name_in}
+use Rattle.list_pages.specs.Listing.{is_listed_name_with_prefix, last_of, name_in}
 use Rattle.list_pages.specs.Rolling.{Rises}
 use Rattle.list_pages.specs.Rolls.{Rolls, rows_of, seen_of}
 use Rattle.list_pages.proofs.lemmas.Pages.{parts, roll_rest}
@@ -81,10 +81,10 @@ key_is_marker name is =
     record { within = omega (arith, within); utf8 = text.utf8; no_zero = text.no_zero }
 
 -- the last name of a page may be a marker
-pub last_is_marker : (prefix marker : List ℕ) (names : List (List ℕ)) → IsMarker marker → list_all (is_name_with prefix) names ≡ true → IsMarker (last_of marker names)
+pub last_is_marker : (prefix marker : List ℕ) (names : List (List ℕ)) → IsMarker marker → list_all (is_listed_name_with_prefix prefix) names ≡ true → IsMarker (last_of marker names)
 last_is_marker prefix marker [] is_marker all = is_marker
 last_is_marker prefix marker (name ∷ names) is_marker all =
-    let a = and_parts (is_name_with prefix name) (list_all (is_name_with prefix) names) all in
+    let a = and_parts (is_listed_name_with_prefix prefix name) (list_all (is_listed_name_with_prefix prefix) names) all in
     last_is_marker prefix name names (key_is_marker name (and_parts (is_key name) (begins prefix name) a.0).0) a.1
 
 -- ---- what was taken

@@ -15,7 +15,7 @@ use Rattle.swift_marks.specs.Tag.{read_tag}
 use Rattle.recovery.specs.declared.fault.PlanFault.{PlanFault}
 use Rattle.recovery.specs.declared.fault.PlanFault.TheVariants.{Inconsistent}
 use Rattle.recovery.specs.Calls.{IsStoredAs, GivesUnchanged}
-use Rattle.recovery.specs.Interpret.{Gives, agrees_with_tag, unchanged_by, is_unchanged, bytes_due}
+use Rattle.recovery.specs.Interpret.{Gives, object_head_agrees_with_tag, unchanged_by, is_unchanged, bytes_due}
 use Rattle.recovery.proofs.lemmas.One.{found}
 
 module _ (tree : SwiftAccount) (bucket key etag : List ℕ) (size : ℕ) where
@@ -26,8 +26,8 @@ module _ (tree : SwiftAccount) (bucket key etag : List ℕ) (size : ℕ) where
     by_tag : (o : Option Tag) → read_tag file.content_type ≡ o → unchanged_by etag size (head_of file) o ≡ true → IsStoredAs tree bucket key etag size
     by_tag None tagged e = absurd (true≢false (sym e))
     by_tag (Some tag) tagged e =
-        let parts = and_parts (agrees_with_tag (head_of file) tag && bytes_eq tag.etag etag) ((head_of file).size == size) e in
-        let inner = and_parts (agrees_with_tag (head_of file) tag) (bytes_eq tag.etag etag) parts.0 in
+        let parts = and_parts (object_head_agrees_with_tag (head_of file) tag && bytes_eq tag.etag etag) ((head_of file).size == size) e in
+        let inner = and_parts (object_head_agrees_with_tag (head_of file) tag) (bytes_eq tag.etag etag) parts.0 in
         record {
           head = head_of file;
           tag = tag;

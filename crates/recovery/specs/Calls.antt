@@ -23,7 +23,7 @@ use Rattle.recovery.specs.declared.bucket.Dropped.TheVariants.{Gone, Full, Missi
 use Rattle.recovery.specs.declared.fault.PlanFault.{PlanFault}
 use Rattle.recovery.specs.declared.fault.PlanFault.TheVariants.{Failed, Memory, Inconsistent}
 use Rattle.recovery.specs.Fault.{CausesFault}
-use Rattle.recovery.specs.Interpret.{agrees_with_tag}
+use Rattle.recovery.specs.Interpret.{object_head_agrees_with_tag}
 use Rattle.recovery.specs.Stutters.{Stutters, LastFailed}
 
 -- calls were made, and the history went on. Where the store is observable and sure, its count of faults stayed as it was at
@@ -164,7 +164,7 @@ pub record IsStoredAs (tree : SwiftAccount) (container name etag : List ℕ) (si
   pub tag : Tag
   pub there : option_map bodies.head_of (find_object tree container name) ≡ Some head
   pub tagged : read_tag head.content_type ≡ Some tag
-  pub as_tagged : agrees_with_tag head tag ≡ true
+  pub as_tagged : object_head_agrees_with_tag head tag ≡ true
   pub has_etag : tag.etag ≡ etag
   pub has_size : head.size ≡ size
 

@@ -33,24 +33,24 @@ bucket_due _ = Err fault.Inconsistent
 
 -- whether a file is what its tag says that was put in one piece: with bytes of its own, as many as a body may have, and with
 -- their ETag
-abbrev pub agrees_whole : StoredHead → Tag → Bool
-agrees_whole head tag = not head.manifest && bytes_eq head.etag tag.etag && nat_le head.size most_body_bytes
+abbrev pub object_head_agrees_whole : StoredHead → Tag → Bool
+object_head_agrees_whole head tag = not head.manifest && bytes_eq head.etag tag.etag && nat_le head.size most_body_bytes
 
 -- whether it is what its tag says that was completed from parts: with an ETag of parts, and a list of segments where it has a
 -- byte. Numbers hold its size
-abbrev pub agrees_parts : StoredHead → Tag → Bool
-agrees_parts head tag = nat_lt 32 (length tag.etag) && (head.manifest || (head.size == 0)) && nat_lt head.size (2 ^ 63)
+abbrev pub object_head_agrees_parts : StoredHead → Tag → Bool
+object_head_agrees_parts head tag = nat_lt 32 (length tag.etag) && (head.manifest || (head.size == 0)) && nat_lt head.size (2 ^ 63)
 
 -- whether a file is what its tag says
-abbrev pub agrees_with_tag : StoredHead → Tag → Bool
-agrees_with_tag head tag = cond (is_none tag.id) (agrees_whole head tag) (agrees_parts head tag)
+abbrev pub object_head_agrees_with_tag : StoredHead → Tag → Bool
+object_head_agrees_with_tag head tag = cond (is_none tag.id) (object_head_agrees_whole head tag) (object_head_agrees_parts head tag)
 
 -- the head of an object, by what its tag and its pack read as
 abbrev pub head_by : StoredHead → Option Tag → Option (List Pair) → Option ObjectHead
 head_by head None meta = None
 head_by head (Some tag) None = None
 head_by head (Some tag) (Some meta) =
-    cond (agrees_with_tag head tag) (Some (record { etag = tag.etag; modified = tag.moment; size = head.size; content_type = tag.content_type; meta = meta })) None
+    cond (object_head_agrees_with_tag head tag) (Some (record { etag = tag.etag; modified = tag.moment; size = head.size; content_type = tag.content_type; meta = meta })) None
 
 -- what the head of a file says of the object
 abbrev pub head_from : StoredHead → Option ObjectHead
@@ -74,7 +74,7 @@ head_due _ = Err fault.Inconsistent
 -- whether a file with this tag is what the tag says, of an object with this ETag and this size
 abbrev pub unchanged_by : List ℕ → ℕ → StoredHead → Option Tag → Bool
 unchanged_by etag size head None = false
-unchanged_by etag size head (Some tag) = agrees_with_tag head tag && bytes_eq tag.etag etag && (head.size == size)
+unchanged_by etag size head (Some tag) = object_head_agrees_with_tag head tag && bytes_eq tag.etag etag && (head.size == size)
 
 abbrev pub is_unchanged : List ℕ → ℕ → StoredHead → Bool
 is_unchanged etag size head = unchanged_by etag size head (read_tag head.content_type)

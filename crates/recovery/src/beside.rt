@@ -14,9 +14,9 @@ ghost use Rattle.recovery.specs.Lent.{Stays};
 ghost use Rattle.recovery.specs.Purging.{MakesContainer, MayDelete, MayPurge, PaysPage, TellsAllGone, TellsDeleted, TellsPurged, placed_due, purge_calls};
 ghost use Rattle.recovery.specs.declared.fault.PlanFault.TheVariants as fault;
 
-use crate::interpret::gone_in;
+use crate::interpret::interpret_file_delete;
 use crate::state::ask;
-use crate::{PlanFault, Settled, file_page, next_marker};
+use crate::{PlanFault, Settled, next_marker, settled_file_page};
 use gate_base::{Bytes, Copying};
 use std::alloc::Global;
 use swift_calls::{NameItem, ReadList, Swift, SwiftReply, SwiftRequest};
@@ -25,7 +25,7 @@ use swift_calls::{NameItem, ReadList, Swift, SwiftReply, SwiftRequest};
 /// one call, and the S3 state stays. Failed comes only where the store's count of faults rose; Memory where memory ran out;
 /// Inconsistent never over an observable consistent account.
 #[tactic(auto, using(crate::proofs::lemmas::Sides::side_name))]
-pub fn make_beside<W: Swift>(
+pub fn put_container_beside<W: Swift>(
     state: &mut Settled<'_, W>,
     bucket: &Bytes,
     folder: &Bytes,
@@ -43,11 +43,11 @@ pub fn make_beside<W: Swift>(
             created: None,
         },
     )?;
-    placed_in(&reply)
+    interpret_container_put(&reply)
 }
 
 /// The answer to PUT of a container that may be there.
-pub(crate) fn placed_in(reply: &SwiftReply) -> Result<(), PlanFault>
+pub(crate) fn interpret_container_put(reply: &SwiftReply) -> Result<(), PlanFault>
     ensures due { result ≡ placed_due reply.now }
     ensures own { result ≢ Err fault.Failed }
 {
@@ -77,7 +77,7 @@ fn delete_name<W: Swift>(
     let container = folder.copy()?;
     let name = name.copy()?;
     let reply = ask(state.store, SwiftRequest::DeleteObject { container, name })?;
-    gone_in(&reply)
+    interpret_file_delete(&reply)
 }
 
 /// Deletes the files of a page, one by one. At most as many calls.
@@ -121,7 +121,7 @@ fn purge_page<W: Swift>(
     ensures pays { PaysPage folder.now bucket.now prefix.now marker.now
         (W.history state.old.store.now) (W.history state.new.store.now) result }
 {
-    let page = file_page(
+    let page = settled_file_page(
         alloc,
         state,
         folder.as_slice(),
@@ -135,7 +135,7 @@ fn purge_page<W: Swift>(
 
 /// Deletes all files of a container beside a bucket whose names begin with a prefix, page by page, each by DELETE of it (Object
 /// Storage API v1, "Delete object"). At most as many calls as there are pages and files, where the store is observable and its
-/// account consistent; and the S3 state stays. The faults are those of [`make_beside`]; after one some files may be left.
+/// account consistent; and the S3 state stays. The faults are those of [`put_container_beside`]; after one some files may be left.
 pub fn purge<W: Swift>(
     alloc: Global,
     state: &mut Settled<'_, W>,

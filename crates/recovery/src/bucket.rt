@@ -7,13 +7,15 @@ ghost use Rattle.recovery.specs.Calls.{always, Any, Asks, Becomes, Changes, Drop
 ghost use Rattle.recovery.specs.Lent.{Stays};
 ghost use Rattle.recovery.specs.Purging.{MayMake};
 
-use crate::interpret::{bucket_in, dropped_in, made_in, set_in};
+use crate::interpret::{
+    interpret_bucket_delete, interpret_bucket_head, interpret_bucket_post, interpret_bucket_put,
+};
 use crate::state::ask;
 use crate::{PlanFault, Settled};
 use gate_base::{Bytes, Copying};
 use s3_names::Acl;
 use swift_calls::{Swift, SwiftRequest};
-use upload_records::readers;
+use upload_records::container_readers_of_acl;
 
 /// The access control list of a bucket, and `None` where the bucket is missing, by HEAD of its container (Object
 /// Storage API v1, "Show container metadata"). At most one call, and the S3 state stays. Failed comes only where the
@@ -35,7 +37,7 @@ pub fn head_bucket<W: Swift>(
             container: bucket.copy()?,
         },
     )?;
-    bucket_in(&reply)
+    interpret_bucket_head(&reply)
 }
 
 /// Makes a bucket that isn't there, and beside which both containers are there without a file, by PUT of its container
@@ -44,7 +46,7 @@ pub fn head_bucket<W: Swift>(
 /// Memory the state is the old one or the new one. Inconsistent never comes over an observable consistent account of
 /// which this is so.
 #[tactic(auto, using(crate::proofs::lemmas::Names::container_name))]
-pub fn make_bucket<W: Swift>(
+pub fn put_bucket_container<W: Swift>(
     state: &mut Settled<'_, W>,
     bucket: Bytes,
     acl: Acl,
@@ -61,11 +63,11 @@ pub fn make_bucket<W: Swift>(
         state.store,
         SwiftRequest::PutContainer {
             container: bucket,
-            readers: readers(acl),
+            readers: container_readers_of_acl(acl),
             created: Some(moment),
         },
     )?;
-    made_in(&reply)
+    interpret_bucket_put(&reply)
 }
 
 /// What became of a bucket that was to be deleted.
@@ -84,7 +86,7 @@ pub enum Dropped {
 /// the store's count of faults rose, and after Memory the state is the old one or one of those that an answer tells.
 /// Inconsistent never comes over an observable consistent account.
 #[tactic(auto, using(crate::proofs::lemmas::Names::container_name))]
-pub fn drop_bucket<W: Swift>(
+pub fn delete_bucket_container<W: Swift>(
     state: &mut Settled<'_, W>,
     bucket: Bytes,
 ) -> Result<Dropped, PlanFault>
@@ -97,14 +99,14 @@ pub fn drop_bucket<W: Swift>(
         state.store,
         SwiftRequest::DeleteContainer { container: bucket },
     )?;
-    dropped_in(&reply)
+    interpret_bucket_delete(&reply)
 }
 
 /// Replaces the access control list of a bucket, by POST of its container (Object Storage API v1, "Create, update, or
 /// delete container metadata"): the one call that commits. At most one call. After Ok the answer says whether the bucket
-/// is there, and if so the S3 state has its new list. The faults are those of [`drop_bucket`].
+/// is there, and if so the S3 state has its new list. The faults are those of [`delete_bucket_container`].
 #[tactic(auto, using(crate::proofs::lemmas::Names::container_name))]
-pub fn set_acl<W: Swift>(
+pub fn post_bucket_container<W: Swift>(
     state: &mut Settled<'_, W>,
     bucket: Bytes,
     acl: Acl,
@@ -118,8 +120,8 @@ pub fn set_acl<W: Swift>(
         state.store,
         SwiftRequest::PostContainer {
             container: bucket,
-            readers: readers(acl),
+            readers: container_readers_of_acl(acl),
         },
     )?;
-    set_in(&reply)
+    interpret_bucket_post(&reply)
 }

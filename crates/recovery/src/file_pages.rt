@@ -19,7 +19,7 @@ use swift_calls::{NameItem, Swift};
 /// Storage API v1, "Show container details and list objects"); of a container that is missing none. At most one call, and the
 /// S3 state stays. Failed comes only where the store's count of faults rose; Memory where memory ran out; Inconsistent never
 /// over an observable consistent account.
-pub fn file_page<W: Swift>(
+pub fn settled_file_page<W: Swift>(
     alloc: Global,
     state: &mut Settled<'_, W>,
     folder: &[u8],

@@ -1,6 +1,6 @@
 //! What an answer of the store comes to.
 ghost use Rattle.std.specs.Prelude.{◌≡◌, ◌≢◌, Err, IfOk};
-ghost use Rattle.recovery.specs.Interpret.{Gives, agrees_with_tag, agrees_parts, agrees_whole, bucket_due, bytes_due, dropped_due, gone_due, head_due, head_from, known, IsShownHead, made_due, set_due, stored_due};
+ghost use Rattle.recovery.specs.Interpret.{Gives, object_head_agrees_with_tag, object_head_agrees_parts, object_head_agrees_whole, bucket_due, bytes_due, dropped_due, gone_due, head_due, head_from, known, IsShownHead, made_due, set_due, stored_due};
 ghost use Rattle.swift_calls.specs.declared.calls.SwiftReply.TheVariants as answer;
 ghost use Rattle.recovery.specs.declared.fault.PlanFault.TheVariants as fault;
 
@@ -11,13 +11,13 @@ use s3_names::Acl;
 use std::alloc::Global;
 use swift_calls::{StoredHead, SwiftReply};
 use swift_marks::{Tag, unpack};
-use upload_records::acl;
+use upload_records::acl_of_container_readers;
 
 /// Each object has fewer bytes.
 const SIZE_LIMIT: u64 = 1 << 63;
 
 /// The answer to HEAD of a bucket's container, which has the moment at which the bucket was made.
-pub(crate) fn bucket_in(reply: &SwiftReply) -> Result<Option<Acl>, PlanFault>
+pub(crate) fn interpret_bucket_head(reply: &SwiftReply) -> Result<Option<Acl>, PlanFault>
     ensures due { result ≡ bucket_due reply.now }
     ensures own { result ≢ Err fault.Failed }
 {
@@ -25,20 +25,23 @@ pub(crate) fn bucket_in(reply: &SwiftReply) -> Result<Option<Acl>, PlanFault>
         SwiftReply::Readers {
             readers,
             created: Some(_),
-        } => Ok(Some(acl(*readers))),
+        } => Ok(Some(acl_of_container_readers(*readers))),
         SwiftReply::NotFound => Ok(None),
         _ => Err(PlanFault::Inconsistent),
     }
 }
 
 /// The answer to HEAD of an object's file.
-pub(crate) fn head_in(alloc: Global, reply: &SwiftReply) -> Result<Option<ObjectHead>, PlanFault>
+pub(crate) fn interpret_object_head(
+    alloc: Global,
+    reply: &SwiftReply,
+) -> Result<Option<ObjectHead>, PlanFault>
     ensures due { Gives result (head_due reply.now) }
     ensures own { result ≢ Err fault.Failed }
     ensures shown { IfOk result IsShownHead }
 {
     match reply {
-        SwiftReply::Head(head) => read_head(alloc, head),
+        SwiftReply::Head(head) => interpret_stored_head(alloc, head),
         SwiftReply::NotFound => Ok(None),
         _ => Err(PlanFault::Inconsistent),
     }
@@ -47,14 +50,14 @@ pub(crate) fn head_in(alloc: Global, reply: &SwiftReply) -> Result<Option<Object
 /// What the head of a file says of the object: its type is the object's tag, with which the file agrees, and its
 /// metadata the object's pack.
 #[tactic(auto, using(crate::proofs::Dates::tag_is_dated))]
-fn read_head(alloc: Global, head: &StoredHead) -> Result<Option<ObjectHead>, PlanFault>
+fn interpret_stored_head(alloc: Global, head: &StoredHead) -> Result<Option<ObjectHead>, PlanFault>
     ensures due { Gives result (known (head_from head.now)) }
     ensures own { result ≢ Err fault.Failed }
     ensures shown { IfOk result IsShownHead }
 {
     let tag = Tag::read(alloc, head.content_type.as_slice())?;
     let meta = unpack(alloc, head.meta.as_slice())?;
-    if !agrees_with_tag(head, &tag) {
+    if !object_head_agrees_with_tag(head, &tag) {
         return Err(PlanFault::Inconsistent);
     }
     Ok(Some(ObjectHead {
@@ -67,28 +70,28 @@ fn read_head(alloc: Global, head: &StoredHead) -> Result<Option<ObjectHead>, Pla
 }
 
 /// The file is what its tag says: put in one piece, or of an upload.
-fn agrees_with_tag(head: &StoredHead, tag: &Tag) -> bool
-    ensures { result ≡ agrees_with_tag head.now tag.now }
+fn object_head_agrees_with_tag(head: &StoredHead, tag: &Tag) -> bool
+    ensures { result ≡ object_head_agrees_with_tag head.now tag.now }
 {
     if tag.id.is_none() {
-        agrees_whole(head, tag)
+        object_head_agrees_whole(head, tag)
     } else {
-        agrees_parts(head, tag)
+        object_head_agrees_parts(head, tag)
     }
 }
 
 /// The file is what its tag says that was put in one piece: with bytes of its own, as many as a body may have, and with
 /// their ETag.
-fn agrees_whole(head: &StoredHead, tag: &Tag) -> bool
-    ensures { result ≡ agrees_whole head.now tag.now }
+fn object_head_agrees_whole(head: &StoredHead, tag: &Tag) -> bool
+    ensures { result ≡ object_head_agrees_whole head.now tag.now }
 {
     !head.manifest && head.etag.as_slice() == tag.etag.as_slice() && head.size <= MOST_BODY_BYTES
 }
 
 /// The file is what its tag says that was completed from parts: with an ETag of parts, and a list of segments where it has
 /// a byte.
-fn agrees_parts(head: &StoredHead, tag: &Tag) -> bool
-    ensures { result ≡ agrees_parts head.now tag.now }
+fn object_head_agrees_parts(head: &StoredHead, tag: &Tag) -> bool
+    ensures { result ≡ object_head_agrees_parts head.now tag.now }
 {
     tag.etag.len() > 32 && (head.manifest || head.size == 0) && head.size < SIZE_LIMIT
 }
@@ -105,14 +108,16 @@ pub(crate) fn bytes_in(
     ensures own { result ≢ Err fault.Failed }
 {
     match reply {
-        SwiftReply::Bytes { head, body } => unchanged(alloc, &head, body, etag, size),
+        SwiftReply::Bytes { head, body } => interpret_unchanged_bytes(
+            alloc, &head, body, etag, size,
+        ),
         SwiftReply::Unsatisfiable | SwiftReply::NotFound => Ok(None),
         _ => Err(PlanFault::Inconsistent),
     }
 }
 
 /// The bytes that a GET told with this head, where the file is what its tag says, with the ETag and the size that HEAD told.
-fn unchanged(
+fn interpret_unchanged_bytes(
     alloc: Global,
     head: &StoredHead,
     body: Bytes,
@@ -123,14 +128,17 @@ fn unchanged(
     ensures own { result ≢ Err fault.Failed }
 {
     let tag = Tag::read(alloc, head.content_type.as_slice())?;
-    if !agrees_with_tag(head, &tag) || tag.etag.as_slice() != etag || head.size != size {
+    if !object_head_agrees_with_tag(head, &tag)
+        || tag.etag.as_slice() != etag
+        || head.size != size
+    {
         return Err(PlanFault::Inconsistent);
     }
     Ok(Some(body))
 }
 
 /// The answer to PUT of a file whose bytes have this ETag: the store has them with the same.
-pub fn stored_in(reply: &SwiftReply, etag: &[u8]) -> Result<(), PlanFault>
+pub fn interpret_put_with_etag(reply: &SwiftReply, etag: &[u8]) -> Result<(), PlanFault>
     ensures due { result ≡ stored_due etag.now reply.now }
     ensures own { result ≢ Err fault.Failed }
 {
@@ -141,7 +149,7 @@ pub fn stored_in(reply: &SwiftReply, etag: &[u8]) -> Result<(), PlanFault>
 }
 
 /// The answer to DELETE of a file: also one that wasn't there is gone.
-pub fn gone_in(reply: &SwiftReply) -> Result<(), PlanFault>
+pub fn interpret_file_delete(reply: &SwiftReply) -> Result<(), PlanFault>
     ensures due { result ≡ gone_due reply.now }
     ensures own { result ≢ Err fault.Failed }
 {
@@ -153,7 +161,7 @@ pub fn gone_in(reply: &SwiftReply) -> Result<(), PlanFault>
 }
 
 /// The answer to PUT of a container that is missing.
-pub(crate) fn made_in(reply: &SwiftReply) -> Result<(), PlanFault>
+pub(crate) fn interpret_bucket_put(reply: &SwiftReply) -> Result<(), PlanFault>
     ensures due { result ≡ made_due reply.now }
     ensures own { result ≢ Err fault.Failed }
 {
@@ -164,7 +172,7 @@ pub(crate) fn made_in(reply: &SwiftReply) -> Result<(), PlanFault>
 }
 
 /// The answer to DELETE of a bucket's container.
-pub(crate) fn dropped_in(reply: &SwiftReply) -> Result<Dropped, PlanFault>
+pub(crate) fn interpret_bucket_delete(reply: &SwiftReply) -> Result<Dropped, PlanFault>
     ensures due { result ≡ dropped_due reply.now }
     ensures own { result ≢ Err fault.Failed }
 {
@@ -177,7 +185,7 @@ pub(crate) fn dropped_in(reply: &SwiftReply) -> Result<Dropped, PlanFault>
 }
 
 /// The answer to POST of a bucket's container.
-pub(crate) fn set_in(reply: &SwiftReply) -> Result<bool, PlanFault>
+pub(crate) fn interpret_bucket_post(reply: &SwiftReply) -> Result<bool, PlanFault>
     ensures due { result ≡ set_due reply.now }
     ensures own { result ≢ Err fault.Failed }
 {

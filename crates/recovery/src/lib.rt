@@ -16,16 +16,18 @@ mod sealed;
 mod settling;
 mod state;
 
-pub use beside::{make_beside, purge};
-pub use bucket::{Dropped, drop_bucket, head_bucket, make_bucket, set_acl};
+pub use beside::{purge, put_container_beside};
+pub use bucket::{
+    Dropped, delete_bucket_container, head_bucket, post_bucket_container, put_bucket_container,
+};
 pub use fault::PlanFault;
-pub use file_pages::{file_page, next_marker};
-pub use interpret::{gone_in, stored_in};
+pub use file_pages::{next_marker, settled_file_page};
+pub use interpret::{interpret_file_delete, interpret_put_with_etag};
 pub use keys::list_objects;
 pub use laws::{law_answered_fault_free, law_never_unavailable};
 pub use listing::list_buckets;
 pub use object::{delete_object, get_object, head_object, put_object};
 pub use plans::{is_many, is_upload, reply_of, taken_text};
-pub use sealed::{kept_in, object_request};
+pub use sealed::{interpret_put_without_etag, object_request};
 pub use settling::roll_forward;
 pub use state::{Known, SettleFault, Settled, Unsure};

@@ -44,7 +44,10 @@ const MOST_NAMES: u32 = 1000;
 
 /// A page of the names of the containers after a marker, by GET of the account (Object Storage API v1, "Show account
 /// details and list containers").
-fn page<W: Swift>(state: &mut Settled<'_, W>, marker: &Bytes) -> Result<List<Bytes>, PlanFault>
+fn container_names_page<W: Swift>(
+    state: &mut Settled<'_, W>,
+    marker: &Bytes,
+) -> Result<List<Bytes>, PlanFault>
     ensures stays { Stays state.old state.new }
     ensures counted { IfOk result (λ _. (W.history state.old.store.now).called < budget
         × ((W.history state.new.store.now).called ≡ (W.history state.old.store.now).called + 1)) }
@@ -60,12 +63,12 @@ fn page<W: Swift>(state: &mut Settled<'_, W>, marker: &Bytes) -> Result<List<Byt
         return Err(PlanFault::Inconsistent);
     }
     let reply = ask(state.store, request)?;
-    names_in(marker.as_slice(), reply)
+    interpret_container_names(marker.as_slice(), reply)
 }
 
 /// The answer to GET of the account: at most as many names as a page has, which ascend strictly in the order of their bytes
 /// and come after the marker. Any other answer is inconsistent.
-fn names_in(marker: &[u8], reply: SwiftReply) -> Result<List<Bytes>, PlanFault>
+fn interpret_container_names(marker: &[u8], reply: SwiftReply) -> Result<List<Bytes>, PlanFault>
     ensures due { result ≡ names_due marker.now reply }
     ensures own { result ≢ Err fault.Failed }
 {
@@ -95,7 +98,7 @@ fn ascends(marker: &[u8], names: &[Bytes]) -> bool
 }
 
 /// Adds a page of names. What is told is the marker of the next page, and `None` after the last one.
-fn next_page<W: Swift>(
+fn add_container_names_page<W: Swift>(
     state: &mut Settled<'_, W>,
     names: &mut List<Bytes>,
     marker: &Bytes,
@@ -106,12 +109,12 @@ fn next_page<W: Swift>(
     ensures asks { Asks (always 1) (W.history state.old.store.now) (W.history state.new.store.now)
         (MayListAfter marker.now) (TellsOf (TellsNext marker.now names.old names.new)) result }
 {
-    let page = page(state, marker)?;
-    add_names(names, page.as_slice())?;
+    let page = container_names_page(state, marker)?;
+    add_container_names(names, page.as_slice())?;
     Ok(next_marker(page.as_slice())?)
 }
 
-fn add_names(names: &mut List<Bytes>, page: &[Bytes]) -> Result<(), Memory>
+fn add_container_names(names: &mut List<Bytes>, page: &[Bytes]) -> Result<(), Memory>
     ensures { OnOk result (names.new ≡ names.old ++ page.now) }
 {
     for name in page {
@@ -134,7 +137,10 @@ fn next_marker(page: &[Bytes]) -> Result<Option<Bytes>, Memory>
 }
 
 /// The bucket of a container that is there, by HEAD of it (Object Storage API v1, "Show container metadata").
-fn item<W: Swift>(state: &mut Settled<'_, W>, bucket: &Bytes) -> Result<BucketItem, PlanFault>
+fn head_bucket_item<W: Swift>(
+    state: &mut Settled<'_, W>,
+    bucket: &Bytes,
+) -> Result<BucketItem, PlanFault>
     requires { is_bucket bucket.now ≡ true }
     ensures stays { Stays state.old state.new }
     ensures dated { IfOk result IsShownBucket }
@@ -142,12 +148,15 @@ fn item<W: Swift>(state: &mut Settled<'_, W>, bucket: &Bytes) -> Result<BucketIt
         (Has bucket.now) (TellsOf (TellsItem bucket.now)) result }
 {
     let name = bucket.copy()?;
-    let created = created(state, bucket)?;
+    let created = head_bucket_moment(state, bucket)?;
     Ok(BucketItem { name, created })
 }
 
 #[tactic(auto, using(crate::proofs::lemmas::Names::container_name))]
-fn created<W: Swift>(state: &mut Settled<'_, W>, bucket: &Bytes) -> Result<u64, PlanFault>
+fn head_bucket_moment<W: Swift>(
+    state: &mut Settled<'_, W>,
+    bucket: &Bytes,
+) -> Result<u64, PlanFault>
     requires { is_bucket bucket.now ≡ true }
     ensures stays { Stays state.old state.new }
     ensures dated { IfOk result (λ moment. moment < moment_limit) }
@@ -160,11 +169,11 @@ fn created<W: Swift>(state: &mut Settled<'_, W>, bucket: &Bytes) -> Result<u64, 
             container: bucket.copy()?,
         },
     )?;
-    created_in(&reply)
+    interpret_bucket_moment(&reply)
 }
 
 /// The answer to HEAD of a container that is there.
-fn created_in(reply: &SwiftReply) -> Result<u64, PlanFault>
+fn interpret_bucket_moment(reply: &SwiftReply) -> Result<u64, PlanFault>
     ensures due { result ≡ created_due reply.now }
     ensures own { result ≢ Err fault.Failed }
     ensures dated { IfOk result (λ moment. moment < moment_limit) }
@@ -179,7 +188,7 @@ fn created_in(reply: &SwiftReply) -> Result<u64, PlanFault>
 }
 
 /// Adds the bucket of a container, where it is a bucket's.
-fn add_item<W: Swift>(
+fn add_bucket_of_container<W: Swift>(
     state: &mut Settled<'_, W>,
     items: &mut List<BucketItem>,
     name: &Bytes,
@@ -192,13 +201,13 @@ fn add_item<W: Swift>(
     if !is_bucket(name.as_slice()) {
         return Ok(());
     }
-    let item = item(state, name)?;
+    let item = head_bucket_item(state, name)?;
     items.push(item)?;
     Ok(())
 }
 
 /// The buckets among the containers of these names.
-fn items<W: Swift>(
+fn buckets_of_containers<W: Swift>(
     alloc: Global,
     state: &mut Settled<'_, W>,
     names: &[Bytes],
@@ -211,7 +220,7 @@ fn items<W: Swift>(
 {
     let mut items = List::new(alloc);
     for name in names {
-        add_item(state, &mut items, name)?;
+        add_bucket_of_container(state, &mut items, name)?;
     }
     Ok(items)
 }
@@ -231,7 +240,7 @@ pub fn list_buckets<W: Swift>(
         (W.history state.new.store.now) IsSettled (Tells TellsBuckets) result }
 {
     let names = container_names(alloc, state)?;
-    items(alloc, state, names.as_slice())
+    buckets_of_containers(alloc, state, names.as_slice())
 }
 
 /// The names of all containers, page by page.
@@ -247,7 +256,7 @@ fn container_names<W: Swift>(
     let mut names = List::new(alloc);
     let mut marker = Bytes::new(alloc);
     'pages: loop {
-        match next_page(state, &mut names, &marker)? {
+        match add_container_names_page(state, &mut names, &marker)? {
             Some(next) => marker = next,
             None => return Ok(names),
         }

@@ -14,7 +14,9 @@ ghost use Rattle.upload_records.specs.Native.{IsSettled};
 ghost use Rattle.recovery.specs.Calls.{always, Any, Asks, Becomes, Changes, Given, GivesUnchanged, HasBucket, HasObject, Tells, TellsBytes, TellsObject, drops_object, puts_object};
 ghost use Rattle.recovery.specs.Lent.{Stays};
 
-use crate::interpret::{bytes_in, gone_in, head_in, stored_in};
+use crate::interpret::{
+    bytes_in, interpret_file_delete, interpret_object_head, interpret_put_with_etag,
+};
 use crate::state::ask;
 use crate::{PlanFault, Settled};
 use gate_base::{Bytes, Copying, Memory};
@@ -45,7 +47,7 @@ pub fn head_object<W: Swift>(
     let container = bucket.copy()?;
     let name = key.copy()?;
     let reply = ask(state.store, SwiftRequest::HeadObject { container, name })?;
-    head_in(alloc, &reply)
+    interpret_object_head(alloc, &reply)
 }
 
 /// The bytes of an object, or those of a range, by GET of its file (Object Storage API v1, "Get object content and
@@ -112,7 +114,7 @@ pub fn put_object<W: Swift>(
 {
     let request = put_request(alloc, bucket, key, content_type, meta, body, etag, moment)?;
     let reply = ask(state.store, request)?;
-    stored_in(&reply, etag)
+    interpret_put_with_etag(&reply, etag)
 }
 
 /// The PUT of an object's file, whose body has this ETag.
@@ -137,7 +139,7 @@ fn put_request(
     ensures fits { IfOk result Fit }
     ensures ordered { OnOk result (names_ascend meta.now ≡ true) }
 {
-    let text = tag_text(alloc, content_type, etag, moment)?;
+    let text = tag_of_put_object(alloc, content_type, etag, moment)?;
     let pieces = pack(alloc, meta)?;
     Ok(SwiftRequest::PutObject {
         container: bucket,
@@ -149,7 +151,12 @@ fn put_request(
 }
 
 /// The tag of an object that is put in one piece, with the ETag of its bytes, as its file has it.
-fn tag_text(alloc: Global, content_type: Bytes, etag: &[u8], moment: u64) -> Result<Bytes, Memory>
+fn tag_of_put_object(
+    alloc: Global,
+    content_type: Bytes,
+    etag: &[u8],
+    moment: u64,
+) -> Result<Bytes, Memory>
     requires { has_text (plain_tag content_type etag.now moment) ≡ true }
     ensures { IfOk result (λ text. text ≡ tag_text (plain_tag content_type etag.now moment)) }
 {
@@ -185,5 +192,5 @@ pub fn delete_object<W: Swift>(
             name: key,
         },
     )?;
-    gone_in(&reply)
+    interpret_file_delete(&reply)
 }

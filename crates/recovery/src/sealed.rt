@@ -5,7 +5,7 @@ ghost use Rattle.s3_names.specs.Id.{id_digits};
 ghost use Rattle.swift_calls.specs.Step.{Fit};
 ghost use Rattle.swift_marks.specs.Tag.{tag_text};
 ghost use Rattle.upload_texts.specs.Records.{read_record, record_text};
-ghost use Rattle.upload_texts.specs.Sealed.{has_sealed_text, is_sealed_part, read_sealed};
+ghost use Rattle.upload_texts.specs.Sealed.{has_sealed_text, part_fits_sealed_text, read_sealed};
 ghost use Rattle.upload_records.specs.Native.{filled_parts, listed_of, listing_of, part_segment, sealed_record, sealed_tag};
 ghost use Rattle.recovery.specs.Interpret.{Gives, known};
 ghost use Rattle.recovery.specs.Rolls.{kept_due, put_by, put_object_of, put_record_of, sealed_due, sealed_listing};
@@ -23,7 +23,10 @@ use upload_records::{segment_name, segments_container, uploads_container};
 use upload_texts::{Record, RecordFault, Sealed, SealedPart};
 
 /// The answer to GET of the file of what is sealed, which may be there no more. A file that lists segments is none.
-pub(crate) fn sealed_in(alloc: Global, reply: &SwiftReply) -> Result<Option<Sealed>, PlanFault>
+pub(crate) fn interpret_sealed_get(
+    alloc: Global,
+    reply: &SwiftReply,
+) -> Result<Option<Sealed>, PlanFault>
     ensures due { Gives result (sealed_due reply.now) }
     ensures own { result ≢ Err fault.Failed }
     ensures has { IfOk result (λ found. IfSome found (λ s. has_sealed_text s ≡ true)) }
@@ -50,7 +53,7 @@ fn read_sealed(alloc: Global, text: &[u8]) -> Result<Option<Sealed>, PlanFault>
 }
 
 /// The answer to PUT of a file, whatever ETag the store has of it.
-pub fn kept_in(reply: &SwiftReply) -> Result<(), PlanFault>
+pub fn interpret_put_without_etag(reply: &SwiftReply) -> Result<(), PlanFault>
     ensures due { result ≡ kept_due reply.now }
     ensures own { result ≢ Err fault.Failed }
 {
@@ -67,15 +70,15 @@ pub fn object_request(alloc: Global, sealed: &Sealed) -> Result<SwiftRequest, Me
     ensures request { IfOk result (λ request. request ≡ put_object_of sealed.now) }
     ensures fits { IfOk result Fit }
 {
-    let content_type = object_type(alloc, sealed)?;
+    let content_type = sealed_object_tag(alloc, sealed)?;
     let meta = pack(alloc, &sealed.meta)?;
     let container = sealed.bucket.copy()?;
     let name = sealed.key.copy()?;
     let segments = sealed_listing(alloc, sealed)?;
-    Ok(put_of(alloc, container, name, content_type, meta, segments))
+    Ok(put_by_segments(alloc, container, name, content_type, meta, segments))
 }
 
-fn put_of(
+fn put_by_segments(
     alloc: Global,
     container: Bytes,
     name: Bytes,
@@ -104,7 +107,7 @@ fn put_of(
 }
 
 /// The tag of a completed object, as its file has it.
-fn object_type(alloc: Global, sealed: &Sealed) -> Result<Bytes, Memory>
+fn sealed_object_tag(alloc: Global, sealed: &Sealed) -> Result<Bytes, Memory>
     requires { has_sealed_text sealed.now ≡ true }
     ensures { IfOk result (λ text. text ≡ tag_text (sealed_tag sealed.now)) }
 {
@@ -125,49 +128,54 @@ fn sealed_listing(alloc: Global, sealed: &Sealed) -> Result<List<Segment>, Memor
     ensures { IfOk result (λ segments. segments ≡ sealed_listing sealed.now) }
 {
     let folder = segments_container(alloc, sealed.bucket.as_slice())?;
-    segments_in(alloc, &folder, sealed.id, sealed.list.as_slice())
+    sealed_listing_segments(alloc, &folder, sealed.id, sealed.list.as_slice())
 }
 
 #[tactic(auto, using(crate::proofs::Segments::part_there, crate::proofs::Segments::segments_more, crate::proofs::Segments::segments_all))]
-fn segments_in(
+fn sealed_listing_segments(
     alloc: Global,
     folder: &Bytes,
     id: u128,
     parts: &[SealedPart],
 ) -> Result<List<Segment>, Memory>
-    requires { list_all is_sealed_part parts.now ≡ true }
+    requires { list_all part_fits_sealed_text parts.now ≡ true }
     ensures { IfOk result
         (λ segments. segments ≡ listing_of folder.now (id_digits id) (filled_parts parts.now)) }
 {
     let mut segments = List::new(alloc);
     for part in parts {
-        add_sealed_segment(alloc, &mut segments, folder, id, part)?;
+        add_sealed_listing_segment(alloc, &mut segments, folder, id, part)?;
     }
     Ok(segments)
 }
 
 /// Adds the segment of a part that isn't empty.
-fn add_sealed_segment(
+fn add_sealed_listing_segment(
     alloc: Global,
     segments: &mut List<Segment>,
     folder: &Bytes,
     id: u128,
     part: &SealedPart,
 ) -> Result<(), Memory>
-    requires { is_sealed_part part.now ≡ true }
+    requires { part_fits_sealed_text part.now ≡ true }
     ensures { OnOk result (segments.new ≡ segments.old
         ++ map (part_segment folder.now (id_digits id)) (filled_parts (part.now ∷ []))) }
 {
     if part.size == 0 {
         return Ok(());
     }
-    let segment = segment(alloc, folder, id, part)?;
+    let segment = sealed_listing_segment(alloc, folder, id, part)?;
     segments.push(segment)?;
     Ok(())
 }
 
-fn segment(alloc: Global, folder: &Bytes, id: u128, part: &SealedPart) -> Result<Segment, Memory>
-    requires { is_sealed_part part.now ≡ true }
+fn sealed_listing_segment(
+    alloc: Global,
+    folder: &Bytes,
+    id: u128,
+    part: &SealedPart,
+) -> Result<Segment, Memory>
+    requires { part_fits_sealed_text part.now ≡ true }
     ensures { IfOk result (λ segment. segment ≡ part_segment folder.now (id_digits id) part.now) }
 {
     Ok(Segment {
@@ -179,14 +187,14 @@ fn segment(alloc: Global, folder: &Bytes, id: u128, part: &SealedPart) -> Result
 }
 
 /// The text of the record of a completed upload, with the moment of its completion.
-pub(crate) fn sealed_record_text(alloc: Global, sealed: &Sealed) -> Result<Bytes, Memory>
+pub(crate) fn rolled_forward_record_text(alloc: Global, sealed: &Sealed) -> Result<Bytes, Memory>
     requires { has_sealed_text sealed.now ≡ true }
     ensures text { IfOk result (λ text. text ≡ record_text (sealed_record sealed.now)) }
     ensures reads { IfOk result (λ text. read_record text ≡ Some (sealed_record sealed.now)) }
 {
     let key = sealed.key.copy()?;
     let etag = sealed.etag.copy()?;
-    let list = listed(alloc, sealed.list.as_slice())?;
+    let list = rolled_forward_record_parts(alloc, sealed.list.as_slice())?;
     let record = Record::Done {
         key,
         list,
@@ -199,7 +207,7 @@ pub(crate) fn sealed_record_text(alloc: Global, sealed: &Sealed) -> Result<Bytes
 
 /// The parts as a record lists them.
 #[tactic(auto, using(crate::proofs::Segments::listed_more))]
-fn listed(alloc: Global, parts: &[SealedPart]) -> Result<List<Listed>, Memory>
+fn rolled_forward_record_parts(alloc: Global, parts: &[SealedPart]) -> Result<List<Listed>, Memory>
     ensures { IfOk result (λ list. list ≡ map listed_of parts.now) }
 {
     let mut list = List::new(alloc);
@@ -214,7 +222,7 @@ fn listed(alloc: Global, parts: &[SealedPart]) -> Result<List<Listed>, Memory>
 }
 
 /// The PUT of the record of this text.
-pub(crate) fn record_request(
+pub(crate) fn rolled_forward_record_request(
     alloc: Global,
     sealed: &Sealed,
     text: Bytes,

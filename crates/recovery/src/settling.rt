@@ -7,9 +7,12 @@ ghost use Rattle.recovery.specs.Calls.{always, Any, Asks};
 ghost use Rattle.recovery.specs.Rolls.{HasGateway, HasObject, HasRecord, IsSealed, KeepsGateway, Leaves, LeavesClear, TellsSealed};
 
 use crate::PlanFault;
-use crate::beside::placed_in;
-use crate::interpret::{gone_in, stored_in};
-use crate::sealed::{kept_in, object_request, record_request, sealed_in, sealed_record_text};
+use crate::beside::interpret_container_put;
+use crate::interpret::{interpret_file_delete, interpret_put_with_etag};
+use crate::sealed::{
+    interpret_put_without_etag, interpret_sealed_get, object_request,
+    rolled_forward_record_request, rolled_forward_record_text,
+};
 use crate::state::ask;
 use s3_machine::body_etag;
 use std::alloc::Global;
@@ -18,7 +21,7 @@ use upload_records::{gateway_container, sealed_name};
 use upload_texts::Sealed;
 
 /// Settles a store: makes the gateway's own container, and finishes the completion that is sealed there, if one is.
-pub(crate) fn settle_store<W: Swift>(alloc: Global, store: &mut W) -> Result<(), PlanFault>
+pub(crate) fn settle_unsure_store<W: Swift>(alloc: Global, store: &mut W) -> Result<(), PlanFault>
     ensures asks { Asks (always 5) (W.history store.old) (W.history store.new) Any
         (Leaves IsSettled) result }
     ensures done { IsTrue (W.history store.old).observable → result ≡ Ok tt
@@ -44,7 +47,7 @@ fn make_gateway<W: Swift>(alloc: Global, store: &mut W) -> Result<(), PlanFault>
             created: None,
         },
     )?;
-    placed_in(&reply)
+    interpret_container_put(&reply)
 }
 
 /// Finishes the completion that is sealed, if one is.
@@ -79,7 +82,7 @@ fn get_sealed<W: Swift>(alloc: Global, store: &mut W) -> Result<Option<Sealed>, 
             range: None,
         },
     )?;
-    sealed_in(alloc, &reply)
+    interpret_sealed_get(alloc, &reply)
 }
 
 /// Finishes a sealed completion by three calls: PUT of its object, PUT of its record, and DELETE of what is sealed. The S3 state
@@ -98,12 +101,12 @@ pub fn roll_forward<W: Swift>(
     ensures keeps { KeepsGateway (W.history store.old) (W.history store.new) }
     ensures done { LeavesClear tt (W.history store.old) (W.history store.new) result }
 {
-    put_sealed_object(alloc, store, sealed)?;
-    keep_completion(alloc, store, sealed)
+    put_rolled_forward_object(alloc, store, sealed)?;
+    finish_roll_forward(alloc, store, sealed)
 }
 
 /// Puts the object of a sealed completion (Object Storage API v1, "Static large objects" and "Create or replace object").
-fn put_sealed_object<W: Swift>(
+fn put_rolled_forward_object<W: Swift>(
     alloc: Global,
     store: &mut W,
     sealed: &Sealed,
@@ -115,23 +118,27 @@ fn put_sealed_object<W: Swift>(
 {
     let request = object_request(alloc, sealed)?;
     let reply = ask(store, request)?;
-    kept_in(&reply)
+    interpret_put_without_etag(&reply)
 }
 
 /// Puts the record of a sealed completion whose object is there, and deletes what is sealed.
-fn keep_completion<W: Swift>(alloc: Global, store: &mut W, sealed: &Sealed) -> Result<(), PlanFault>
+fn finish_roll_forward<W: Swift>(
+    alloc: Global,
+    store: &mut W,
+    sealed: &Sealed,
+) -> Result<(), PlanFault>
     requires { has_sealed_text sealed.now ≡ true }
     ensures asks { Asks (always 2) (W.history store.old) (W.history store.new)
         (HasObject sealed.now) (Leaves IsSettled) result }
     ensures keeps { KeepsGateway (W.history store.old) (W.history store.new) }
     ensures done { LeavesClear tt (W.history store.old) (W.history store.new) result }
 {
-    put_sealed_record(alloc, store, sealed)?;
-    delete_sealed(alloc, store, sealed)
+    put_rolled_forward_record(alloc, store, sealed)?;
+    delete_rolled_forward_seal(alloc, store, sealed)
 }
 
 /// Puts the record of a sealed completion, with its moment (Object Storage API v1, "Create or replace object").
-fn put_sealed_record<W: Swift>(
+fn put_rolled_forward_record<W: Swift>(
     alloc: Global,
     store: &mut W,
     sealed: &Sealed,
@@ -141,16 +148,20 @@ fn put_sealed_record<W: Swift>(
         (HasObject sealed.now) (Leaves (HasRecord sealed.now)) result }
     ensures keeps { KeepsGateway (W.history store.old) (W.history store.new) }
 {
-    let text = sealed_record_text(alloc, sealed)?;
+    let text = rolled_forward_record_text(alloc, sealed)?;
     let etag = body_etag(text.as_slice());
-    let request = record_request(alloc, sealed, text)?;
+    let request = rolled_forward_record_request(alloc, sealed, text)?;
     let reply = ask(store, request)?;
-    stored_in(&reply, &etag)
+    interpret_put_with_etag(&reply, &etag)
 }
 
 /// Deletes what is sealed, whose object and record are there (Object Storage API v1, "Delete object").
 #[tactic(auto, using(crate::proofs::SettleCalls::gateway_is_container, crate::proofs::SettleCalls::sealed_is_object))]
-fn delete_sealed<W: Swift>(alloc: Global, store: &mut W, sealed: &Sealed) -> Result<(), PlanFault>
+fn delete_rolled_forward_seal<W: Swift>(
+    alloc: Global,
+    store: &mut W,
+    sealed: &Sealed,
+) -> Result<(), PlanFault>
     ensures asks { Asks (always 1) (W.history store.old) (W.history store.new)
         (HasRecord sealed.now) (Leaves IsSettled) result }
     ensures keeps { KeepsGateway (W.history store.old) (W.history store.new) }
@@ -159,5 +170,5 @@ fn delete_sealed<W: Swift>(alloc: Global, store: &mut W, sealed: &Sealed) -> Res
     let container = gateway_container(alloc)?;
     let name = sealed_name(alloc)?;
     let reply = ask(store, SwiftRequest::DeleteObject { container, name })?;
-    gone_in(&reply)
+    interpret_file_delete(&reply)
 }

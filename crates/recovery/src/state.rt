@@ -11,7 +11,7 @@ ghost use Rattle.recovery.specs.Rolls.{IsSealed, KeepsGateway, Leaves, LeavesCle
 ghost use Rattle.recovery.specs.Settling.{IsNamedFault, Settles};
 
 use crate::PlanFault;
-use crate::settling::{roll_forward, settle_store};
+use crate::settling::{roll_forward, settle_unsure_store};
 use gate_base::{Bytes, List};
 use list_pages::{PageFault, names};
 use s3_machine::Settings;
@@ -82,7 +82,7 @@ impl<'a, W: Swift> Unsure<'a, W> {
         ensures settles { Settles (W.history self.old.store.now) (W.history self.new.store.now)
             result }
     {
-        match settle_store(self.alloc, self.store) {
+        match settle_unsure_store(self.alloc, self.store) {
             Ok(()) => Ok(()),
             Err(fault) => Err(settle_fault(self.alloc, fault)),
         }

@@ -6,8 +6,8 @@ ghost use Rattle.s3_bodies.specs.Listed.{TellsListed};
 ghost use Rattle.s3_bodies.specs.PartReaders.{AnswersParts, part_of};
 
 use crate::BodyFault;
-use crate::part::part;
-use crate::root_end::{closing, not_the_body};
+use crate::part::completion_xml_part;
+use crate::root_end::{request_xml_closing, request_xml_fault};
 use gate_base::{Bytes, List, Memory};
 use s3_machine::{Listed, MOST_PARTS};
 use std::alloc::Global;
@@ -18,30 +18,30 @@ pub fn read_completion(alloc: Global, bytes: &[u8]) -> Result<List<Listed>, Body
     ensures answers { AnswersCompletion bytes.now result }
     ensures tells { TellsListed bytes.now result }
 {
-    all_listed(alloc, bytes)
+    listed_in_completion_xml(alloc, bytes)
 }
 
-fn all_listed(alloc: Global, bytes: &[u8]) -> Result<List<Listed>, BodyFault>
+fn listed_in_completion_xml(alloc: Global, bytes: &[u8]) -> Result<List<Listed>, BodyFault>
     ensures { AnswersCompletion bytes.now result }
 {
-    let parts = completion_parts(alloc, bytes)?;
+    let parts = completion_xml_parts(alloc, bytes)?;
     if parts.len() > MOST_PARTS {
         return Err(BodyFault::TooMany);
     }
-    Ok(owned_parts(alloc, parts.as_slice())?)
+    Ok(owned_completion_xml_parts(alloc, parts.as_slice())?)
 }
 
-fn completion_parts(alloc: Global, bytes: &[u8]) -> Result<List<(u32, &[u8])>, BodyFault>
+fn completion_xml_parts(alloc: Global, bytes: &[u8]) -> Result<List<(u32, &[u8])>, BodyFault>
     ensures { AnswersParts bytes.now result }
 {
     let inner = match opening(bytes, b"<CompleteMultipartUpload") {
         Ok((_, inner)) => inner,
-        Err(left) => return Err(not_the_body(bytes, left)),
+        Err(left) => return Err(request_xml_fault(bytes, left)),
     };
     let (parts, rest, left) = parts(alloc, inner)?;
-    match closing(rest, left, parts.is_empty(), b"</CompleteMultipartUpload>") {
+    match request_xml_closing(rest, left, parts.is_empty(), b"</CompleteMultipartUpload>") {
         Ok(()) => Ok(parts),
-        Err(left) => Err(not_the_body(bytes, left)),
+        Err(left) => Err(request_xml_fault(bytes, left)),
     }
 }
 
@@ -53,7 +53,7 @@ fn parts(alloc: Global, bytes: &[u8]) -> Result<(List<(u32, &[u8])>, &[u8], usiz
     let mut parts = List::new(alloc);
     let mut rest = bytes;
     'parts: loop {
-        match part(rest) {
+        match completion_xml_part(rest) {
             Ok((part, after)) => {
                 parts.push(part)?;
                 rest = after;
@@ -64,7 +64,7 @@ fn parts(alloc: Global, bytes: &[u8]) -> Result<(List<(u32, &[u8])>, &[u8], usiz
 }
 
 // The parts as a list that owns its ETags, which the body lends.
-fn owned_parts(alloc: Global, parts: &[(u32, &[u8])]) -> Result<List<Listed>, Memory>
+fn owned_completion_xml_parts(alloc: Global, parts: &[(u32, &[u8])]) -> Result<List<Listed>, Memory>
     ensures { IfOk result (λ list. list ≡ map (λ part. listed_of (part_of part)) parts.now) }
 {
     let mut list = List::new(alloc);

@@ -6,8 +6,8 @@ ghost use Rattle.s3_bodies.specs.Deletes.{TellsDeletes};
 
 use crate::BodyFault;
 use crate::key::keys;
-use crate::objects::{object, quiet};
-use crate::root_end::{closing, not_the_body};
+use crate::objects::{delete_xml_object, delete_xml_quiet};
+use crate::root_end::{request_xml_closing, request_xml_fault};
 use gate_base::{Bytes, Copying, List, Memory};
 use s3_machine::MOST_KEYS;
 use std::alloc::Global;
@@ -38,13 +38,13 @@ pub fn read_delete(alloc: Global, bytes: &[u8]) -> Result<Deletes, BodyFault>
     ensures answers { AnswersDelete bytes.now result }
     ensures tells { TellsDeletes bytes.now result }
 {
-    deletes_of(alloc, bytes)
+    deletes_in_delete_xml(alloc, bytes)
 }
 
-fn deletes_of(alloc: Global, bytes: &[u8]) -> Result<Deletes, BodyFault>
+fn deletes_in_delete_xml(alloc: Global, bytes: &[u8]) -> Result<Deletes, BodyFault>
     ensures { AnswersDelete bytes.now result }
 {
-    let (texts, quiet) = texts(alloc, bytes)?;
+    let (texts, quiet) = key_texts_in_delete_xml(alloc, bytes)?;
     if texts.len() > MOST_KEYS {
         return Err(BodyFault::TooMany);
     }
@@ -55,29 +55,32 @@ fn deletes_of(alloc: Global, bytes: &[u8]) -> Result<Deletes, BodyFault>
 }
 
 // The texts of the keys as they stand in the body, and whether it is quiet.
-fn texts(alloc: Global, bytes: &[u8]) -> Result<(List<&[u8]>, bool), BodyFault>
+fn key_texts_in_delete_xml(alloc: Global, bytes: &[u8]) -> Result<(List<&[u8]>, bool), BodyFault>
     ensures { AnswersTexts bytes.now result }
 {
     let inner = match opening(bytes, b"<Delete") {
         Ok((_, inner)) => inner,
-        Err(left) => return Err(not_the_body(bytes, left)),
+        Err(left) => return Err(request_xml_fault(bytes, left)),
     };
-    let (texts, quiet, rest, left) = inside(alloc, inner)?;
-    match closing(rest, left, texts.is_empty(), b"</Delete>") {
+    let (texts, quiet, rest, left) = inside_delete_xml(alloc, inner)?;
+    match request_xml_closing(rest, left, texts.is_empty(), b"</Delete>") {
         Ok(()) => Ok((texts, quiet)),
-        Err(left) => Err(not_the_body(bytes, left)),
+        Err(left) => Err(request_xml_fault(bytes, left)),
     }
 }
 
 // What stands in the root, the bytes behind it, and how many were left where nothing more could be read.
-fn inside(alloc: Global, bytes: &[u8]) -> Result<(List<&[u8]>, bool, &[u8], usize), Memory>
+fn inside_delete_xml(
+    alloc: Global,
+    bytes: &[u8],
+) -> Result<(List<&[u8]>, bool, &[u8], usize), Memory>
     ensures { IfOk result
         (λ found. SkipsInside bytes.now (texts_of found.0, found.1) found.2.now found.3) }
 {
-    let (before, rest, left) = add_objects(List::new(alloc), bytes)?;
-    match quiet(rest) {
+    let (before, rest, left) = add_delete_xml_objects(List::new(alloc), bytes)?;
+    match delete_xml_quiet(rest) {
         Ok((quiet, after)) => {
-            let (all, rest, left) = add_objects(before, after)?;
+            let (all, rest, left) = add_delete_xml_objects(before, after)?;
             Ok((all, quiet, rest, left))
         }
         Err(other) => Ok((before, false, rest, left.min(other))),
@@ -86,7 +89,7 @@ fn inside(alloc: Global, bytes: &[u8]) -> Result<(List<&[u8]>, bool, &[u8], usiz
 
 // Adds the texts of all objects that can be read to those that are there; with the bytes behind the objects, and how many were left
 // where no further one could be read.
-fn add_objects<'a>(
+fn add_delete_xml_objects<'a>(
     have: List<&'a [u8]>,
     bytes: &'a [u8],
 ) -> Result<(List<&'a [u8]>, &'a [u8], usize), Memory>
@@ -95,7 +98,7 @@ fn add_objects<'a>(
     let mut texts = have;
     let mut rest = bytes;
     'objects: loop {
-        match object(rest) {
+        match delete_xml_object(rest) {
             Ok((text, after)) => {
                 texts.push(text)?;
                 rest = after;

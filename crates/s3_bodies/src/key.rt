@@ -3,7 +3,7 @@ ghost use Rattle.std.specs.Prelude.{IfOk};
 ghost use Rattle.s3_bodies.specs.DeleteReaders.{Appends, AreNamed, IsMeaning, IsNamed, texts_of};
 ghost use Rattle.s3_bodies.specs.declared.key_text.Piece.{Piece};
 
-use crate::key_text::{Piece, next_piece};
+use crate::key_text::{Piece, next_delete_xml_piece};
 use gate_base::{Bytes, List, Memory};
 use s3_names::is_key;
 use std::alloc::Global;
@@ -14,7 +14,7 @@ pub(crate) fn keys(alloc: Global, texts: &[&[u8]]) -> Result<Option<List<Bytes>>
 {
     let mut keys = List::new(alloc);
     'texts: for text in texts {
-        match key(alloc, text)? {
+        match key_of_delete_xml_text(alloc, text)? {
             Some(key) => keys.push(key)?,
             None => return Ok(None),
         }
@@ -22,10 +22,10 @@ pub(crate) fn keys(alloc: Global, texts: &[&[u8]]) -> Result<Option<List<Bytes>>
     Ok(Some(keys))
 }
 
-fn key(alloc: Global, text: &[u8]) -> Result<Option<Bytes>, Memory>
+fn key_of_delete_xml_text(alloc: Global, text: &[u8]) -> Result<Option<Bytes>, Memory>
     ensures { IfOk result (λ key. IsNamed text.now key) }
 {
-    match meaning(alloc, text)? {
+    match meaning_of_delete_xml_text(alloc, text)? {
         Some(bytes) => {
             if is_key(bytes.as_slice()) {
                 Ok(Some(bytes))
@@ -38,16 +38,16 @@ fn key(alloc: Global, text: &[u8]) -> Result<Option<Bytes>, Memory>
 }
 
 // The bytes that a text stands for, if it stands for any.
-fn meaning(alloc: Global, text: &[u8]) -> Result<Option<Bytes>, Memory>
+fn meaning_of_delete_xml_text(alloc: Global, text: &[u8]) -> Result<Option<Bytes>, Memory>
     ensures { IfOk result (λ bytes. IsMeaning text.now bytes) }
 {
     let mut bytes = Bytes::new(alloc);
     let mut rest = text;
     'pieces: while !rest.is_empty() {
-        let Ok((piece, after)) = next_piece(rest) else {
+        let Ok((piece, after)) = next_delete_xml_piece(rest) else {
             return Ok(None);
         };
-        if !append(&mut bytes, piece)? {
+        if !append_delete_xml_piece(&mut bytes, piece)? {
             return Ok(None);
         }
         rest = after;
@@ -56,7 +56,7 @@ fn meaning(alloc: Global, text: &[u8]) -> Result<Option<Bytes>, Memory>
 }
 
 // Adds what a piece stands for; whether it stands for anything.
-fn append(bytes: &mut Bytes, piece: Piece) -> Result<bool, Memory>
+fn append_delete_xml_piece(bytes: &mut Bytes, piece: Piece) -> Result<bool, Memory>
     ensures { IfOk result (λ stands. Appends piece bytes.old bytes.new stands) }
 {
     match piece {
@@ -64,11 +64,11 @@ fn append(bytes: &mut Bytes, piece: Piece) -> Result<bool, Memory>
             bytes.push(byte)?;
             Ok(true)
         }
-        Piece::Numbered(number) => append_numbered(bytes, number),
+        Piece::Numbered(number) => append_delete_xml_character(bytes, number),
     }
 }
 
-fn append_numbered(bytes: &mut Bytes, number: u32) -> Result<bool, Memory>
+fn append_delete_xml_character(bytes: &mut Bytes, number: u32) -> Result<bool, Memory>
     ensures { IfOk result (λ stands. Appends (Piece.Numbered number) bytes.old bytes.new stands) }
 {
     match char::from_u32(number) {

@@ -12,7 +12,7 @@ ghost use Rattle.s3_bodies.specs.KeyText.{Angle, Decimal, Entity, Hexadecimal, I
 ghost use Rattle.s3_bodies.specs.declared.key_text.Piece.{Piece};
 
 use text_forms::short_value;
-use xml_forms::{Class, nearer, short_element, word};
+use xml_forms::{Class, nearer, read_short_element_form, read_word_form};
 
 /// A piece of a text.
 #[derive(Clone, Copy, Debug, Drop)]
@@ -24,11 +24,11 @@ pub(crate) enum Piece {
 }
 
 /// The text of a key up to the end of its element, as it stands there.
-pub(crate) fn key_text(bytes: &[u8]) -> Result<(&[u8], &[u8]), usize>
+pub(crate) fn delete_xml_key_text(bytes: &[u8]) -> Result<(&[u8], &[u8]), usize>
     ensures { ReadsText KeyText bytes.now result }
 {
     let (end, left) = pieces(bytes);
-    match word(end, b"</Key>") {
+    match read_word_form(end, b"</Key>") {
         Ok(rest) => Ok((&bytes[..bytes.len() - end.len()], rest)),
         Err(other) => Err(left.min(other)),
     }
@@ -40,7 +40,7 @@ fn pieces(bytes: &[u8]) -> (&[u8], usize)
 {
     let mut rest = bytes;
     'pieces: loop {
-        match next_piece(rest) {
+        match next_delete_xml_piece(rest) {
             Ok((_, after)) => rest = after,
             Err(left) => return (rest, left),
         }
@@ -48,13 +48,13 @@ fn pieces(bytes: &[u8]) -> (&[u8], usize)
 }
 
 /// The piece at the front of bytes.
-pub(crate) fn next_piece(bytes: &[u8]) -> Result<(Piece, &[u8]), usize>
+pub(crate) fn next_delete_xml_piece(bytes: &[u8]) -> Result<(Piece, &[u8]), usize>
     ensures { ReadsPiece InKey bytes.now result }
 {
-    nearer(plain(bytes), reference(bytes))
+    nearer(delete_xml_plain_byte(bytes), delete_xml_reference(bytes))
 }
 
-fn plain(bytes: &[u8]) -> Result<(Piece, &[u8]), usize>
+fn delete_xml_plain_byte(bytes: &[u8]) -> Result<(Piece, &[u8]), usize>
     ensures { ReadsPiece Plain bytes.now result }
 {
     if bytes.is_empty() {
@@ -66,73 +66,89 @@ fn plain(bytes: &[u8]) -> Result<(Piece, &[u8]), usize>
     Ok((Piece::Byte(bytes[0]), &bytes[1..]))
 }
 
-fn reference(bytes: &[u8]) -> Result<(Piece, &[u8]), usize>
+fn delete_xml_reference(bytes: &[u8]) -> Result<(Piece, &[u8]), usize>
     ensures { ReadsPiece Reference bytes.now result }
 {
-    let rest = word(bytes, b"&")?;
-    nearer(entity(rest), number(rest))
+    let rest = read_word_form(bytes, b"&")?;
+    nearer(delete_xml_entity(rest), delete_xml_numbered_reference(rest))
 }
 
-fn entity(bytes: &[u8]) -> Result<(Piece, &[u8]), usize>
+fn delete_xml_entity(bytes: &[u8]) -> Result<(Piece, &[u8]), usize>
     ensures { ReadsPiece Entity bytes.now result }
 {
-    let other = nearer(angle(bytes), quote_mark(bytes));
-    nearer(named(bytes, b"amp;", b'&'), other)
+    let other = nearer(
+        delete_xml_angle_bracket(bytes),
+        delete_xml_quote_mark(bytes),
+    );
+    nearer(delete_xml_named_entity(bytes, b"amp;", b'&'), other)
 }
 
-fn angle(bytes: &[u8]) -> Result<(Piece, &[u8]), usize>
+fn delete_xml_angle_bracket(bytes: &[u8]) -> Result<(Piece, &[u8]), usize>
     ensures { ReadsPiece Angle bytes.now result }
 {
-    nearer(named(bytes, b"lt;", b'<'), named(bytes, b"gt;", b'>'))
+    nearer(
+        delete_xml_named_entity(bytes, b"lt;", b'<'),
+        delete_xml_named_entity(bytes, b"gt;", b'>'),
+    )
 }
 
-fn quote_mark(bytes: &[u8]) -> Result<(Piece, &[u8]), usize>
+fn delete_xml_quote_mark(bytes: &[u8]) -> Result<(Piece, &[u8]), usize>
     ensures { ReadsPiece QuoteMark bytes.now result }
 {
-    nearer(named(bytes, b"quot;", b'"'), named(bytes, b"apos;", b'\''))
+    nearer(
+        delete_xml_named_entity(bytes, b"quot;", b'"'),
+        delete_xml_named_entity(bytes, b"apos;", b'\''),
+    )
 }
 
-fn named<'a>(bytes: &'a [u8], name: &[u8], byte: u8) -> Result<(Piece, &'a [u8]), usize>
+fn delete_xml_named_entity<'a>(
+    bytes: &'a [u8],
+    name: &[u8],
+    byte: u8,
+) -> Result<(Piece, &'a [u8]), usize>
     ensures { ReadsPiece (Exactly (Piece.Byte byte) name.now) bytes.now result }
 {
-    let rest = word(bytes, name)?;
+    let rest = read_word_form(bytes, name)?;
     Ok((Piece::Byte(byte), rest))
 }
 
-fn number(bytes: &[u8]) -> Result<(Piece, &[u8]), usize>
+fn delete_xml_numbered_reference(bytes: &[u8]) -> Result<(Piece, &[u8]), usize>
     ensures { ReadsPiece Number bytes.now result }
 {
-    let rest = word(bytes, b"#")?;
-    nearer(decimal(rest), hexadecimal(rest))
+    let rest = read_word_form(bytes, b"#")?;
+    nearer(
+        delete_xml_decimal_reference(rest),
+        delete_xml_hexadecimal_reference(rest),
+    )
 }
 
-fn decimal(bytes: &[u8]) -> Result<(Piece, &[u8]), usize>
+fn delete_xml_decimal_reference(bytes: &[u8]) -> Result<(Piece, &[u8]), usize>
     ensures { ReadsPiece Decimal bytes.now result }
 {
-    let (digits, rest) = short_element(bytes, b"", Class::Digit, 7, b";")?;
+    let (digits, rest) = read_short_element_form(bytes, b"", Class::Digit, 7, b";")?;
     Ok((Piece::Numbered(short_value(digits)), rest))
 }
 
-fn hexadecimal(bytes: &[u8]) -> Result<(Piece, &[u8]), usize>
+fn delete_xml_hexadecimal_reference(bytes: &[u8]) -> Result<(Piece, &[u8]), usize>
     ensures { ReadsPiece Hexadecimal bytes.now result }
 {
-    let (digits, rest) = short_element(bytes, b"x", Class::HexDigit, 6, b";")?;
-    Ok((Piece::Numbered(hex_value(digits)), rest))
+    let (digits, rest) = read_short_element_form(bytes, b"x", Class::HexDigit, 6, b";")?;
+    Ok((Piece::Numbered(delete_xml_hex_value(digits)), rest))
 }
 
-fn hex_value(digits: &[u8]) -> u32
+fn delete_xml_hex_value(digits: &[u8]) -> u32
     requires short { length digits.now ≤ 6 }
     requires digits { list_all (has HexDigit) digits.now ≡ true }
     ensures { result ≡ digits_value 16 digits.now }
 {
     let mut number = 0u32;
     for digit in digits {
-        number = number * 16 + hex_digit(*digit);
+        number = number * 16 + delete_xml_hex_digit(*digit);
     }
     number
 }
 
-fn hex_digit(byte: u8) -> u32
+fn delete_xml_hex_digit(byte: u8) -> u32
     requires { has HexDigit byte ≡ true }
     ensures value { result ≡ digit_value byte }
     ensures below { result < 16 }

@@ -6,74 +6,83 @@ ghost use Rattle.xml_forms.specs.Runs.{Spaced};
 ghost use Rattle.s3_bodies.specs.Completion.{Checksums, EtagFirst, EtagThen, NumberFirst, NumberThen, Part, PartEnd, PartInside, PartLast};
 ghost use Rattle.s3_bodies.specs.PartReaders.{ReadsPart, SkipsChecksums};
 
-use crate::elements::{checksum, etag, number};
-use xml_forms::{nearer, skip_space, word};
+use crate::elements::{completion_xml_checksum, completion_xml_etag, completion_xml_number};
+use xml_forms::{nearer, read_word_form, skip_space};
 
 /// A part behind white space: its number and its ETag.
-pub(crate) fn part(bytes: &[u8]) -> Result<((u32, &[u8]), &[u8]), usize>
+pub(crate) fn completion_xml_part(bytes: &[u8]) -> Result<((u32, &[u8]), &[u8]), usize>
     ensures { ReadsPart Part bytes.now result }
 {
-    let rest = part_start(bytes)?;
-    part_inside(rest)
+    let rest = completion_xml_part_start(bytes)?;
+    completion_xml_part_inside(rest)
 }
 
-fn part_start(bytes: &[u8]) -> Result<&[u8], usize>
+fn completion_xml_part_start(bytes: &[u8]) -> Result<&[u8], usize>
     ensures { ReadsRest (Spaced (Word (codes "<Part>"))) bytes.now result }
 {
-    word(skip_space(bytes), b"<Part>")
+    read_word_form(skip_space(bytes), b"<Part>")
 }
 
-fn part_inside(bytes: &[u8]) -> Result<((u32, &[u8]), &[u8]), usize>
+fn completion_xml_part_inside(bytes: &[u8]) -> Result<((u32, &[u8]), &[u8]), usize>
     ensures { ReadsPart PartInside bytes.now result }
 {
     let (rest, left) = checksums(bytes);
-    let either = nearer(number_first(rest), etag_first(rest));
+    let either = nearer(
+        completion_xml_number_first(rest),
+        completion_xml_etag_first(rest),
+    );
     nearer(Err(left), either)
 }
 
-fn number_first(bytes: &[u8]) -> Result<((u32, &[u8]), &[u8]), usize>
+fn completion_xml_number_first(bytes: &[u8]) -> Result<((u32, &[u8]), &[u8]), usize>
     ensures { ReadsPart NumberFirst bytes.now result }
 {
-    let (number, rest) = number(bytes)?;
-    etag_last(rest, number)
+    let (number, rest) = completion_xml_number(bytes)?;
+    completion_xml_etag_last(rest, number)
 }
 
-fn etag_first(bytes: &[u8]) -> Result<((u32, &[u8]), &[u8]), usize>
+fn completion_xml_etag_first(bytes: &[u8]) -> Result<((u32, &[u8]), &[u8]), usize>
     ensures { ReadsPart EtagFirst bytes.now result }
 {
-    let (etag, rest) = etag(bytes)?;
-    number_last(rest, etag)
+    let (etag, rest) = completion_xml_etag(bytes)?;
+    completion_xml_number_last(rest, etag)
 }
 
-fn etag_last(bytes: &[u8], number: u32) -> Result<((u32, &[u8]), &[u8]), usize>
+fn completion_xml_etag_last(bytes: &[u8], number: u32) -> Result<((u32, &[u8]), &[u8]), usize>
     ensures { ReadsPart (Checksums (EtagThen number)) bytes.now result }
 {
     let (rest, left) = checksums(bytes);
-    nearer(Err(left), etag_then(rest, number))
+    nearer(Err(left), completion_xml_etag_then(rest, number))
 }
 
-fn number_last<'a>(bytes: &'a [u8], etag: &'a [u8]) -> Result<((u32, &'a [u8]), &'a [u8]), usize>
+fn completion_xml_number_last<'a>(
+    bytes: &'a [u8],
+    etag: &'a [u8],
+) -> Result<((u32, &'a [u8]), &'a [u8]), usize>
     ensures { ReadsPart (Checksums (NumberThen etag.now)) bytes.now result }
 {
     let (rest, left) = checksums(bytes);
-    nearer(Err(left), number_then(rest, etag))
+    nearer(Err(left), completion_xml_number_then(rest, etag))
 }
 
-fn etag_then(bytes: &[u8], number: u32) -> Result<((u32, &[u8]), &[u8]), usize>
+fn completion_xml_etag_then(bytes: &[u8], number: u32) -> Result<((u32, &[u8]), &[u8]), usize>
     ensures { ReadsPart (EtagThen number) bytes.now result }
 {
-    let (etag, rest) = etag(bytes)?;
-    part_last(rest, number, etag)
+    let (etag, rest) = completion_xml_etag(bytes)?;
+    completion_xml_part_last(rest, number, etag)
 }
 
-fn number_then<'a>(bytes: &'a [u8], etag: &'a [u8]) -> Result<((u32, &'a [u8]), &'a [u8]), usize>
+fn completion_xml_number_then<'a>(
+    bytes: &'a [u8],
+    etag: &'a [u8],
+) -> Result<((u32, &'a [u8]), &'a [u8]), usize>
     ensures { ReadsPart (NumberThen etag.now) bytes.now result }
 {
-    let (number, rest) = number(bytes)?;
-    part_last(rest, number, etag)
+    let (number, rest) = completion_xml_number(bytes)?;
+    completion_xml_part_last(rest, number, etag)
 }
 
-fn part_last<'a>(
+fn completion_xml_part_last<'a>(
     bytes: &'a [u8],
     number: u32,
     etag: &'a [u8],
@@ -81,17 +90,17 @@ fn part_last<'a>(
     ensures { ReadsPart (PartLast (number, etag.now)) bytes.now result }
 {
     let (rest, left) = checksums(bytes);
-    nearer(Err(left), part_end(rest, number, etag))
+    nearer(Err(left), completion_xml_part_end(rest, number, etag))
 }
 
-fn part_end<'a>(
+fn completion_xml_part_end<'a>(
     bytes: &'a [u8],
     number: u32,
     etag: &'a [u8],
 ) -> Result<((u32, &'a [u8]), &'a [u8]), usize>
     ensures { ReadsPart (PartEnd (number, etag.now)) bytes.now result }
 {
-    let rest = word(skip_space(bytes), b"</Part>")?;
+    let rest = read_word_form(skip_space(bytes), b"</Part>")?;
     Ok(((number, etag), rest))
 }
 
@@ -101,7 +110,7 @@ fn checksums(bytes: &[u8]) -> (&[u8], usize)
 {
     let mut rest = bytes;
     'checksums: loop {
-        match checksum(rest) {
+        match completion_xml_checksum(rest) {
             Ok(after) => rest = after,
             Err(left) => return (rest, left),
         }

@@ -23,13 +23,13 @@ impl Copying for Reply {
                 region: region.copy()?,
             }),
             Reply::Stored { etag } => Ok(Reply::Stored { etag: etag.copy()? }),
-            _ => copy_large(self),
+            _ => copy_large_reply(self),
         }
     }
 }
 
 /// The copy of a reply of several values. Any other ends as where memory runs out.
-fn copy_large(reply: &Reply) -> Result<Reply, Memory>
+fn copy_large_reply(reply: &Reply) -> Result<Reply, Memory>
     ensures { IfOk result (λ made. made ≡ reply.now) }
 {
     match reply {

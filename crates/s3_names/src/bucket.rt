@@ -70,7 +70,10 @@ impl Copying for BucketName {
 pub fn is_bucket(name: &[u8]) -> bool
     ensures { result ≡ is_bucket name.now }
 {
-    has_bucket_bytes(name) && begin_and_end(name) && !two_dots(name) && !address(name)
+    has_bucket_bytes(name)
+        && has_bucket_ends(name)
+        && !two_dots(name)
+        && !is_bucket_like_address(name)
 }
 
 fn letter_or_digit(byte: u8) -> bool
@@ -98,7 +101,7 @@ fn all_bucket_bytes(name: &[u8]) -> bool
     name.iter().all(|byte| bucket_byte(*byte))
 }
 
-fn begin_and_end(name: &[u8]) -> bool
+fn has_bucket_ends(name: &[u8]) -> bool
     ensures { result ≡ begins_and_ends name.now }
 {
     match (name.first(), name.last()) {
@@ -121,7 +124,7 @@ fn two_dots(name: &[u8]) -> bool
     false
 }
 
-fn short_number(text: &[u8]) -> bool
+fn is_number_between_dots(text: &[u8]) -> bool
     ensures { result ≡ is_short_number text.now }
 {
     is_number(text, 3)
@@ -141,22 +144,22 @@ fn count_dots(name: &[u8]) -> usize
 
 // Whether each text between the dots is a short number.
 #[tactic(auto, using(crate::proofs::lemmas::Dots::numbers_end, crate::proofs::lemmas::Dots::numbers_go_on, crate::proofs::lemmas::Dots::numbers_without_dot))]
-fn all_short_numbers(name: &[u8]) -> bool
+fn are_numbers_between_dots(name: &[u8]) -> bool
     ensures { result ≡ list_all is_short_number (slice_split is_dot name.now) }
 {
     let mut rest = name;
     'texts: while let Some(at) = first_place(rest, b'.') {
-        if !short_number(&rest[..at]) {
+        if !is_number_between_dots(&rest[..at]) {
             return false;
         }
         rest = &rest[at + 1..];
     }
-    short_number(rest)
+    is_number_between_dots(rest)
 }
 
 #[tactic(auto, using(crate::proofs::lemmas::Dots::is_address_by_dots))]
-fn address(name: &[u8]) -> bool
+fn is_bucket_like_address(name: &[u8]) -> bool
     ensures { result ≡ is_address name.now }
 {
-    count_dots(name) == 3 && all_short_numbers(name)
+    count_dots(name) == 3 && are_numbers_between_dots(name)
 }

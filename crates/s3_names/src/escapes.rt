@@ -73,17 +73,17 @@ pub fn unescape(alloc: Global, text: &[u8]) -> Result<Bytes, Memory>
     Ok(Bytes::from_vec(bytes))
 }
 
-fn hex_digit(byte: u8) -> bool
+fn is_escape_digit(byte: u8) -> bool
     ensures { result ≡ is_hex_digit byte }
 {
     byte.is_ascii_hexdigit()
 }
 
-fn two_digits(text: &[u8]) -> bool
+fn begins_with_escape_digits(text: &[u8]) -> bool
     ensures { result ≡ begins_with_two_digits text.now }
 {
     match text {
-        [high, low, ..] => hex_digit(*high) && hex_digit(*low),
+        [high, low, ..] => is_escape_digit(*high) && is_escape_digit(*low),
         _ => false,
     }
 }
@@ -95,7 +95,7 @@ pub fn has_bad_escape(text: &[u8]) -> bool
 {
     let mut rest = text;
     'bytes: while let [first, behind @ ..] = rest {
-        if *first == b'%' && !two_digits(behind) {
+        if *first == b'%' && !begins_with_escape_digits(behind) {
             return true;
         }
         rest = behind;

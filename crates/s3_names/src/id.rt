@@ -16,7 +16,7 @@ pub fn id_digits(id: u128) -> [u8; 32]
 
 /// The id that 32 hexadecimal digits write, in either case; none for every other text. It takes no memory.
 #[tactic(auto, unfolding(crate::specs::Id::id_of))]
-pub fn id_of(text: &[u8]) -> Option<u128>
+pub fn read_id_digits(text: &[u8]) -> Option<u128>
     ensures { result ≡ id_of text.now }
 {
     let mut bytes = [0; 16];

@@ -18,7 +18,7 @@ pub use acl::Acl;
 pub use bucket::{BucketName, is_bucket};
 pub use escapes::{decode, encode_all, encode_path};
 pub use fault::NameFault;
-pub use id::{id_digits, id_of};
+pub use id::{id_digits, read_id_digits};
 pub use key::{Key, MOST_KEY_BYTES, is_key};
 pub use laws::{law_id_reads_back, law_with_pair};
 pub use meta::Meta;

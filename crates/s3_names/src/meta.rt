@@ -96,7 +96,7 @@ fn has_name(name: &[u8], pairs: &[Pair]) -> bool
     pairs.iter().any(|pair| is_named(name, pair))
 }
 
-fn first_not_before(name: &[u8], pairs: &[Pair]) -> Option<usize>
+fn first_metadata_not_before(name: &[u8], pairs: &[Pair]) -> Option<usize>
     ensures { result ≡ position (λ pair. not (is_before name.now pair)) pairs.now }
 {
     pairs.iter().position(|pair| !is_before(name, pair))
@@ -108,5 +108,5 @@ fn place_of(name: &[u8], pairs: &[Pair]) -> usize
     ensures place { result ≡ place_of name.now pairs.now }
     ensures within { result ≤ length pairs.now }
 {
-    first_not_before(name, pairs).unwrap_or(pairs.len())
+    first_metadata_not_before(name, pairs).unwrap_or(pairs.len())
 }

@@ -44,7 +44,7 @@ impl Query {
             return Err(NameFault::BadEscape);
         }
         Ok(Query {
-            entries: read_pairs(alloc, text)?,
+            entries: read_query_pairs(alloc, text)?,
         })
     }
 
@@ -61,7 +61,7 @@ impl Query {
         ensures { IfOk result (λ query. query ≡ without name.now self.now) }
     {
         Ok(Query {
-            entries: pairs_without(alloc, self.entries.as_slice(), name)?,
+            entries: query_pairs_without(alloc, self.entries.as_slice(), name)?,
         })
     }
 }
@@ -102,7 +102,7 @@ fn is_text_pair(pair: &Pair) -> bool
     is_text(pair.name.as_slice()) && is_text(pair.value.as_slice())
 }
 
-fn read_pair(alloc: Global, piece: &[u8]) -> Result<Pair, Memory>
+fn read_query_pair(alloc: Global, piece: &[u8]) -> Result<Pair, Memory>
     ensures { IfOk result (λ pair. pair ≡ pair_of piece.now) }
 {
     let (before, behind) = cut(piece, b'=');
@@ -113,7 +113,7 @@ fn read_pair(alloc: Global, piece: &[u8]) -> Result<Pair, Memory>
 }
 
 #[tactic(auto, using(crate::proofs::QueryLemmas::has_read_nothing, crate::proofs::QueryLemmas::behind_is_shorter))]
-fn read_pairs(alloc: Global, text: &[u8]) -> Result<List<Pair>, NameFault>
+fn read_query_pairs(alloc: Global, text: &[u8]) -> Result<List<Pair>, NameFault>
     ensures answer { Gives result (text_pairs (map pair_of (pieces text.now))) }
     ensures texts { IfOk result (λ pairs. list_all is_text_pair pairs ≡ true) }
 {
@@ -122,7 +122,7 @@ fn read_pairs(alloc: Global, text: &[u8]) -> Result<List<Pair>, NameFault>
     'pieces: while !rest.is_empty() {
         let (piece, behind) = cut(rest, b'&');
         if !piece.is_empty() {
-            let pair = read_pair(alloc, piece)?;
+            let pair = read_query_pair(alloc, piece)?;
             if !is_text_pair(&pair) {
                 return Err(NameFault::NotUtf8);
             }
@@ -139,7 +139,7 @@ fn is_named(name: &[u8], pair: &Pair) -> bool
     pair.name.as_slice() == name
 }
 
-fn pairs_without(alloc: Global, pairs: &[Pair], name: &[u8]) -> Result<List<Pair>, Memory>
+fn query_pairs_without(alloc: Global, pairs: &[Pair], name: &[u8]) -> Result<List<Pair>, Memory>
     ensures { IfOk result (λ kept. kept ≡ without name.now pairs.now) }
 {
     let mut kept = List::new(alloc);

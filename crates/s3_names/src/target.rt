@@ -39,7 +39,7 @@ impl Target {
         if !is_path(path) {
             return Err(NameFault::BadEscape);
         }
-        let (bucket, key) = cut(behind_slash(path), b'/');
+        let (bucket, key) = cut(target_path_behind_slash(path), b'/');
         let key = unescape(alloc, key)?;
         if !is_text(key.as_slice()) {
             return Err(NameFault::NotUtf8);
@@ -77,7 +77,7 @@ fn is_path(path: &[u8]) -> bool
     }
 }
 
-fn behind_slash(path: &[u8]) -> &[u8]
+fn target_path_behind_slash(path: &[u8]) -> &[u8]
     requires { 0 < length path.now }
     ensures { result.now ≡ drop 1 path.now }
 {

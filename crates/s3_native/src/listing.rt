@@ -15,7 +15,7 @@ use s3_machine::{Asked, Item, ItemHead, begins, copy_option};
 use std::alloc::Global;
 
 /// The text that a listing goes on behind: version 2 has a token, which goes before what it is to start after.
-pub(crate) fn marker_of(asked: &Asked) -> &[u8]
+pub(crate) fn native_listing_marker(asked: &Asked) -> &[u8]
     ensures { result.now ≡ marker_of asked.now }
 {
     if asked.version != 2 {
@@ -28,7 +28,7 @@ pub(crate) fn marker_of(asked: &Asked) -> &[u8]
 }
 
 /// Where the first delimiter of a text ends, if there is one and it isn't empty.
-fn roll_end(delimiter: &[u8], text: &[u8]) -> Option<usize>
+fn native_roll_end(delimiter: &[u8], text: &[u8]) -> Option<usize>
     ensures text { option_map (λ n. take n text.now) result ≡ roll_by delimiter.now text.now }
     ensures within { IfSome result (λ n. n ≤ length text.now) }
 {
@@ -45,7 +45,7 @@ fn roll_end(delimiter: &[u8], text: &[u8]) -> Option<usize>
 }
 
 /// Where the text ends that a key with the prefix is listed by, and whether it rolled up.
-fn row_end(prefix: &[u8], delimiter: &[u8], key: &[u8]) -> (usize, bool)
+fn native_row_end(prefix: &[u8], delimiter: &[u8], key: &[u8]) -> (usize, bool)
     requires { begins prefix.now key.now ≡ true }
     ensures within { result.0 ≤ length key.now }
     ensures row { (head : ItemHead)
@@ -53,14 +53,14 @@ fn row_end(prefix: &[u8], delimiter: &[u8], key: &[u8]) -> (usize, bool)
         (key.now, head) ≡ (take result.0 key.now, under result.1 head) }
 {
     let (_, rest) = key.split_at(prefix.len());
-    match roll_end(delimiter, rest) {
+    match native_roll_end(delimiter, rest) {
         Some(end) => (prefix.len() + end, true),
         None => (key.len(), false),
     }
 }
 
 /// Adds a row under a text, unless one is there. Where memory runs out, the rows are as before.
-fn add_row(
+fn add_native_row(
     rows: &mut Table<Option<ItemHead>>,
     text: &[u8],
     head: Option<ItemHead>,
@@ -74,7 +74,7 @@ fn add_row(
 }
 
 /// The items whose text is greater than the marker, in the order of the texts.
-fn items_behind(
+fn native_items_behind(
     rows: &Table<Option<ItemHead>>,
     alloc: Global,
     marker: &[u8],
@@ -94,27 +94,27 @@ fn items_behind(
 }
 
 /// The items of a listing of these objects, and whether one is left over.
-pub(crate) fn listed_items(
+pub(crate) fn native_listed_items(
     objects: &Table<NativeObject>,
     alloc: Global,
     asked: &Asked,
 ) -> Result<(List<Item>, bool), Memory>
     ensures { IfOk result (λ listed. listed ≡ shown (listing asked.now objects.now)) }
 {
-    let rows = rows(
+    let rows = native_rows(
         objects,
         alloc,
         asked.prefix.as_slice(),
         asked.delimiter.as_slice(),
     )?;
-    let items = items_behind(&rows, alloc, marker_of(asked))?;
+    let items = native_items_behind(&rows, alloc, native_listing_marker(asked))?;
     let max = asked.max as usize;
-    let truncated = is_cut(max, items.len());
-    Ok((first(items, max), truncated))
+    let truncated = is_native_listing_cut(max, items.len());
+    Ok((first_native_items(items, max), truncated))
 }
 
 /// The rows of the keys that have the prefix.
-fn rows(
+fn native_rows(
     objects: &Table<NativeObject>,
     alloc: Global,
     prefix: &[u8],
@@ -127,27 +127,27 @@ fn rows(
     let mut rows = Table::new(alloc);
     for (key, object) in objects.as_map() {
         if begins(prefix, key) {
-            let (end, rolled) = row_end(prefix, delimiter, key);
+            let (end, rolled) = native_row_end(prefix, delimiter, key);
             let head = if rolled {
                 None
             } else {
                 Some(object.item_head()?)
             };
-            add_row(&mut rows, &key[..end], head)?;
+            add_native_row(&mut rows, &key[..end], head)?;
         }
     }
     Ok(rows)
 }
 
 /// Whether an item is left over, where any is asked for.
-pub(crate) fn is_cut(max: usize, count: usize) -> bool
+pub(crate) fn is_native_listing_cut(max: usize, count: usize) -> bool
     ensures { result ≡ (nat_lt 0 max && nat_lt max count) }
 {
     0 < max && max < count
 }
 
 /// The first items.
-pub(crate) fn first<T: Drop>(items: List<T>, max: usize) -> List<T>
+pub(crate) fn first_native_items<T: Drop>(items: List<T>, max: usize) -> List<T>
     ensures { result ≡ take max items }
 {
     let mut items = items.into_vec();

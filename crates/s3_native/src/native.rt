@@ -21,7 +21,7 @@ ghost use Rattle.s3_machine.specs.declared.operation.Op.TheVariants.{
 ghost use Rattle.s3_machine.specs.Step.{IsProper, S3Step, bucket_items, drop_object, drop_objects, is_other_acl, may_read, put_object, with_acl};
 
 use crate::kept::NativeKept;
-use crate::listing::listed_items;
+use crate::listing::native_listed_items;
 use crate::upload::NativeUpload;
 use gate_base::{Bytes, Caller, Copying, List, Memory};
 use name_table::Table;
@@ -246,7 +246,7 @@ impl NativeBucket {
     fn listing(&self, alloc: Global, asked: &Asked) -> Result<(List<Item>, bool), Memory>
         ensures { IfOk result (λ listed. listed ≡ shown (listing asked.now self.now.objects)) }
     {
-        listed_items(&self.objects, alloc, asked)
+        native_listed_items(&self.objects, alloc, asked)
     }
 
     fn put(&mut self, key: &[u8], object: NativeObject) -> Result<(), Memory>
@@ -272,7 +272,10 @@ impl NativeBucket {
 }
 
 /// Each bucket with the moment at which it was made, in the order of the names.
-fn bucket_items(buckets: &Table<NativeBucket>, alloc: Global) -> Result<List<BucketItem>, Memory>
+fn native_bucket_items(
+    buckets: &Table<NativeBucket>,
+    alloc: Global,
+) -> Result<List<BucketItem>, Memory>
     ensures { IfOk result (λ items. items ≡ bucket_items buckets.now) }
 {
     let mut items = List::new(alloc);
@@ -315,7 +318,7 @@ pub(crate) fn put_object(
 
 /// Takes away the object of a key in a bucket, if there is one.
 #[tactic(auto, using(name_table::proofs::lemmas::Tables::nothing_there))]
-fn drop_object(buckets: &mut Table<NativeBucket>, bucket: &[u8], key: &[u8])
+fn drop_native_object(buckets: &mut Table<NativeBucket>, bucket: &[u8], key: &[u8])
     ensures { buckets.new ≡ adjust bucket.now (drop_object key.now) buckets.old }
 {
     if let Some(found) = buckets.get_mut(bucket) {
@@ -325,7 +328,7 @@ fn drop_object(buckets: &mut Table<NativeBucket>, bucket: &[u8], key: &[u8])
 
 /// Takes away the objects of these keys in a bucket, as far as there are any.
 #[tactic(auto, using(name_table::proofs::lemmas::Tables::nothing_there))]
-fn drop_objects(buckets: &mut Table<NativeBucket>, bucket: &[u8], keys: &[Bytes])
+fn drop_native_objects(buckets: &mut Table<NativeBucket>, bucket: &[u8], keys: &[Bytes])
     ensures { buckets.new ≡ adjust bucket.now (drop_objects keys.now) buckets.old }
 {
     if let Some(found) = buckets.get_mut(bucket) {
@@ -420,7 +423,7 @@ impl Native {
         ensures { IfOk result (λ reply. S3Step self.now.settings self.now.state ListBuckets
             label.now reply self.now.state) }
     {
-        Ok(Reply::Buckets(bucket_items(&self.buckets, self.alloc)?))
+        Ok(Reply::Buckets(native_bucket_items(&self.buckets, self.alloc)?))
     }
 
     /// Where memory runs out, the state is as before.
@@ -617,7 +620,7 @@ impl Native {
         if self.buckets.get(bucket.as_slice()).is_none() {
             return Ok(Reply::Refused(Code::NoSuchBucket));
         }
-        drop_object(&mut self.buckets, bucket.as_slice(), key.as_slice());
+        drop_native_object(&mut self.buckets, bucket.as_slice(), key.as_slice());
         Ok(Reply::Gone)
     }
 
@@ -639,7 +642,7 @@ impl Native {
         }
         // What may fail comes before the first key is dropped.
         let deleted = keys.copy()?;
-        drop_objects(&mut self.buckets, bucket.as_slice(), keys.as_slice());
+        drop_native_objects(&mut self.buckets, bucket.as_slice(), keys.as_slice());
         Ok(Reply::Deleted {
             keys: deleted,
             quiet,

@@ -7,7 +7,7 @@ ghost use Rattle.s3_machine.specs.Uploads.{cut, etag_listed, new_part, new_uploa
 ghost use Rattle.s3_native.specs.Native.{has_all, has_part, is_small_at, is_small_list, joined_by, kept_by, listed_bytes, refuses};
 
 use crate::kept::NativeKept;
-use crate::listing::{first, is_cut};
+use crate::listing::{first_native_items, is_native_listing_cut};
 use crate::native::NativeObject;
 use crate::numbered::Numbered;
 use gate_base::{Bytes, Copying, List, Memory};
@@ -213,8 +213,8 @@ impl NativeUpload {
     {
         let items = self.parts.items_above(alloc, marker)?;
         let max = max as usize;
-        let truncated = is_cut(max, items.len());
-        Ok((first(items, max), truncated))
+        let truncated = is_native_listing_cut(max, items.len());
+        Ok((first_native_items(items, max), truncated))
     }
 
     /// The code with which a completion by this list is refused, if it is.

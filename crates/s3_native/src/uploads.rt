@@ -32,30 +32,30 @@ ghost use Rattle.s3_machine.specs.Uploads.{
 ghost use Rattle.s3_native.specs.Native.{added, closed, upload_item};
 
 use crate::kept::NativeKept;
-use crate::listing::{first, is_cut};
+use crate::listing::{first_native_items, is_native_listing_cut};
 use crate::native::{Native, NativeBucket, NativeObject};
 use crate::upload::{NativePart, NativeUpload};
 use gate_base::{Bytes, Copying, List, Memory};
 use name_table::Table;
 use s3_machine::{Body, Code, Label, Listed, Op, Reply, UploadItem, begins};
-use s3_names::{Acl, Meta, id_digits, id_of};
+use s3_names::{Acl, Meta, id_digits, read_id_digits};
 use std::alloc::Global;
 
 /// How many ids are tried for a new upload. All of them are taken only where there are as many uploads.
 const TRIES: u32 = 1_000_000;
 
 /// The id that the text of an upload writes; 0 for a text that writes none.
-fn id_value(text: &[u8]) -> u128
+fn native_upload_id_value(text: &[u8]) -> u128
     ensures { result ≡ id_value text.now }
 {
-    match id_of(text) {
+    match read_id_digits(text) {
         Some(id) => id,
         None => 0,
     }
 }
 
 /// Whether an upload of this key and id comes after the markers.
-fn is_after(key_marker: &[u8], id_marker: &[u8], key: &[u8], id: &[u8]) -> bool
+fn is_native_upload_after(key_marker: &[u8], id_marker: &[u8], key: &[u8], id: &[u8]) -> bool
     ensures { result ≡ is_upload_after key_marker.now id_marker.now key.now id.now }
 {
     key.cmp(key_marker).is_gt()
@@ -68,7 +68,7 @@ impl NativeUpload {
             (id.now, self.now) }
     {
         let key = self.key.as_slice();
-        begins(prefix, key) && is_after(key_marker, id_marker, key, id)
+        begins(prefix, key) && is_native_upload_after(key_marker, id_marker, key, id)
     }
 
     /// What a listing tells of it.
@@ -77,7 +77,7 @@ impl NativeUpload {
     {
         Ok(UploadItem {
             key: self.key.copy()?,
-            id: id_value(id),
+            id: native_upload_id_value(id),
             started: self.started,
         })
     }
@@ -94,7 +94,11 @@ impl NativeUpload {
 }
 
 /// Adds an item at its place, unless one is there. Where memory runs out, the rows are as before.
-fn add_item(rows: &mut Table<UploadItem>, place: &[u8], item: UploadItem) -> Result<(), Memory>
+fn add_native_upload_item(
+    rows: &mut Table<UploadItem>,
+    place: &[u8],
+    item: UploadItem,
+) -> Result<(), Memory>
     ensures { OnOk result (rows.new ≡ added (place.now, item) rows.old) }
 {
     if rows.get(place).is_some() {
@@ -104,7 +108,7 @@ fn add_item(rows: &mut Table<UploadItem>, place: &[u8], item: UploadItem) -> Res
 }
 
 /// The items in the order of their places.
-fn items_in(rows: &Table<UploadItem>, alloc: Global) -> Result<List<UploadItem>, Memory>
+fn native_upload_items(rows: &Table<UploadItem>, alloc: Global) -> Result<List<UploadItem>, Memory>
     ensures { IfOk result (λ items. items ≡ map (λ row. row.1) (entries rows.now)) }
 {
     let mut items = List::new(alloc);
@@ -115,7 +119,7 @@ fn items_in(rows: &Table<UploadItem>, alloc: Global) -> Result<List<UploadItem>,
 }
 
 /// The uploads with the prefix that come after the markers, by their places.
-fn rows_after(
+fn native_upload_rows_after(
     uploads: &Table<NativeUpload>,
     alloc: Global,
     prefix: &[u8],
@@ -131,14 +135,14 @@ fn rows_after(
         if upload.is_listed(prefix, key_marker, id_marker, id) {
             let place = upload.place(alloc, id)?;
             let item = upload.upload_item(id)?;
-            add_item(&mut rows, place.as_slice(), item)?;
+            add_native_upload_item(&mut rows, place.as_slice(), item)?;
         }
     }
     Ok(rows)
 }
 
 /// The first uploads of a listing, and whether one is left over.
-fn listed_uploads(
+fn native_listed_uploads(
     uploads: &Table<NativeUpload>,
     alloc: Global,
     prefix: &[u8],
@@ -149,15 +153,15 @@ fn listed_uploads(
     ensures { IfOk result (λ listed. listed ≡ cut max
         (uploads_after prefix.now key_marker.now id_marker.now uploads.now)) }
 {
-    let rows = rows_after(uploads, alloc, prefix, key_marker, id_marker)?;
-    let items = items_in(&rows, alloc)?;
+    let rows = native_upload_rows_after(uploads, alloc, prefix, key_marker, id_marker)?;
+    let items = native_upload_items(&rows, alloc)?;
     let max = max as usize;
-    let truncated = is_cut(max, items.len());
-    Ok((first(items, max), truncated))
+    let truncated = is_native_listing_cut(max, items.len());
+    Ok((first_native_items(items, max), truncated))
 }
 
 /// Puts a part into an upload, in place of what stands under its number. Where memory runs out, all is as before.
-fn put_part_in(
+fn put_part_in_native_uploads(
     uploads: &mut Table<NativeUpload>,
     id: &[u8],
     number: u32,
@@ -214,7 +218,7 @@ impl NativeBucket {
         ensures ok { OnOk result (self.new ≡ on_upload id.now (with_part number part) self.old) }
         ensures err { OnErr result (self.new ≡ self.old) }
     {
-        put_part_in(&mut self.uploads, id, number, part)
+        put_part_in_native_uploads(&mut self.uploads, id, number, part)
     }
 
     fn drop_upload(&mut self, id: &[u8])
@@ -294,7 +298,7 @@ fn put_part(
 }
 
 /// Takes away an upload of a bucket, if it is there.
-fn drop_upload(buckets: &mut Table<NativeBucket>, bucket: &[u8], id: &[u8])
+fn drop_native_upload(buckets: &mut Table<NativeBucket>, bucket: &[u8], id: &[u8])
     ensures { buckets.new ≡ adjust bucket.now (drop_upload id.now) buckets.old }
 {
     if let Some(found) = buckets.get_mut(bucket) {
@@ -303,7 +307,7 @@ fn drop_upload(buckets: &mut Table<NativeBucket>, bucket: &[u8], id: &[u8])
 }
 
 /// Closes an upload of a bucket by its completion. Where memory runs out, all is as before.
-fn close(
+fn close_native_upload(
     buckets: &mut Table<NativeBucket>,
     bucket: &[u8],
     key: &[u8],
@@ -385,7 +389,7 @@ impl Native {
         let Some(found) = self.buckets.get(bucket.as_slice()) else {
             return Ok(Reply::Refused(Code::NoSuchBucket));
         };
-        let (items, truncated) = listed_uploads(
+        let (items, truncated) = native_listed_uploads(
             &found.uploads,
             self.alloc,
             prefix.as_slice(),
@@ -522,7 +526,7 @@ impl Native {
         Ok(Reply::Parts {
             bucket: bucket.copy()?,
             key: key.copy()?,
-            id: id_value(id.as_slice()),
+            id: native_upload_id_value(id.as_slice()),
             marker,
             max,
             items,
@@ -544,7 +548,7 @@ impl Native {
         if !upload.is_of(key.as_slice()) {
             return Reply::Refused(Code::NoSuchUpload);
         }
-        drop_upload(&mut self.buckets, bucket.as_slice(), id.as_slice());
+        drop_native_upload(&mut self.buckets, bucket.as_slice(), id.as_slice());
         Reply::Gone
     }
 
@@ -607,7 +611,7 @@ impl Native {
         let name = bucket.copy()?;
         let at = key.copy()?;
         let (etag, object, kept) = upload.completed(self.alloc, list, label.moment)?;
-        close(
+        close_native_upload(
             &mut self.buckets,
             bucket.as_slice(),
             key.as_slice(),

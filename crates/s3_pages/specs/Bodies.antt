@@ -107,14 +107,14 @@ buckets_body items =
     ++ end_of (codes "ListAllMyBucketsResult")
 
 -- the region `us-east-1` is told by no text
-abbrev pub region_text : List ℕ → List ℕ
-region_text region = if bytes_eq region (codes "us-east-1") then [] else region
+abbrev pub region_in_location_page : List ℕ → List ℕ
+region_in_location_page region = if bytes_eq region (codes "us-east-1") then [] else region
 
 unfoldable pub location_body : List ℕ → List ℕ
 location_body region =
     declaration
     ++ root (codes "LocationConstraint")
-    ++ escaped (region_text region)
+    ++ escaped (region_in_location_page region)
     ++ end_of (codes "LocationConstraint")
 
 -- the owner may do all
@@ -146,12 +146,12 @@ acl_body acl =
 
 -- ---- objects
 
-abbrev pub is_version_2 : Asked → Bool
-is_version_2 asked = nat_eq asked.version 2
+abbrev pub is_version_2_page : Asked → Bool
+is_version_2_page asked = nat_eq asked.version 2
 
 -- the owner of each object is told in version 1, and in version 2 where that is asked for
-abbrev pub tells_owner : Asked → Bool
-tells_owner asked = not (is_version_2 asked) || asked.owner
+abbrev pub page_tells_owner : Asked → Bool
+page_tells_owner asked = not (is_version_2_page asked) || asked.owner
 
 -- an object of a listing
 unfoldable pub contents : Asked → List ℕ → ItemHead → List ℕ
@@ -161,7 +161,7 @@ contents asked key head =
     ++ time_element (codes "LastModified") head.modified
     ++ etag_element head.etag
     ++ number_element (codes "Size") head.size
-    ++ where_true (tells_owner asked) owner
+    ++ where_true (page_tells_owner asked) owner
     ++ storage_class
     ++ codes "</Contents>"
 
@@ -228,7 +228,7 @@ objects_body bucket asked items truncated =
     declaration
     ++ root (codes "ListBucketResult")
     ++ element (codes "Name") bucket
-    ++ by_version (is_version_2 asked) asked items truncated
+    ++ by_version (is_version_2_page asked) asked items truncated
     ++ flat_map (contents_of asked) items
     ++ flat_map (prefix_of asked) items
     ++ end_of (codes "ListBucketResult")
@@ -299,13 +299,13 @@ abbrev pub number_of : PartItem → ℕ
 number_of item = item.number
 
 -- the marker of the next listing is the last part's number
-abbrev pub next_part : List PartItem → ℕ
-next_part items = option_map_or number_of (slice_get items (length items - 1)) 0
+abbrev pub next_part_element_number : List PartItem → ℕ
+next_part_element_number items = option_map_or number_of (slice_get items (length items - 1)) 0
 
 unfoldable pub parts_asked : ℕ → ℕ → List PartItem → Bool → List ℕ
 parts_asked marker max items truncated =
     number_element (codes "PartNumberMarker") marker
-    ++ where_true truncated (number_element (codes "NextPartNumberMarker") (next_part items))
+    ++ where_true truncated (number_element (codes "NextPartNumberMarker") (next_part_element_number items))
     ++ number_element (codes "MaxParts") max
     ++ truth_element (codes "IsTruncated") truncated
 
@@ -352,9 +352,9 @@ deleted_body keys quiet =
 -- ---- copies
 
 -- a part's copy and an object's have roots of their own
-abbrev pub copied_name : Bool → List ℕ
-copied_name true = codes "CopyPartResult"
-copied_name false = codes "CopyObjectResult"
+abbrev pub copied_body_root : Bool → List ℕ
+copied_body_root true = codes "CopyPartResult"
+copied_body_root false = codes "CopyObjectResult"
 
 unfoldable pub copied_as : List ℕ → List ℕ → ℕ → List ℕ
 copied_as name etag modified =
@@ -365,4 +365,4 @@ copied_as name etag modified =
     ++ end_of name
 
 abbrev pub copied_body : Bool → List ℕ → ℕ → List ℕ
-copied_body part etag modified = copied_as (copied_name part) etag modified
+copied_body part etag modified = copied_as (copied_body_root part) etag modified

@@ -3,7 +3,7 @@ ghost use Rattle.std.specs.Prelude.{◌≡◌, ◌<◌, ◌++◌, IfOk, OnOk};
 ghost use Rattle.std.specs.List.{All, flat_map};
 ghost use Rattle.gate_base.specs.Told.{moment_limit};
 ghost use Rattle.s3_machine.specs.Shown.{IsShownBucket};
-ghost use Rattle.s3_pages.specs.Bodies.{acl_body, bucket_element, buckets_body, location_body, public_grant, region_text};
+ghost use Rattle.s3_pages.specs.Bodies.{acl_body, bucket_element, buckets_body, location_body, public_grant, region_in_location_page};
 ghost use Rattle.s3_pages.specs.Pages.{xml_page};
 
 use crate::pages::xml_headers;
@@ -14,7 +14,11 @@ use s3_names::Acl;
 use std::alloc::Global;
 
 /// The page of ListBuckets.
-pub(crate) fn buckets(alloc: Global, items: &[BucketItem], label: &Label) -> Result<Page, Memory>
+pub(crate) fn buckets_reply_page(
+    alloc: Global,
+    items: &[BucketItem],
+    label: &Label,
+) -> Result<Page, Memory>
     requires dated { All IsShownBucket items.now }
     requires moment { label.now.moment < moment_limit }
     ensures { IfOk result (λ page. page ≡ xml_page 200 (buckets_body items.now) label.now) }
@@ -42,7 +46,11 @@ fn buckets_body(alloc: Global, items: &[BucketItem]) -> Result<Bytes, Memory>
 }
 
 /// The page of GetLocation.
-pub(crate) fn location(alloc: Global, region: &[u8], label: &Label) -> Result<Page, Memory>
+pub(crate) fn location_reply_page(
+    alloc: Global,
+    region: &[u8],
+    label: &Label,
+) -> Result<Page, Memory>
     requires { label.now.moment < moment_limit }
     ensures { IfOk result (λ page. page ≡ xml_page 200 (location_body region.now) label.now) }
 {
@@ -59,14 +67,14 @@ fn location_body(alloc: Global, region: &[u8]) -> Result<Bytes, Memory>
 {
     let mut xml = Xml::new(alloc)?;
     xml.root(b"LocationConstraint")?;
-    xml.escaped(region_text(region))?;
+    xml.escaped(region_in_location_page(region))?;
     xml.end(b"LocationConstraint")?;
     Ok(xml.text)
 }
 
 /// The region as a location tells it: `us-east-1` by no text.
-fn region_text(region: &[u8]) -> &[u8]
-    ensures { result.now ≡ region_text region.now }
+fn region_in_location_page(region: &[u8]) -> &[u8]
+    ensures { result.now ≡ region_in_location_page region.now }
 {
     if region == b"us-east-1".as_slice() {
         b""
@@ -76,7 +84,7 @@ fn region_text(region: &[u8]) -> &[u8]
 }
 
 /// The page of GetBucketAcl and GetObjectAcl.
-pub(crate) fn acl(alloc: Global, list: Acl, label: &Label) -> Result<Page, Memory>
+pub(crate) fn acl_reply_page(alloc: Global, list: Acl, label: &Label) -> Result<Page, Memory>
     requires { label.now.moment < moment_limit }
     ensures { IfOk result (λ page. page ≡ xml_page 200 (acl_body list) label.now) }
 {

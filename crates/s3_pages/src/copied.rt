@@ -1,6 +1,6 @@
 ghost use Rattle.std.specs.Prelude.{◌≡◌, ◌<◌, IfOk};
 ghost use Rattle.gate_base.specs.Told.{moment_limit};
-ghost use Rattle.s3_pages.specs.Bodies.{copied_as, copied_body, copied_name};
+ghost use Rattle.s3_pages.specs.Bodies.{copied_as, copied_body, copied_body_root};
 ghost use Rattle.s3_pages.specs.Pages.{xml_page};
 
 use crate::pages::xml_headers;
@@ -10,7 +10,7 @@ use s3_machine::Label;
 use std::alloc::Global;
 
 /// The page of CopyObject and CopyPart.
-pub(crate) fn copied(
+pub(crate) fn copied_reply_page(
     alloc: Global,
     part: bool,
     etag: &[u8],
@@ -33,11 +33,16 @@ fn copied_body(alloc: Global, part: bool, etag: &[u8], modified: u64) -> Result<
     requires { modified < moment_limit }
     ensures { IfOk result (λ body. body ≡ copied_body part etag.now modified) }
 {
-    copied_as(alloc, copied_name(part), etag, modified)
+    copied_body_under_root(alloc, copied_body_root(part), etag, modified)
 }
 
 #[tactic(auto, unfolding(crate::specs::Bodies::copied_as))]
-fn copied_as(alloc: Global, name: &[u8], etag: &[u8], modified: u64) -> Result<Bytes, Memory>
+fn copied_body_under_root(
+    alloc: Global,
+    name: &[u8],
+    etag: &[u8],
+    modified: u64,
+) -> Result<Bytes, Memory>
     requires { modified < moment_limit }
     ensures { IfOk result (λ body. body ≡ copied_as name.now etag.now modified) }
 {
@@ -50,8 +55,8 @@ fn copied_as(alloc: Global, name: &[u8], etag: &[u8], modified: u64) -> Result<B
 }
 
 /// The name of the root.
-fn copied_name(part: bool) -> &'static [u8]
-    ensures { result.now ≡ copied_name part }
+fn copied_body_root(part: bool) -> &'static [u8]
+    ensures { result.now ≡ copied_body_root part }
 {
     if part {
         b"CopyPartResult"

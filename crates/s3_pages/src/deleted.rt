@@ -11,7 +11,7 @@ use s3_machine::Label;
 use std::alloc::Global;
 
 /// The page of DeleteObjects.
-pub(crate) fn deleted(
+pub(crate) fn deleted_reply_page(
     alloc: Global,
     keys: &[Bytes],
     quiet: bool,

@@ -11,13 +11,13 @@ ghost use Rattle.s3_pages.specs.Bodies.{
   contents_of,
   first_version,
   is_filled,
-  is_version_2,
+  is_version_2_page,
   limits,
   next_text,
   objects_body,
   prefix_of,
   second_version,
-  tells_owner,
+  page_tells_owner,
   text_element,
   token_by,
   where_true,
@@ -32,7 +32,7 @@ use s3_machine::{Asked, Item, ItemHead, Label};
 use std::alloc::Global;
 
 /// The page of ListObjects, in both versions.
-pub(crate) fn objects(
+pub(crate) fn objects_reply_page(
     alloc: Global,
     bucket: &[u8],
     asked: &Asked,
@@ -74,17 +74,17 @@ fn objects_body(
 }
 
 /// Whether version 2 was asked for.
-fn is_version_2(asked: &Asked) -> bool
-    ensures { result ≡ is_version_2 asked.now }
+fn is_version_2_page(asked: &Asked) -> bool
+    ensures { result ≡ is_version_2_page asked.now }
 {
     asked.version == 2
 }
 
 /// Whether the owner of each object is told.
-fn tells_owner(asked: &Asked) -> bool
-    ensures { result ≡ tells_owner asked.now }
+fn page_tells_owner(asked: &Asked) -> bool
+    ensures { result ≡ page_tells_owner asked.now }
 {
-    !is_version_2(asked) || asked.owner
+    !is_version_2_page(asked) || asked.owner
 }
 
 fn is_filled(text: &[u8]) -> bool
@@ -106,9 +106,9 @@ fn next_text(items: &[Item]) -> &[u8]
 impl Xml {
     fn asked(&mut self, asked: &Asked, items: &[Item], truncated: bool) -> Result<(), Memory>
         ensures { OnOk result (self.new.text ≡ self.old.text
-            ++ by_version (is_version_2 asked.now) asked.now items.now truncated) }
+            ++ by_version (is_version_2_page asked.now) asked.now items.now truncated) }
     {
-        if is_version_2(asked) {
+        if is_version_2_page(asked) {
             self.second_version(asked, items, truncated)
         } else {
             self.first_version(asked, items, truncated)
@@ -239,7 +239,7 @@ impl Xml {
         self.time(b"LastModified", head.modified)?;
         self.etag(head.etag.as_slice())?;
         self.number(b"Size", head.size)?;
-        self.owner_if(tells_owner(asked))?;
+        self.owner_if(page_tells_owner(asked))?;
         self.storage_class()?;
         self.tags(b"</Contents>")
     }

@@ -12,7 +12,7 @@ use std::alloc::Global;
 use text_forms::append_decimal;
 
 /// The page of an object, or of a part of it.
-pub(crate) fn object(
+pub(crate) fn object_reply_page(
     alloc: Global,
     head: &ObjectHead,
     from: u64,
@@ -27,7 +27,7 @@ pub(crate) fn object(
 {
     let headers = object_headers(alloc, head, from, length, partial, label)?;
     Ok(Page {
-        status: status(partial),
+        status: object_page_status(partial),
         headers,
         body,
     })
@@ -48,26 +48,30 @@ fn object_headers(
         (λ headers. headers ≡ object_headers head.now from length partial label.now) }
 {
     let mut headers = common(alloc, label)?;
-    add_head(alloc, &mut headers, head)?;
-    add_meta(alloc, &mut headers, head.meta.pairs())?;
-    add_range(alloc, &mut headers, partial, from, length, head.size)?;
-    let number = texts::decimal(alloc, length)?;
+    add_object_page_headers(alloc, &mut headers, head)?;
+    add_metadata_page_headers(alloc, &mut headers, head.meta.pairs())?;
+    add_range_page_header(alloc, &mut headers, partial, from, length, head.size)?;
+    let number = texts::decimal_page_text(alloc, length)?;
     add_header(alloc, &mut headers, b"Content-Length", number.as_slice())?;
     Ok(headers)
 }
 
-fn status(partial: bool) -> u16
+fn object_page_status(partial: bool) -> u16
     ensures { result ≡ read_status partial }
 {
     if partial { 206 } else { 200 }
 }
 
 /// Adds what is said of the object itself.
-fn add_head(alloc: Global, headers: &mut List<Pair>, head: &ObjectHead) -> Result<(), Memory>
+fn add_object_page_headers(
+    alloc: Global,
+    headers: &mut List<Pair>,
+    head: &ObjectHead,
+) -> Result<(), Memory>
     requires { head.now.modified < moment_limit }
     ensures { OnOk result (headers.new ≡ headers.old ++ head_headers head.now) }
 {
-    let date = texts::date_bytes(head.modified);
+    let date = texts::page_header_date(head.modified);
     let etag = texts::quoted(alloc, head.etag.as_slice())?;
     add_header(alloc, headers, b"Last-Modified", &date)?;
     add_header(alloc, headers, b"ETag", etag.as_slice())?;
@@ -81,24 +85,32 @@ fn add_head(alloc: Global, headers: &mut List<Pair>, head: &ObjectHead) -> Resul
     Ok(())
 }
 
-fn add_meta(alloc: Global, headers: &mut List<Pair>, pairs: &[Pair]) -> Result<(), Memory>
+fn add_metadata_page_headers(
+    alloc: Global,
+    headers: &mut List<Pair>,
+    pairs: &[Pair],
+) -> Result<(), Memory>
     ensures { OnOk result (headers.new ≡ headers.old ++ map meta_header pairs.now) }
 {
     for pair in pairs {
-        add_pair(alloc, headers, pair)?;
+        add_metadata_page_header(alloc, headers, pair)?;
     }
     Ok(())
 }
 
-fn add_pair(alloc: Global, headers: &mut List<Pair>, pair: &Pair) -> Result<(), Memory>
+fn add_metadata_page_header(
+    alloc: Global,
+    headers: &mut List<Pair>,
+    pair: &Pair,
+) -> Result<(), Memory>
     ensures { OnOk result (headers.new ≡ headers.old ++ meta_header pair.now ∷ []) }
 {
-    let name = header_name(alloc, pair.name.as_slice())?;
+    let name = metadata_page_header_name(alloc, pair.name.as_slice())?;
     add_header(alloc, headers, name.as_slice(), pair.value.as_slice())
 }
 
 /// The name of the header that an entry of the metadata has.
-fn header_name(alloc: Global, name: &[u8]) -> Result<Bytes, Memory>
+fn metadata_page_header_name(alloc: Global, name: &[u8]) -> Result<Bytes, Memory>
     ensures { IfOk result (λ text. text ≡ meta_name name.now) }
 {
     match name {
@@ -111,7 +123,7 @@ fn header_name(alloc: Global, name: &[u8]) -> Result<Bytes, Memory>
     }
 }
 
-fn add_range(
+fn add_range_page_header(
     alloc: Global,
     headers: &mut List<Pair>,
     partial: bool,

@@ -7,12 +7,14 @@ ghost use Rattle.s3_machine.specs.Shown.{IsShowable};
 ghost use Rattle.s3_pages.specs.Pages.{page_of, common_headers, done_page, gone_page, header, made_page, not_modified_page, refused_page, stored_page, xml_type};
 ghost use Rattle.s3_pages.specs.Xml.{error_body};
 
-use crate::buckets::{acl, buckets, location};
-use crate::copied::copied;
-use crate::deleted::deleted;
-use crate::listing::objects;
-use crate::object::object;
-use crate::uploads::{completed, parts, started, uploads};
+use crate::buckets::{acl_reply_page, buckets_reply_page, location_reply_page};
+use crate::copied::copied_reply_page;
+use crate::deleted::deleted_reply_page;
+use crate::listing::objects_reply_page;
+use crate::object::object_reply_page;
+use crate::uploads::{
+    completed_reply_page, parts_reply_page, started_upload_reply_page, uploads_reply_page,
+};
 use crate::xml::Xml;
 use crate::{codes, texts};
 use gate_base::{Bytes, List, Memory, Page, Pair};
@@ -39,7 +41,7 @@ pub fn page(alloc: Global, reply: Reply, label: &Label, resource: &[u8]) -> Resu
             length,
             partial,
             body,
-        } => object(alloc, &head, from, length, partial, body, label),
+        } => object_reply_page(alloc, &head, from, length, partial, body, label),
         other => other_page(alloc, &other, label, resource),
     }
 }
@@ -52,21 +54,21 @@ fn other_page(alloc: Global, reply: &Reply, label: &Label, resource: &[u8]) -> R
     ensures { IfOk result (λ page. page ≡ page_of reply.now label.now resource.now) }
 {
     match reply {
-        Reply::Refused(code) => refused(alloc, *code, label, resource),
+        Reply::Refused(code) => refused_reply_page(alloc, *code, label, resource),
         Reply::Memory => unreachable!(),
-        Reply::Done => done(alloc, label),
-        Reply::Gone => no_content(alloc, label),
-        Reply::NotModified(head) => not_modified(alloc, head, label),
-        Reply::Buckets(items) => buckets(alloc, items.as_slice(), label),
-        Reply::Made { bucket } => made(alloc, bucket.as_slice(), label),
-        Reply::Location { region } => location(alloc, region.as_slice(), label),
-        Reply::AclOf(list) => acl(alloc, *list, label),
+        Reply::Done => done_reply_page(alloc, label),
+        Reply::Gone => no_content_reply_page(alloc, label),
+        Reply::NotModified(head) => not_modified_reply_page(alloc, head, label),
+        Reply::Buckets(items) => buckets_reply_page(alloc, items.as_slice(), label),
+        Reply::Made { bucket } => made_bucket_reply_page(alloc, bucket.as_slice(), label),
+        Reply::Location { region } => location_reply_page(alloc, region.as_slice(), label),
+        Reply::AclOf(list) => acl_reply_page(alloc, *list, label),
         Reply::Objects {
             bucket,
             asked,
             items,
             truncated,
-        } => objects(
+        } => objects_reply_page(
             alloc,
             bucket.as_slice(),
             asked,
@@ -82,7 +84,7 @@ fn other_page(alloc: Global, reply: &Reply, label: &Label, resource: &[u8]) -> R
             max,
             items,
             truncated,
-        } => uploads(
+        } => uploads_reply_page(
             alloc,
             bucket.as_slice(),
             prefix.as_slice(),
@@ -93,10 +95,10 @@ fn other_page(alloc: Global, reply: &Reply, label: &Label, resource: &[u8]) -> R
             *truncated,
             label,
         ),
-        Reply::Stored { etag } => stored(alloc, etag.as_slice(), label),
+        Reply::Stored { etag } => stored_reply_page(alloc, etag.as_slice(), label),
         Reply::Object { .. } => Err(Memory),
         Reply::Started { bucket, key, id } => {
-            started(alloc, bucket.as_slice(), key.as_slice(), *id, label)
+            started_upload_reply_page(alloc, bucket.as_slice(), key.as_slice(), *id, label)
         }
         Reply::Parts {
             bucket,
@@ -106,7 +108,7 @@ fn other_page(alloc: Global, reply: &Reply, label: &Label, resource: &[u8]) -> R
             max,
             items,
             truncated,
-        } => parts(
+        } => parts_reply_page(
             alloc,
             bucket.as_slice(),
             key.as_slice(),
@@ -117,23 +119,28 @@ fn other_page(alloc: Global, reply: &Reply, label: &Label, resource: &[u8]) -> R
             *truncated,
             label,
         ),
-        Reply::Completed { bucket, key, etag } => completed(
+        Reply::Completed { bucket, key, etag } => completed_reply_page(
             alloc,
             bucket.as_slice(),
             key.as_slice(),
             etag.as_slice(),
             label,
         ),
-        Reply::Deleted { keys, quiet } => deleted(alloc, keys.as_slice(), *quiet, label),
+        Reply::Deleted { keys, quiet } => deleted_reply_page(alloc, keys.as_slice(), *quiet, label),
         Reply::Copied {
             part,
             etag,
             modified,
-        } => copied(alloc, *part, etag.as_slice(), *modified, label),
+        } => copied_reply_page(alloc, *part, etag.as_slice(), *modified, label),
     }
 }
 
-fn refused(alloc: Global, code: Code, label: &Label, resource: &[u8]) -> Result<Page, Memory>
+fn refused_reply_page(
+    alloc: Global,
+    code: Code,
+    label: &Label,
+    resource: &[u8],
+) -> Result<Page, Memory>
     requires { label.now.moment < moment_limit }
     ensures { IfOk result (λ page. page ≡ refused_page code label.now resource.now) }
 {
@@ -144,7 +151,7 @@ fn refused(alloc: Global, code: Code, label: &Label, resource: &[u8]) -> Result<
     })
 }
 
-fn done(alloc: Global, label: &Label) -> Result<Page, Memory>
+fn done_reply_page(alloc: Global, label: &Label) -> Result<Page, Memory>
     requires { label.now.moment < moment_limit }
     ensures { IfOk result (λ page. page ≡ done_page label.now) }
 {
@@ -155,12 +162,12 @@ fn done(alloc: Global, label: &Label) -> Result<Page, Memory>
     })
 }
 
-fn not_modified(alloc: Global, head: &ObjectHead, label: &Label) -> Result<Page, Memory>
+fn not_modified_reply_page(alloc: Global, head: &ObjectHead, label: &Label) -> Result<Page, Memory>
     requires dated { head.now.modified < moment_limit }
     requires moment { label.now.moment < moment_limit }
     ensures { IfOk result (λ page. page ≡ not_modified_page head.now label.now) }
 {
-    let date = texts::date_bytes(head.modified);
+    let date = texts::page_header_date(head.modified);
     let etag = texts::quoted(alloc, head.etag.as_slice())?;
     let mut headers = common(alloc, label)?;
     add_header(alloc, &mut headers, b"ETag", etag.as_slice())?;
@@ -172,7 +179,7 @@ fn not_modified(alloc: Global, head: &ObjectHead, label: &Label) -> Result<Page,
     })
 }
 
-fn made(alloc: Global, bucket: &[u8], label: &Label) -> Result<Page, Memory>
+fn made_bucket_reply_page(alloc: Global, bucket: &[u8], label: &Label) -> Result<Page, Memory>
     requires { label.now.moment < moment_limit }
     ensures { IfOk result (λ page. page ≡ made_page bucket.now label.now) }
 {
@@ -187,7 +194,7 @@ fn made(alloc: Global, bucket: &[u8], label: &Label) -> Result<Page, Memory>
     })
 }
 
-fn no_content(alloc: Global, label: &Label) -> Result<Page, Memory>
+fn no_content_reply_page(alloc: Global, label: &Label) -> Result<Page, Memory>
     requires { label.now.moment < moment_limit }
     ensures { IfOk result (λ page. page ≡ gone_page label.now) }
 {
@@ -198,7 +205,7 @@ fn no_content(alloc: Global, label: &Label) -> Result<Page, Memory>
     })
 }
 
-fn stored(alloc: Global, etag: &[u8], label: &Label) -> Result<Page, Memory>
+fn stored_reply_page(alloc: Global, etag: &[u8], label: &Label) -> Result<Page, Memory>
     requires { label.now.moment < moment_limit }
     ensures { IfOk result (λ page. page ≡ stored_page etag.now label.now) }
 {
@@ -217,7 +224,7 @@ pub(crate) fn common(alloc: Global, label: &Label) -> Result<List<Pair>, Memory>
     requires { label.now.moment < moment_limit }
     ensures { IfOk result (λ headers. headers ≡ common_headers label.now) }
 {
-    let date = texts::date_bytes(label.moment);
+    let date = texts::page_header_date(label.moment);
     let id = texts::id_digits(label.request_id);
     let mut headers = List::new(alloc);
     add_header(alloc, &mut headers, b"Date", &date)?;

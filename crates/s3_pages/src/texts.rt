@@ -25,7 +25,7 @@ pub fn id_digits(id: u128) -> [u8; 32]
 
 /// A moment as an IMF-fixdate (RFC 9110, section 5.6.7).
 #[tactic(auto, using(crate::proofs::Dates::http_date_is))]
-pub fn date_bytes(moment: u64) -> [u8; 29]
+pub fn page_header_date(moment: u64) -> [u8; 29]
     requires { moment < moment_limit }
     ensures { result ≡ http_date moment }
 {
@@ -106,7 +106,7 @@ pub fn quoted(alloc: Global, etag: &[u8]) -> Result<Bytes, Memory>
 }
 
 /// A number in decimal.
-pub fn decimal(alloc: Global, number: u64) -> Result<Bytes, Memory>
+pub fn decimal_page_text(alloc: Global, number: u64) -> Result<Bytes, Memory>
     ensures { IfOk result (λ text. text ≡ decimal number) }
 {
     let mut buffer = Buffer::new();

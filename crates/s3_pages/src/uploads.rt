@@ -5,7 +5,7 @@ ghost use Rattle.gate_base.specs.Told.{moment_limit};
 ghost use Rattle.s3_machine.specs.Shown.{IsShownPart, IsShownUpload};
 ghost use Rattle.s3_pages.specs.Bodies.{
   completed_body,
-  next_part,
+  next_part_element_number,
   next_upload,
   number_element,
   part_element,
@@ -29,7 +29,7 @@ use s3_names::encode_path;
 use std::alloc::Global;
 
 /// The page of ListUploads.
-pub(crate) fn uploads(
+pub(crate) fn uploads_reply_page(
     alloc: Global,
     bucket: &[u8],
     prefix: &[u8],
@@ -82,7 +82,7 @@ fn uploads_body(
 }
 
 /// The page of CreateUpload.
-pub(crate) fn started(
+pub(crate) fn started_upload_reply_page(
     alloc: Global,
     bucket: &[u8],
     key: &[u8],
@@ -96,12 +96,12 @@ pub(crate) fn started(
     Ok(Page {
         status: 200,
         headers: xml_headers(alloc, label)?,
-        body: started_body(alloc, bucket, key, id)?,
+        body: started_upload_body(alloc, bucket, key, id)?,
     })
 }
 
 #[tactic(auto, unfolding(crate::specs::Bodies::started_body))]
-fn started_body(alloc: Global, bucket: &[u8], key: &[u8], id: u128) -> Result<Bytes, Memory>
+fn started_upload_body(alloc: Global, bucket: &[u8], key: &[u8], id: u128) -> Result<Bytes, Memory>
     ensures { IfOk result (λ body. body ≡ started_body bucket.now key.now id) }
 {
     let mut xml = Xml::new(alloc)?;
@@ -112,7 +112,7 @@ fn started_body(alloc: Global, bucket: &[u8], key: &[u8], id: u128) -> Result<By
 }
 
 /// The page of ListParts.
-pub(crate) fn parts(
+pub(crate) fn parts_reply_page(
     alloc: Global,
     bucket: &[u8],
     key: &[u8],
@@ -163,7 +163,7 @@ fn parts_body(
 }
 
 /// The page of CompleteUpload.
-pub(crate) fn completed(
+pub(crate) fn completed_reply_page(
     alloc: Global,
     bucket: &[u8],
     key: &[u8],
@@ -185,7 +185,7 @@ pub(crate) fn completed(
 fn completed_body(alloc: Global, bucket: &[u8], key: &[u8], etag: &[u8]) -> Result<Bytes, Memory>
     ensures { IfOk result (λ body. body ≡ completed_body bucket.now key.now etag.now) }
 {
-    let place = place(alloc, bucket, key)?;
+    let place = completed_body_location(alloc, bucket, key)?;
     let mut xml = Xml::new(alloc)?;
     xml.root(b"CompleteMultipartUploadResult")?;
     xml.element(b"Location", place.as_slice())?;
@@ -197,7 +197,7 @@ fn completed_body(alloc: Global, bucket: &[u8], key: &[u8], etag: &[u8]) -> Resu
 }
 
 /// The path of an object.
-fn place(alloc: Global, bucket: &[u8], key: &[u8]) -> Result<Bytes, Memory>
+fn completed_body_location(alloc: Global, bucket: &[u8], key: &[u8]) -> Result<Bytes, Memory>
     ensures { IfOk result (λ text. text ≡ place_text bucket.now key.now) }
 {
     let key = encode_path(alloc, key)?;
@@ -293,18 +293,22 @@ impl Xml {
             (self.new.text ≡ self.old.text ++ parts_asked marker max items.now truncated) }
     {
         self.count(b"PartNumberMarker", marker)?;
-        self.next_part(truncated, items)?;
+        self.next_part_element_number(truncated, items)?;
         self.count(b"MaxParts", max)?;
         self.truth(b"IsTruncated", truncated)
     }
 
-    fn next_part(&mut self, truncated: bool, items: &[PartItem]) -> Result<(), Memory>
+    fn next_part_element_number(
+        &mut self,
+        truncated: bool,
+        items: &[PartItem],
+    ) -> Result<(), Memory>
         ensures { OnOk result (self.new.text ≡ self.old.text
             ++ where_true truncated
-            (number_element (codes "NextPartNumberMarker") (next_part items.now))) }
+            (number_element (codes "NextPartNumberMarker") (next_part_element_number items.now))) }
     {
         if truncated {
-            self.count(b"NextPartNumberMarker", next_part(items))
+            self.count(b"NextPartNumberMarker", next_part_element_number(items))
         } else {
             Ok(())
         }
@@ -335,8 +339,8 @@ impl Xml {
 }
 
 /// The number of the last part, or 0.
-fn next_part(items: &[PartItem]) -> u32
-    ensures { result ≡ next_part items.now }
+fn next_part_element_number(items: &[PartItem]) -> u32
+    ensures { result ≡ next_part_element_number items.now }
 {
     match items.last() {
         Some(item) => item.number,

@@ -8,40 +8,40 @@ use Rattle.gate_base.specs.declared.page.Pair.{Pair}
 use Rattle.s3_names.specs.Meta.{names_ascend, has_name, with_pair}
 use Rattle.s3_names.proofs.lemmas.MetaLemmas.{with_pair_ascends, with_pair_keeps, with_pair_has, with_pair_only, nowhere, is_one}
 use Rattle.s3_machine.specs.Limits.{is_kept_header}
-use Rattle.s3_requests.specs.Content.{is_own_header, is_entry, meta_entry_name, entered, given_meta}
+use Rattle.s3_requests.specs.Content.{is_amz_meta_header, is_given_meta_entry, meta_entry_name, entered, given_meta}
 use Rattle.http_wire.specs.Headers.{text_of}
 use Rattle.s3_requests.specs.Laws.{entry_of, Makes, HasMade}
 
 -- ---- no two headers make entries of one name
 
-own_form : (name : List ℕ) → is_own_header name ≡ true → name ≡ codes "x-amz-meta-" ++ drop 11 name
+own_form : (name : List ℕ) → is_amz_meta_header name ≡ true → name ≡ codes "x-amz-meta-" ++ drop 11 name
 own_form name h =
     let begins : codes "x-amz-meta-" ≡ take 11 name = (bytes_eq-Decides (codes "x-amz-meta-") (take 11 name)).0 h in
     sym (take-append-drop 11 name) ∙ ap (λ first. first ++ drop 11 name) (sym begins)
 
-own_entry : (name : List ℕ) → is_own_header name ≡ true → drop 10 name ≡ 45 ∷ drop 11 name
+own_entry : (name : List ℕ) → is_amz_meta_header name ≡ true → drop 10 name ≡ 45 ∷ drop 11 name
 own_entry name h = ap (λ text. drop 10 text) (own_form name h)
 
 -- a header of the user's own makes none that a kept one makes
-apart : (a b : List ℕ) → is_own_header a ≡ true → is_kept_header b ≡ true → drop 10 a ≡ b → ⊥
+apart : (a b : List ℕ) → is_amz_meta_header a ≡ true → is_kept_header b ≡ true → drop 10 a ≡ b → ⊥
 apart a b own kept same =
     let form : b ≡ 45 ∷ drop 11 a = sym same ∙ own_entry a own in
     let also : is_kept_header (45 ∷ drop 11 a) ≡ true = sym (ap is_kept_header form) ∙ kept in cc
 
-one_name : (a b : List ℕ) → is_own_header a ≡ true → is_own_header b ≡ true → drop 10 a ≡ drop 10 b → a ≡ b
+one_name : (a b : List ℕ) → is_amz_meta_header a ≡ true → is_amz_meta_header b ≡ true → drop 10 a ≡ drop 10 b → a ≡ b
 one_name a b own also same =
     let ends : 45 ∷ drop 11 a ≡ 45 ∷ drop 11 b = sym (own_entry a own) ∙ same ∙ own_entry b also in
     let rest : drop 11 a ≡ drop 11 b = cc in
     own_form a own ∙ ap (λ text. codes "x-amz-meta-" ++ text) rest ∙ sym (own_form b also)
 
-same_if : (p q : Bool) (a b : List ℕ) → is_own_header a ≡ p → is_own_header b ≡ q → (p || is_kept_header a) ≡ true → (q || is_kept_header b) ≡ true → cond p (drop 10 a) a ≡ cond q (drop 10 b) b → a ≡ b
+same_if : (p q : Bool) (a b : List ℕ) → is_amz_meta_header a ≡ p → is_amz_meta_header b ≡ q → (p || is_kept_header a) ≡ true → (q || is_kept_header b) ≡ true → cond p (drop 10 a) a ≡ cond q (drop 10 b) b → a ≡ b
 same_if true true a b own also h k same = one_name a b own also same
 same_if true false a b own also h k same = absurd (apart a b own k same)
 same_if false true a b own also h k same = absurd (apart b a also h (sym same))
 same_if false false a b own also h k same = same
 
-same_name : (a b : List ℕ) → is_entry a ≡ true → is_entry b ≡ true → meta_entry_name a ≡ meta_entry_name b → a ≡ b
-same_name a b h k same = same_if (is_own_header a) (is_own_header b) a b refl refl h k same
+same_name : (a b : List ℕ) → is_given_meta_entry a ≡ true → is_given_meta_entry b ≡ true → meta_entry_name a ≡ meta_entry_name b → a ≡ b
+same_name a b h k same = same_if (is_amz_meta_header a) (is_amz_meta_header b) a b refl refl h k same
 
 -- ---- one more header
 
@@ -54,7 +54,7 @@ keeps_if : (b : Bool) (name value : List ℕ) (meta : List Pair) (pair : Pair) �
 keeps_if true name value meta pair c = with_pair_keeps name value meta pair c
 keeps_if false name value meta pair c = c
 
-sound_if : (entry has : Bool) (headers meta : List Pair) (header : Pair) → is_entry header.name ≡ entry → has_name (meta_entry_name header.name) meta ≡ has → Contains headers header → Sound headers meta
+sound_if : (entry has : Bool) (headers meta : List Pair) (header : Pair) → is_given_meta_entry header.name ≡ entry → has_name (meta_entry_name header.name) meta ≡ has → Contains headers header → Sound headers meta
     → Sound headers (cond (entry && not has) (with_pair (meta_entry_name header.name) (text_of header.name headers) meta) meta)
 sound_if true false headers meta header e f given sound = record {
   ascends = with_pair_ascends (meta_entry_name header.name) (text_of header.name headers) meta sound.ascends f;
@@ -91,8 +91,8 @@ found name (pair ∷ pairs) h = of (found name pairs) (either (bytes_eq pair.nam
         let rest = others e in
         record { pair = rest.pair; there = Contains-append_right (pair ∷ []) pairs rest.pair rest.there; named = rest.named }
 
-has_if : (has : Bool) (headers meta : List Pair) (header : Pair) → is_entry header.name ≡ true → has_name (meta_entry_name header.name) meta ≡ has → Sound headers meta
-    → Contains (cond (is_entry header.name && not has) (with_pair (meta_entry_name header.name) (text_of header.name headers) meta) meta) (entry_of headers header)
+has_if : (has : Bool) (headers meta : List Pair) (header : Pair) → is_given_meta_entry header.name ≡ true → has_name (meta_entry_name header.name) meta ≡ has → Sound headers meta
+    → Contains (cond (is_given_meta_entry header.name && not has) (with_pair (meta_entry_name header.name) (text_of header.name headers) meta) meta) (entry_of headers header)
 has_if false headers meta header e f sound =
     subst (λ b. Contains (cond (b && true) (with_pair (meta_entry_name header.name) (text_of header.name headers) meta) meta) (entry_of headers header)) (sym e)
     (with_pair_has (meta_entry_name header.name) (text_of header.name headers) meta)
@@ -110,10 +110,10 @@ all_keep : (headers rest meta : List Pair) (pair : Pair) → Contains meta pair 
 all_keep headers [] meta pair c = c
 all_keep headers (header ∷ rest) meta pair c =
     all_keep headers rest (entered headers meta header) pair
-    (keeps_if (is_entry header.name && not (has_name (meta_entry_name header.name) meta)) (meta_entry_name header.name) (text_of header.name headers) meta pair c)
+    (keeps_if (is_given_meta_entry header.name && not (has_name (meta_entry_name header.name) meta)) (meta_entry_name header.name) (text_of header.name headers) meta pair c)
 
 one_more : (headers meta : List Pair) (header : Pair) → Contains headers header → Sound headers meta → Sound headers (entered headers meta header)
-one_more headers meta header given sound = sound_if (is_entry header.name) (has_name (meta_entry_name header.name) meta) headers meta header refl refl given sound
+one_more headers meta header given sound = sound_if (is_given_meta_entry header.name) (has_name (meta_entry_name header.name) meta) headers meta header refl refl given sound
 
 all_sound : (headers rest meta : List Pair) → ((header : Pair) → Contains rest header → Contains headers header) → Sound headers meta → Sound headers (fold (entered headers) meta rest)
 all_sound headers [] meta part sound = sound
@@ -121,7 +121,7 @@ all_sound headers (header ∷ rest) meta part sound =
     all_sound headers rest (entered headers meta header) (λ other c. part other (Contains-append_right (header ∷ []) rest other c))
     (one_more headers meta header (part header (head_of header rest)) sound)
 
-all_whole : (headers rest meta : List Pair) → ((header : Pair) → Contains rest header → Contains headers header) → Sound headers meta → (header : Pair) → Contains rest header → is_entry header.name ≡ true
+all_whole : (headers rest meta : List Pair) → ((header : Pair) → Contains rest header → Contains headers header) → Sound headers meta → (header : Pair) → Contains rest header → is_given_meta_entry header.name ≡ true
     → Contains (fold (entered headers) meta rest) (entry_of headers header)
 all_whole headers [] meta part sound header c e = absurd (nowhere header c)
 all_whole headers (first ∷ rest) meta part sound header c e =
@@ -129,11 +129,11 @@ all_whole headers (first ∷ rest) meta part sound header c e =
     (one_more headers meta first (part first (head_of first rest)) sound) header)
     (Contains-append_cases (first ∷ []) rest header c)
   where
-    of : (Contains rest header → is_entry header.name ≡ true → Contains (fold (entered headers) (entered headers meta first) rest) (entry_of headers header))
+    of : (Contains rest header → is_given_meta_entry header.name ≡ true → Contains (fold (entered headers) (entered headers meta first) rest) (entry_of headers header))
         → Contains (first ∷ []) header ⊎ Contains rest header → Contains (fold (entered headers) (entered headers meta first) rest) (entry_of headers header)
     of others (inl one) =
         let is : header ≡ first = is_one first header one in
-        let put : Contains (entered headers meta first) (entry_of headers first) = has_if (has_name (meta_entry_name first.name) meta) headers meta first (sym (ap (λ h. is_entry h.name) is) ∙ e) refl sound in
+        let put : Contains (entered headers meta first) (entry_of headers first) = has_if (has_name (meta_entry_name first.name) meta) headers meta first (sym (ap (λ h. is_given_meta_entry h.name) is) ∙ e) refl sound in
         all_keep headers rest (entered headers meta first) (entry_of headers header) (subst (λ h. Contains (entered headers meta first) (entry_of headers h)) (sym is) put)
     of others (inr last) = others last e
 

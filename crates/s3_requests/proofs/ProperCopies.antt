@@ -18,7 +18,7 @@ use Rattle.s3_machine.specs.Step.{IsPlace, IsProperRange, IsProperCopyRange, IsP
 use Rattle.s3_requests.specs.declared.copies.Source.{Source}
 use Rattle.s3_requests.specs.declared.rows.Row.{Row}
 use Rattle.s3_requests.specs.Ranges.{range_of}
-use Rattle.s3_requests.specs.Copies.{without_slash, place_in, place_decoded, place_named, source_text, from_to, copied_range, has_bad_directive, has_bad_range, source_at, source_of, no_source}
+use Rattle.s3_requests.specs.Copies.{without_slash, place_in, place_decoded, place_named, copy_source_text, from_to, copied_range, has_bad_directive, has_bad_range, source_at, source_of, no_source}
 use Rattle.s3_requests.proofs.ProperReads.{of_proper}
 
 abbrev Named : List ℕ × List ℕ → Type 0
@@ -62,7 +62,7 @@ at_proper false headers (Some place) named some = (named, range_proper headers)
 -- a source that can be read keeps the limits
 pub source_proper : (row : Row) (headers : List Pair) → is_none (source_of row headers) ≡ false → IsProperSource (unwrap_or (source_of row headers) no_source)
 source_proper row headers some =
-    at_proper (has_bad_directive headers || has_bad_range row headers) headers (place_named (source_text headers)) (place_proper (source_text headers)) some
+    at_proper (has_bad_directive headers || has_bad_range row headers) headers (place_named (copy_source_text headers)) (place_proper (copy_source_text headers)) some
 
 -- what replaces the content of a source keeps them where it was tested
 pub replaced_proper : (b : Bool) (content_type : List ℕ) (meta : List Pair) → is_content_type content_type ≡ true → is_proper_meta meta ≡ true

@@ -22,7 +22,7 @@ use Rattle.text_forms.specs.Numbers.{is_number, number_of}
 use Rattle.s3_requests.specs.Ranges.{is_dash, place_of, between, range_by, range_behind, range_of, given_range}
 use Rattle.s3_requests.specs.Query.{text_at}
 use Rattle.s3_requests.specs.Rows.{is_asked}
-use Rattle.s3_requests.specs.Uploads.{of_part, part_of, given_part}
+use Rattle.s3_requests.specs.Uploads.{of_part, part_of, given_part_number}
 use Rattle.s3_requests.specs.Listings.{most_by, capped, count_of, listing_text, token_of, given_token, has_long_text, first_asked, second_asked}
 use Rattle.text_forms.proofs.lemmas.Decimals.{digits_model}
 
@@ -211,6 +211,6 @@ or_one_proper (Some number) = by_test (nat_le 1 number && nat_le number GREATEST
     by_test true e = counted_proper number e
     by_test false e = one_proper
 
-pub part_proper : (query : List Pair) → IsPartNumber (given_part query)
+pub part_proper : (query : List Pair) → IsPartNumber (given_part_number query)
 unfolding part_of
 part_proper query = or_one_proper (number_of 9 (text_at (codes "partNumber") query))

@@ -12,18 +12,18 @@ use Rattle.s3_machine.specs.declared.reading.ETags.{ETags}
 use Rattle.s3_machine.specs.declared.reading.ETags.TheVariants.{Absent, Any, Listed}
 use Rattle.s3_machine.specs.declared.reading.Conditions.{Conditions}
 
-abbrev pub is_tag_space : ℕ → Bool
-is_tag_space byte = byte == 32
+abbrev pub is_condition_space : ℕ → Bool
+is_condition_space byte = byte == 32
 
 abbrev pub is_quote : ℕ → Bool
 is_quote byte = byte == 34
 
 -- the text without the spaces at its start, and without those at its end
 abbrev pub behind_spaces : List ℕ → List ℕ
-behind_spaces text = drop (prefix_len is_tag_space text) text
+behind_spaces text = drop (prefix_len is_condition_space text) text
 
 abbrev pub before_spaces : List ℕ → List ℕ
-before_spaces text = take (length text - suffix_len is_tag_space text) text
+before_spaces text = take (length text - suffix_len is_condition_space text) text
 
 -- the text without the `W/` of a weak tag
 abbrev pub without_weak : List ℕ → List ℕ

@@ -50,21 +50,21 @@ abbrev pub taken_type : Row → List Pair → List ℕ
 taken_type row headers = if takes_content row headers then given_type headers else codes "binary/octet-stream"
 
 -- a header of the user's own
-abbrev pub is_own_header : List ℕ → Bool
-is_own_header name = starts_with nat_eq name (codes "x-amz-meta-")
+abbrev pub is_amz_meta_header : List ℕ → Bool
+is_amz_meta_header name = starts_with nat_eq name (codes "x-amz-meta-")
 
 -- a header that makes an entry
-abbrev pub is_entry : List ℕ → Bool
-is_entry name = is_own_header name || is_kept_header name
+abbrev pub is_given_meta_entry : List ℕ → Bool
+is_given_meta_entry name = is_amz_meta_header name || is_kept_header name
 
 -- the name of the entry: `-` and what follows `x-amz-meta-`, or the header's own
 abbrev pub meta_entry_name : List ℕ → List ℕ
-meta_entry_name name = if is_own_header name then drop 10 name else name
+meta_entry_name name = if is_amz_meta_header name then drop 10 name else name
 
 -- the entry of a header, with the text of all headers of its name, is put in its place where its name isn't there
 abbrev pub entered : List Pair → List Pair → Pair → List Pair
 entered headers meta header =
-    if is_entry header.name && not (has_name (meta_entry_name header.name) meta)
+    if is_given_meta_entry header.name && not (has_name (meta_entry_name header.name) meta)
     then with_pair (meta_entry_name header.name) (text_of header.name headers) meta
     else meta
 
@@ -83,8 +83,8 @@ abbrev pub has_bad_entry : List Pair → Bool
 has_bad_entry meta = list_any is_bad_entry meta
 
 -- more bytes than any body that is read
-abbrev pub is_long_body : List ℕ → Bool
-is_long_body body = nat_lt most_body_bytes (length body)
+abbrev pub asks_with_long_body : List ℕ → Bool
+asks_with_long_body body = nat_lt most_body_bytes (length body)
 
 -- the location of a bucket: the region of the service, or none
 abbrev pub is_here : List ℕ → List ℕ → Bool

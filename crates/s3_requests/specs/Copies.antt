@@ -20,7 +20,7 @@ use Rattle.s3_requests.specs.declared.copies.Source.{Source}
 use Rattle.s3_requests.specs.declared.rows.Row.{Row}
 use Rattle.s3_requests.specs.declared.rows.Row.TheVariants.{PutObject, UploadPart, CopyObject, UploadPartCopy}
 use Rattle.s3_requests.specs.Ranges.{range_of}
-use Rattle.s3_requests.specs.Uploads.{given_upload, given_part}
+use Rattle.s3_requests.specs.Uploads.{given_upload, given_part_number}
 
 -- ---- the rows
 
@@ -41,8 +41,8 @@ is_copy _ = false
 
 -- ---- what this profile doesn't have
 
-abbrev pub source_text : List Pair → List ℕ
-source_text headers = text_of (codes "x-amz-copy-source") headers
+abbrev pub copy_source_text : List Pair → List ℕ
+copy_source_text headers = text_of (codes "x-amz-copy-source") headers
 
 -- a condition on the source
 abbrev pub is_source_condition : Pair → Bool
@@ -50,7 +50,7 @@ is_source_condition header = starts_with nat_eq header.name (codes "x-amz-copy-s
 
 -- a version of the source, or a condition on it
 abbrev pub asks_further : List Pair → Bool
-asks_further headers = list_any is_question (source_text headers) || list_any is_source_condition headers
+asks_further headers = list_any is_question (copy_source_text headers) || list_any is_source_condition headers
 
 -- a source of a row that copies nothing; of a copy, more than its source
 abbrev pub has_unsupported_source : Row → List Pair → Bool
@@ -116,7 +116,7 @@ source_at headers place = record { bucket = place.0; key = place.1; range = copi
 
 abbrev pub source_of : Row → List Pair → Option Source
 source_of row headers =
-    if has_bad_directive headers || has_bad_range row headers then None else option_map (source_at headers) (place_named (source_text headers))
+    if has_bad_directive headers || has_bad_range row headers then None else option_map (source_at headers) (place_named (copy_source_text headers))
 
 abbrev pub no_source : Source
 no_source = record { bucket = []; key = []; range = None; replaces = false }
@@ -144,4 +144,4 @@ has_body_of_copy row body = is_copy row && not (length body == 0)
 -- UploadPartCopy, of a bucket, a key and a query
 abbrev pub part_copy_asked : List ℕ → List ℕ → List Pair → Source → Op
 part_copy_asked bucket key query source =
-    op.CopyPart bucket key (given_upload query) (given_part query) source.bucket source.key source.range
+    op.CopyPart bucket key (given_upload query) (given_part_number query) source.bucket source.key source.range

@@ -8,7 +8,7 @@ use Rattle.s3_names.specs.Key.{is_key}
 use Rattle.s3_names.specs.Meta.{names_ascend}
 use Rattle.s3_machine.specs.declared.reading.Range.{Range}
 use Rattle.s3_machine.specs.Limits.{is_listing_text}
-use Rattle.s3_requests.specs.Content.{is_entry, meta_entry_name, given_meta}
+use Rattle.s3_requests.specs.Content.{is_given_meta_entry, meta_entry_name, given_meta}
 use Rattle.s3_requests.specs.Copies.{without_slash, place_named}
 use Rattle.s3_requests.specs.Listings.{token_of}
 use Rattle.s3_requests.specs.Ranges.{AsksFor, range_of}
@@ -22,7 +22,7 @@ entry_of headers header = record { name = meta_entry_name header.name; value = t
 pub record Makes (headers : List Pair) (entry : Pair) : Type 0 where
   pub header : Pair
   pub given : Contains headers header
-  pub makes : is_entry header.name ≡ true
+  pub makes : is_given_meta_entry header.name ≡ true
   pub is : entry ≡ entry_of headers header
 
 -- the metadata of headers: its names ascend, so that none stands twice, and an entry is in it exactly where a header makes it

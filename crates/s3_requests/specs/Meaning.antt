@@ -31,11 +31,11 @@ use Rattle.s3_requests.specs.Headers.{has_unsupported, is_chunked, is_conditiona
 use Rattle.s3_requests.specs.Conditions.{given_conditions}
 use Rattle.s3_requests.specs.Ranges.{given_range}
 use Rattle.s3_requests.specs.Listings.{has_bad_word, has_long_text, has_bad_token, first_asked, second_asked}
-use Rattle.s3_requests.specs.Uploads.{has_bad_number, given_upload, given_part, uploads_asked, parts_asked, has_bad_list, given_list}
+use Rattle.s3_requests.specs.Uploads.{has_bad_number, given_upload, given_part_number, uploads_asked, parts_asked, has_bad_list, given_list}
 use Rattle.s3_requests.specs.Deletes.{has_bad_deletes, given_deletes, deletes_asked}
 use Rattle.s3_requests.specs.Copies.{names_source, copying, has_unsupported_source, has_bad_source, has_body_of_copy, given_source, part_copy_asked}
 use Rattle.s3_requests.specs.Taken.{given, copy_asked}
-use Rattle.s3_requests.specs.Content.{has_bad_digest, is_other_body, taken_type, taken_meta, has_bad_entry, is_long_body, has_bad_location, has_other_location}
+use Rattle.s3_requests.specs.Content.{has_bad_digest, is_other_body, taken_type, taken_meta, has_bad_entry, asks_with_long_body, has_bad_location, has_other_location}
 
 -- a reason to refuse, and whether it holds
 pub record Reason : Type 0 where
@@ -63,9 +63,9 @@ abbrev pub has_bad_key : Target → Bool
 has_bad_key target = is_same_level (level_of target.bucket target.key) Key && not (is_key target.key)
 
 -- an anonymous caller asks for an operation that isn't open to all
-abbrev pub is_denied : Row → Caller → Bool
-is_denied row Owner = false
-is_denied row Anonymous = not (shape_of row).is_open
+abbrev pub is_row_denied : Row → Caller → Bool
+is_row_denied row Owner = false
+is_row_denied row Anonymous = not (shape_of row).is_open
 
 -- ---- the reasons, in the order in which they are tried
 
@@ -79,7 +79,7 @@ target_reasons message target =
     ∷ []
 
 abbrev pub caller_reasons : Row → Caller → List Reason
-caller_reasons row caller = reason (is_denied row caller) AccessDenied ∷ []
+caller_reasons row caller = reason (is_row_denied row caller) AccessDenied ∷ []
 
 abbrev pub deletes_reasons : Row → Message → Caller → List Reason
 deletes_reasons row message caller = reason (has_bad_deletes row message.body) MalformedXML ∷ caller_reasons row caller
@@ -89,7 +89,7 @@ list_reasons row message caller = reason (has_bad_list row message.body) Malform
 
 abbrev pub body_reasons : Settings → Row → Message → Caller → List Reason
 body_reasons settings row message caller =
-    reason (is_long_body message.body) EntityTooLarge
+    reason (asks_with_long_body message.body) EntityTooLarge
     ∷ reason (has_bad_location row message.body) MalformedXML
     ∷ reason (has_other_location row settings.region message.body) InvalidArgument
     ∷ list_reasons row message caller
@@ -191,7 +191,7 @@ op_of CreateMultipartUpload message target =
     (given_acl message.headers)
     (taken_type CreateMultipartUpload message.headers)
     (taken_meta CreateMultipartUpload message.headers))
-op_of UploadPart message target = Op (op.UploadPart target.bucket target.key (given_upload target.query) (given_part target.query) message.body)
+op_of UploadPart message target = Op (op.UploadPart target.bucket target.key (given_upload target.query) (given_part_number target.query) message.body)
 op_of ListParts message target = Op (parts_asked target.bucket target.key target.query)
 op_of AbortMultipartUpload message target = Op (op.AbortUpload target.bucket target.key (given_upload target.query))
 op_of CompleteMultipartUpload message target =

@@ -4,17 +4,17 @@ use Rattle.std.specs.List.{list_any}
 use Rattle.std.specs.Option.{option_map_or}
 use Rattle.gate_base.specs.declared.page.Pair.{Pair}
 use Rattle.s3_requests.specs.declared.rows.Row.{Row}
-use Rattle.s3_requests.specs.Rows.{rows, asked, is_name_of}
+use Rattle.s3_requests.specs.Rows.{rows, asked, is_query_name_of_row}
 
 abbrev pub is_unknown : Pair → Bool
-is_unknown pair = not (list_any (is_name_of pair.name) rows)
+is_unknown pair = not (list_any (is_query_name_of_row pair.name) rows)
 
 -- a name that no row has
 abbrev pub has_unknown_name : List Pair → Bool
 has_unknown_name query = list_any is_unknown (asked query)
 
 abbrev pub is_foreign : Row → Pair → Bool
-is_foreign row pair = not (is_name_of pair.name row)
+is_foreign row pair = not (is_query_name_of_row pair.name row)
 
 -- a name that isn't the row's
 abbrev pub has_foreign_name : Row → List Pair → Bool

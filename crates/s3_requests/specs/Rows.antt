@@ -135,11 +135,11 @@ is_same_level Key Key = true
 is_same_level _ _ = false
 
 -- all names of a query count but `x-id`, by which clients name the operation a second time
-abbrev pub counts : Pair → Bool
-counts pair = not (bytes_eq pair.name (codes "x-id"))
+abbrev pub counts_as_query_name : Pair → Bool
+counts_as_query_name pair = not (bytes_eq pair.name (codes "x-id"))
 
 abbrev pub asked : List Pair → List Pair
-asked query = filter counts query
+asked query = filter counts_as_query_name query
 
 abbrev pub is_asked : List Pair → List ℕ → Bool
 is_asked query name = list_any (λ pair. bytes_eq pair.name name) (asked query)
@@ -152,8 +152,8 @@ abbrev pub texts : List (Bor (List ℕ)) → List (List ℕ)
 texts names = map (λ name. name.now) names
 
 -- the row has the name
-abbrev pub is_name_of : List ℕ → Row → Bool
-is_name_of name row = is_among name (shape_of row).selectors || is_among name (shape_of row).further
+abbrev pub is_query_name_of_row : List ℕ → Row → Bool
+is_query_name_of_row name row = is_among name (shape_of row).selectors || is_among name (shape_of row).further
 
 abbrev pub is_same : Bool → Bool → Bool
 is_same a b = if a then b else not b

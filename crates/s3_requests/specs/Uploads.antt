@@ -31,29 +31,29 @@ unfoldable pub part_of : List ℕ → Option ℕ
 part_of text = of_part (number_of 9 text)
 
 -- that of a query; a query without a proper one is refused before it counts
-abbrev pub given_part : List Pair → ℕ
-given_part query = unwrap_or (part_of (text_at (codes "partNumber") query)) 1
+abbrev pub given_part_number : List Pair → ℕ
+given_part_number query = unwrap_or (part_of (text_at (codes "partNumber") query)) 1
 
 -- the number behind which the parts are listed, and 0 where there is none
-abbrev pub given_marker : List Pair → ℕ
-given_marker query = unwrap_or (count_of (text_at (codes "part-number-marker") query)) 0
+abbrev pub given_part_marker : List Pair → ℕ
+given_part_marker query = unwrap_or (count_of (text_at (codes "part-number-marker") query)) 0
 
 -- ---- the parts of a completion
 
 -- what the body lists of a row that completes an upload, if it can be read. No other row lists a part
-abbrev pub taken_list : Row → List ℕ → Option (List Listed)
-taken_list CompleteMultipartUpload body = listed_in body
-taken_list _ body = Some []
+abbrev pub taken_listed_parts : Row → List ℕ → Option (List Listed)
+taken_listed_parts CompleteMultipartUpload body = listed_in body
+taken_listed_parts _ body = Some []
 
 -- its list; one that can't be read is refused before it counts
 abbrev pub given_list : Row → List ℕ → List Listed
-given_list row body = unwrap_or (taken_list row body) []
+given_list row body = unwrap_or (taken_listed_parts row body) []
 
 -- ---- what is refused
 
 -- a body that should list parts and is no completion, or lists more parts than an upload has
 abbrev pub has_bad_list : Row → List ℕ → Bool
-has_bad_list row body = is_none (taken_list row body)
+has_bad_list row body = is_none (taken_listed_parts row body)
 
 abbrev pub has_bad_part : List Pair → Bool
 has_bad_part query = is_asked query (codes "partNumber") && is_none (part_of (text_at (codes "partNumber") query))
@@ -74,4 +74,4 @@ uploads_asked bucket query =
 
 -- ListParts, of a bucket and a key
 abbrev pub parts_asked : List ℕ → List ℕ → List Pair → Op
-parts_asked bucket key query = ListParts bucket key (given_upload query) (given_marker query) (most_by (codes "max-parts") query)
+parts_asked bucket key query = ListParts bucket key (given_upload query) (given_part_marker query) (most_by (codes "max-parts") query)

@@ -3,7 +3,7 @@ ghost use Rattle.std.specs.Prelude.{◌≡◌, ◌-◌, ◌≤◌, ◌<◌, ◌+
 ghost use Rattle.std.specs.List.{prefix_len, suffix_len, slice_split};
 ghost use Rattle.std.specs.Option.{option_map_or};
 ghost use Rattle.http_wire.specs.Closing.{is_comma};
-ghost use Rattle.s3_requests.specs.Conditions.{is_tag_space, is_quote, behind_spaces, before_spaces, without_weak, is_quoted, without_quotes, etag_of, etags_of, given_etags, date_of, given_date, given_conditions};
+ghost use Rattle.s3_requests.specs.Conditions.{is_condition_space, is_quote, behind_spaces, before_spaces, without_weak, is_quoted, without_quotes, etag_of, etags_of, given_etags, date_of, given_date, given_conditions};
 
 use gate_base::{Bytes, List, Memory, Pair};
 use http_wire::{has_header, text_of};
@@ -11,39 +11,41 @@ use httpdate::HttpDate;
 use s3_machine::{Conditions, ETags};
 use std::alloc::Global;
 
-fn is_tag_space(byte: u8) -> bool
-    ensures { result ≡ is_tag_space byte }
+fn is_condition_space(byte: u8) -> bool
+    ensures { result ≡ is_condition_space byte }
 {
     byte == b' '
 }
 
-fn first_spaces(text: &[u8]) -> usize
-    ensures is { result ≡ prefix_len is_tag_space text.now }
+fn first_condition_header_spaces(text: &[u8]) -> usize
+    ensures is { result ≡ prefix_len is_condition_space text.now }
     ensures within { result ≤ length text.now }
 {
-    text.iter().take_while(|byte| is_tag_space(**byte)).count()
+    text.iter()
+        .take_while(|byte| is_condition_space(**byte))
+        .count()
 }
 
-fn last_spaces(text: &[u8]) -> usize
-    ensures is { result ≡ suffix_len is_tag_space text.now }
+fn last_condition_header_spaces(text: &[u8]) -> usize
+    ensures is { result ≡ suffix_len is_condition_space text.now }
     ensures within { result ≤ length text.now }
 {
     text.iter()
         .rev()
-        .take_while(|byte| is_tag_space(**byte))
+        .take_while(|byte| is_condition_space(**byte))
         .count()
 }
 
 fn behind_spaces(text: &[u8]) -> &[u8]
     ensures { result.now ≡ behind_spaces text.now }
 {
-    &text[first_spaces(text)..]
+    &text[first_condition_header_spaces(text)..]
 }
 
 fn before_spaces(text: &[u8]) -> &[u8]
     ensures { result.now ≡ before_spaces text.now }
 {
-    &text[..text.len() - last_spaces(text)]
+    &text[..text.len() - last_condition_header_spaces(text)]
 }
 
 /// The text without the `W/` of a weak tag (RFC 9110, section 8.8.3).
@@ -84,34 +86,39 @@ fn without_quotes(text: &[u8]) -> &[u8]
 
 /// The tag that stands between two commas.
 #[tactic(auto, unfolding(crate::specs::Conditions::etag_of))]
-fn etag_of(piece: &[u8]) -> &[u8]
+fn condition_header_etag(piece: &[u8]) -> &[u8]
     ensures { result.now ≡ etag_of piece.now }
 {
     without_quotes(without_weak(before_spaces(behind_spaces(piece))))
 }
 
-fn push_etag(alloc: Global, etags: &mut List<Bytes>, piece: &[u8]) -> Result<(), Memory>
+fn push_condition_header_etag(
+    alloc: Global,
+    etags: &mut List<Bytes>,
+    piece: &[u8],
+) -> Result<(), Memory>
     ensures { OnOk result (etags.new ≡ etags.old ++ etag_of piece.now ∷ []) }
 {
-    etags.push(Bytes::from_slice(alloc, etag_of(piece))?)
+    etags.push(Bytes::from_slice(alloc, condition_header_etag(piece))?)
 }
 
-fn comma(byte: u8) -> bool
+fn is_condition_header_comma(byte: u8) -> bool
     ensures { result ≡ is_comma byte }
 {
     byte == b','
 }
 
 /// The place of the first comma.
-fn first_comma(text: &[u8]) -> Option<usize>
+fn first_condition_header_comma(text: &[u8]) -> Option<usize>
     ensures place { result ≡ position is_comma text.now }
     ensures within { IfSome result (λ at. at < length text.now) }
 {
-    text.iter().position(|byte| comma(*byte))
+    text.iter()
+        .position(|byte| is_condition_header_comma(*byte))
 }
 
 /// The text behind its first byte.
-fn after_first(text: &[u8]) -> &[u8]
+fn after_condition_header_comma(text: &[u8]) -> &[u8]
     requires { 0 < length text.now }
     ensures { result.now ≡ drop 1 text.now }
 {
@@ -125,12 +132,12 @@ fn etags_between_commas(alloc: Global, value: &[u8]) -> Result<List<Bytes>, Memo
 {
     let mut etags = List::new(alloc);
     let mut rest = value;
-    'pieces: while let Some(at) = first_comma(rest) {
+    'pieces: while let Some(at) = first_condition_header_comma(rest) {
         let (piece, others) = rest.split_at(at);
-        push_etag(alloc, &mut etags, piece)?;
-        rest = after_first(others);
+        push_condition_header_etag(alloc, &mut etags, piece)?;
+        rest = after_condition_header_comma(others);
     }
-    push_etag(alloc, &mut etags, rest)?;
+    push_condition_header_etag(alloc, &mut etags, rest)?;
     Ok(etags)
 }
 
@@ -158,7 +165,7 @@ fn given_etags(alloc: Global, headers: &[Pair], name: &[u8]) -> Result<ETags, Me
 /// The moment of a date in one of the three forms of RFC 9110, section 5.6.7, in seconds since the beginning of 1970; none for
 /// every other text, and for a date before 1970.
 #[tactic(auto, unfolding(crate::specs::Conditions::date_of))]
-fn date_of(text: &[u8]) -> Option<u64>
+fn condition_header_date(text: &[u8]) -> Option<u64>
     ensures { result ≡ date_of text.now }
 {
     match HttpDate::parse_ascii(text) {
@@ -171,7 +178,7 @@ fn given_date(alloc: Global, headers: &[Pair], name: &[u8]) -> Result<Option<u64
     ensures { IfOk result (λ date. date ≡ given_date name.now headers.now) }
 {
     let text = text_of(alloc, headers, name)?;
-    Ok(date_of(text.as_slice()))
+    Ok(condition_header_date(text.as_slice()))
 }
 
 /// The conditions that the headers of a GET or a HEAD make (RFC 9110, section 13.1).

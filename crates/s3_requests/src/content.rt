@@ -8,7 +8,7 @@ ghost use Rattle.s3_machine.specs.Body.{IsDigestOf};
 ghost use Rattle.s3_machine.specs.Limits.{is_kept_header};
 ghost use Rattle.http_wire.specs.Headers.{has_header, text_of};
 ghost use Rattle.s3_requests.specs.Rows.{shape_of};
-ghost use Rattle.s3_requests.specs.Content.{is_digest, has_bad_digest, is_other_body, given_type, takes_content, taken_type, is_own_header, is_entry, meta_entry_name, entered, given_meta, taken_meta, is_bad_entry, has_bad_entry, is_long_body, is_here, has_bad_location, has_other_location};
+ghost use Rattle.s3_requests.specs.Content.{is_digest, has_bad_digest, is_other_body, given_type, takes_content, taken_type, is_amz_meta_header, is_given_meta_entry, meta_entry_name, entered, given_meta, taken_meta, is_bad_entry, has_bad_entry, asks_with_long_body, is_here, has_bad_location, has_other_location};
 
 use crate::copies::replaces;
 use crate::rows::{Row, shape_of};
@@ -23,7 +23,7 @@ use s3_names::Meta;
 use std::alloc::Global;
 
 /// Whether the text is the strict base64 of 16 bytes (RFC 4648, section 4).
-fn is_digest(alloc: Global, text: &[u8]) -> Result<bool, Memory>
+fn is_content_md5(alloc: Global, text: &[u8]) -> Result<bool, Memory>
     ensures { IfOk result (λ digest. digest ≡ is_digest text.now) }
 {
     match STANDARD.decode(alloc, text) {
@@ -41,10 +41,10 @@ pub fn has_bad_digest(alloc: Global, headers: &[Pair]) -> Result<bool, Memory>
         return Ok(false);
     }
     let text = text_of(alloc, headers, b"content-md5")?;
-    Ok(!is_digest(alloc, text.as_slice())?)
+    Ok(!is_content_md5(alloc, text.as_slice())?)
 }
 
-fn digest_text(alloc: Global, digest: &[u8; 16]) -> Result<Bytes, Memory>
+fn content_md5_text(alloc: Global, digest: &[u8; 16]) -> Result<Bytes, Memory>
     ensures { IfOk result (λ text. text ≡ encode_of standard digest.now) }
 {
     let text = STANDARD.encode(alloc, digest)?;
@@ -65,7 +65,7 @@ pub fn is_other_body(
     }
     let text = text_of(alloc, headers, b"content-md5")?;
     let digest = Md5::digest(body);
-    let due = digest_text(alloc, &digest)?;
+    let due = content_md5_text(alloc, &digest)?;
     Ok((text.as_slice() != due.as_slice(), Some(digest)))
 }
 
@@ -102,8 +102,8 @@ pub fn taken_type(alloc: Global, row: Row, headers: &[Pair]) -> Result<Bytes, Me
     }
 }
 
-fn is_own_header(name: &[u8]) -> bool
-    ensures { result ≡ is_own_header name.now }
+fn is_amz_meta_header(name: &[u8]) -> bool
+    ensures { result ≡ is_amz_meta_header name.now }
 {
     name.starts_with(b"x-amz-meta-")
 }
@@ -118,17 +118,17 @@ fn is_kept_header(name: &[u8]) -> bool
         || name == b"expires".as_slice()
 }
 
-fn is_entry(name: &[u8]) -> bool
-    ensures { result ≡ is_entry name.now }
+fn is_given_meta_entry(name: &[u8]) -> bool
+    ensures { result ≡ is_given_meta_entry name.now }
 {
-    is_own_header(name) || is_kept_header(name)
+    is_amz_meta_header(name) || is_kept_header(name)
 }
 
 /// The name of the entry that a header makes: `-` and what follows `x-amz-meta-`, or the header's own.
 fn meta_entry_name(name: &[u8]) -> &[u8]
     ensures { result.now ≡ meta_entry_name name.now }
 {
-    if is_own_header(name) {
+    if is_amz_meta_header(name) {
         &name[10..]
     } else {
         name
@@ -136,7 +136,7 @@ fn meta_entry_name(name: &[u8]) -> &[u8]
 }
 
 /// Puts the entry of a header into its place, unless its name is there.
-fn enter_meta_header(
+fn enter_given_meta(
     alloc: Global,
     meta: &mut Meta,
     headers: &[Pair],
@@ -145,7 +145,7 @@ fn enter_meta_header(
     ensures { OnOk result (meta.new ≡ entered headers.now meta.old header.now) }
 {
     let name = header.name.as_slice();
-    if !is_entry(name) {
+    if !is_given_meta_entry(name) {
         return Ok(());
     }
     let value = text_of(alloc, headers, name)?;
@@ -159,7 +159,7 @@ fn given_meta(alloc: Global, headers: &[Pair]) -> Result<Meta, Memory>
 {
     let mut meta = Meta::new(alloc);
     for header in headers {
-        enter_meta_header(alloc, &mut meta, headers, header)?;
+        enter_given_meta(alloc, &mut meta, headers, header)?;
     }
     Ok(meta)
 }
@@ -195,8 +195,8 @@ fn any_bad_entry(entries: &[Pair]) -> bool
 }
 
 /// Whether the body has more bytes than any that is read.
-pub fn is_long_body(body: &[u8]) -> bool
-    ensures { result ≡ is_long_body body.now }
+pub fn asks_with_long_body(body: &[u8]) -> bool
+    ensures { result ≡ asks_with_long_body body.now }
 {
     MOST_BODY_BYTES < body.len() as u64
 }

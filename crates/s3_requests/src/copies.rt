@@ -2,11 +2,11 @@
 ghost use Rattle.std.specs.Prelude.{◌≡◌, ◌&&◌, option_and_then, option_map, IfOk};
 ghost use Rattle.std.specs.List.{list_any};
 ghost use Rattle.s3_names.specs.Target.{is_question};
-ghost use Rattle.s3_requests.specs.Copies.{names_source, copying, is_copy, source_text, is_source_condition, asks_further, has_unsupported_source, without_slash, place_in, place_named, directive, replaces, has_bad_directive, from_to, copied_range, takes_range, has_bad_range, source_at, source_of, taken_source, has_body_of_copy, part_copy_asked};
+ghost use Rattle.s3_requests.specs.Copies.{names_source, copying, is_copy, copy_source_text, is_source_condition, asks_further, has_unsupported_source, without_slash, place_in, place_named, directive, replaces, has_bad_directive, from_to, copied_range, takes_range, has_bad_range, source_at, source_of, taken_source, has_body_of_copy, part_copy_asked};
 
 use crate::ranges::range_of;
 use crate::rows::Row;
-use crate::uploads::{given_part, given_upload};
+use crate::uploads::{given_part_number, given_upload};
 use gate_base::{Bytes, Memory, Pair, cut};
 use http_wire::{has_header, text_of};
 use s3_machine::{Op, Range};
@@ -50,8 +50,8 @@ fn is_copy(row: Row) -> bool
     }
 }
 
-fn source_text(alloc: Global, headers: &[Pair]) -> Result<Bytes, Memory>
-    ensures { IfOk result (λ text. text ≡ source_text headers.now) }
+fn copy_source_text(alloc: Global, headers: &[Pair]) -> Result<Bytes, Memory>
+    ensures { IfOk result (λ text. text ≡ copy_source_text headers.now) }
 {
     text_of(alloc, headers, b"x-amz-copy-source")
 }
@@ -68,7 +68,7 @@ fn has_source_condition(headers: &[Pair]) -> bool
     headers.iter().any(|header| is_source_condition(header))
 }
 
-fn has_question(text: &[u8]) -> bool
+fn has_copy_source_question(text: &[u8]) -> bool
     ensures { result ≡ list_any is_question text.now }
 {
     text.iter().any(|byte| *byte == b'?')
@@ -78,8 +78,8 @@ fn has_question(text: &[u8]) -> bool
 fn asks_further(alloc: Global, headers: &[Pair]) -> Result<bool, Memory>
     ensures { IfOk result (λ asks. asks ≡ asks_further headers.now) }
 {
-    let text = source_text(alloc, headers)?;
-    Ok(has_question(text.as_slice()) || has_source_condition(headers))
+    let text = copy_source_text(alloc, headers)?;
+    Ok(has_copy_source_question(text.as_slice()) || has_source_condition(headers))
 }
 
 /// Whether a source is named where nothing is copied, or more of a copy's source than this profile has.
@@ -117,7 +117,7 @@ fn place_in(alloc: Global, text: &[u8]) -> Result<Option<(Bytes, Bytes)>, Memory
 
 /// The bucket and the key that a text names, decoded first and split after.
 #[tactic(auto, unfolding(crate::specs::Copies::place_named))]
-fn place_named(alloc: Global, text: &[u8]) -> Result<Option<(Bytes, Bytes)>, Memory>
+fn copy_source_place_named(alloc: Global, text: &[u8]) -> Result<Option<(Bytes, Bytes)>, Memory>
     ensures { IfOk result (λ place. place ≡ place_named text.now) }
 {
     match decode(alloc, without_slash(text)) {
@@ -194,8 +194,8 @@ fn source_of(alloc: Global, row: Row, headers: &[Pair]) -> Result<Option<Source>
     if has_bad_range(row, headers, &range) {
         return Ok(None);
     }
-    let text = source_text(alloc, headers)?;
-    match place_named(alloc, text.as_slice())? {
+    let text = copy_source_text(alloc, headers)?;
+    match copy_source_place_named(alloc, text.as_slice())? {
         None => Ok(None),
         Some((bucket, key)) => Ok(Some(Source {
             bucket,
@@ -244,7 +244,7 @@ pub fn part_copy_asked(
         bucket,
         key,
         id,
-        number: given_part(query),
+        number: given_part_number(query),
         from_bucket: source.bucket,
         from_key: source.key,
         range: source.range,

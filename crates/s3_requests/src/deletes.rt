@@ -15,7 +15,7 @@ pub fn taken_deletes(alloc: Global, row: Row, body: &[u8]) -> Result<Option<Dele
     ensures { IfOk result (λ deletes. deletes ≡ taken_deletes row body.now) }
 {
     match row {
-        Row::DeleteObjects => deletes_in(alloc, body),
+        Row::DeleteObjects => taken_deletes_in(alloc, body),
         _ => Ok(Some(Deletes {
             keys: List::new(alloc),
             quiet: false,
@@ -23,7 +23,7 @@ pub fn taken_deletes(alloc: Global, row: Row, body: &[u8]) -> Result<Option<Dele
     }
 }
 
-fn deletes_in(alloc: Global, body: &[u8]) -> Result<Option<Deletes>, Memory>
+fn taken_deletes_in(alloc: Global, body: &[u8]) -> Result<Option<Deletes>, Memory>
     ensures { IfOk result (λ deletes. deletes ≡ deletes_in body.now) }
 {
     match read_delete(alloc, body) {

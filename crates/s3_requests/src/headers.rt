@@ -43,7 +43,7 @@ pub fn has_unsupported(headers: &[Pair]) -> bool
 
 /// Whether the word stands somewhere in the text.
 #[tactic(auto, unfolding(crate::specs::Headers::has_part))]
-fn has_part(word: &[u8], text: &[u8]) -> bool
+fn content_encoding_has_word(word: &[u8], text: &[u8]) -> bool
     ensures { result ≡ has_part word.now text.now }
 {
     let mut rest = text;
@@ -61,7 +61,7 @@ pub fn is_chunked(alloc: Global, headers: &[Pair]) -> Result<bool, Memory>
     ensures { IfOk result (λ chunked. chunked ≡ is_chunked headers.now) }
 {
     let encoding = text_of(alloc, headers, b"content-encoding")?;
-    Ok(has_part(b"aws-chunked", encoding.as_slice()))
+    Ok(content_encoding_has_word(b"aws-chunked", encoding.as_slice()))
 }
 
 fn is_read(method: &[u8]) -> bool

@@ -28,7 +28,7 @@ fn if_at_most_greatest(count: Option<u64>) -> Option<u64>
 
 /// The count that the text writes in 1 to 10 digits, at most 2147483647.
 #[tactic(auto, unfolding(crate::specs::Listings::count_of))]
-pub fn count_of(text: &[u8]) -> Option<u64>
+pub fn asked_count_of(text: &[u8]) -> Option<u64>
     ensures is { result ≡ count_of text.now }
     ensures within { IfSome result (λ count. count ≤ 2147483647) }
 {
@@ -48,7 +48,7 @@ fn capped(count: Option<u64>) -> u32
 pub fn most_by(query: &[Pair], name: &[u8]) -> u32
     ensures { result ≡ most_by name.now query.now }
 {
-    capped(count_of(text_at(query, name)))
+    capped(asked_count_of(text_at(query, name)))
 }
 
 fn most_keys(query: &[Pair]) -> u32
@@ -58,7 +58,7 @@ fn most_keys(query: &[Pair]) -> u32
 }
 
 /// The bytes that hexadecimal digits write, of either case.
-fn decoded(alloc: Global, text: &[u8]) -> Result<Option<Bytes>, Memory>
+fn given_token_bytes(alloc: Global, text: &[u8]) -> Result<Option<Bytes>, Memory>
     ensures { IfOk result (λ bytes. bytes ≡ result_ok (decode_of text.now)) }
 {
     match hex::decode(alloc, text) {
@@ -83,13 +83,13 @@ fn listing_text(bytes: Option<Bytes>) -> Option<Bytes>
 
 /// The text that a token stands for.
 #[tactic(auto, unfolding(crate::specs::Listings::token_of))]
-fn token_of(alloc: Global, text: &[u8]) -> Result<Option<Bytes>, Memory>
+fn given_token_of(alloc: Global, text: &[u8]) -> Result<Option<Bytes>, Memory>
     ensures { IfOk result (λ token. token ≡ token_of text.now) }
 {
     if !all_lower_hex(text) {
         return Ok(None);
     }
-    let bytes = decoded(alloc, text)?;
+    let bytes = given_token_bytes(alloc, text)?;
     Ok(listing_text(bytes))
 }
 
@@ -97,7 +97,7 @@ fn given_token(alloc: Global, query: &[Pair]) -> Result<Option<Bytes>, Memory>
     ensures { IfOk result (λ token. token ≡ given_token query.now) }
 {
     if is_asked(query, b"continuation-token") {
-        token_of(alloc, text_at(query, b"continuation-token"))
+        given_token_of(alloc, text_at(query, b"continuation-token"))
     } else {
         Ok(None)
     }
@@ -119,7 +119,7 @@ fn has_bad_flag(query: &[Pair], name: &[u8]) -> bool
 pub fn has_bad_count(query: &[Pair], name: &[u8]) -> bool
     ensures { result ≡ has_bad_count name.now query.now }
 {
-    is_asked(query, name) && count_of(text_at(query, name)).is_none()
+    is_asked(query, name) && asked_count_of(text_at(query, name)).is_none()
 }
 
 fn has_bad_text(query: &[Pair], name: &[u8]) -> bool

@@ -2,7 +2,7 @@
 ghost use Rattle.std.specs.Prelude.{◌≡◌, ◌≢◌, ◌&&◌, true, IfOk};
 ghost use Rattle.s3_machine.specs.Body.{IsDigestOf};
 ghost use Rattle.s3_requests.specs.Proper.{IsProperMeant};
-ghost use Rattle.s3_requests.specs.Meaning.{first_refusal, reasons, header_reasons, digest_reasons, argument_reasons, source_reasons, content_reasons, meta_reasons, body_reasons, list_reasons, deletes_reasons, meaning_of, op_of, or_private, put_acl, KeepsFront, is_denied, has_bad_bucket, row_of};
+ghost use Rattle.s3_requests.specs.Meaning.{first_refusal, reasons, header_reasons, digest_reasons, argument_reasons, source_reasons, content_reasons, meta_reasons, body_reasons, list_reasons, deletes_reasons, meaning_of, op_of, or_private, put_acl, KeepsFront, is_row_denied, has_bad_bucket, row_of};
 ghost use Rattle.s3_requests.specs.declared.meant.Meant.TheVariants as variant;
 ghost use Rattle.s3_requests.specs.Rows.{shape_of, is_plain, level_of, row_for};
 ghost use Rattle.s3_requests.specs.Meaning.{has_long_key, has_bad_key};
@@ -14,11 +14,11 @@ ghost use Rattle.s3_requests.specs.Conditions.{given_conditions};
 ghost use Rattle.s3_requests.specs.Ranges.{given_range};
 ghost use Rattle.s3_requests.specs.Listings.{first_asked, second_asked};
 ghost use Rattle.s3_requests.specs.Deletes.{deletes_asked, given_deletes};
-ghost use Rattle.s3_requests.specs.Uploads.{given_upload, given_part, given_list, taken_list, uploads_asked, parts_asked};
+ghost use Rattle.s3_requests.specs.Uploads.{given_upload, given_part_number, given_list, taken_listed_parts, uploads_asked, parts_asked};
 
 use crate::conditions::given_conditions;
 use crate::content::{
-    has_bad_digest, has_bad_entry, is_long_body, is_other_body, location_faults, taken_meta,
+    asks_with_long_body, has_bad_digest, has_bad_entry, is_other_body, location_faults, taken_meta,
     taken_type,
 };
 use crate::copies::{
@@ -35,7 +35,7 @@ use crate::ranges::given_range;
 use crate::rows::{Level, Row, is_method, is_same_level, level_of, row_for, shape_of};
 use crate::taken::{Taken, copy_asked};
 use crate::uploads::{
-    given_part, given_upload, has_bad_number, parts_asked, taken_list, uploads_asked,
+    given_part_number, given_upload, has_bad_number, parts_asked, taken_listed_parts, uploads_asked,
 };
 use gate_base::{Bytes, Caller, Copying, List, Memory, Pair};
 use http_wire::Message;
@@ -345,7 +345,7 @@ fn meant_from_body(
         (op_of row message.entry.now target.now)) }
     ensures keeps { KeepsFront message.entry.now message.exit.now }
 {
-    if is_long_body(message.body.as_slice()) {
+    if asks_with_long_body(message.body.as_slice()) {
         return Ok(Meant::Refused(Code::EntityTooLarge));
     }
     let region = settings.region.as_slice();
@@ -375,7 +375,7 @@ fn meant_from_list(
         (list_reasons row message.entry.now caller.now) (op_of row message.entry.now target.now)) }
     ensures keeps { KeepsFront message.entry.now message.exit.now }
 {
-    match taken_list(alloc, row, message.body.as_slice())? {
+    match taken_listed_parts(alloc, row, message.body.as_slice())? {
         None => Ok(Meant::Refused(Code::MalformedXML)),
         Some(list) => meant_from_deletes(alloc, row, message, target, caller, taken, list, digest),
     }
@@ -403,7 +403,7 @@ fn meant_from_deletes(
     match taken_deletes(alloc, row, message.body.as_slice())? {
         None => Ok(Meant::Refused(Code::MalformedXML)),
         Some(deletes) => {
-            if is_denied(row, *caller) {
+            if is_row_denied(row, *caller) {
                 return Ok(Meant::Refused(Code::AccessDenied));
             }
             op_of(alloc, row, message, target, taken, list, deletes, digest)
@@ -667,7 +667,7 @@ fn upload_part(
 ) -> Result<Meant, Memory>
     requires digest { IsDigestOf digest message.now.body }
     ensures value { IfOk result (λ meant. meant ≡ Meant.Op (Op.UploadPart target.now.bucket
-        target.now.key (given_upload target.now.query) (given_part target.now.query)
+        target.now.key (given_upload target.now.query) (given_part_number target.now.query)
         message.entry.now.body)) }
     ensures keeps { KeepsFront message.entry.now message.exit.now }
 {
@@ -677,7 +677,7 @@ fn upload_part(
         bucket,
         key,
         id,
-        number: given_part(target.query.pairs()),
+        number: given_part_number(target.query.pairs()),
         body: Body::with(mem::replace(&mut message.body, Bytes::new(alloc)), digest),
     }))
 }
@@ -775,8 +775,8 @@ fn has_bad_key(target: &Target) -> bool
     is_same_level(level_of_target(target), Level::Key) && !is_key(target.key.as_slice())
 }
 
-fn is_denied(row: Row, caller: Caller) -> bool
-    ensures { result ≡ is_denied row caller }
+fn is_row_denied(row: Row, caller: Caller) -> bool
+    ensures { result ≡ is_row_denied row caller }
 {
     match caller {
         Caller::Owner => false,

@@ -1,19 +1,19 @@
 //! The names of a query and their values. `x-id`, by which clients name the operation a second time, is none of the names.
 ghost use Rattle.std.specs.Prelude.{◌≡◌, filter, find, bytes_eq};
 ghost use Rattle.std.specs.Option.{option_copied};
-ghost use Rattle.s3_requests.specs.Rows.{counts, is_asked};
+ghost use Rattle.s3_requests.specs.Rows.{counts_as_query_name, is_asked};
 ghost use Rattle.s3_requests.specs.Query.{is_foreign, has_foreign_name, is_unknown, has_unknown_name, occurrences, is_given_twice, has_name_twice, text_at};
 
-use crate::rows::{Row, is_known_query_name, is_name_of};
+use crate::rows::{Row, is_known_query_name, is_query_name_of_row};
 use gate_base::Pair;
 
-fn counts(pair: &Pair) -> bool
-    ensures { result ≡ counts pair.now }
+fn counts_as_query_name(pair: &Pair) -> bool
+    ensures { result ≡ counts_as_query_name pair.now }
 {
     pair.name.as_slice() != b"x-id".as_slice()
 }
 
-fn has_name(name: &[u8], pair: &Pair) -> bool
+fn has_query_name(name: &[u8], pair: &Pair) -> bool
     ensures { result ≡ bytes_eq pair.now.name name.now }
 {
     pair.name.as_slice() == name
@@ -25,8 +25,8 @@ pub fn is_asked(query: &[Pair], name: &[u8]) -> bool
 {
     query
         .iter()
-        .filter(|pair| counts(pair))
-        .any(|pair| has_name(name, pair))
+        .filter(|pair| counts_as_query_name(pair))
+        .any(|pair| has_query_name(name, pair))
 }
 
 fn is_unknown(pair: &Pair) -> bool
@@ -41,14 +41,14 @@ pub fn has_unknown_name(query: &[Pair]) -> bool
 {
     query
         .iter()
-        .filter(|pair| counts(pair))
+        .filter(|pair| counts_as_query_name(pair))
         .any(|pair| is_unknown(pair))
 }
 
 fn is_foreign(row: Row, pair: &Pair) -> bool
     ensures { result ≡ is_foreign row pair.now }
 {
-    !is_name_of(pair.name.as_slice(), row)
+    !is_query_name_of_row(pair.name.as_slice(), row)
 }
 
 /// Whether the query has a name that the row doesn't have.
@@ -57,7 +57,7 @@ pub fn has_foreign_name(row: Row, query: &[Pair]) -> bool
 {
     query
         .iter()
-        .filter(|pair| counts(pair))
+        .filter(|pair| counts_as_query_name(pair))
         .any(|pair| is_foreign(row, pair))
 }
 
@@ -67,8 +67,8 @@ fn occurrences(name: &[u8], query: &[Pair]) -> usize
 {
     query
         .iter()
-        .filter(|pair| counts(pair))
-        .filter(|pair| has_name(name, pair))
+        .filter(|pair| counts_as_query_name(pair))
+        .filter(|pair| has_query_name(name, pair))
         .count()
 }
 
@@ -84,7 +84,7 @@ pub fn has_name_twice(query: &[Pair]) -> bool
 {
     query
         .iter()
-        .filter(|pair| counts(pair))
+        .filter(|pair| counts_as_query_name(pair))
         .any(|pair| is_given_twice(query, pair))
 }
 
@@ -92,14 +92,14 @@ pub fn has_name_twice(query: &[Pair]) -> bool
 pub fn text_at<'a>(query: &'a [Pair], name: &[u8]) -> &'a [u8]
     ensures { result.now ≡ text_at name.now query.now }
 {
-    match first(query, name) {
+    match first_query_pair(query, name) {
         Some(pair) => pair.value.as_slice(),
         None => b"",
     }
 }
 
-fn first<'a>(query: &'a [Pair], name: &[u8]) -> Option<&'a Pair>
+fn first_query_pair<'a>(query: &'a [Pair], name: &[u8]) -> Option<&'a Pair>
     ensures { option_copied result ≡ find (λ pair. bytes_eq pair.name name.now) query.now }
 {
-    query.iter().find(|pair| has_name(name, pair))
+    query.iter().find(|pair| has_query_name(name, pair))
 }

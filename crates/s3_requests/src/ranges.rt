@@ -27,7 +27,7 @@ fn between(first: Option<u64>, last: Option<u64>) -> Option<Range>
     }
 }
 
-fn from(first: Option<u64>) -> Option<Range>
+fn asked_range_from(first: Option<u64>) -> Option<Range>
     ensures { result ≡ option_map Range.From first }
 {
     match first {
@@ -36,7 +36,7 @@ fn from(first: Option<u64>) -> Option<Range>
     }
 }
 
-fn last(length: Option<u64>) -> Option<Range>
+fn asked_range_of_last(length: Option<u64>) -> Option<Range>
     ensures { result ≡ option_map Range.Last length }
 {
     match length {
@@ -50,8 +50,8 @@ fn range_by(first: &[u8], behind: &[u8]) -> Option<Range>
     ensures { result ≡ range_by first.now behind.now }
 {
     match (first, behind) {
-        ([], _) => last(place_of(behind)),
-        (_, []) => from(place_of(first)),
+        ([], _) => asked_range_of_last(place_of(behind)),
+        (_, []) => asked_range_from(place_of(first)),
         _ => between(place_of(first), place_of(behind)),
     }
 }

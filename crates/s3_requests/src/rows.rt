@@ -2,7 +2,7 @@
 ghost use Rattle.std.specs.Prelude.{◌≡◌, true, false, ◌&&◌, find, bytes_eq};
 ghost use Rattle.std.specs.List.{list_any};
 ghost use Rattle.std.specs.Option.{option_copied};
-ghost use Rattle.s3_requests.specs.Rows.{rows, plain, for_all, with_content, with_location, with_acl, shape_of, level_of, is_same_level, is_asked, is_among, is_name_of, texts, agrees, is_same_set, fits, is_method};
+ghost use Rattle.s3_requests.specs.Rows.{rows, plain, for_all, with_content, with_location, with_acl, shape_of, level_of, is_same_level, is_asked, is_among, is_query_name_of_row, texts, agrees, is_same_set, fits, is_method};
 
 use crate::query::is_asked;
 use gate_base::Pair;
@@ -277,14 +277,14 @@ impl Shape {
     fn selects(&self, name: &[u8]) -> bool
         ensures { result ≡ is_among name.now self.now.selectors }
     {
-        is_one_of(name, self.selectors)
+        is_among_row_names(name, self.selectors)
     }
 
     /// Whether the name is one that the query may have beside the selectors.
     fn has_further_name(&self, name: &[u8]) -> bool
         ensures { result ≡ is_among name.now self.now.further }
     {
-        is_one_of(name, self.further)
+        is_among_row_names(name, self.further)
     }
 
     /// Whether the query has the selector exactly where the row has it.
@@ -309,7 +309,7 @@ impl Shape {
 }
 
 #[tactic(auto, unfolding(crate::specs::Rows::rows))]
-fn table() -> &'static [Row]
+fn table_of_rows() -> &'static [Row]
     ensures { result.now ≡ rows }
 {
     &ROWS
@@ -328,14 +328,18 @@ pub fn row_for(method: &[u8], level: Level, query: &[Pair]) -> Option<Row>
 fn first_fit(method: &[u8], level: Level, query: &[Pair]) -> Option<&'static Row>
     ensures { option_copied result ≡ find (fits method.now level query.now) rows }
 {
-    table().iter().find(|row| fits(method, level, query, **row))
+    table_of_rows()
+        .iter()
+        .find(|row| fits(method, level, query, **row))
 }
 
 /// Whether a row has the name.
 pub fn is_known_query_name(name: &[u8]) -> bool
-    ensures { result ≡ list_any (is_name_of name.now) rows }
+    ensures { result ≡ list_any (is_query_name_of_row name.now) rows }
 {
-    table().iter().any(|row| is_name_of(name, *row))
+    table_of_rows()
+        .iter()
+        .any(|row| is_query_name_of_row(name, *row))
 }
 
 /// Whether the method is one of the table.
@@ -369,21 +373,21 @@ pub fn is_same_level(level: Level, other: Level) -> bool
     level == other
 }
 
-fn is_one_of(name: &[u8], names: &[&[u8]]) -> bool
+fn is_among_row_names(name: &[u8], names: &[&[u8]]) -> bool
     ensures { result ≡ is_among name.now (texts names.now) }
 {
-    has_text(names, name)
+    is_text_of_row_names(names, name)
 }
 
-fn has_text(names: &[&[u8]], name: &[u8]) -> bool
+fn is_text_of_row_names(names: &[&[u8]], name: &[u8]) -> bool
     ensures { result ≡ list_any (λ other. bytes_eq name.now other.now) names.now }
 {
     names.iter().any(|other| name == *other)
 }
 
 /// Whether the row has the name.
-pub fn is_name_of(name: &[u8], row: Row) -> bool
-    ensures { result ≡ is_name_of name.now row }
+pub fn is_query_name_of_row(name: &[u8], row: Row) -> bool
+    ensures { result ≡ is_query_name_of_row name.now row }
 {
     let shape = shape_of(row);
     shape.selects(name) || shape.has_further_name(name)

@@ -3,9 +3,9 @@ ghost use Rattle.std.specs.Prelude.{◌≡◌, ◌&&◌, ◌||◌, ◌≤◌, is
 ghost use Rattle.s3_bodies.specs.Listed.{listed_in};
 ghost use Rattle.s3_requests.specs.Listings.{count_of, has_bad_count};
 ghost use Rattle.s3_requests.specs.Query.{text_at};
-ghost use Rattle.s3_requests.specs.Uploads.{given_upload, of_part, part_of, given_part, given_marker, has_bad_part, has_bad_number, uploads_asked, parts_asked, taken_list};
+ghost use Rattle.s3_requests.specs.Uploads.{given_upload, of_part, part_of, given_part_number, given_part_marker, has_bad_part, has_bad_number, uploads_asked, parts_asked, taken_listed_parts};
 
-use crate::listings::{copy_of_query_value, count_of, has_bad_count, most_by};
+use crate::listings::{asked_count_of, copy_of_query_value, has_bad_count, most_by};
 use crate::query::{is_asked, text_at};
 use crate::rows::Row;
 use gate_base::{Bytes, List, Memory, Pair};
@@ -30,7 +30,7 @@ fn of_part(number: Option<u64>) -> Option<u32>
 
 /// The number of a part that the text writes in 1 to 9 digits.
 #[tactic(auto, unfolding(crate::specs::Uploads::part_of))]
-fn part_of(text: &[u8]) -> Option<u32>
+fn asked_part_number_of(text: &[u8]) -> Option<u32>
     ensures { result ≡ part_of text.now }
 {
     of_part(number_of(text, DIGITS))
@@ -44,20 +44,20 @@ pub fn given_upload(alloc: Global, query: &[Pair]) -> Result<Bytes, Memory>
 }
 
 /// The number of the part.
-pub fn given_part(query: &[Pair]) -> u32
-    ensures { result ≡ given_part query.now }
+pub fn given_part_number(query: &[Pair]) -> u32
+    ensures { result ≡ given_part_number query.now }
 {
-    match part_of(text_at(query, b"partNumber")) {
+    match asked_part_number_of(text_at(query, b"partNumber")) {
         Some(number) => number,
         None => 1,
     }
 }
 
 /// The number behind which the parts are listed.
-fn given_marker(query: &[Pair]) -> u32
-    ensures { result ≡ given_marker query.now }
+fn given_part_marker(query: &[Pair]) -> u32
+    ensures { result ≡ given_part_marker query.now }
 {
-    match count_of(text_at(query, b"part-number-marker")) {
+    match asked_count_of(text_at(query, b"part-number-marker")) {
         Some(number) => number as u32,
         None => 0,
     }
@@ -65,16 +65,20 @@ fn given_marker(query: &[Pair]) -> u32
 
 /// What the body lists of a row that completes an upload, and no part for any other row. `None` where it is no
 /// completion, or lists too many parts. The body is read once.
-pub fn taken_list(alloc: Global, row: Row, body: &[u8]) -> Result<Option<List<Listed>>, Memory>
-    ensures { IfOk result (λ list. list ≡ taken_list row body.now) }
+pub fn taken_listed_parts(
+    alloc: Global,
+    row: Row,
+    body: &[u8],
+) -> Result<Option<List<Listed>>, Memory>
+    ensures { IfOk result (λ list. list ≡ taken_listed_parts row body.now) }
 {
     match row {
-        Row::CompleteMultipartUpload => listed_in(alloc, body),
+        Row::CompleteMultipartUpload => taken_listed_parts_in(alloc, body),
         _ => Ok(Some(List::new(alloc))),
     }
 }
 
-fn listed_in(alloc: Global, body: &[u8]) -> Result<Option<List<Listed>>, Memory>
+fn taken_listed_parts_in(alloc: Global, body: &[u8]) -> Result<Option<List<Listed>>, Memory>
     ensures { IfOk result (λ list. list ≡ listed_in body.now) }
 {
     match read_completion(alloc, body) {
@@ -87,7 +91,7 @@ fn listed_in(alloc: Global, body: &[u8]) -> Result<Option<List<Listed>>, Memory>
 fn has_bad_part(query: &[Pair]) -> bool
     ensures { result ≡ has_bad_part query.now }
 {
-    is_asked(query, b"partNumber") && part_of(text_at(query, b"partNumber")).is_none()
+    is_asked(query, b"partNumber") && asked_part_number_of(text_at(query, b"partNumber")).is_none()
 }
 
 /// Whether a number of the query is of another form.
@@ -125,7 +129,7 @@ pub fn parts_asked(alloc: Global, bucket: Bytes, key: Bytes, query: &[Pair]) -> 
         bucket,
         key,
         id,
-        marker: given_marker(query),
+        marker: given_part_marker(query),
         max: most_by(query, b"max-parts"),
     })
 }

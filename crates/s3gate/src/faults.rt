@@ -1,6 +1,6 @@
 //! What is said on standard error where a run can't begin, or is refused.
 
-use environment::{SetupFault, report_setup};
+use environment::{SetupFault, report_variable_fault};
 use gate_base::{Bytes, Memory};
 use gateway_cli::{WordsFault, read_words};
 use sigv4::{Keys, KeysFault};
@@ -17,7 +17,7 @@ pub fn explain_setup_fault(rt: &HostRuntime, fault: SetupFault) -> u8 {
     match fault {
         SetupFault::Memory => MEMORY,
         SetupFault::Variable(name, why) => {
-            report_setup(rt, b"s3gate: setup\n", name, why);
+            report_variable_fault(rt, b"s3gate: setup\n", name, why);
             SETUP
         }
     }

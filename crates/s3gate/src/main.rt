@@ -13,8 +13,8 @@ mod input;
 use crate::faults::{explain_refusal, explain_setup_fault};
 use crate::input::InputLine;
 use environment::{
-    SetupFault, Why, listener, number, own_runtime, place_fault, required_field, switch, variable,
-    words,
+    SetupFault, Why, clone_environment_runtime, is_variable_on, listener_at_variable_place,
+    number_in_variable, place_fault, required_variable, variable, words,
 };
 use gate_base::{Bytes, Copying, Line, RandomDraws, StdLine, StdSink, SystemClock};
 use gateway_cmd::run;
@@ -74,10 +74,10 @@ fn main(rt: HostRuntime) -> ExitCode {
 /// A run by the words and the key text.
 fn start(rt: &HostRuntime) -> Result<u8, SetupFault> {
     let keys = key_text(rt)?;
-    start_by(rt, keys.as_str())
+    start_by_keys(rt, keys.as_str())
 }
 
-fn start_by(rt: &HostRuntime, keys: &str) -> Result<u8, SetupFault> {
+fn start_by_keys(rt: &HostRuntime, keys: &str) -> Result<u8, SetupFault> {
     let words = words(rt)?;
     let status = start_with(rt, &words, keys)?;
     if status == REFUSED {
@@ -119,7 +119,7 @@ fn serve_on(
 /// A run over the Swift store alone: it has a line, and reads nothing of it.
 fn recover(rt: &HostRuntime, words: &[String], keys: &str) -> Result<u8, SetupFault> {
     let mut store = swift_store(rt)?;
-    let mut line = InputLine::new(own_runtime(rt)?);
+    let mut line = InputLine::new(clone_environment_runtime(rt)?);
     run_over(rt, words, keys, &mut line, &mut store)
 }
 
@@ -138,10 +138,10 @@ fn run_on_standard_streams<W: Swift>(
     store: &mut W,
 ) -> Result<u8, SetupFault> {
     if begins_with(words, b"session") {
-        let mut line = StdLine::new(own_runtime(rt)?);
+        let mut line = StdLine::new(clone_environment_runtime(rt)?);
         run_over(rt, words, keys, &mut line, store)
     } else {
-        let mut line = InputLine::new(own_runtime(rt)?);
+        let mut line = InputLine::new(clone_environment_runtime(rt)?);
         run_over(rt, words, keys, &mut line, store)
     }
 }
@@ -153,9 +153,9 @@ fn run_over<N: Line<W>, W: Swift>(
     line: &mut N,
     store: &mut W,
 ) -> Result<u8, SetupFault> {
-    let mut report = report_for(own_runtime(rt)?, words);
-    let mut clock = SystemClock::new(own_runtime(rt)?);
-    let mut draws = RandomDraws::new(own_runtime(rt)?);
+    let mut report = report_for(clone_environment_runtime(rt)?, words);
+    let mut clock = SystemClock::new(clone_environment_runtime(rt)?);
+    let mut draws = RandomDraws::new(clone_environment_runtime(rt)?);
     Ok(run(
         rt.alloc(),
         words,
@@ -190,7 +190,7 @@ fn read_key_file(rt: &HostRuntime, path: &str) -> Result<String, SetupFault> {
 /// The listener is the first that is opened and stays. So where standard error is closed its number is the listener's, to which no
 /// line can be written, and never that of a client or of the store.
 fn clients(rt: &HostRuntime) -> Result<Clients, SetupFault> {
-    let limit = number(rt, "S3GATE_IDLE", USUAL_IDLE, LONGEST)?;
+    let limit = number_in_variable(rt, "S3GATE_IDLE", USUAL_IDLE, LONGEST)?;
     let ahead = ahead(rt)?;
     let log = log(rt)?;
     let line = tcp_line(rt, limit, ahead)?;
@@ -202,8 +202,15 @@ fn tcp_line(
     limit: u64,
     ahead: usize,
 ) -> Result<TcpLine<HostRuntime>, SetupFault> {
-    let listener = listener(rt, LISTEN)?;
-    match TcpLine::new(own_runtime(rt)?, rt.alloc(), listener, limit, None, ahead) {
+    let listener = listener_at_variable_place(rt, LISTEN)?;
+    match TcpLine::new(
+        clone_environment_runtime(rt)?,
+        rt.alloc(),
+        listener,
+        limit,
+        None,
+        ahead,
+    ) {
         Ok(line) => Ok(line),
         Err(error) if error.kind() == ErrorKind::OutOfMemory => Err(SetupFault::Memory),
         Err(_) => Err(SetupFault::Variable(LISTEN, Why::CannotListen)),
@@ -212,20 +219,20 @@ fn tcp_line(
 
 /// How many bytes are read ahead or kept to be sent, at most.
 fn ahead(rt: &HostRuntime) -> Result<usize, SetupFault> {
-    let count = number(rt, "S3GATE_AHEAD", USUAL_AHEAD, MOST_AHEAD)?;
+    let count = number_in_variable(rt, "S3GATE_AHEAD", USUAL_AHEAD, MOST_AHEAD)?;
     Ok(count.saturating_mul(MEBIBYTE) as usize)
 }
 
 /// A log on standard error, unless the environment ends it.
 fn log(rt: &HostRuntime) -> Result<Log<StdSink, HostRuntime>, SetupFault> {
-    let is_on = switch(rt, "S3GATE_LOG")?;
-    let sink = StdSink::error(own_runtime(rt)?);
-    Ok(Log::new(own_runtime(rt)?, rt.alloc(), sink, is_on))
+    let is_on = is_variable_on(rt, "S3GATE_LOG")?;
+    let sink = StdSink::error(clone_environment_runtime(rt)?);
+    Ok(Log::new(clone_environment_runtime(rt)?, rt.alloc(), sink, is_on))
 }
 
 /// The Swift store that the environment names. The first call connects to it.
 fn swift_store(rt: &HostRuntime) -> Result<Store, SetupFault> {
-    let limit = number(rt, "S3GATE_STORE_TIMEOUT", USUAL_SILENCE, LONGEST)?;
+    let limit = number_in_variable(rt, "S3GATE_STORE_TIMEOUT", USUAL_SILENCE, LONGEST)?;
     let place = store_place(rt)?;
     let name = place.host.copy()?;
     let log = log(rt)?;
@@ -241,14 +248,14 @@ fn store_at(
     if !is_place(&place) {
         return Err(SetupFault::Variable(STORE, Why::NotField));
     }
-    Ok(over_tcp(own_runtime(rt)?, rt.alloc(), place, limit)?)
+    Ok(over_tcp(clone_environment_runtime(rt)?, rt.alloc(), place, limit)?)
 }
 
 /// Where the store is, and its account and token.
 fn store_place(rt: &HostRuntime) -> Result<Place, SetupFault> {
     let host = store_host(rt)?;
-    let account = required_field(rt, "S3GATE_ACCOUNT")?;
-    let token = required_field(rt, "S3GATE_TOKEN")?;
+    let account = required_variable(rt, "S3GATE_ACCOUNT")?;
+    let token = required_variable(rt, "S3GATE_TOKEN")?;
     Ok(Place {
         host,
         account,
@@ -257,7 +264,7 @@ fn store_place(rt: &HostRuntime) -> Result<Place, SetupFault> {
 }
 
 fn store_host(rt: &HostRuntime) -> Result<Bytes, SetupFault> {
-    let host = required_field(rt, STORE)?;
+    let host = required_variable(rt, STORE)?;
     match str::from_utf8(host.as_slice()) {
         Ok(text) => match place_fault(text) {
             Some(why) => Err(SetupFault::Variable(STORE, why)),

@@ -9,7 +9,7 @@ use Rattle.std.proofs.lemmas.Bool.{cases_Bool, and_parts, or_from, or_left}
 use Rattle.std.proofs.lemmas.Slice.Eq.{bytes_eq-Decides}
 use Rattle.gate_base.specs.Maps.{name_cmp}
 use Rattle.gate_base.proofs.lemmas.Maps.{name_antisymmetric}
-use Rattle.sigv4.specs.Authorization.{stands_before, are_ascending}
+use Rattle.sigv4.specs.Authorization.{signed_name_stands_before, are_ascending}
 use Rattle.sigv4.specs.Verdict.{is_among}
 use Rattle.sign_cmd.specs.Laws.{NamesOnce}
 
@@ -22,16 +22,16 @@ before_is_other : (a b : List ℕ) → is_lt (name_cmp a b) ≡ true → bytes_e
 before_is_other a b h =
     lists_ties nat_cmp unsigned_ties b a ∙ ap is_eq (nat_list_cmp_total.antisymm b a ∙ ap ordering_reverse (less_where (name_cmp a b) h))
 
-before_tail : (name next : List ℕ) (names : List (List ℕ)) → is_lt (name_cmp name next) ≡ true → stands_before next names ≡ true → stands_before name names ≡ true
+before_tail : (name next : List ℕ) (names : List (List ℕ)) → is_lt (name_cmp name next) ≡ true → signed_name_stands_before next names ≡ true → signed_name_stands_before name names ≡ true
 before_tail name next [] h k = refl
 before_tail name next (third ∷ names) h k = ap is_lt (nat_list_cmp_total.trans name next third (less_where (name_cmp name next) h) (less_where (name_cmp next third) k))
 
-ascending_parts : (name : List ℕ) (names : List (List ℕ)) → are_ascending (name ∷ names) ≡ true → (stands_before name names ≡ true) × (are_ascending names ≡ true)
+ascending_parts : (name : List ℕ) (names : List (List ℕ)) → are_ascending (name ∷ names) ≡ true → (signed_name_stands_before name names ≡ true) × (are_ascending names ≡ true)
 unfolding are_ascending
-ascending_parts name names h = and_parts (stands_before name names) (are_ascending names) h
+ascending_parts name names h = and_parts (signed_name_stands_before name names) (are_ascending names) h
 
 -- a name that stands before the first isn't among ascending names
-not_among : (name : List ℕ) (names : List (List ℕ)) → stands_before name names ≡ true → are_ascending names ≡ true → is_among name names ≡ false
+not_among : (name : List ℕ) (names : List (List ℕ)) → signed_name_stands_before name names ≡ true → are_ascending names ≡ true → is_among name names ≡ false
 not_among name [] before ascending = refl
 not_among name (next ∷ names) before ascending =
     let parts = ascending_parts next names ascending in

@@ -7,7 +7,7 @@ use Rattle.http_wire.specs.declared.message.Got.TheVariants.{Request, CutShort, 
 use Rattle.http_wire.specs.declared.message.Kind.{Kind}
 use Rattle.http_wire.specs.declared.message.Message.{Message}
 use Rattle.http_wire.specs.FirstMessage.{FirstMessage, asks, cut_short, refused, BeginsWith}
-use Rattle.http_wire.specs.Headers.{has_one}
+use Rattle.http_wire.specs.Headers.{has_single_header}
 use Rattle.http_wire.specs.Reading.{Pending, GivesFirstMessage}
 use Rattle.http_wire.specs.Interim.{OwesInterim, SendsInterim}
 use Rattle.sigv4.specs.Sign.{is_date_time}
@@ -19,8 +19,8 @@ use Rattle.sign_cmd.specs.declared.first.Signing.TheVariants.{Signed, NoRequest,
 -- a request with the headers has a date of the form
 pub signing_headers_dated : (headers : List Pair) → has_signing_headers headers ≡ true → is_date_time (time_of headers) ≡ true
 signing_headers_dated headers h =
-    let one : Bool = has_one (codes "x-amz-date") headers in
-    (and_parts one (is_date_time (time_of headers)) (and_parts (one && is_date_time (time_of headers)) (has_one (codes "x-amz-content-sha256") headers) h).0).1
+    let one : Bool = has_single_header (codes "x-amz-date") headers in
+    (and_parts one (is_date_time (time_of headers)) (and_parts (one && is_date_time (time_of headers)) (has_single_header (codes "x-amz-content-sha256") headers) h).0).1
 
 -- a reader that has read nothing yet
 abbrev fresh : Pending

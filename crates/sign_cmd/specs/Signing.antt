@@ -12,7 +12,7 @@ use Rattle.s3_names.specs.declared.target.Target.{Target}
 use Rattle.s3_names.specs.Target.{target_of}
 use Rattle.http_wire.specs.declared.message.Message.{Message}
 use Rattle.http_wire.specs.FirstMessage.{FirstMessage, asks, nothing, cut_short, refused, BeginsWith}
-use Rattle.http_wire.specs.Headers.{has_one}
+use Rattle.http_wire.specs.Headers.{has_single_header}
 use Rattle.http_wire.specs.Interim.{OwesInterim, SendsInterim, MaySendInterim, CutsInterim}
 use Rattle.sigv4.specs.declared.signature.Signed.{Signed as Signature}
 use Rattle.sigv4.specs.Canonical.{canonical_text}
@@ -25,7 +25,7 @@ use Rattle.sign_cmd.specs.declared.first.Signing.TheVariants.{Signed, NoRequest,
 -- exactly one header is the date, of the form `YYYYMMDDTHHMMSSZ`, and exactly one the hash of the payload
 abbrev pub has_signing_headers : List Pair → Bool
 has_signing_headers headers =
-    has_one (codes "x-amz-date") headers && is_date_time (time_of headers) && has_one (codes "x-amz-content-sha256") headers
+    has_single_header (codes "x-amz-date") headers && is_date_time (time_of headers) && has_single_header (codes "x-amz-content-sha256") headers
 
 -- a request is signed where its target reads and it has these headers
 abbrev pub can_sign : Message → Bool

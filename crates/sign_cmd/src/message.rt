@@ -23,14 +23,14 @@ pub(crate) fn sign_message(
     if !has_signing_headers(message.headers.as_slice()) {
         return Ok(None);
     }
-    match read_target(alloc, message.target.as_slice())? {
+    match read_target_to_sign(alloc, message.target.as_slice())? {
         Some(target) => Ok(Some(sign_for(alloc, secret, region, message, &target)?)),
         None => Ok(None),
     }
 }
 
 /// The target, where the text is one.
-fn read_target(alloc: Global, text: &[u8]) -> Result<Option<Target>, Memory>
+fn read_target_to_sign(alloc: Global, text: &[u8]) -> Result<Option<Target>, Memory>
     ensures { IfOk result (λ read. read ≡ target_read (target_of text.now)) }
 {
     match Target::read(alloc, text) {

@@ -12,7 +12,7 @@ pub(crate) fn names_to_sign(alloc: Global, headers: &[Pair]) -> Result<List<Byte
     let mut names = List::new(alloc);
     for header in headers {
         if is_signed(header.name.as_slice()) {
-            add_name(alloc, &mut names, header.name.as_slice())?;
+            add_name_to_sign(alloc, &mut names, header.name.as_slice())?;
         }
     }
     Ok(names)
@@ -25,11 +25,11 @@ fn is_signed(name: &[u8]) -> bool
 }
 
 /// Puts a name in its place among ascending names. One that is there stays.
-fn add_name(alloc: Global, names: &mut List<Bytes>, name: &[u8]) -> Result<(), Memory>
+fn add_name_to_sign(alloc: Global, names: &mut List<Bytes>, name: &[u8]) -> Result<(), Memory>
     ensures { OnOk result (AddsName name.now names.old names.new) }
 {
-    let index = count_below(name, names.as_slice());
-    if has_at(names.as_slice(), index, name) {
+    let index = count_names_to_sign_below(name, names.as_slice());
+    if has_name_to_sign_at(names.as_slice(), index, name) {
         Ok(())
     } else {
         names.insert(index, Bytes::from_slice(alloc, name)?)
@@ -37,7 +37,7 @@ fn add_name(alloc: Global, names: &mut List<Bytes>, name: &[u8]) -> Result<(), M
 }
 
 /// How many of the first names are less than this one.
-fn count_below(name: &[u8], names: &[Bytes]) -> usize
+fn count_names_to_sign_below(name: &[u8], names: &[Bytes]) -> usize
     ensures count { result ≡ count_below itself name.now names.now }
     ensures within { result ≤ length names.now }
 {
@@ -48,7 +48,7 @@ fn count_below(name: &[u8], names: &[Bytes]) -> usize
 }
 
 /// Whether the name stands at the index.
-fn has_at(names: &[Bytes], index: usize, name: &[u8]) -> bool
+fn has_name_to_sign_at(names: &[Bytes], index: usize, name: &[u8]) -> bool
     ensures { result ≡ one_has_name itself name.now (slice_get names.now index) }
 {
     match names.get(index) {

@@ -9,7 +9,7 @@ use Rattle.std.proofs.lemmas.List.Splits.{join_with_byte-slice_split}
 use Rattle.httparse.specs.Grammar.{is_token_byte}
 use Rattle.gate_base.specs.Ascii.{is_visible}
 use Rattle.gate_base.specs.Ascii.{is_slash}
-use Rattle.sigv4.specs.Authorization.{is_comma, is_semicolon, is_part_byte, is_part, is_name_byte, is_name, are_ascending, are_names, is_hex, is_formed, credential_text, authorization_text, IsAuthorization, skip_spaces, algorithm_section, credential_section, names_section, signature_section, behind_id, behind_date, behind_region, behind_service, credential_of, is_labelled, parts_of, authorization_of}
+use Rattle.sigv4.specs.Authorization.{is_comma, is_semicolon, is_credential_byte, is_part, is_name_byte, is_name, are_ascending, are_names, is_hex, is_formed, credential_text, authorization_text, IsAuthorization, skip_spaces, algorithm_section, credential_section, names_section, signature_section, behind_id, behind_date, behind_region, behind_service, credential_of, is_labelled, parts_of, authorization_of}
 use Rattle.sigv4.specs.declared.authorization.Authorization.{Authorization}
 use Rattle.sigv4.proofs.CutLemmas.{is_free, before_of, after_of, cut_by, begins, spaces_back, spaces_skipped, all_replicated, all_joined, all_weaker, all_in_join, split_joined}
 
@@ -96,8 +96,8 @@ text_back text h formed =
 -- a part has no slash and no comma
 part_bytes : (part : List ℕ) → is_part part ≡ true → (is_free is_slash part ≡ true) × (is_free is_comma part ≡ true)
 part_bytes part h =
-    let bytes = (and_parts (nat_lt 0 (length part)) (list_all is_part_byte part) h).1 in
-    (all_weaker is_part_byte (λ b. not (is_slash b)) (λ b k. (and_parts (is_visible b) (not (is_slash b)) (and_parts (is_visible b && not (is_slash b)) (not (is_comma b)) k).0).1) part bytes, all_weaker is_part_byte (λ b. not (is_comma b)) (λ b k. (and_parts (is_visible b && not (is_slash b)) (not (is_comma b)) k).1) part bytes)
+    let bytes = (and_parts (nat_lt 0 (length part)) (list_all is_credential_byte part) h).1 in
+    (all_weaker is_credential_byte (λ b. not (is_slash b)) (λ b k. (and_parts (is_visible b) (not (is_slash b)) (and_parts (is_visible b && not (is_slash b)) (not (is_comma b)) k).0).1) part bytes, all_weaker is_credential_byte (λ b. not (is_comma b)) (λ b k. (and_parts (is_visible b && not (is_slash b)) (not (is_comma b)) k).1) part bytes)
 
 -- a byte of a name is not one that no token has
 name_byte_differs : (c : ℕ) → is_token_byte c ≡ false → (b : ℕ) → is_name_byte b ≡ true → not (eqb b c) ≡ true

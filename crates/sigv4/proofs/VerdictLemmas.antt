@@ -5,7 +5,7 @@ use Rattle.std.specs.List.{list_all}
 use Rattle.std.proofs.lemmas.Bool.{and_parts, eqb-true, not-false}
 use Rattle.gate_base.specs.Ascii.{is_digit}
 use Rattle.gate_base.specs.declared.page.Pair.{Pair}
-use Rattle.http_wire.specs.Headers.{has_one}
+use Rattle.http_wire.specs.Headers.{has_single_header}
 use Rattle.sigv4.specs.Moment.{two_digits, year_of, is_day, is_time}
 use Rattle.sigv4.specs.Sign.{is_date_time, date_of}
 use Rattle.sigv4.specs.Verdict.{time_of, lacks_date}
@@ -33,6 +33,6 @@ time_has_day time year month day h a b c = rw (a, b, c) (time_parts time h).1
 -- a request that doesn't lack its date has a time
 pub dated : (claim : Authorization) (headers : List Pair) → lacks_date claim headers ≡ false → is_time (time_of headers) ≡ true
 dated claim headers h =
-    let one : Bool = has_one (codes "x-amz-date") headers in
+    let one : Bool = has_single_header (codes "x-amz-date") headers in
     let day : Bool = bytes_eq (date_of (time_of headers)) claim.date in
     (and_parts one (is_time (time_of headers)) (and_parts (one && is_time (time_of headers)) day (not-false _ h)).0).1

@@ -43,12 +43,12 @@ abbrev pub is_semicolon : ℕ → Bool
 is_semicolon byte = byte == 59
 
 -- visible ASCII but `/` and `,`
-abbrev pub is_part_byte : ℕ → Bool
-is_part_byte byte = is_visible byte && not (is_slash byte) && not (is_comma byte)
+abbrev pub is_credential_byte : ℕ → Bool
+is_credential_byte byte = is_visible byte && not (is_slash byte) && not (is_comma byte)
 
 -- an id, a date, a region or a service: one or more such bytes
 abbrev pub is_part : List ℕ → Bool
-is_part part = nat_lt 0 (length part) && list_all is_part_byte part
+is_part part = nat_lt 0 (length part) && list_all is_credential_byte part
 
 -- a byte of a token that isn't an upper-case letter (RFC 9110, section 5.6.2)
 abbrev pub is_name_byte : ℕ → Bool
@@ -59,14 +59,14 @@ abbrev pub is_name : List ℕ → Bool
 is_name name = nat_lt 0 (length name) && list_all is_name_byte name
 
 -- the name stands before the first of the others, if there is one
-abbrev pub stands_before : List ℕ → List (List ℕ) → Bool
-stands_before name [] = true
-stands_before name (next ∷ names) = is_lt (slice_cmp nat_cmp name next)
+abbrev pub signed_name_stands_before : List ℕ → List (List ℕ) → Bool
+signed_name_stands_before name [] = true
+signed_name_stands_before name (next ∷ names) = is_lt (slice_cmp nat_cmp name next)
 
 -- each name stands before the next one
 unfoldable pub are_ascending : List (List ℕ) → Bool
 are_ascending [] = true
-are_ascending (name ∷ names) = stands_before name names && are_ascending names
+are_ascending (name ∷ names) = signed_name_stands_before name names && are_ascending names
 
 -- one or more names, in order and without repetition
 abbrev pub are_names : List (List ℕ) → Bool

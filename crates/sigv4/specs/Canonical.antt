@@ -18,25 +18,25 @@ skip_blanks [] = []
 skip_blanks (byte ∷ text) = if is_blank byte then skip_blanks text else byte ∷ text
 
 -- the text up to its last byte that isn't blank
-abbrev pub cut_blanks : List ℕ → List ℕ
-cut_blanks text = reverse (skip_blanks (reverse text))
+abbrev pub trim_canonical_end : List ℕ → List ℕ
+trim_canonical_end text = reverse (skip_blanks (reverse text))
 
-abbrev pub begins_with_space : List ℕ → Bool
-begins_with_space [] = false
-begins_with_space (byte ∷ text) = byte == 32
+abbrev pub begins_with_canonical_space : List ℕ → Bool
+begins_with_canonical_space [] = false
+begins_with_canonical_space (byte ∷ text) = byte == 32
 
 -- each run of spaces made one
 unfoldable pub single_spaced : List ℕ → List ℕ
 single_spaced [] = []
-single_spaced (byte ∷ text) = if byte == 32 && begins_with_space text then single_spaced text else byte ∷ single_spaced text
+single_spaced (byte ∷ text) = if byte == 32 && begins_with_canonical_space text then single_spaced text else byte ∷ single_spaced text
 
 -- the value of a header without the blanks around it
-abbrev pub clean : List ℕ → List ℕ
-clean value = single_spaced (cut_blanks (skip_blanks value))
+abbrev pub clean_header_value : List ℕ → List ℕ
+clean_header_value value = single_spaced (trim_canonical_end (skip_blanks value))
 
 -- the values of all headers of a name, in their order; no header is the empty value
 abbrev pub canonical_value : List Pair → List ℕ → List ℕ
-canonical_value headers name = join_with_byte 44 (map clean (values_of name headers))
+canonical_value headers name = join_with_byte 44 (map clean_header_value (values_of name headers))
 
 -- name ":" value LF
 abbrev pub canonical_header : List Pair → List ℕ → List ℕ

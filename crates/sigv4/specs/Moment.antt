@@ -28,15 +28,15 @@ is_time text =
     && nat_lt (two_digits text 11) 60 && nat_lt (two_digits text 13) 60
 
 -- the days between the first of January 1970 and a day
-abbrev pub day_number : ℕ → ℕ → ℕ → ℕ
-day_number year month day = unsigned_abs (days_from_civil (pos year) month day)
+abbrev pub signing_day_number : ℕ → ℕ → ℕ → ℕ
+signing_day_number year month day = unsigned_abs (days_from_civil (pos year) month day)
 
 -- the seconds between the beginning of 1970 and a time, no leap second counted
-abbrev pub unix_seconds : List ℕ → ℕ
-unix_seconds time =
-    day_number (year_of time) (two_digits time 4) (two_digits time 6) * 86400 + two_digits time 9 * 3600
+abbrev pub signing_time_seconds : List ℕ → ℕ
+signing_time_seconds time =
+    signing_day_number (year_of time) (two_digits time 4) (two_digits time 6) * 86400 + two_digits time 9 * 3600
     + two_digits time 11 * 60 + two_digits time 13
 
 -- the time lies more than 900 seconds before or after the moment
 abbrev pub is_skewed : List ℕ → ℕ → Bool
-is_skewed time moment = nat_lt 900 (unix_seconds time - moment) || nat_lt 900 (moment - unix_seconds time)
+is_skewed time moment = nat_lt 900 (signing_time_seconds time - moment) || nat_lt 900 (moment - signing_time_seconds time)

@@ -9,7 +9,7 @@ use Rattle.gate_base.specs.declared.caller.Caller.{Caller}
 use Rattle.gate_base.specs.declared.caller.Caller.TheVariants.{Owner, Anonymous}
 use Rattle.gate_base.specs.declared.page.Pair.{Pair}
 use Rattle.s3_names.specs.declared.target.Target.{Target}
-use Rattle.http_wire.specs.Headers.{has_name, has_header, has_one, first_value}
+use Rattle.http_wire.specs.Headers.{has_name, has_header, has_single_header, first_value}
 use Rattle.http_wire.specs.declared.message.Message.{Message}
 use Rattle.sigv4.specs.Authorization.{is_hex, authorization_of}
 use Rattle.sigv4.specs.Canonical.{canonical_text}
@@ -26,7 +26,7 @@ use Rattle.sigv4.specs.declared.signature.Signed.{Signed}
 -- what the header says, where it is the only one of its name and has the form
 abbrev pub claim_of : List Pair → Option Authorization
 claim_of headers =
-    if has_one (codes "authorization") headers then authorization_of (first_value (codes "authorization") headers) else None
+    if has_single_header (codes "authorization") headers then authorization_of (first_value (codes "authorization") headers) else None
 
 -- another region or another service
 abbrev pub has_wrong_scope : List ℕ → Authorization → Bool
@@ -55,18 +55,18 @@ time_of headers = first_value (codes "x-amz-date") headers
 -- not exactly one time, or none of the calendar, or of another day than the credential's
 abbrev pub lacks_date : Authorization → List Pair → Bool
 lacks_date claim headers =
-    not (has_one (codes "x-amz-date") headers && is_time (time_of headers) && bytes_eq (date_of (time_of headers)) claim.date)
+    not (has_single_header (codes "x-amz-date") headers && is_time (time_of headers) && bytes_eq (date_of (time_of headers)) claim.date)
 
 abbrev pub hash_of : List Pair → List ℕ
 hash_of headers = first_value (codes "x-amz-content-sha256") headers
 
-abbrev pub announces_pieces : Pair → Bool
-announces_pieces header =
+abbrev pub announces_signed_pieces : Pair → Bool
+announces_signed_pieces header =
     has_name (codes "x-amz-content-sha256") header && starts_with nat_eq header.value (codes "STREAMING-")
 
 -- the body would come in pieces, each with a signature
-abbrev pub is_streaming : List Pair → Bool
-is_streaming headers = list_any announces_pieces headers
+abbrev pub has_signed_pieces : List Pair → Bool
+has_signed_pieces headers = list_any announces_signed_pieces headers
 
 abbrev pub is_unsigned_payload : List ℕ → Bool
 is_unsigned_payload hash = bytes_eq hash (codes "UNSIGNED-PAYLOAD")
@@ -74,7 +74,7 @@ is_unsigned_payload hash = bytes_eq hash (codes "UNSIGNED-PAYLOAD")
 -- not exactly one hash, or none of the form
 abbrev pub lacks_payload_hash : List Pair → Bool
 lacks_payload_hash headers =
-    not (has_one (codes "x-amz-content-sha256") headers && (is_hex (hash_of headers) || is_unsigned_payload (hash_of headers)))
+    not (has_single_header (codes "x-amz-content-sha256") headers && (is_hex (hash_of headers) || is_unsigned_payload (hash_of headers)))
 
 -- what the request signs to by a secret
 unfoldable pub expected : List ℕ → List ℕ → Message → Target → Authorization → Signed
@@ -108,7 +108,7 @@ reasons secret region message target moment claim =
     ∷ record { holds = leaves_unsigned claim message.headers; refusal = UnsignedHeader }
     ∷ record { holds = lacks_date claim message.headers; refusal = NoDate }
     ∷ record { holds = is_skewed (time_of message.headers) moment; refusal = Skewed }
-    ∷ record { holds = is_streaming message.headers; refusal = Streaming }
+    ∷ record { holds = has_signed_pieces message.headers; refusal = Streaming }
     ∷ record { holds = lacks_payload_hash message.headers; refusal = NoPayloadHash }
     ∷ record {
       holds = signature_differs claim (expected secret region message target claim);

@@ -1,6 +1,6 @@
 ghost use Rattle.std.specs.Prelude.{◌≡◌, drop, IfOk};
 ghost use Rattle.std.specs.List.{list_all, starts_with, slice_split};
-ghost use Rattle.sigv4.specs.Authorization.{is_part_byte, is_part, is_name_byte, is_name, stands_before, are_ascending, are_names, is_hex, is_formed, is_semicolon, skip_spaces, algorithm_section, credential_section, names_section, signature_section, behind_service, credential_of, is_labelled, parts_of, authorization_of};
+ghost use Rattle.sigv4.specs.Authorization.{is_credential_byte, is_part, is_name_byte, is_name, signed_name_stands_before, are_ascending, are_names, is_hex, is_formed, is_semicolon, skip_spaces, algorithm_section, credential_section, names_section, signature_section, behind_service, credential_of, is_labelled, parts_of, authorization_of};
 
 use gate_base::{Bytes, List, Memory, cut, first_place};
 use httparse::is_header_name_token;
@@ -35,7 +35,7 @@ impl Authorization {
         if !is_labelled(text) {
             return Ok(None);
         }
-        let parts = parts_of(alloc, text)?;
+        let parts = authorization_parts(alloc, text)?;
         if is_formed(&parts) {
             Ok(Some(parts))
         } else {
@@ -49,13 +49,13 @@ fn is_labelled(text: &[u8]) -> bool
 {
     algorithm_section(text).starts_with(b"AWS4-HMAC-SHA256 ")
         && credential_section(text).starts_with(b"Credential=")
-        && names_section(text).starts_with(b"SignedHeaders=")
+        && signed_names_section(text).starts_with(b"SignedHeaders=")
         && signature_section(text).starts_with(b"Signature=")
         && behind_service(credential_of(text)) == b"aws4_request".as_slice()
 }
 
 #[tactic(auto, unfolding(crate::specs::Authorization::parts_of))]
-fn parts_of(alloc: Global, text: &[u8]) -> Result<Authorization, Memory>
+fn authorization_parts(alloc: Global, text: &[u8]) -> Result<Authorization, Memory>
     ensures { IfOk result (λ parts. parts ≡ parts_of text.now) }
 {
     let (id, behind_id) = cut(credential_of(text), b'/');
@@ -67,8 +67,11 @@ fn parts_of(alloc: Global, text: &[u8]) -> Result<Authorization, Memory>
         date: Bytes::from_slice(alloc, date)?,
         region: Bytes::from_slice(alloc, region)?,
         service: Bytes::from_slice(alloc, service)?,
-        names: signed_names_in(alloc, behind(names_section(text), 14))?,
-        signature: Bytes::from_slice(alloc, behind(signature_section(text), 10))?,
+        names: signed_names_in(
+            alloc,
+            skip_authorization_bytes(signed_names_section(text), 14),
+        )?,
+        signature: Bytes::from_slice(alloc, skip_authorization_bytes(signature_section(text), 10))?,
     })
 }
 
@@ -82,7 +85,7 @@ pub fn signed_names_in(alloc: Global, text: &[u8]) -> Result<List<Bytes>, Memory
     let mut rest = text;
     'names: while let Some(at) = first_place(rest, b';') {
         names.push(Bytes::from_slice(alloc, &rest[..at])?)?;
-        rest = behind(rest, at + 1);
+        rest = skip_authorization_bytes(rest, at + 1);
     }
     names.push(Bytes::from_slice(alloc, rest)?)?;
     Ok(names)
@@ -100,11 +103,11 @@ fn algorithm_section(text: &[u8]) -> &[u8]
 fn credential_section(text: &[u8]) -> &[u8]
     ensures { result.now ≡ credential_section text.now }
 {
-    skip_spaces(behind(algorithm_section(text), 17))
+    skip_spaces(skip_authorization_bytes(algorithm_section(text), 17))
 }
 
 #[tactic(auto, unfolding(crate::specs::Authorization::names_section))]
-fn names_section(text: &[u8]) -> &[u8]
+fn signed_names_section(text: &[u8]) -> &[u8]
     ensures { result.now ≡ names_section text.now }
 {
     let (_, behind) = cut(text, b',');
@@ -124,7 +127,7 @@ fn signature_section(text: &[u8]) -> &[u8]
 fn credential_of(text: &[u8]) -> &[u8]
     ensures { result.now ≡ credential_of text.now }
 {
-    behind(credential_section(text), 11)
+    skip_authorization_bytes(credential_section(text), 11)
 }
 
 /// A credential `ID/DATE/REGION/SERVICE/aws4_request` from behind its fourth slash on, no byte where it has fewer.
@@ -139,7 +142,7 @@ pub fn behind_service(credential: &[u8]) -> &[u8]
 }
 
 /// The text without its first bytes, none where there are no more.
-fn behind(text: &[u8], count: usize) -> &[u8]
+fn skip_authorization_bytes(text: &[u8], count: usize) -> &[u8]
     ensures { result.now ≡ drop count text.now }
 {
     if count < text.len() {
@@ -180,17 +183,17 @@ pub fn is_formed(parts: &Authorization) -> bool
 fn is_part(part: &[u8]) -> bool
     ensures { result ≡ is_part part.now }
 {
-    part.len() > 0 && all_part_bytes(part)
+    part.len() > 0 && all_credential_bytes(part)
 }
 
-fn all_part_bytes(part: &[u8]) -> bool
-    ensures { result ≡ list_all is_part_byte part.now }
+fn all_credential_bytes(part: &[u8]) -> bool
+    ensures { result ≡ list_all is_credential_byte part.now }
 {
-    part.iter().all(|byte| is_part_byte(*byte))
+    part.iter().all(|byte| is_credential_byte(*byte))
 }
 
-fn is_part_byte(byte: u8) -> bool
-    ensures { result ≡ is_part_byte byte }
+fn is_credential_byte(byte: u8) -> bool
+    ensures { result ≡ is_credential_byte byte }
 {
     byte.is_ascii_graphic() && byte != b'/' && byte != b','
 }
@@ -198,10 +201,10 @@ fn is_part_byte(byte: u8) -> bool
 fn are_names(names: &[Bytes]) -> bool
     ensures { result ≡ are_names names.now }
 {
-    names.len() > 0 && all_names(names) && are_ascending(names)
+    names.len() > 0 && all_signed_names(names) && are_signed_names_ascending(names)
 }
 
-fn all_names(names: &[Bytes]) -> bool
+fn all_signed_names(names: &[Bytes]) -> bool
     ensures { result ≡ list_all is_name names.now }
 {
     names.iter().all(|name| is_name(name.as_slice()))
@@ -210,10 +213,10 @@ fn all_names(names: &[Bytes]) -> bool
 fn is_name(name: &[u8]) -> bool
     ensures { result ≡ is_name name.now }
 {
-    name.len() > 0 && all_name_bytes(name)
+    name.len() > 0 && all_signed_name_bytes(name)
 }
 
-fn all_name_bytes(name: &[u8]) -> bool
+fn all_signed_name_bytes(name: &[u8]) -> bool
     ensures { result ≡ list_all is_name_byte name.now }
 {
     name.iter().all(|byte| is_name_byte(*byte))
@@ -226,12 +229,12 @@ fn is_name_byte(byte: u8) -> bool
 }
 
 #[tactic(auto, unfolding(crate::specs::Authorization::are_ascending))]
-fn are_ascending(names: &[Bytes]) -> bool
+fn are_signed_names_ascending(names: &[Bytes]) -> bool
     ensures { result ≡ are_ascending names.now }
 {
     let mut rest = names;
     'names: while let [name, behind @ ..] = rest {
-        if !stands_before(name.as_slice(), behind) {
+        if !signed_name_stands_before(name.as_slice(), behind) {
             return false;
         }
         rest = behind;
@@ -240,8 +243,8 @@ fn are_ascending(names: &[Bytes]) -> bool
 }
 
 /// Whether the name stands before the first of the others, if there is one.
-fn stands_before(name: &[u8], others: &[Bytes]) -> bool
-    ensures { result ≡ stands_before name.now others.now }
+fn signed_name_stands_before(name: &[u8], others: &[Bytes]) -> bool
+    ensures { result ≡ signed_name_stands_before name.now others.now }
 {
     match others {
         [next, ..] => name.cmp(next.as_slice()).is_lt(),

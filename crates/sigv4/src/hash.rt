@@ -13,8 +13,8 @@ pub fn hmac(key: &[u8], text: &[u8]) -> [u8; 32]
     ensures { result ≡ hmac key.now text.now }
 {
     let block = key_block(key);
-    let inner = digest_of(&padded(&block, 0x36), text);
-    digest_of(&padded(&block, 0x5c), &inner)
+    let inner = digest_of(&hmac_block_with_pad(&block, 0x36), text);
+    digest_of(&hmac_block_with_pad(&block, 0x5c), &inner)
 }
 
 /// The digest of two texts, one behind the other.
@@ -32,14 +32,14 @@ fn key_block(key: &[u8]) -> [u8; 64]
     ensures { result ≡ key_block key.now }
 {
     if key.len() > BLOCK {
-        with_zeros(&Sha256::digest(key))
+        hmac_key_with_zeros(&Sha256::digest(key))
     } else {
-        with_zeros(key)
+        hmac_key_with_zeros(key)
     }
 }
 
 /// The key with zeros behind it.
-fn with_zeros(key: &[u8]) -> [u8; 64]
+fn hmac_key_with_zeros(key: &[u8]) -> [u8; 64]
     requires { length key.now ≤ 64 }
     ensures { result ≡ key.now ++ replicate (64 - length key.now) 0 }
 {
@@ -49,15 +49,15 @@ fn with_zeros(key: &[u8]) -> [u8; 64]
 }
 
 /// The block, each byte with the pad.
-fn padded(block: &[u8; 64], pad: u8) -> [u8; 64]
+fn hmac_block_with_pad(block: &[u8; 64], pad: u8) -> [u8; 64]
     ensures { result ≡ map (λ byte. bit_xor byte pad) block.now }
 {
     let mut padded = *block;
-    add_pad(&mut padded, pad);
+    add_hmac_pad(&mut padded, pad);
     padded
 }
 
-fn add_pad(block: &mut [u8], pad: u8)
+fn add_hmac_pad(block: &mut [u8], pad: u8)
     ensures { block.new ≡ map (λ byte. bit_xor byte pad) block.old }
 {
     for byte in block.iter_mut() {

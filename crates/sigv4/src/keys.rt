@@ -98,7 +98,7 @@ impl Keys {
         let mut rest = text;
         'lines: while !rest.is_empty() {
             let (line, behind) = cut(rest, b'\n');
-            let key = read_line(alloc, line)?;
+            let key = read_access_key_line(alloc, line)?;
             if !is_key(&key) {
                 return Err(KeysFault::BadLine(keys.len() as u64));
             }
@@ -127,7 +127,7 @@ impl Keys {
     }
 }
 
-fn read_line(alloc: Global, line: &[u8]) -> Result<AccessKey, Memory>
+fn read_access_key_line(alloc: Global, line: &[u8]) -> Result<AccessKey, Memory>
     ensures { IfOk result (λ key. key ≡ key_of line.now) }
 {
     let (id, secret) = cut(line, b' ');
@@ -143,9 +143,9 @@ fn is_key(key: &AccessKey) -> bool
     let id = key.id.as_slice();
     let secret = key.secret.as_slice();
     has_word_length(id)
-        && all_letters_or_digits(id)
+        && all_access_key_id_bytes(id)
         && has_word_length(secret)
-        && all_visible(secret)
+        && all_secret_bytes(secret)
 }
 
 fn has_word_length(word: &[u8]) -> bool
@@ -154,25 +154,25 @@ fn has_word_length(word: &[u8]) -> bool
     1 <= word.len() && word.len() <= LONGEST
 }
 
-fn all_letters_or_digits(word: &[u8]) -> bool
+fn all_access_key_id_bytes(word: &[u8]) -> bool
     ensures { result ≡ list_all is_letter_or_digit word.now }
 {
-    word.iter().all(|byte| is_letter_or_digit(*byte))
+    word.iter().all(|byte| is_access_key_id_byte(*byte))
 }
 
-fn is_letter_or_digit(byte: u8) -> bool
+fn is_access_key_id_byte(byte: u8) -> bool
     ensures { result ≡ is_letter_or_digit byte }
 {
     byte.is_ascii_digit() || byte.is_ascii_uppercase() || byte.is_ascii_lowercase()
 }
 
-fn all_visible(word: &[u8]) -> bool
+fn all_secret_bytes(word: &[u8]) -> bool
     ensures { result ≡ list_all is_visible word.now }
 {
-    word.iter().all(|byte| is_visible(*byte))
+    word.iter().all(|byte| is_secret_byte(*byte))
 }
 
-fn is_visible(byte: u8) -> bool
+fn is_secret_byte(byte: u8) -> bool
     ensures { result ≡ is_visible byte }
 {
     byte.is_ascii_graphic()

@@ -17,11 +17,11 @@ pub use authorization::{Authorization, behind_service, is_formed, signed_names_i
 pub use hash::hmac;
 pub use keys::{AccessKey, Keys, KeysFault};
 pub use laws::{law_authorization_read, law_query_ordered};
-pub use moment::{is_of_day, is_time, unix_seconds};
+pub use moment::{is_of_day, is_time, signing_time_seconds};
 pub use refusal::Refusal;
 pub use request::{canonical, canonical_query, canonical_with};
 pub use signature::{Signed, date_of, is_date_time, sign};
 pub use verdict::{
-    has_wrong_scope, hash_of, is_among, is_streaming, must_be_signed, signature_differs, time_of,
-    verify,
+    has_signed_pieces, has_wrong_scope, hash_of, is_among, must_be_signed, signature_differs,
+    time_of, verify,
 };

@@ -1,7 +1,7 @@
 ghost use Rattle.std.specs.Prelude.{◌≡◌, ◌+◌, ◌*◌, ◌^◌, ◌<◌, ◌≤◌, length, pos, true, bytes_eq};
 ghost use Rattle.jiff_core.specs.Calendar.{days_in_month};
 ghost use Rattle.sigv4.specs.Sign.{date_of};
-ghost use Rattle.sigv4.specs.Moment.{two_digits, year_of, is_year, is_month, is_day, is_time, day_number, unix_seconds, is_skewed};
+ghost use Rattle.sigv4.specs.Moment.{two_digits, year_of, is_year, is_month, is_day, is_time, signing_day_number, signing_time_seconds, is_skewed};
 
 use crate::signature::{date_of, is_date_time};
 use jiff_core::civil::{Date, days_in_month};
@@ -25,7 +25,7 @@ pub fn is_skewed(time: &[u8], moment: u64) -> bool
     requires { is_time time.now ≡ true }
     ensures { result ≡ is_skewed time.now moment }
 {
-    let seconds = unix_seconds(time);
+    let seconds = signing_time_seconds(time);
     seconds.saturating_sub(moment) > SKEW || moment.saturating_sub(seconds) > SKEW
 }
 
@@ -39,9 +39,9 @@ pub fn is_of_day(time: &[u8], day: &[u8]) -> bool
 }
 
 /// The seconds between the beginning of 1970 and a time, no leap second counted.
-pub fn unix_seconds(time: &[u8]) -> u64
+pub fn signing_time_seconds(time: &[u8]) -> u64
     requires { is_time time.now ≡ true }
-    ensures { result ≡ unix_seconds time.now }
+    ensures { result ≡ signing_time_seconds time.now }
 {
     let day = day_of(time);
     let hour = two_digits(time, 9);
@@ -53,12 +53,12 @@ pub fn unix_seconds(time: &[u8]) -> u64
 #[tactic(auto, using(crate::proofs::VerdictLemmas::time_has_day))]
 fn day_of(time: &[u8]) -> u32
     requires { is_time time.now ≡ true }
-    ensures { result ≡ day_number (year_of time.now) (two_digits time.now 4)
+    ensures { result ≡ signing_day_number (year_of time.now) (two_digits time.now 4)
         (two_digits time.now 6) }
 {
     let year = year_of(time);
     let month = two_digits(time, 4);
-    day_number(year, month, two_digits(time, 6))
+    signing_day_number(year, month, two_digits(time, 6))
 }
 
 /// The seconds between the first of January 1970 and a time of the day of that number.
@@ -71,7 +71,7 @@ fn seconds_at(day: u32, hour: u32, minute: u32, second: u32) -> u64
 fn is_day(year: u32, month: u32, day: u32) -> bool
     ensures { result ≡ is_day year month day }
 {
-    is_year(year) && is_month(month) && 1 <= day && day <= month_length(year, month)
+    is_year(year) && is_month(month) && 1 <= day && day <= signing_month_length(year, month)
 }
 
 fn is_year(year: u32) -> bool
@@ -86,7 +86,7 @@ fn is_month(month: u32) -> bool
     1 <= month && month <= 12
 }
 
-fn month_length(year: u32, month: u32) -> u32
+fn signing_month_length(year: u32, month: u32) -> u32
     requires year { is_year year ≡ true }
     requires month { is_month month ≡ true }
     ensures { result ≡ days_in_month (pos year) month }
@@ -95,9 +95,9 @@ fn month_length(year: u32, month: u32) -> u32
 }
 
 /// The days between the first of January 1970 and a day.
-fn day_number(year: u32, month: u32, day: u32) -> u32
+fn signing_day_number(year: u32, month: u32, day: u32) -> u32
     requires { is_day year month day ≡ true }
-    ensures value { result ≡ day_number year month day }
+    ensures value { result ≡ signing_day_number year month day }
     ensures bound { result ≤ 2 ^ 31 }
 {
     let date = Date {

@@ -1,7 +1,7 @@
 ghost use Rattle.std.specs.Prelude.{◌≡◌, ◌==◌, ◌++◌, map, IfOk, OnOk};
 ghost use Rattle.http_wire.specs.Headers.{values_of};
 ghost use Rattle.gate_base.specs.Ascii.{is_blank};
-ghost use Rattle.sigv4.specs.Canonical.{skip_blanks, cut_blanks, begins_with_space, single_spaced, clean, canonical_header, canonical_headers, escaped_pair, pair_cmp, ordered, pair_text, canonical_query, canonical_of, canonical_text};
+ghost use Rattle.sigv4.specs.Canonical.{skip_blanks, trim_canonical_end, begins_with_canonical_space, single_spaced, clean_header_value, canonical_header, canonical_headers, escaped_pair, pair_cmp, ordered, pair_text, canonical_query, canonical_of, canonical_text};
 
 use gate_base::{Bytes, Copying, List, Memory, Pair};
 use http_wire::{Message, has_name, joined};
@@ -56,12 +56,12 @@ fn canonical_headers(alloc: Global, headers: &[Pair], names: &[Bytes]) -> Result
 {
     let mut text = Bytes::new(alloc);
     for name in names {
-        append_header(alloc, &mut text, headers, name.as_slice())?;
+        append_canonical_header(alloc, &mut text, headers, name.as_slice())?;
     }
     Ok(text)
 }
 
-fn append_header(
+fn append_canonical_header(
     alloc: Global,
     text: &mut Bytes,
     headers: &[Pair],
@@ -79,36 +79,36 @@ fn append_header(
 
 /// The values of the headers of a name, without the blanks around them and in single spacing.
 fn clean_values(alloc: Global, headers: &[Pair], name: &[u8]) -> Result<List<Bytes>, Memory>
-    ensures { IfOk result (λ values. values ≡ map clean (values_of name.now headers.now)) }
+    ensures { IfOk result (λ values. values ≡ map clean_header_value (values_of name.now headers.now)) }
 {
     let mut values = List::new(alloc);
     for header in headers {
         if has_name(header, name) {
-            values.push(clean(alloc, header.value.as_slice())?)?;
+            values.push(clean_header_value(alloc, header.value.as_slice())?)?;
         }
     }
     Ok(values)
 }
 
-fn clean(alloc: Global, value: &[u8]) -> Result<Bytes, Memory>
-    ensures { IfOk result (λ text. text ≡ clean value.now) }
+fn clean_header_value(alloc: Global, value: &[u8]) -> Result<Bytes, Memory>
+    ensures { IfOk result (λ text. text ≡ clean_header_value value.now) }
 {
-    single_spaced(alloc, cut_blanks(skip_blanks(value)))
+    single_spaced(alloc, trim_canonical_end(trim_canonical_start(value)))
 }
 
-fn is_blank(byte: u8) -> bool
+fn is_canonical_blank(byte: u8) -> bool
     ensures { result ≡ is_blank byte }
 {
     byte == b' ' || byte == b'\t'
 }
 
 #[tactic(auto, unfolding(crate::specs::Canonical::skip_blanks))]
-fn skip_blanks(text: &[u8]) -> &[u8]
+fn trim_canonical_start(text: &[u8]) -> &[u8]
     ensures { result.now ≡ skip_blanks text.now }
 {
     let mut rest = text;
     'bytes: while let [first, behind @ ..] = rest {
-        if !is_blank(*first) {
+        if !is_canonical_blank(*first) {
             return rest;
         }
         rest = behind;
@@ -117,12 +117,12 @@ fn skip_blanks(text: &[u8]) -> &[u8]
 }
 
 #[tactic(auto, unfolding(crate::specs::Canonical::skip_blanks))]
-fn cut_blanks(text: &[u8]) -> &[u8]
-    ensures { result.now ≡ cut_blanks text.now }
+fn trim_canonical_end(text: &[u8]) -> &[u8]
+    ensures { result.now ≡ trim_canonical_end text.now }
 {
     let mut rest = text;
     'bytes: while let [before @ .., last] = rest {
-        if !is_blank(*last) {
+        if !is_canonical_blank(*last) {
             return rest;
         }
         rest = before;
@@ -130,8 +130,8 @@ fn cut_blanks(text: &[u8]) -> &[u8]
     rest
 }
 
-fn begins_with_space(text: &[u8]) -> bool
-    ensures { result ≡ begins_with_space text.now }
+fn begins_with_canonical_space(text: &[u8]) -> bool
+    ensures { result ≡ begins_with_canonical_space text.now }
 {
     match text {
         [first, ..] => *first == b' ',
@@ -146,7 +146,7 @@ fn single_spaced(alloc: Global, text: &[u8]) -> Result<Bytes, Memory>
     let mut spaced = Bytes::new(alloc);
     let mut rest = text;
     'bytes: while let [first, behind @ ..] = rest {
-        if *first != b' ' || !begins_with_space(behind) {
+        if *first != b' ' || !begins_with_canonical_space(behind) {
             spaced.push(*first)?;
         }
         rest = behind;
@@ -159,13 +159,13 @@ fn single_spaced(alloc: Global, text: &[u8]) -> Result<Bytes, Memory>
 pub fn canonical_query(alloc: Global, pairs: &[Pair]) -> Result<Bytes, Memory>
     ensures { IfOk result (λ text. text ≡ canonical_query pairs.now) }
 {
-    let pairs = ordered(alloc, pairs)?;
+    let pairs = ordered_canonical_pairs(alloc, pairs)?;
     let texts = pair_texts(alloc, pairs.as_slice())?;
     joined(alloc, b'&', texts.as_slice())
 }
 
 /// The pairs escaped, in the order of what they are escaped to.
-fn ordered(alloc: Global, pairs: &[Pair]) -> Result<List<Pair>, Memory>
+fn ordered_canonical_pairs(alloc: Global, pairs: &[Pair]) -> Result<List<Pair>, Memory>
     ensures { IfOk result (λ sorted. sorted ≡ ordered (map escaped_pair pairs.now)) }
 {
     let mut escaped = escaped_pairs(alloc, pairs)?.into_vec();

@@ -95,12 +95,12 @@ fn string_to_sign(
     ensures { IfOk result (λ text. text ≡ string_to_sign date_time.now scope.now hash.now) }
 {
     let mut text = Bytes::from_slice(alloc, b"AWS4-HMAC-SHA256\n")?;
-    append_lines(&mut text, date_time, scope)?;
+    append_lines_to_sign(&mut text, date_time, scope)?;
     text.append(hex::encode(alloc, *hash)?.as_bytes())?;
     Ok(text)
 }
 
-fn append_lines(text: &mut Bytes, first: &[u8], second: &[u8]) -> Result<(), Memory>
+fn append_lines_to_sign(text: &mut Bytes, first: &[u8], second: &[u8]) -> Result<(), Memory>
     ensures { OnOk result (text.new ≡ text.old ++ first.now ++ 10 ∷ [] ++ second.now ++ 10 ∷ []) }
 {
     text.append(first)?;
@@ -121,7 +121,7 @@ fn signing_key(alloc: Global, secret: &[u8], date: &[u8], region: &[u8]) -> Resu
 }
 
 /// Whether two texts are the same. Where they are of one length, every byte of both is looked at, whatever the others are.
-pub(crate) fn are_same(left: &[u8], right: &[u8]) -> bool
+pub(crate) fn are_same_signatures(left: &[u8], right: &[u8]) -> bool
     ensures { result ≡ bytes_eq left.now right.now }
 {
     let mut same = left.len() == right.len();

@@ -1,15 +1,15 @@
 ghost use Rattle.std.specs.Prelude.{◌≡◌, false, IfOk};
 ghost use Rattle.std.specs.List.{list_any};
 ghost use Rattle.sigv4.specs.Keys.{secret_of};
-ghost use Rattle.sigv4.specs.Verdict.{claim_of, has_wrong_scope, is_among, must_be_signed, is_left_out, leaves_unsigned, time_of, lacks_date, hash_of, announces_pieces, is_streaming, is_unsigned_payload, lacks_payload_hash, expected, signature_differs, payload_differs, first_refusal, reasons, judged_with, caller_or_refusal, Gives};
+ghost use Rattle.sigv4.specs.Verdict.{claim_of, has_wrong_scope, is_among, must_be_signed, is_left_out, leaves_unsigned, time_of, lacks_date, hash_of, announces_signed_pieces, has_signed_pieces, is_unsigned_payload, lacks_payload_hash, expected, signature_differs, payload_differs, first_refusal, reasons, judged_with, caller_or_refusal, Gives};
 
 use crate::authorization::{Authorization, is_hex};
 use crate::moment::{is_of_day, is_skewed, is_time};
 use crate::request::canonical;
-use crate::signature::{Signed, are_same, sign};
+use crate::signature::{Signed, are_same_signatures, sign};
 use crate::{Keys, Refusal};
 use gate_base::{Bytes, Caller, Memory, Pair};
-use http_wire::{Message, first_value, has_header, has_name, has_one};
+use http_wire::{Message, first_value, has_header, has_name, has_single_header};
 use s3_names::Target;
 use sha2::{Digest, Sha256};
 use std::alloc::Global;
@@ -91,13 +91,13 @@ fn judge_claim_by_secret(
     if is_skewed(time_of(headers), moment) {
         return Err(Refusal::Skewed);
     }
-    if is_streaming(headers) {
+    if has_signed_pieces(headers) {
         return Err(Refusal::Streaming);
     }
     if lacks_payload_hash(headers) {
         return Err(Refusal::NoPayloadHash);
     }
-    let due = expected(alloc, secret, region, message, target, claim)?;
+    let due = expected_signature(alloc, secret, region, message, target, claim)?;
     if signature_differs(alloc, claim, &due)? {
         return Err(Refusal::SignatureDiffers(due.canonical_hash));
     }
@@ -111,7 +111,7 @@ fn judge_claim_by_secret(
 fn claim_of(alloc: Global, headers: &[Pair]) -> Result<Option<Authorization>, Memory>
     ensures { IfOk result (λ claim. claim ≡ claim_of headers.now) }
 {
-    if has_one(headers, AUTHORIZATION) {
+    if has_single_header(headers, AUTHORIZATION) {
         Authorization::read(alloc, first_value(headers, AUTHORIZATION))
     } else {
         Ok(None)
@@ -169,7 +169,7 @@ fn lacks_date(claim: &Authorization, headers: &[Pair]) -> bool
     ensures { result ≡ lacks_date claim.now headers.now }
 {
     let time = time_of(headers);
-    !(has_one(headers, DATE) && is_time(time) && is_of_day(time, claim.date.as_slice()))
+    !(has_single_header(headers, DATE) && is_time(time) && is_of_day(time, claim.date.as_slice()))
 }
 
 /// The value of the first `x-amz-content-sha256`, no byte where there is none.
@@ -180,14 +180,14 @@ pub fn hash_of(headers: &[Pair]) -> &[u8]
 }
 
 /// Whether some `x-amz-content-sha256` says that the body comes in signed pieces: its value begins with `STREAMING-`.
-pub fn is_streaming(headers: &[Pair]) -> bool
-    ensures { result ≡ is_streaming headers.now }
+pub fn has_signed_pieces(headers: &[Pair]) -> bool
+    ensures { result ≡ has_signed_pieces headers.now }
 {
-    headers.iter().any(|header| announces_pieces(header))
+    headers.iter().any(|header| announces_signed_pieces(header))
 }
 
-fn announces_pieces(header: &Pair) -> bool
-    ensures { result ≡ announces_pieces header.now }
+fn announces_signed_pieces(header: &Pair) -> bool
+    ensures { result ≡ announces_signed_pieces header.now }
 {
     has_name(header, PAYLOAD) && header.value.as_slice().starts_with(b"STREAMING-")
 }
@@ -196,7 +196,7 @@ fn lacks_payload_hash(headers: &[Pair]) -> bool
     ensures { result ≡ lacks_payload_hash headers.now }
 {
     let hash = hash_of(headers);
-    !(has_one(headers, PAYLOAD) && (is_hex(hash) || is_unsigned_payload(hash)))
+    !(has_single_header(headers, PAYLOAD) && (is_hex(hash) || is_unsigned_payload(hash)))
 }
 
 fn is_unsigned_payload(hash: &[u8]) -> bool
@@ -207,7 +207,7 @@ fn is_unsigned_payload(hash: &[u8]) -> bool
 
 /// What the request signs to by a secret.
 #[tactic(auto, unfolding(crate::specs::Verdict::expected))]
-fn expected(
+fn expected_signature(
     alloc: Global,
     secret: &[u8],
     region: &[u8],
@@ -235,7 +235,7 @@ pub fn signature_differs(alloc: Global, claim: &Authorization, due: &Signed) -> 
     ensures { IfOk result (λ differs. differs ≡ signature_differs claim.now due.now) }
 {
     let digits = hex::encode(alloc, due.signature)?;
-    Ok(!are_same(claim.signature.as_slice(), digits.as_bytes()))
+    Ok(!are_same_signatures(claim.signature.as_slice(), digits.as_bytes()))
 }
 
 fn payload_differs(alloc: Global, message: &Message) -> Result<bool, Memory>

@@ -21,13 +21,13 @@ abbrev pub etag_field : Form → List ℕ
 etag_field Put = codes "etag"
 etag_field Got = codes "hash"
 
-abbrev pub path_field : Form → List ℕ
-path_field Put = codes "path"
-path_field Got = codes "name"
+abbrev pub manifest_path_field : Form → List ℕ
+manifest_path_field Put = codes "path"
+manifest_path_field Got = codes "name"
 
-abbrev pub size_field : Form → List ℕ
-size_field Put = codes "size_bytes"
-size_field Got = codes "bytes"
+abbrev pub manifest_size_field : Form → List ℕ
+manifest_size_field Put = codes "size_bytes"
+manifest_size_field Got = codes "bytes"
 
 -- the text under a name of an object
 abbrev pub text_at : List ℕ → Data → Option (List ℕ)
@@ -54,7 +54,7 @@ entry_from (Some etag) (Some path) None = bad
 entry_from (Some etag) (Some path) (Some size) = segment_of etag path size
 
 unfoldable pub entry_of : Form → Data → Entry
-entry_of form entry = entry_from (text_at (etag_field form) entry) (text_at (path_field form) entry) (number_at (size_field form) entry)
+entry_of form entry = entry_from (text_at (etag_field form) entry) (text_at (manifest_path_field form) entry) (number_at (manifest_size_field form) entry)
 
 -- the answer is what the entry says, or memory ran out
 abbrev pub EntryGives : Result Segment EntryFault → Entry → Type 0

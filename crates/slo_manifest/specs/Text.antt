@@ -9,13 +9,13 @@ use Rattle.slo_manifest.specs.declared.Segment.{Segment}
 use Rattle.slo_manifest.specs.declared.manifest.Form.{Form}
 use Rattle.slo_manifest.specs.declared.manifest.Form.TheVariants.{Put, Got}
 
-abbrev pub put_value : List ℕ → List ℕ → ℕ → Data
-put_value etag path size =
+abbrev pub manifest_put_entry : List ℕ → List ℕ → ℕ → Data
+manifest_put_entry etag path size =
     object (member (codes "etag") (string etag) (member (codes "path") (string path)
     (member (codes "size_bytes") (number (unsigned size)) no_members)))
 
-abbrev pub got_value : List ℕ → List ℕ → ℕ → Data
-got_value etag path size =
+abbrev pub manifest_got_entry : List ℕ → List ℕ → ℕ → Data
+manifest_got_entry etag path size =
     object (member (codes "bytes") (number (unsigned size))
     (member (codes "content_type") (string (codes "application/octet-stream")) (member (codes "hash") (string etag)
     (member (codes "last_modified") (string (codes "1970-01-01T00:00:00.000000"))
@@ -23,8 +23,8 @@ got_value etag path size =
 
 -- the entry of a segment
 abbrev pub entry_value : Form → Segment → Data
-entry_value Put s = put_value s.etag (path_of s.container s.name) s.size
-entry_value Got s = got_value s.etag (path_of s.container s.name) s.size
+entry_value Put s = manifest_put_entry s.etag (path_of s.container s.name) s.size
+entry_value Got s = manifest_got_entry s.etag (path_of s.container s.name) s.size
 
 abbrev pub manifest_value : Form → List Segment → Data
 manifest_value form segments = array (items_of (map (entry_value form) segments))

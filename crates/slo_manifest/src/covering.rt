@@ -12,8 +12,8 @@ pub fn cover(sizes: &[u64], from: u64, to: u64) -> Cover
     ensures last { Lies sizes.now to result.last result.end }
     ensures in_order { result.first ≤ result.last }
 {
-    let (first, skip) = place(sizes, from);
-    let (last, end) = place(sizes, to);
+    let (first, skip) = segment_of_byte(sizes, from);
+    let (last, end) = segment_of_byte(sizes, to);
     Cover {
         first,
         skip,
@@ -23,7 +23,7 @@ pub fn cover(sizes: &[u64], from: u64, to: u64) -> Cover
 }
 
 /// The segment that a byte lies in, and the bytes of it before that byte.
-fn place(sizes: &[u64], at: u64) -> (usize, u64)
+fn segment_of_byte(sizes: &[u64], at: u64) -> (usize, u64)
     requires { at < sum sizes.now }
     ensures { Lies sizes.now at result.0 result.1 }
 {

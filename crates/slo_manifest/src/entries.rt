@@ -3,13 +3,13 @@ ghost use Rattle.std.specs.Str.{IsUtf8};
 ghost use Rattle.serde_json.specs.Find.{get, as_str, as_u64};
 ghost use Rattle.serde_json.specs.View.{view};
 ghost use Rattle.slo_manifest.specs.Segments.{is_segment};
-ghost use Rattle.slo_manifest.specs.Entry.{etag_field, path_field, size_field, text_at, number_at, entry_of, segment_of, EntryGives};
-ghost use Rattle.slo_manifest.specs.Text.{entry_value, put_value, got_value};
+ghost use Rattle.slo_manifest.specs.Entry.{etag_field, manifest_path_field, manifest_size_field, text_at, number_at, entry_of, segment_of, EntryGives};
+ghost use Rattle.slo_manifest.specs.Text.{entry_value, manifest_put_entry, manifest_got_entry};
 
 use crate::Segment;
 use crate::manifest::Form;
-use crate::paths::{parts, path_of};
-use crate::segments::is_proper_entry;
+use crate::paths::{path_of, split_segment_path};
+use crate::segments::are_manifest_entry_fields;
 use gate_base::{Bytes, Memory};
 use serde_json::{Value, json};
 use std::alloc::{AllocError, Global};
@@ -45,8 +45,8 @@ fn etag_field(form: Form) -> &'static str
     }
 }
 
-fn path_field(form: Form) -> &'static str
-    ensures { result.now ≡ path_field form }
+fn manifest_path_field(form: Form) -> &'static str
+    ensures { result.now ≡ manifest_path_field form }
 {
     match form {
         Form::Put => "path",
@@ -54,8 +54,8 @@ fn path_field(form: Form) -> &'static str
     }
 }
 
-fn size_field(form: Form) -> &'static str
-    ensures { result.now ≡ size_field form }
+fn manifest_size_field(form: Form) -> &'static str
+    ensures { result.now ≡ manifest_size_field form }
 {
     match form {
         Form::Put => "size_bytes",
@@ -77,31 +77,36 @@ fn number_at(value: &Value, field: &str) -> Option<u64>
 
 /// The segment that an entry of a manifest's list is.
 #[tactic(auto, unfolding(crate::specs::Entry::entry_of))]
-pub fn read_entry(alloc: Global, value: &Value, form: Form) -> Result<Segment, EntryFault>
+pub fn read_manifest_entry(alloc: Global, value: &Value, form: Form) -> Result<Segment, EntryFault>
     ensures answer { EntryGives result (entry_of form (view value.now)) }
     ensures listed { IfOk result (λ segment. is_segment segment ≡ true) }
 {
     let Some(etag) = text_at(value, etag_field(form)) else {
         return Err(EntryFault::Bad);
     };
-    let Some(path) = text_at(value, path_field(form)) else {
+    let Some(path) = text_at(value, manifest_path_field(form)) else {
         return Err(EntryFault::Bad);
     };
-    let Some(size) = number_at(value, size_field(form)) else {
+    let Some(size) = number_at(value, manifest_size_field(form)) else {
         return Err(EntryFault::Bad);
     };
-    read_fields(alloc, etag.as_bytes(), path.as_bytes(), size)
+    read_segment_fields(alloc, etag.as_bytes(), path.as_bytes(), size)
 }
 
 /// The segment that the three fields of an entry are.
 #[tactic(auto, using(crate::proofs::CutLemmas::segment_listed), unfolding(crate::specs::Entry::segment_of))]
-fn read_fields(alloc: Global, etag: &[u8], path: &[u8], size: u64) -> Result<Segment, EntryFault>
+fn read_segment_fields(
+    alloc: Global,
+    etag: &[u8],
+    path: &[u8],
+    size: u64,
+) -> Result<Segment, EntryFault>
     requires { IsUtf8 path.now }
     ensures answer { EntryGives result (segment_of etag.now path.now size) }
     ensures listed { IfOk result (λ segment. is_segment segment ≡ true) }
 {
-    let (container, name) = parts(path);
-    if !is_proper_entry(container, name, etag, size) {
+    let (container, name) = split_segment_path(path);
+    if !are_manifest_entry_fields(container, name, etag, size) {
         return Err(EntryFault::Bad);
     }
     if size == 0 {
@@ -126,19 +131,19 @@ pub fn entry_value(alloc: Global, segment: &Segment, form: Form) -> Result<Value
     let path = path_of(alloc, container, name)?;
     let etag = text_of(segment.etag.as_slice());
     match form {
-        Form::Put => put_value(alloc, etag, path.as_str(), segment.size),
-        Form::Got => got_value(alloc, etag, path.as_str(), segment.size),
+        Form::Put => manifest_put_entry(alloc, etag, path.as_str(), segment.size),
+        Form::Got => manifest_got_entry(alloc, etag, path.as_str(), segment.size),
     }
 }
 
-fn put_value(alloc: Global, etag: &str, path: &str, size: u64) -> Result<Value, AllocError>
-    ensures { IfOk result (λ value. view value ≡ put_value etag.now path.now size) }
+fn manifest_put_entry(alloc: Global, etag: &str, path: &str, size: u64) -> Result<Value, AllocError>
+    ensures { IfOk result (λ value. view value ≡ manifest_put_entry etag.now path.now size) }
 {
     json!(in alloc; {"etag": etag, "path": path, "size_bytes": size})
 }
 
-fn got_value(alloc: Global, etag: &str, path: &str, size: u64) -> Result<Value, AllocError>
-    ensures { IfOk result (λ value. view value ≡ got_value etag.now path.now size) }
+fn manifest_got_entry(alloc: Global, etag: &str, path: &str, size: u64) -> Result<Value, AllocError>
+    ensures { IfOk result (λ value. view value ≡ manifest_got_entry etag.now path.now size) }
 {
     json!(in alloc; {
         "bytes": size,

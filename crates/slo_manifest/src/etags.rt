@@ -12,14 +12,14 @@ use std::alloc::Global;
 pub fn joined_etag(alloc: Global, segments: &[Segment]) -> Result<Bytes, Memory>
     ensures { IfOk result (λ text. text ≡ joined_etag segments.now) }
 {
-    let digest = digest_of_etags(segments);
+    let digest = digest_of_segment_etags(segments);
     let text = hex::encode(alloc, digest.as_slice())?;
     Ok(Bytes::from_vec(text.into_bytes()))
 }
 
 /// The MD5 of the joined ETags.
 #[tactic(auto, using(crate::proofs::ListLemmas::joined_etags_more))]
-fn digest_of_etags(segments: &[Segment]) -> [u8; 16]
+fn digest_of_segment_etags(segments: &[Segment]) -> [u8; 16]
     ensures { result ≡ md5 (joined_etags segments.now) }
 {
     let mut hasher = Md5::new();

@@ -15,7 +15,7 @@ fn relative(path: &[u8]) -> &[u8]
 }
 
 /// The container and the name that a path has.
-pub fn parts(path: &[u8]) -> (&[u8], &[u8])
+pub fn split_segment_path(path: &[u8]) -> (&[u8], &[u8])
     ensures container { result.0.now ≡ container_in path.now }
     ensures name { result.1.now ≡ name_in path.now }
 {

@@ -6,7 +6,7 @@ ghost use Rattle.slo_manifest.specs.Entry.{entry_of};
 ghost use Rattle.slo_manifest.specs.Manifest.{Reads, ReadsEntries, Parses, json_of};
 
 use crate::Segment;
-use crate::entries::{EntryFault, read_entry};
+use crate::entries::{EntryFault, read_manifest_entry};
 use crate::manifest::{Form, MOST_SEGMENTS, ManifestFault};
 use gate_base::List;
 use serde_json::{Category, Value};
@@ -24,19 +24,19 @@ pub fn read(alloc: Global, bytes: &[u8], form: Form) -> Result<List<Segment>, Ma
     ensures answer { Reads form bytes.now result }
     ensures listed { IfOk result (λ segments. is_manifest segments ≡ true) }
 {
-    let value = parse(alloc, bytes)?;
+    let value = parse_manifest_json(alloc, bytes)?;
     let Some(entries) = value.as_array() else {
         return Err(ManifestFault::NotAList);
     };
     if entries.len() > MOST_SEGMENTS {
         return Err(ManifestFault::TooManySegments);
     }
-    read_entries(alloc, entries, form)
+    read_manifest_entries(alloc, entries, form)
 }
 
 /// The JSON of a text.
 #[tactic(auto, using(crate::proofs::ReadLemmas::json_read, crate::proofs::ReadLemmas::json_refused))]
-fn parse(alloc: Global, bytes: &[u8]) -> Result<Value, ManifestFault>
+fn parse_manifest_json(alloc: Global, bytes: &[u8]) -> Result<Value, ManifestFault>
     ensures { Parses (json_of bytes.now) result }
 {
     match Value::from_slice(alloc, bytes) {
@@ -50,7 +50,7 @@ fn parse(alloc: Global, bytes: &[u8]) -> Result<Value, ManifestFault>
 
 /// The segments that the entries are.
 #[tactic(auto, using(crate::proofs::ListLemmas::map_more))]
-fn read_entries(
+fn read_manifest_entries(
     alloc: Global,
     entries: &[Value],
     form: Form,
@@ -61,7 +61,7 @@ fn read_entries(
 {
     let mut segments = List::new(alloc);
     for (index, value) in entries.iter().enumerate() {
-        match read_entry(alloc, value, form) {
+        match read_manifest_entry(alloc, value, form) {
             Ok(segment) => segments.push(segment)?,
             Err(EntryFault::Bad) => return Err(ManifestFault::BadEntry(index as u64)),
             Err(EntryFault::Empty) => return Err(ManifestFault::EmptySegment(index as u64)),

@@ -13,16 +13,16 @@ const ETAG_BYTES: usize = 32;
 /// The limit of sizes, and of the sum of the sizes of one object.
 const SIZE_LIMIT: u64 = 1 << 63;
 
-fn slash(byte: u8) -> bool
+fn is_segment_path_slash(byte: u8) -> bool
     ensures { result ≡ is_slash byte }
 {
     byte == b'/'
 }
 
-fn has_slash(text: &[u8]) -> bool
+fn has_segment_path_slash(text: &[u8]) -> bool
     ensures { result ≡ list_any is_slash text.now }
 {
-    text.iter().any(|byte| slash(*byte))
+    text.iter().any(|byte| is_segment_path_slash(*byte))
 }
 
 /// Whether the text is 32 lower-case hexadecimal digits.
@@ -41,17 +41,17 @@ fn is_filled(text: &[u8]) -> bool
 
 /// Whether the fields of an entry are those of a segment, whatever its size is otherwise.
 #[tactic(auto, unfolding(crate::specs::Segments::is_proper_entry))]
-pub fn is_proper_entry(container: &[u8], name: &[u8], etag: &[u8], size: u64) -> bool
+pub fn are_manifest_entry_fields(container: &[u8], name: &[u8], etag: &[u8], size: u64) -> bool
     ensures { result ≡ is_proper_entry container.now name.now etag.now size }
 {
     is_filled(container) && is_filled(name) && is_etag(etag) && size < SIZE_LIMIT
 }
 
 #[tactic(auto, unfolding(crate::specs::Segments::is_listable))]
-fn is_listable(container: &[u8], name: &[u8], size: u64) -> bool
+fn is_listable_in_manifest(container: &[u8], name: &[u8], size: u64) -> bool
     ensures { result ≡ is_listable container.now name.now size }
 {
-    0 < size && !has_slash(container) && is_utf8(container) && is_utf8(name)
+    0 < size && !has_segment_path_slash(container) && is_utf8(container) && is_utf8(name)
 }
 
 /// Whether a manifest may list the segment: its container and name are filled and UTF-8, the container has no
@@ -62,11 +62,11 @@ pub fn is_segment(segment: &Segment) -> bool
 {
     let container = segment.container.as_slice();
     let name = segment.name.as_slice();
-    is_proper_entry(container, name, segment.etag.as_slice(), segment.size)
-        && is_listable(container, name, segment.size)
+    are_manifest_entry_fields(container, name, segment.etag.as_slice(), segment.size)
+        && is_listable_in_manifest(container, name, segment.size)
 }
 
-fn all_segments(segments: &[Segment]) -> bool
+fn are_manifest_segments(segments: &[Segment]) -> bool
     ensures { result ≡ list_all is_segment segments.now }
 {
     segments.iter().all(|segment| is_segment(segment))
@@ -78,5 +78,5 @@ fn all_segments(segments: &[Segment]) -> bool
 pub fn is_manifest(segments: &[Segment]) -> bool
     ensures { result ≡ is_manifest segments.now }
 {
-    segments.len() <= MOST_SEGMENTS && all_segments(segments)
+    segments.len() <= MOST_SEGMENTS && are_manifest_segments(segments)
 }

@@ -46,21 +46,21 @@ is_name text = nat_le 1 (length text) && nat_le (length text) 64 && list_all is_
 abbrev pub is_count : ℕ → Bool
 is_count n = nat_le 1 n && nat_le n 1000000000
 
-abbrev pub count_in : List ℕ → Option ℕ
-count_in text = if is_number 20 text && is_count (digits_value 10 text) then Some (digits_value 10 text) else None
+abbrev pub store_connection_count : List ℕ → Option ℕ
+store_connection_count text = if is_number 20 text && is_count (digits_value 10 text) then Some (digits_value 10 text) else None
 
 -- ---- what they ask for
 
-abbrev pub asked_with : List ℕ → List ℕ → Option ℕ → Option Asked
-asked_with token account None = None
-asked_with token account (Some connections) =
+abbrev pub asked_with_store_names : List ℕ → List ℕ → Option ℕ → Option Asked
+asked_with_store_names token account None = None
+asked_with_store_names token account (Some connections) =
     if is_name token && is_name account then Some (record { token = token; account = account; connections = connections }) else None
 
 abbrev pub asked_by : Option (List ℕ) → Option (List ℕ) → Option (List ℕ) → Option Asked
 asked_by None account connections = None
 asked_by (Some token) None connections = None
 asked_by (Some token) (Some account) None = None
-asked_by (Some token) (Some account) (Some connections) = asked_with token account (count_in connections)
+asked_by (Some token) (Some account) (Some connections) = asked_with_store_names token account (store_connection_count connections)
 
 -- by what `clap` found
 abbrev pub asked_in : List Row → Option Asked

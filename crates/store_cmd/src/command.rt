@@ -49,12 +49,12 @@ pub fn run_store<N: Line<NoCount>, R: Sink, S: Shelf>(
     // Where all was done nothing is reported.
     ensures silent { result ≡ 0 → report.new ≡ report.old }
 {
-    let status = run_without_report(alloc, words, line, shelf);
-    report_status(status, report)
+    let status = run_store_without_report(alloc, words, line, shelf);
+    report_store_run(status, report)
 }
 
 /// A run but for its report.
-fn run_without_report<N: Line<NoCount>, S: Shelf>(
+fn run_store_without_report<N: Line<NoCount>, S: Shelf>(
     alloc: Global,
     words: &[String],
     line: &mut N,
@@ -65,14 +65,14 @@ fn run_without_report<N: Line<NoCount>, S: Shelf>(
         (S.model shelf.old) (S.model shelf.new) }
 {
     match read_words(alloc, words) {
-        Ok(asked) => serve_as_asked(alloc, asked, line, shelf),
+        Ok(asked) => run_store_as_asked(alloc, asked, line, shelf),
         Err(WordsFault::Refused) => Status::Usage,
         Err(WordsFault::Memory) => Status::Memory,
     }
 }
 
 /// Serves as the words ask.
-fn serve_as_asked<N: Line<NoCount>, S: Shelf>(
+fn run_store_as_asked<N: Line<NoCount>, S: Shelf>(
     alloc: Global,
     asked: Asked,
     line: &mut N,
@@ -83,17 +83,17 @@ fn serve_as_asked<N: Line<NoCount>, S: Shelf>(
         (S.model shelf.old) (S.model shelf.new) }
 {
     let most = asked.connections;
-    let Ok(setup) = setup_of(alloc, asked) else {
+    let Ok(setup) = setup_of_lent_store(alloc, asked) else {
         return Status::Memory;
     };
-    match serve_from(alloc, most, &setup, shelf, line) {
+    match serve_lent_store(alloc, most, &setup, shelf, line) {
         Stopped::Done => Status::Done,
         Stopped::Line => Status::Line,
     }
 }
 
 /// Serves as many connections as `most` says, or until there is none, from the shelf.
-fn serve_from<N: Line<NoCount>, S: Shelf>(
+fn serve_lent_store<N: Line<NoCount>, S: Shelf>(
     alloc: Global,
     most: u64,
     setup: &Setup,
@@ -121,17 +121,17 @@ fn serve_from<N: Line<NoCount>, S: Shelf>(
 }
 
 /// What the store needs beside its shelf.
-fn setup_of(alloc: Global, asked: Asked) -> Result<Setup, Memory>
+fn setup_of_lent_store(alloc: Global, asked: Asked) -> Result<Setup, Memory>
     requires { IsPlace (place_by asked) }
     ensures { IfOk result (λ setup. setup.place ≡ place_by asked) }
 {
     let refusals = Refusals::new(alloc)?;
-    let place = place_of(alloc, asked)?;
+    let place = place_of_lent_store(alloc, asked)?;
     Ok(Setup { place, refusals })
 }
 
 /// The place of the store.
-fn place_of(alloc: Global, asked: Asked) -> Result<Place, Memory>
+fn place_of_lent_store(alloc: Global, asked: Asked) -> Result<Place, Memory>
     ensures { IfOk result (λ place. place ≡ place_by asked) }
 {
     Ok(Place {
@@ -142,7 +142,7 @@ fn place_of(alloc: Global, asked: Asked) -> Result<Place, Memory>
 }
 
 /// Reports how a run ended. The answer is its exit status.
-fn report_status<R: Sink>(status: Status, report: &mut R) -> u8
+fn report_store_run<R: Sink>(status: Status, report: &mut R) -> u8
     ensures code { result ≡ code_of status }
     ensures reports { Reports (line_of status) (R.model report.old) (R.model report.new) }
     ensures silent { result ≡ 0 → report.new ≡ report.old }

@@ -91,7 +91,7 @@ fn answer_message<N: Line<NoCount>, S: Shelf>(
     let last = closes(&message);
     let mut text = Bytes::new(alloc);
     match serve(alloc, &setup.place, shelf, message, &mut text) {
-        Ok(()) => send_piece(line, &NoCount, text.as_slice(), after(last)),
+        Ok(()) => send_piece(line, &NoCount, text.as_slice(), ended_after_answer(last)),
         Err(StoreFault::Failed) => send_piece(
             line,
             &NoCount,
@@ -108,7 +108,7 @@ fn answer_message<N: Line<NoCount>, S: Shelf>(
 }
 
 /// How it goes on after an answer.
-fn after(last: bool) -> Option<Ended>
+fn ended_after_answer(last: bool) -> Option<Ended>
     ensures value { result ≡ (if last then Some Closed else None) }
     ensures sound { is_failed_step result ≡ false }
 {

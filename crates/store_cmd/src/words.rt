@@ -5,7 +5,7 @@ ghost use Rattle.clap.specs.Words.{app_of, found_of, kind_of, rows_of, rule_of};
 ghost use Rattle.clap.specs.Simple.{new_app, on_top, with_rule};
 ghost use Rattle.swift_requests.specs.Place.{IsPlace};
 ghost use Rattle.store_cmd.specs.Run.{place_by};
-ghost use Rattle.store_cmd.specs.Words.{FaultOf, Parses, ReadsWords, asked_by, asked_in, asked_of, asked_with, count_in, is_count, is_name, is_name_byte, needed_rule, store_app, with_settings};
+ghost use Rattle.store_cmd.specs.Words.{FaultOf, Parses, ReadsWords, asked_by, asked_in, asked_of, asked_with_store_names, store_connection_count, is_count, is_name, is_name_byte, needed_rule, store_app, with_settings};
 ghost use Rattle.store_cmd.specs.declared.words.WordsFault.TheVariants as faults;
 
 use clap::error::ErrorKind;
@@ -61,32 +61,32 @@ pub(crate) fn read_words(alloc: Global, words: &[String]) -> Result<Asked, Words
     ensures reads { ReadsWords (asked_of words.now) result }
     ensures place { IfOk result (λ asked. IsPlace (place_by asked)) }
 {
-    let matches = match_words(alloc, words)?;
+    let matches = match_store_words(alloc, words)?;
     asked_in(alloc, &matches)
 }
 
-fn match_words<'a>(alloc: Global, words: &'a [String]) -> Result<ArgMatches<'a>, WordsFault>
+fn match_store_words<'a>(alloc: Global, words: &'a [String]) -> Result<ArgMatches<'a>, WordsFault>
     ensures { Parses (map string_bytes words.entry.now) result }
 {
-    let command = described_command(alloc)?;
+    let command = describe_store_command(alloc)?;
     match command.try_get_matches_from(words) {
         Ok(matches) => Ok(matches),
-        Err(error) => Err(fault_of(&error)),
+        Err(error) => Err(fault_of_store_words(&error)),
     }
 }
 
 /// The words as `clap` takes them.
-fn described_command<'a>(alloc: Global) -> Result<Command<'a>, AllocError>
+fn describe_store_command<'a>(alloc: Global) -> Result<Command<'a>, AllocError>
     ensures { IfOk result (λ command. app_of command ≡ store_app) }
 {
-    let bare = command_without_options(alloc);
-    let one = with_required_option(alloc, bare, "token")?;
-    let two = with_required_option(alloc, one, "account")?;
-    with_required_option(alloc, two, "connections")
+    let bare = store_command_without_options(alloc);
+    let one = with_required_store_option(alloc, bare, "token")?;
+    let two = with_required_store_option(alloc, one, "account")?;
+    with_required_store_option(alloc, two, "connections")
 }
 
 /// A command with one more option, which has to be given.
-fn with_required_option<'a>(
+fn with_required_store_option<'a>(
     alloc: Global,
     command: Command<'a>,
     name: &'a str,
@@ -94,19 +94,19 @@ fn with_required_option<'a>(
     ensures { IfOk result
         (λ more. app_of more ≡ with_rule (app_of command.entry) (needed_rule name.entry.now)) }
 {
-    let option = required_option(alloc, name);
+    let option = required_store_option(alloc, name);
     command.arg(option)
 }
 
 /// The program, whose words begin behind its name.
-fn command_without_options<'a>(alloc: Global) -> Command<'a>
+fn store_command_without_options<'a>(alloc: Global) -> Command<'a>
     ensures { app_of result ≡ on_top with_settings (new_app (codes "swiftd")) }
 {
     Command::new(alloc, "swiftd").no_binary_name(true)
 }
 
 /// An option that has to be given.
-fn required_option<'a>(alloc: Global, name: &'a str) -> Arg<'a>
+fn required_store_option<'a>(alloc: Global, name: &'a str) -> Arg<'a>
     ensures rule { rule_of result ≡ needed_rule name.entry.now }
     ensures local { result.global ≡ false }
 {
@@ -116,7 +116,7 @@ fn required_option<'a>(alloc: Global, name: &'a str) -> Arg<'a>
         .required(true)
 }
 
-fn fault_of(error: &Error) -> WordsFault
+fn fault_of_store_words(error: &Error) -> WordsFault
     ensures { FaultOf (kind_of error.now) result }
 {
     match error.kind() {
@@ -157,19 +157,24 @@ fn asked_by(
     let Some(connections) = connections else {
         return Err(WordsFault::Refused);
     };
-    match count_in(connections) {
-        Some(connections) => asked_with(alloc, token.as_bytes(), account.as_bytes(), connections),
+    match store_connection_count(connections) {
+        Some(connections) => asked_with_store_names(
+            alloc,
+            token.as_bytes(),
+            account.as_bytes(),
+            connections,
+        ),
         None => Err(WordsFault::Refused),
     }
 }
 
-fn asked_with(
+fn asked_with_store_names(
     alloc: Global,
     token: &[u8],
     account: &[u8],
     connections: u64,
 ) -> Result<Asked, WordsFault>
-    ensures reads { ReadsWords (asked_with token.now account.now (Some connections)) result }
+    ensures reads { ReadsWords (asked_with_store_names token.now account.now (Some connections)) result }
     ensures place { IfOk result (λ asked. IsPlace (place_by asked)) }
 {
     if !is_name(token) {
@@ -188,10 +193,10 @@ fn asked_with(
 fn is_name(text: &[u8]) -> bool
     ensures { result ≡ is_name text.now }
 {
-    1 <= text.len() && text.len() <= LONGEST_NAME && all_name_bytes(text)
+    1 <= text.len() && text.len() <= LONGEST_NAME && are_token_or_account_bytes(text)
 }
 
-fn all_name_bytes(text: &[u8]) -> bool
+fn are_token_or_account_bytes(text: &[u8]) -> bool
     ensures { result ≡ list_all is_name_byte text.now }
 {
     text.iter().all(|byte| is_name_byte(*byte))
@@ -204,8 +209,8 @@ fn is_name_byte(byte: u8) -> bool
 }
 
 /// The number that the text writes, where it is one of connections.
-fn count_in(text: &str) -> Option<u64>
-    ensures { result ≡ count_in text.now }
+fn store_connection_count(text: &str) -> Option<u64>
+    ensures { result ≡ store_connection_count text.now }
 {
     if !is_number(text.as_bytes(), LONGEST_NUMBER) {
         return None;

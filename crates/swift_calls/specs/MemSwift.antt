@@ -2,7 +2,7 @@
 use Rattle.std.specs.Prelude.{◌≡◌, ℕ, true, length, take}
 use Rattle.swift_calls.specs.History.{History}
 use Rattle.swift_calls.specs.Account.{SwiftAccount, tree_of}
-use Rattle.swift_calls.specs.Replay.{outcome_at, loses_none, replayed, failures}
+use Rattle.swift_calls.specs.Replay.{replay_outcome_at, loses_none, replayed, failures}
 use Rattle.swift_calls.specs.declared.account.Account.{Account}
 use Rattle.swift_calls.specs.declared.memory.Outcome.{Outcome}
 use Rattle.swift_calls.specs.declared.memory.MemSwift.{MemSwift}
@@ -36,7 +36,7 @@ history_of m = record {
 
 -- how the call of a number goes
 abbrev pub planned : MemSwift → ℕ → Outcome
-planned m number = outcome_at m.before m.after m.stop number
+planned m number = replay_outcome_at m.before m.after m.stop number
 
 -- both began with one account, and their calls go alike
 pub record SamePlan (old new : MemSwift) : Type 0 where

@@ -37,8 +37,8 @@ use Rattle.swift_calls.specs.declared.memory.Outcome.TheVariants.{Answered, Lost
 use Rattle.swift_calls.specs.declared.memory.Entry.{Entry}
 
 -- how the call of a number goes: lost in `before` and from `stop` on, unless that is 0, and else its answer lost in `after`
-abbrev pub outcome_at : List ℕ → List ℕ → ℕ → ℕ → Outcome
-outcome_at before after stop number =
+abbrev pub replay_outcome_at : List ℕ → List ℕ → ℕ → ℕ → Outcome
+replay_outcome_at before after stop number =
     if list_any (λ k. k == number) before || (nat_lt 0 stop && nat_le stop number) then LostBefore
     else if list_any (λ k. k == number) after then LostAfter else Answered
 

@@ -115,34 +115,38 @@ impl Copying for SwiftRequest {
                 prefix,
                 marker,
                 limit,
-            } => copy_list(container, prefix, marker, *limit),
+            } => copy_list_names_call(container, prefix, marker, *limit),
             SwiftRequest::PutObject {
                 container,
                 name,
                 content_type,
                 meta,
                 body,
-            } => copy_put(container, name, content_type, meta, body),
+            } => copy_put_object_call(container, name, content_type, meta, body),
             SwiftRequest::PutManifest {
                 container,
                 name,
                 content_type,
                 meta,
                 segments,
-            } => copy_manifest(container, name, content_type, meta, segments),
-            SwiftRequest::HeadObject { container, name } => copy_head(container, name),
+            } => copy_put_manifest_call(container, name, content_type, meta, segments),
+            SwiftRequest::HeadObject { container, name } => copy_head_object_call(container, name),
             SwiftRequest::GetObject {
                 container,
                 name,
                 range,
-            } => copy_get(container, name, *range),
-            SwiftRequest::GetManifest { container, name } => copy_get_manifest(container, name),
-            SwiftRequest::DeleteObject { container, name } => copy_delete(container, name),
+            } => copy_get_object_call(container, name, *range),
+            SwiftRequest::GetManifest { container, name } => copy_get_manifest_call(
+                container, name,
+            ),
+            SwiftRequest::DeleteObject { container, name } => copy_delete_object_call(
+                container, name,
+            ),
         }
     }
 }
 
-fn copy_both(first: &Bytes, second: &Bytes) -> Result<(Bytes, Bytes), Memory>
+fn copy_call_texts(first: &Bytes, second: &Bytes) -> Result<(Bytes, Bytes), Memory>
     ensures { IfOk result (λ copies. copies ≡ record { 0 = first.now; 1 = second.now }) }
 {
     let first = first.copy()?;
@@ -150,7 +154,7 @@ fn copy_both(first: &Bytes, second: &Bytes) -> Result<(Bytes, Bytes), Memory>
     Ok((first, second))
 }
 
-fn copy_list(
+fn copy_list_names_call(
     container: &Bytes,
     prefix: &Bytes,
     marker: &Bytes,
@@ -160,7 +164,7 @@ fn copy_list(
         (λ copied. copied ≡ SwiftRequest.ListNames container.now prefix.now marker.now limit) }
 {
     let container = container.copy()?;
-    let (prefix, marker) = copy_both(prefix, marker)?;
+    let (prefix, marker) = copy_call_texts(prefix, marker)?;
     Ok(SwiftRequest::ListNames {
         container,
         prefix,
@@ -169,21 +173,21 @@ fn copy_list(
     })
 }
 
-fn copy_head(container: &Bytes, name: &Bytes) -> Result<SwiftRequest, Memory>
+fn copy_head_object_call(container: &Bytes, name: &Bytes) -> Result<SwiftRequest, Memory>
     ensures { IfOk result (λ copied. copied ≡ SwiftRequest.HeadObject container.now name.now) }
 {
-    let (container, name) = copy_both(container, name)?;
+    let (container, name) = copy_call_texts(container, name)?;
     Ok(SwiftRequest::HeadObject { container, name })
 }
 
-fn copy_get(
+fn copy_get_object_call(
     container: &Bytes,
     name: &Bytes,
     range: Option<(u64, u64)>,
 ) -> Result<SwiftRequest, Memory>
     ensures { IfOk result (λ copied. copied ≡ SwiftRequest.GetObject container.now name.now range) }
 {
-    let (container, name) = copy_both(container, name)?;
+    let (container, name) = copy_call_texts(container, name)?;
     Ok(SwiftRequest::GetObject {
         container,
         name,
@@ -191,21 +195,21 @@ fn copy_get(
     })
 }
 
-fn copy_get_manifest(container: &Bytes, name: &Bytes) -> Result<SwiftRequest, Memory>
+fn copy_get_manifest_call(container: &Bytes, name: &Bytes) -> Result<SwiftRequest, Memory>
     ensures { IfOk result (λ copied. copied ≡ SwiftRequest.GetManifest container.now name.now) }
 {
-    let (container, name) = copy_both(container, name)?;
+    let (container, name) = copy_call_texts(container, name)?;
     Ok(SwiftRequest::GetManifest { container, name })
 }
 
-fn copy_delete(container: &Bytes, name: &Bytes) -> Result<SwiftRequest, Memory>
+fn copy_delete_object_call(container: &Bytes, name: &Bytes) -> Result<SwiftRequest, Memory>
     ensures { IfOk result (λ copied. copied ≡ SwiftRequest.DeleteObject container.now name.now) }
 {
-    let (container, name) = copy_both(container, name)?;
+    let (container, name) = copy_call_texts(container, name)?;
     Ok(SwiftRequest::DeleteObject { container, name })
 }
 
-fn copy_put(
+fn copy_put_object_call(
     container: &Bytes,
     name: &Bytes,
     content_type: &Bytes,
@@ -216,8 +220,8 @@ fn copy_put(
         content_type.now meta.now body.now) }
 {
     let meta = meta.copy()?;
-    let (container, name) = copy_both(container, name)?;
-    let (content_type, body) = copy_both(content_type, body)?;
+    let (container, name) = copy_call_texts(container, name)?;
+    let (content_type, body) = copy_call_texts(content_type, body)?;
     Ok(SwiftRequest::PutObject {
         container,
         name,
@@ -227,7 +231,7 @@ fn copy_put(
     })
 }
 
-fn copy_manifest(
+fn copy_put_manifest_call(
     container: &Bytes,
     name: &Bytes,
     content_type: &Bytes,
@@ -238,7 +242,7 @@ fn copy_manifest(
         content_type.now meta.now segments.now) }
 {
     let meta = meta.copy()?;
-    let (container, name) = copy_both(container, name)?;
+    let (container, name) = copy_call_texts(container, name)?;
     let content_type = content_type.copy()?;
     Ok(SwiftRequest::PutManifest {
         container,

@@ -14,45 +14,45 @@ use text_forms::is_utf8;
 /// The greatest body that a call puts, in bytes: 16 MiB.
 pub const MOST_BODY: usize = 16_777_216;
 
-fn has_no_zero(text: &[u8]) -> bool
+fn has_no_unfit_zero_byte(text: &[u8]) -> bool
     ensures { IsTrue result ↔ ¬ (Contains text.now 0) }
 {
     !text.contains(&0)
 }
 
 #[tactic(auto, using(crate::proofs::Fitting::text_is))]
-fn is_text(most: usize, text: &[u8]) -> bool
+fn is_fit_text(most: usize, text: &[u8]) -> bool
     ensures { IsTrue result ↔ IsText most text.now }
 {
-    text.len() <= most && is_utf8(text) && has_no_zero(text)
+    text.len() <= most && is_utf8(text) && has_no_unfit_zero_byte(text)
 }
 
 #[tactic(auto, using(crate::proofs::Fitting::container_name_is))]
-fn is_container_name(name: &[u8]) -> bool
+fn is_fit_container_name(name: &[u8]) -> bool
     ensures { IsTrue result ↔ IsContainerName name.now }
 {
-    !name.is_empty() && is_text(256, name)
+    !name.is_empty() && is_fit_text(256, name)
 }
 
-fn is_object_name(name: &[u8]) -> bool
+fn is_fit_object_name(name: &[u8]) -> bool
     ensures { IsTrue result ↔ IsObjectName name.now }
 {
-    !name.is_empty() && is_text(1024, name)
+    !name.is_empty() && is_fit_text(1024, name)
 }
 
-fn is_marker(text: &[u8]) -> bool
+fn is_fit_marker(text: &[u8]) -> bool
     ensures { IsTrue result ↔ IsMarker text.now }
 {
-    is_text(1028, text)
+    is_fit_text(1028, text)
 }
 
-fn is_limit(limit: u32) -> bool
+fn is_fit_limit(limit: u32) -> bool
     ensures { IsTrue result ↔ IsLimit limit }
 {
     1 <= limit && limit <= 1000
 }
 
-fn is_range(range: Option<(u64, u64)>) -> bool
+fn is_fit_range(range: Option<(u64, u64)>) -> bool
     ensures { IsTrue result ↔ IfSome range IsRange }
 {
     match range {
@@ -61,7 +61,7 @@ fn is_range(range: Option<(u64, u64)>) -> bool
     }
 }
 
-fn is_moment(moment: Option<u64>) -> bool
+fn is_fit_moment(moment: Option<u64>) -> bool
     ensures { IsTrue result ↔ IfSome moment IsMoment }
 {
     match moment {
@@ -70,7 +70,7 @@ fn is_moment(moment: Option<u64>) -> bool
     }
 }
 
-fn are_fields(pieces: &[Bytes]) -> bool
+fn are_fit_meta_pieces(pieces: &[Bytes]) -> bool
     ensures { result ≡ list_all (is_field 256) pieces.now }
 {
     pieces.iter().all(|piece| is_field(piece.as_slice(), 256))
@@ -79,22 +79,22 @@ fn are_fields(pieces: &[Bytes]) -> bool
 fn is_meta(pieces: &[Bytes]) -> bool
     ensures { result ≡ is_meta pieces.now }
 {
-    pieces.len() <= 11 && are_fields(pieces)
+    pieces.len() <= 11 && are_fit_meta_pieces(pieces)
 }
 
-fn is_page(marker: &Bytes, limit: u32) -> bool
+fn is_fit_page(marker: &Bytes, limit: u32) -> bool
     ensures { IsTrue result ↔ (IsMarker marker.now × IsLimit limit) }
 {
-    is_marker(marker.as_slice()) && is_limit(limit)
+    is_fit_marker(marker.as_slice()) && is_fit_limit(limit)
 }
 
-fn is_place(container: &Bytes, name: &Bytes) -> bool
+fn is_fit_object_place(container: &Bytes, name: &Bytes) -> bool
     ensures { IsTrue result ↔ (IsContainerName container.now × IsObjectName name.now) }
 {
-    is_container_name(container.as_slice()) && is_object_name(name.as_slice())
+    is_fit_container_name(container.as_slice()) && is_fit_object_name(name.as_slice())
 }
 
-fn is_content(content_type: &Bytes, meta: &List<Bytes>, body: &Bytes) -> bool
+fn is_fit_content(content_type: &Bytes, meta: &List<Bytes>, body: &Bytes) -> bool
     ensures { IsTrue result ↔ (IsTrue (is_content_type content_type.now) × IsTrue (is_meta meta.now)
         × (length body.now ≤ most_body)) }
 {
@@ -104,15 +104,15 @@ fn is_content(content_type: &Bytes, meta: &List<Bytes>, body: &Bytes) -> bool
 fn makes_fit(container: &Bytes, created: Option<u64>) -> bool
     ensures { IsTrue result ↔ (IsContainerName container.now × IfSome created IsMoment) }
 {
-    is_container_name(container.as_slice()) && is_moment(created)
+    is_fit_container_name(container.as_slice()) && is_fit_moment(created)
 }
 
 fn lists_fit(container: &Bytes, prefix: &Bytes, marker: &Bytes, limit: u32) -> bool
     ensures { IsTrue result ↔ Fit (asked.ListNames container.now prefix.now marker.now limit) }
 {
-    is_container_name(container.as_slice())
-        && is_marker(prefix.as_slice())
-        && is_page(marker, limit)
+    is_fit_container_name(container.as_slice())
+        && is_fit_marker(prefix.as_slice())
+        && is_fit_page(marker, limit)
 }
 
 fn puts_fit(
@@ -125,31 +125,31 @@ fn puts_fit(
     ensures { IsTrue result ↔ Fit
         (asked.PutObject container.now name.now content_type.now meta.now body.now) }
 {
-    is_place(container, name) && is_content(content_type, meta, body)
+    is_fit_object_place(container, name) && is_fit_content(content_type, meta, body)
 }
 
 /// Whether a call may list a segment.
 #[tactic(auto, using(crate::proofs::Fitting::segment_place_is))]
-fn is_segment_place(segment: &Segment) -> bool
+fn is_fit_segment(segment: &Segment) -> bool
     ensures { IsTrue result ↔ IsSegmentPlace segment.now }
 {
-    is_place(&segment.container, &segment.name) && is_segment(segment)
+    is_fit_object_place(&segment.container, &segment.name) && is_segment(segment)
 }
 
-fn are_segment_places(segments: &[Segment]) -> bool
+fn are_fit_segments(segments: &[Segment]) -> bool
     ensures { IsTrue result ↔ All IsSegmentPlace segments.now }
 {
-    segments.iter().all(|segment| is_segment_place(segment))
+    segments.iter().all(|segment| is_fit_segment(segment))
 }
 
-fn is_manifest(content_type: &Bytes, meta: &List<Bytes>, segments: &List<Segment>) -> bool
+fn is_fit_manifest(content_type: &Bytes, meta: &List<Bytes>, segments: &List<Segment>) -> bool
     ensures { IsTrue result ↔ (IsTrue (is_content_type content_type.now) × IsTrue (is_meta meta.now)
         × (length segments.now ≤ most_segments) × All IsSegmentPlace segments.now) }
 {
     is_field(content_type.as_slice(), 512)
         && is_meta(meta.as_slice())
         && segments.len() <= MOST_SEGMENTS
-        && are_segment_places(segments.as_slice())
+        && are_fit_segments(segments.as_slice())
 }
 
 fn puts_manifest_fit(
@@ -162,13 +162,13 @@ fn puts_manifest_fit(
     ensures { IsTrue result ↔ Fit
         (asked.PutManifest container.now name.now content_type.now meta.now segments.now) }
 {
-    is_place(container, name) && is_manifest(content_type, meta, segments)
+    is_fit_object_place(container, name) && is_fit_manifest(content_type, meta, segments)
 }
 
 fn gets_fit(container: &Bytes, name: &Bytes, range: Option<(u64, u64)>) -> bool
     ensures { IsTrue result ↔ Fit (asked.GetObject container.now name.now range) }
 {
-    is_place(container, name) && is_range(range)
+    is_fit_object_place(container, name) && is_fit_range(range)
 }
 
 /// Whether a call is within the limits: names of containers have 1 to 256 bytes, of objects 1 to 1024, prefixes and
@@ -181,15 +181,17 @@ pub fn is_fit(request: &SwiftRequest) -> bool
     ensures { IsTrue result ↔ Fit request.now }
 {
     match request {
-        SwiftRequest::ListContainers { marker, limit } => is_page(marker, *limit),
-        SwiftRequest::HeadContainer { container } => is_container_name(container.as_slice()),
+        SwiftRequest::ListContainers { marker, limit } => is_fit_page(marker, *limit),
+        SwiftRequest::HeadContainer { container } => is_fit_container_name(container.as_slice()),
         SwiftRequest::PutContainer {
             container,
             created,
             ..
         } => makes_fit(container, *created),
-        SwiftRequest::PostContainer { container, .. } => is_container_name(container.as_slice()),
-        SwiftRequest::DeleteContainer { container } => is_container_name(container.as_slice()),
+        SwiftRequest::PostContainer { container, .. } => is_fit_container_name(
+            container.as_slice(),
+        ),
+        SwiftRequest::DeleteContainer { container } => is_fit_container_name(container.as_slice()),
         SwiftRequest::ListNames {
             container,
             prefix,
@@ -210,13 +212,13 @@ pub fn is_fit(request: &SwiftRequest) -> bool
             meta,
             segments,
         } => puts_manifest_fit(container, name, content_type, meta, segments),
-        SwiftRequest::HeadObject { container, name } => is_place(container, name),
+        SwiftRequest::HeadObject { container, name } => is_fit_object_place(container, name),
         SwiftRequest::GetObject {
             container,
             name,
             range,
         } => gets_fit(container, name, *range),
-        SwiftRequest::GetManifest { container, name } => is_place(container, name),
-        SwiftRequest::DeleteObject { container, name } => is_place(container, name),
+        SwiftRequest::GetManifest { container, name } => is_fit_object_place(container, name),
+        SwiftRequest::DeleteObject { container, name } => is_fit_object_place(container, name),
     }
 }

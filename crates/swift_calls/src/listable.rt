@@ -4,7 +4,7 @@ ghost use Rattle.std.specs.List.{list_all, list_any};
 ghost use Rattle.swift_calls.specs.Bodies.{lists_at, is_shallow, may_be_listed, is_good_list};
 ghost use Rattle.swift_calls.specs.Lists.{look_in, AreSized};
 
-use crate::objects::{is_list, object_at};
+use crate::objects::{is_list, object_in_account};
 use crate::segments::is_segment;
 use crate::{Container, Content};
 use gate_base::{List, Memory};
@@ -19,7 +19,7 @@ const SIZE_LIMIT: u64 = 1 << 63;
 fn lists_at(containers: &List<Container>, segment: &Segment) -> bool
     ensures { result ≡ lists_at (look_in containers.now segment.now.container segment.now.name) }
 {
-    match object_at(
+    match object_in_account(
         containers,
         segment.container.as_slice(),
         segment.name.as_slice(),
@@ -56,7 +56,7 @@ fn may_be_listed(
     requires { AreSized containers.now }
     ensures { IfOk result (λ may. may ≡ may_be_listed (look_in containers.now) segment.now) }
 {
-    match object_at(
+    match object_in_account(
         containers,
         segment.container.as_slice(),
         segment.name.as_slice(),
@@ -71,7 +71,7 @@ fn may_be_listed(
 
 /// Whether each of these may be listed.
 #[tactic(auto, using(crate::proofs::Manifests::passes_start, crate::proofs::Manifests::passes_next, crate::proofs::Manifests::passes_lost, crate::proofs::Manifests::passes_end))]
-fn may_all_be_listed(
+fn are_listable_in_account(
     alloc: Global,
     containers: &List<Container>,
     segments: &[Segment],
@@ -113,7 +113,7 @@ pub(crate) fn is_good_list(
     requires { AreSized containers.now }
     ensures { IfOk result (λ is. is ≡ is_good_list (look_in containers.now) segments.now) }
 {
-    let are_there = may_all_be_listed(alloc, containers, segments)?;
+    let are_there = are_listable_in_account(alloc, containers, segments)?;
     let is_counted = 0 < segments.len() && segments.len() <= MOST_SEGMENTS;
     Ok(is_counted && are_there && are_small(segments))
 }

@@ -18,7 +18,7 @@ fn is_listed(prefix: &[u8], marker: &[u8], name: &[u8]) -> bool
 
 /// The names of the containers after the marker, at most so many.
 #[tactic(auto, using(crate::proofs::Paging::paged_start, crate::proofs::Paging::paged_more, crate::proofs::Paging::paged_left, crate::proofs::Paging::paged_full, crate::proofs::Paging::paged_end))]
-pub(crate) fn list_containers(
+pub(crate) fn list_containers_in_account(
     alloc: Global,
     containers: &[Container],
     marker: &[u8],
@@ -41,7 +41,7 @@ pub(crate) fn list_containers(
 
 /// The objects after the marker whose names begin with the prefix, at most so many.
 #[tactic(auto, using(crate::proofs::Paging::paged_start, crate::proofs::Paging::paged_more, crate::proofs::Paging::paged_left, crate::proofs::Paging::paged_full, crate::proofs::Paging::paged_end))]
-pub(crate) fn list_objects(
+pub(crate) fn list_objects_in_account(
     alloc: Global,
     objects: &[Stored],
     prefix: &[u8],

@@ -15,7 +15,7 @@ use std::alloc::Global;
 
 /// The first item of a name.
 #[tactic(auto, using(crate::proofs::ByName::found_at, crate::proofs::ByName::found_none, std::proofs::lemmas::Option::slice_get_read))]
-pub(crate) fn item_at<'a, T: Named>(items: &'a List<T>, name: &[u8]) -> Option<&'a T>
+pub(crate) fn item_in_account<'a, T: Named>(items: &'a List<T>, name: &[u8]) -> Option<&'a T>
     ensures { option_copied result ≡ named T.name_of name.now items.now }
 {
     match items.find(name) {
@@ -25,15 +25,15 @@ pub(crate) fn item_at<'a, T: Named>(items: &'a List<T>, name: &[u8]) -> Option<&
 }
 
 /// The object of a name in the container of a name.
-pub(crate) fn object_at<'a>(
+pub(crate) fn object_in_account<'a>(
     containers: &'a List<Container>,
     container: &[u8],
     name: &[u8],
 ) -> Option<&'a Stored>
     ensures { option_copied result ≡ stored container.now name.now containers.now }
 {
-    match item_at(containers, container) {
-        Some(container) => item_at(&container.objects, name),
+    match item_in_account(containers, container) {
+        Some(container) => item_in_account(&container.objects, name),
         None => None,
     }
 }
@@ -51,7 +51,7 @@ pub(crate) fn size_of(content: &Content) -> u64
 
 /// The MD5 (RFC 1321) of bytes in lower-case hexadecimal digits.
 #[tactic(auto, unfolding(crate::specs::Bodies::etag_text))]
-fn etag_text(alloc: Global, bytes: &[u8]) -> Result<Bytes, Memory>
+fn etag_text_in_account(alloc: Global, bytes: &[u8]) -> Result<Bytes, Memory>
     ensures { IfOk result (λ etag. etag ≡ etag_text bytes.now) }
 {
     let text = hex::encode(alloc, Md5::digest(bytes))?;
@@ -74,10 +74,10 @@ pub(crate) fn etag_of(alloc: Global, content: &Content) -> Result<Bytes, Memory>
     ensures { IfOk result (λ etag. etag ≡ etag_of content.now) }
 {
     match content {
-        Content::Plain(bytes) => etag_text(alloc, bytes.as_slice()),
+        Content::Plain(bytes) => etag_text_in_account(alloc, bytes.as_slice()),
         Content::Segments(segments) => {
             let text = joined_etags(alloc, segments.as_slice())?;
-            etag_text(alloc, text.as_slice())
+            etag_text_in_account(alloc, text.as_slice())
         }
     }
 }

@@ -8,7 +8,7 @@ ghost use Rattle.std.proofs.lemmas.List.Sums.{sum_by-take-le};
 ghost use Rattle.swift_calls.specs.Account.{tree_of, IsOrdered, IsSized};
 ghost use Rattle.swift_calls.specs.Step.{Fit, swift_step};
 ghost use Rattle.swift_calls.specs.History.{Calls};
-ghost use Rattle.swift_calls.specs.Replay.{outcome_at, loses_none, left_by, reply_by, failures, Goes, Logs};
+ghost use Rattle.swift_calls.specs.Replay.{replay_outcome_at, loses_none, left_by, reply_by, failures, Goes, Logs};
 ghost use Rattle.swift_calls.specs.MemSwift.{calls_of, account_after, faults_after, history_of, planned, SamePlan};
 
 use crate::memory::Entry;
@@ -36,7 +36,7 @@ impl MemSwift {
         ensures faults { IfOk result (λ m. faults_after m 0 ≡ 0) }
         ensures sure { IfOk result (λ m. (history_of m).sure ≡ loses_none before after stop) }
         ensures planned { IfOk result
-            (λ m. (number : ℕ) → planned m number ≡ outcome_at before after stop number) }
+            (λ m. (number : ℕ) → planned m number ≡ replay_outcome_at before after stop number) }
     {
         Ok(MemSwift {
             present: account.copy()?,
@@ -89,7 +89,7 @@ impl MemSwift {
         ensures { result ≡ planned self.now number }
     {
         let before = self.before.as_slice();
-        outcome_at(before, self.after.as_slice(), self.stop, number)
+        replay_outcome_at(before, self.after.as_slice(), self.stop, number)
     }
 
     /// Makes a call and records it. Where memory runs out, all is as it was.
@@ -103,7 +103,7 @@ impl MemSwift {
             (λ reply. reply ≡ (swift_step request.now (tree_of self.old.present)).reply) }
     {
         let outcome = self.outcome(self.log.as_slice().len() as u64 + 1);
-        let reply = enter(
+        let reply = enter_call_for_replay(
             self.alloc,
             &mut self.log,
             &mut self.present,
@@ -115,7 +115,7 @@ impl MemSwift {
 }
 
 /// Makes a call as its outcome says, and records it. Where memory runs out, all is as it was.
-fn enter(
+fn enter_call_for_replay(
     alloc: Global,
     log: &mut Vec<Entry>,
     account: &mut Account,
@@ -143,26 +143,26 @@ fn enter(
 }
 
 /// How the call of a number goes, by what a store was told of its calls.
-fn outcome_at(before: &[u64], after: &[u64], stop: u64, number: u64) -> Outcome
-    ensures { result ≡ outcome_at before.now after.now stop number }
+fn replay_outcome_at(before: &[u64], after: &[u64], stop: u64, number: u64) -> Outcome
+    ensures { result ≡ replay_outcome_at before.now after.now stop number }
 {
-    if is_among(number, before) || is_stopped(stop, number) {
+    if is_among_call_numbers(number, before) || is_call_stopped(stop, number) {
         Outcome::LostBefore
-    } else if is_among(number, after) {
+    } else if is_among_call_numbers(number, after) {
         Outcome::LostAfter
     } else {
         Outcome::Answered
     }
 }
 
-fn is_among(number: u64, numbers: &[u64]) -> bool
+fn is_among_call_numbers(number: u64, numbers: &[u64]) -> bool
     ensures { result ≡ list_any (λ k. k == number) numbers.now }
 {
     numbers.iter().any(|k| *k == number)
 }
 
 /// Whether each call fails from the number on, where 0 stops none.
-fn is_stopped(stop: u64, number: u64) -> bool
+fn is_call_stopped(stop: u64, number: u64) -> bool
     ensures { result ≡ nat_lt 0 stop && nat_le stop number }
 {
     0 < stop && stop <= number

@@ -5,7 +5,7 @@ ghost use Rattle.swift_calls.specs.Bodies.{is_segment, plain_bytes, inner_bytes,
 ghost use Rattle.swift_calls.specs.Step.{part_reply, get_reply};
 ghost use Rattle.swift_calls.specs.Lists.{look_in, AreSized};
 
-use crate::objects::{etag_of, head_of, object_at, size_of};
+use crate::objects::{etag_of, head_of, object_in_account, size_of};
 use crate::{Container, Content, Stored, StoredHead, SwiftReply};
 use gate_base::{Bytes, Copying, List, Memory};
 use slo_manifest::Segment;
@@ -40,7 +40,7 @@ fn inner_bytes(
     requires { AreSized containers.now }
     ensures { IfOk result (λ bytes. bytes ≡ inner_bytes (look_in containers.now) segment.now) }
 {
-    match object_at(
+    match object_in_account(
         containers,
         segment.container.as_slice(),
         segment.name.as_slice(),
@@ -58,7 +58,7 @@ fn inner_bytes(
 
 /// The bytes of segments in a row, of which none may list segments.
 #[tactic(auto, using(crate::proofs::Joining::joins_start, crate::proofs::Joining::joins_next, crate::proofs::Joining::joins_lost, crate::proofs::Joining::joins_end))]
-fn joined_inner(
+fn joined_inner_bytes_in_account(
     alloc: Global,
     containers: &List<Container>,
     segments: &[Segment],
@@ -87,7 +87,11 @@ fn segment_bytes_of(
 {
     match content {
         Content::Plain(bytes) => Ok(Some(bytes.copy()?)),
-        Content::Segments(segments) => joined_inner(alloc, containers, segments.as_slice()),
+        Content::Segments(segments) => joined_inner_bytes_in_account(
+            alloc,
+            containers,
+            segments.as_slice(),
+        ),
     }
 }
 
@@ -101,7 +105,7 @@ fn outer_bytes(
     requires { AreSized containers.now }
     ensures { IfOk result (λ bytes. bytes ≡ outer_bytes (look_in containers.now) segment.now) }
 {
-    match object_at(
+    match object_in_account(
         containers,
         segment.container.as_slice(),
         segment.name.as_slice(),
@@ -119,7 +123,7 @@ fn outer_bytes(
 
 /// The bytes of an object's segments in a row.
 #[tactic(auto, using(crate::proofs::Joining::joins_start, crate::proofs::Joining::joins_next, crate::proofs::Joining::joins_lost, crate::proofs::Joining::joins_end))]
-fn joined_outer(
+fn joined_outer_bytes_in_account(
     alloc: Global,
     containers: &List<Container>,
     segments: &[Segment],
@@ -173,7 +177,7 @@ fn part_reply(
 }
 
 /// Reads an object, whose segments are looked for in the containers.
-pub(crate) fn read_object(
+pub(crate) fn read_object_in_account(
     alloc: Global,
     containers: &List<Container>,
     object: &Stored,
@@ -188,7 +192,7 @@ pub(crate) fn read_object(
     match &object.content {
         Content::Plain(bytes) => part_reply(alloc, head, range, bytes.as_slice()),
         Content::Segments(segments) => {
-            match joined_outer(alloc, containers, segments.as_slice())? {
+            match joined_outer_bytes_in_account(alloc, containers, segments.as_slice())? {
                 Some(bytes) => part_reply(alloc, head, range, bytes.as_slice()),
                 None => Ok(SwiftReply::NotFound),
             }

@@ -10,9 +10,9 @@ ghost use Rattle.swift_calls.specs.declared.account.Content.TheVariants.{Plain, 
 ghost use Rattle.swift_calls.specs.Lists.{served, name_of, object_name, is_nil, without, with_object, listed, AreOrdered, AreSized};
 
 use crate::listable::is_good_list;
-use crate::listing::{list_containers, list_objects};
-use crate::objects::{etag_of, head_of, item_at, object_at};
-use crate::segments::read_object;
+use crate::listing::{list_containers_in_account, list_objects_in_account};
+use crate::objects::{etag_of, head_of, item_in_account, object_in_account};
+use crate::segments::read_object_in_account;
 use crate::{Account, Container, Content, ReadList, Stored, SwiftReply, SwiftRequest};
 use gate_base::{Bytes, Copying, List, Memory, Named};
 use slo_manifest::Segment;
@@ -31,7 +31,7 @@ fn serve_list_containers(
     ensures { IfOk result (λ reply. reply ≡ (swift_step
         (SwiftRequest.ListContainers marker.now limit) (tree_of (listed containers.now))).reply) }
 {
-    let names = list_containers(alloc, containers.as_slice(), marker, limit as usize)?;
+    let names = list_containers_in_account(alloc, containers.as_slice(), marker, limit as usize)?;
     Ok(SwiftReply::Containers(names))
 }
 
@@ -41,7 +41,7 @@ fn serve_head_container(containers: &List<Container>, name: &[u8]) -> SwiftReply
     ensures { result ≡ (swift_step (SwiftRequest.HeadContainer name.now)
         (tree_of (listed containers.now))).reply }
 {
-    match item_at(containers, name) {
+    match item_in_account(containers, name) {
         Some(container) => SwiftReply::Readers {
             readers: container.readers,
             created: container.created,
@@ -108,18 +108,18 @@ fn serve_post_container(
     }
 }
 
-fn has_other_name<T: Named>(thing: &T, name: &[u8]) -> bool
+fn has_other_name_in_account<T: Named>(thing: &T, name: &[u8]) -> bool
     ensures { result ≡ not (has_name T.name_of name.now thing.now) }
 {
     !name.cmp(thing.name()).is_eq()
 }
 
 /// Takes all things of a name away.
-fn take_away<T: Named + Drop>(alloc: Global, things: &mut List<T>, name: &[u8])
+fn take_away_from_account<T: Named + Drop>(alloc: Global, things: &mut List<T>, name: &[u8])
     ensures { things.new ≡ without T.name_of name.now things.old }
 {
     let mut items = mem::replace(things, List::new(alloc)).into_vec();
-    items.retain(|thing| has_other_name(thing, name));
+    items.retain(|thing| has_other_name_in_account(thing, name));
     *things = List::from_vec(items);
 }
 
@@ -137,7 +137,7 @@ fn serve_delete_container(
 {
     match is_bare(containers, name) {
         Some(true) => {
-            take_away(alloc, containers, name);
+            take_away_from_account(alloc, containers, name);
             SwiftReply::Gone
         }
         Some(false) => SwiftReply::NotEmpty,
@@ -149,7 +149,7 @@ fn serve_delete_container(
 fn is_bare(containers: &List<Container>, name: &[u8]) -> Option<bool>
     ensures { result ≡ option_map (λ c. is_nil c.objects) (named name_of name.now containers.now) }
 {
-    match item_at(containers, name) {
+    match item_in_account(containers, name) {
         Some(container) => Some(container.objects.is_empty()),
         None => None,
     }
@@ -171,10 +171,10 @@ fn serve_list_names(
         (SwiftRequest.ListNames container.now prefix.now marker.now limit)
         (tree_of (listed containers.now))).reply) }
 {
-    match item_at(containers, container) {
+    match item_in_account(containers, container) {
         Some(container) => {
             let objects = container.objects.as_slice();
-            let items = list_objects(alloc, objects, prefix, marker, limit as usize)?;
+            let items = list_objects_in_account(alloc, objects, prefix, marker, limit as usize)?;
             Ok(SwiftReply::Names(items))
         }
         None => Ok(SwiftReply::NotFound),
@@ -207,7 +207,7 @@ fn serve_put_object(
 }
 
 /// An object that lists these segments.
-fn list_object(
+fn list_object_for_account(
     name: &Bytes,
     content_type: &Bytes,
     meta: &List<Bytes>,
@@ -248,12 +248,12 @@ fn serve_put_manifest(
         (listed containers.old)).containers) }
     ensures err { OnErr result (containers.new ≡ containers.old) }
 {
-    match item_at(containers, container) {
+    match item_in_account(containers, container) {
         Some(_) => {
             if !is_good_list(alloc, containers, segments.as_slice())? {
                 return Ok(SwiftReply::BadManifest);
             }
-            let object = list_object(name, content_type, meta, segments)?;
+            let object = list_object_for_account(name, content_type, meta, segments)?;
             serve_put_object(alloc, containers, container, object)
         }
         None => Ok(SwiftReply::NotFound),
@@ -272,7 +272,7 @@ fn serve_head_object(
     ensures { IfOk result (λ reply. reply ≡ (swift_step
         (SwiftRequest.HeadObject container.now name.now) (tree_of (listed containers.now))).reply) }
 {
-    match object_at(containers, container, name) {
+    match object_in_account(containers, container, name) {
         Some(object) => Ok(SwiftReply::Head(head_of(alloc, object)?)),
         None => Ok(SwiftReply::NotFound),
     }
@@ -292,8 +292,8 @@ fn serve_get_object(
         (SwiftRequest.GetObject container.now name.now range)
         (tree_of (listed containers.now))).reply) }
 {
-    match object_at(containers, container, name) {
-        Some(object) => read_object(alloc, containers, object, range),
+    match object_in_account(containers, container, name) {
+        Some(object) => read_object_in_account(alloc, containers, object, range),
         None => Ok(SwiftReply::NotFound),
     }
 }
@@ -309,14 +309,14 @@ fn serve_get_manifest(
         (SwiftRequest.GetManifest container.now name.now)
         (tree_of (listed containers.now))).reply) }
 {
-    match object_at(containers, container, name) {
-        Some(object) => manifest_of(&object.content),
+    match object_in_account(containers, container, name) {
+        Some(object) => manifest_reply_from_account(&object.content),
         None => Ok(SwiftReply::NotFound),
     }
 }
 
 /// The segments that a body lists.
-fn manifest_of(content: &Content) -> Result<SwiftReply, Memory>
+fn manifest_reply_from_account(content: &Content) -> Result<SwiftReply, Memory>
     ensures { IfOk result (λ reply. reply ≡ manifest_by (listed_in content.now)) }
 {
     match content {
@@ -327,12 +327,12 @@ fn manifest_of(content: &Content) -> Result<SwiftReply, Memory>
 
 /// Takes the object of a name away, and says whether it was there.
 #[tactic(auto, using(crate::proofs::ByName::found_at, crate::proofs::ByName::found_none, crate::proofs::ByName::without_missing))]
-fn take_object(alloc: Global, objects: &mut List<Stored>, name: &[u8]) -> bool
+fn take_object_from_account(alloc: Global, objects: &mut List<Stored>, name: &[u8]) -> bool
     ensures there { result ≡ is_some (named object_name name.now objects.old) }
     ensures effect { objects.new ≡ without object_name name.now objects.old }
 {
-    let there = item_at(objects, name).is_some();
-    take_away(alloc, objects, name);
+    let there = item_in_account(objects, name).is_some();
+    take_away_from_account(alloc, objects, name);
     there
 }
 
@@ -351,7 +351,7 @@ fn serve_delete_object(
 {
     match containers.find(container) {
         Some(index) => {
-            if take_object(alloc, &mut containers.at_mut(index).objects, name) {
+            if take_object_from_account(alloc, &mut containers.at_mut(index).objects, name) {
                 SwiftReply::Gone
             } else {
                 SwiftReply::NotFound
@@ -362,7 +362,7 @@ fn serve_delete_object(
 }
 
 /// An object with these bytes of its own.
-fn plain_object(
+fn plain_object_for_account(
     name: &Bytes,
     content_type: &Bytes,
     meta: &List<Bytes>,
@@ -439,7 +439,7 @@ pub(crate) fn serve(
             meta,
             body,
         } => {
-            let object = plain_object(name, content_type, meta, body)?;
+            let object = plain_object_for_account(name, content_type, meta, body)?;
             serve_put_object(alloc, containers, container.as_slice(), object)
         }
         SwiftRequest::PutManifest {

@@ -14,7 +14,7 @@ use std::mem::replace;
 use swift_calls::{Swift, SwiftFault, SwiftReply, SwiftRequest};
 use swift_replies::{WireFault, read_answer};
 use swift_requests::{Link, LinkFault, Place, write_call};
-use wire_log::{Cause, Explains, unread_cause};
+use wire_log::{Cause, Explains, logged_cause_of_answer};
 
 /// A Swift store over a link. Each call is one exchange, so its calls are those of the link.
 ///
@@ -123,7 +123,7 @@ impl<L: Link + Explains> Explains for SwiftClient<L> {
     fn cause(&self) -> Option<Cause> {
         match self.link.cause() {
             Some(cause) => Some(cause),
-            None => Some(unread_cause(self.unread.as_slice())),
+            None => Some(logged_cause_of_answer(self.unread.as_slice())),
         }
     }
 }

@@ -3,7 +3,7 @@ ghost use Rattle.std.specs.Prelude.{◌≡◌, ◌≤◌, ◌<◌, ◌+◌, vec_
 ghost use Rattle.std.specs.Io.{ReadsAtMost};
 
 use gate_base::Bytes;
-use http_answers::{Announced, read_front};
+use http_answers::{Announced, announced_by_answer_head};
 use std::alloc::Global;
 use std::io;
 use std::io::{ErrorKind, Read};
@@ -52,10 +52,10 @@ fn receive_front<S: Read>(
     'pieces: while came < HEAD_LIMIT {
         let count = receive_some(stream, answer, FRONT)?;
         if answer[came..].contains(&b'\n') {
-            match front_of(alloc, head, answer)? {
+            match received_announcement(alloc, head, answer)? {
                 Announced::More => {}
                 Announced::Answer { head, body, stays } => return Ok((
-                    whole_answer_size(head, body)?,
+                    size_to_receive(head, body)?,
                     stays,
                 )),
                 Announced::Bad => return Err(io::Error::from(ErrorKind::InvalidData)),
@@ -67,8 +67,8 @@ fn receive_front<S: Read>(
 }
 
 /// What the bytes that came announce.
-fn front_of(alloc: Global, head: bool, bytes: &[u8]) -> io::Result<Announced> {
-    match read_front(alloc, head, bytes) {
+fn received_announcement(alloc: Global, head: bool, bytes: &[u8]) -> io::Result<Announced> {
+    match announced_by_answer_head(alloc, head, bytes) {
         Ok(announced) => Ok(announced),
         Err(_) => Err(io::Error::from(ErrorKind::OutOfMemory)),
     }
@@ -82,7 +82,7 @@ fn receive_some<S: Read>(stream: &mut S, answer: &mut Vec<u8>, most: usize) -> i
 {
     let came = answer.len();
     answer.resize(came + most, 0)?;
-    let count = read(stream, &mut answer[came..])?;
+    let count = receive_once(stream, &mut answer[came..])?;
     answer.truncate(came + count);
     if count == 0 {
         return Err(io::Error::from(ErrorKind::UnexpectedEof));
@@ -92,7 +92,7 @@ fn receive_some<S: Read>(stream: &mut S, answer: &mut Vec<u8>, most: usize) -> i
 
 /// One read. Where a signal interrupts its wait it is made again, and the limit of time begins anew. A program that was stopped
 /// finds its wait interrupted when it goes on, and its answer may have come by then.
-fn read<S: Read>(stream: &mut S, buf: &mut [u8]) -> io::Result<usize>
+fn receive_once<S: Read>(stream: &mut S, buf: &mut [u8]) -> io::Result<usize>
     ensures { ReadsAtMost result buf.new }
 {
     for _interruption in 0..u64::MAX {
@@ -106,7 +106,7 @@ fn read<S: Read>(stream: &mut S, buf: &mut [u8]) -> io::Result<usize>
 
 /// How many bytes a head and a body have together. More than [`MOST`] is an error, so that a store which announces what no
 /// answer has is not asked for it, and no memory is taken for it.
-fn whole_answer_size(head: usize, body: u64) -> io::Result<usize> {
+fn size_to_receive(head: usize, body: u64) -> io::Result<usize> {
     match (head as u64).checked_add(body) {
         Some(size) if size <= MOST => Ok(size as usize),
         _ => Err(io::Error::from(ErrorKind::InvalidData)),
@@ -124,7 +124,7 @@ fn receive_rest<S: Read>(stream: &mut S, answer: &mut Vec<u8>, size: usize) -> i
         if came == answer.len() {
             answer.resize(came + PIECE.min(size - came + 1), 0)?;
         }
-        let count = read(stream, &mut answer[came..])?;
+        let count = receive_once(stream, &mut answer[came..])?;
         if count == 0 {
             return Err(io::Error::from(ErrorKind::UnexpectedEof));
         }

@@ -76,7 +76,7 @@ impl<R: Net + Drop> TcpLink<R> {
         ensures address { IfOk result (λ link. link.address ≡ address) }
         ensures limit { IfOk result (λ link. link.limit ≡ limit) }
     {
-        set_limits::<R>(&stream, limit)?;
+        set_link_time_limits::<R>(&stream, limit)?;
         let mut link = TcpLink::new(rt, alloc, address, limit);
         link.stream = Some(stream);
         link.fresh = true;
@@ -93,7 +93,7 @@ impl<R: Net + Drop> TcpLink<R> {
         for place in self.look_up(address)? {
             match self.rt.connect_timeout(place, limit) {
                 Ok(stream) => {
-                    set_limits::<R>(&stream, self.limit)?;
+                    set_link_time_limits::<R>(&stream, self.limit)?;
                     return Ok(stream);
                 }
                 Err(error) => last = error,
@@ -118,7 +118,7 @@ impl<R: Net + Drop> TcpLink<R> {
         let fresh = self.fresh;
         self.fresh = false;
         if let Some(stream) = self.stream.take() {
-            if fresh || is_quiet::<R>(&stream) {
+            if fresh || is_reusable_link_stream::<R>(&stream) {
                 return Ok(stream);
             }
         }
@@ -168,7 +168,7 @@ impl<R: Net + Drop> Link for TcpLink<R> {
             }
             Err(error) if error.kind() == ErrorKind::OutOfMemory => Err(LinkFault::Memory),
             Err(error) => {
-                self.failing = Some(cause_of(&error, self.limit));
+                self.failing = Some(cause_of_failed_exchange(&error, self.limit));
                 self.faults = self.faults.saturating_add(1);
                 Err(LinkFault::Failed)
             }
@@ -185,7 +185,7 @@ impl<R: Net> Explains for TcpLink<R> {
 
 /// Why an exchange failed with that error, under a limit of time of so many seconds. A read or a write past it is `WouldBlock`, and
 /// connecting is a `TimedOut` that isn't the system's own.
-fn cause_of(error: &io::Error, limit: u64) -> Cause {
+fn cause_of_failed_exchange(error: &io::Error, limit: u64) -> Cause {
     match error.kind() {
         ErrorKind::NotFound => Cause::NotFound,
         ErrorKind::ConnectionRefused => Cause::Refused,
@@ -202,7 +202,7 @@ fn cause_of(error: &io::Error, limit: u64) -> Cause {
 }
 
 /// Has the stream's calls fail after so many seconds without progress.
-fn set_limits<R: Net>(stream: &R::Stream, limit: u64) -> io::Result<()> {
+fn set_link_time_limits<R: Net>(stream: &R::Stream, limit: u64) -> io::Result<()> {
     let limit = Some(Duration::from_secs(limit));
     stream.set_nodelay(true)?;
     stream.set_read_timeout(limit)?;
@@ -210,15 +210,15 @@ fn set_limits<R: Net>(stream: &R::Stream, limit: u64) -> io::Result<()> {
 }
 
 /// Whether the stream may serve another exchange: it is open, and nothing came since the last answer.
-fn is_quiet<R: Net>(stream: &R::Stream) -> bool {
-    match peek_now::<R>(stream) {
+fn is_reusable_link_stream<R: Net>(stream: &R::Stream) -> bool {
+    match peek_link_stream::<R>(stream) {
         Ok(_) => false,
         Err(error) => error.kind() == ErrorKind::WouldBlock,
     }
 }
 
 /// Looks for the next byte without waiting for it. An error of kind `WouldBlock` where none came.
-fn peek_now<R: Net>(stream: &R::Stream) -> io::Result<usize> {
+fn peek_link_stream<R: Net>(stream: &R::Stream) -> io::Result<usize> {
     stream.set_nonblocking(true)?;
     let found = stream.peek(&mut [0]);
     stream.set_nonblocking(false)?;

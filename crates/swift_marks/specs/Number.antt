@@ -14,6 +14,6 @@ abbrev pub id_text : Option ℕ → List ℕ
 id_text None = codes "-"
 id_text (Some id) = id_digits id
 
-abbrev pub fits_id : Option ℕ → Bool
-fits_id None = true
-fits_id (Some id) = nat_lt id (2 ^ 128)
+abbrev pub id_fits_tag : Option ℕ → Bool
+id_fits_tag None = true
+id_fits_tag (Some id) = nat_lt id (2 ^ 128)

@@ -9,7 +9,7 @@ use Rattle.gate_base.specs.Told.{moment_limit}
 use Rattle.swift_marks.specs.declared.forms.TheConstants.{LONGEST_TYPE, MOST_PARTS}
 use Rattle.gate_base.specs.Ascii.{is_lower_hex}
 use Rattle.s3_names.specs.Id.{id_of}
-use Rattle.swift_marks.specs.Number.{number_of, id_text, fits_id}
+use Rattle.swift_marks.specs.Number.{number_of, id_text, id_fits_tag}
 use Rattle.swift_marks.specs.declared.tag.Stamp.{Stamp}
 use Rattle.swift_marks.specs.declared.tag.Tag.{Tag}
 use Rattle.swift_marks.specs.declared.fault.MarkFault.{MarkFault}
@@ -33,7 +33,7 @@ is_etag etag = nat_le 32 (length etag) && list_all is_lower_hex (take 32 etag) &
 
 -- the tags that have a text
 unfoldable pub has_text : Tag → Bool
-has_text tag = is_content_type tag.content_type && is_etag tag.etag && nat_lt tag.moment moment_limit && fits_id tag.id
+has_text tag = is_content_type tag.content_type && is_etag tag.etag && nat_lt tag.moment moment_limit && id_fits_tag tag.id
 
 -- `TYPE;s3=ETAG.SECONDS.ID`
 unfoldable pub tag_text : Tag → List ℕ
@@ -80,7 +80,7 @@ stamp_of tag = record { etag = tag.etag; moment = tag.moment; id = tag.id }
 
 -- the stamps that have a text
 unfoldable pub is_stamp : Stamp → Bool
-is_stamp stamp = is_etag stamp.etag && nat_lt stamp.moment moment_limit && fits_id stamp.id
+is_stamp stamp = is_etag stamp.etag && nat_lt stamp.moment moment_limit && id_fits_tag stamp.id
 
 -- `;s3=ETAG.SECONDS.ID`
 unfoldable pub stamp_text : Stamp → List ℕ

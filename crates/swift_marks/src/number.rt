@@ -1,6 +1,6 @@
 //! Numbers in decimal, and ids.
 ghost use Rattle.std.specs.Prelude.{◌≡◌, ◌++◌, OnOk};
-ghost use Rattle.swift_marks.specs.Number.{number_of, id_text, fits_id};
+ghost use Rattle.swift_marks.specs.Number.{number_of, id_text, id_fits_tag};
 
 use gate_base::{Bytes, Memory};
 use s3_names::id_digits;
@@ -22,7 +22,7 @@ pub(crate) fn number_of(text: &[u8]) -> u64
 }
 
 /// Adds the id of an upload, or `-` for none.
-pub(crate) fn append_id(text: &mut Bytes, id: Option<u128>) -> Result<(), Memory>
+pub(crate) fn append_tag_id(text: &mut Bytes, id: Option<u128>) -> Result<(), Memory>
     ensures { OnOk result (text.new ≡ text.old ++ id_text id) }
 {
     match id {
@@ -32,8 +32,8 @@ pub(crate) fn append_id(text: &mut Bytes, id: Option<u128>) -> Result<(), Memory
 }
 
 /// Every id fits into its digits: it has 128 bits.
-pub(crate) fn fits_id(id: Option<u128>) -> bool
-    ensures { result ≡ fits_id id }
+pub(crate) fn id_fits_tag(id: Option<u128>) -> bool
+    ensures { result ≡ id_fits_tag id }
 {
     match id {
         Some(id) => id <= u128::MAX,

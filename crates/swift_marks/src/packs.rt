@@ -24,21 +24,21 @@ pub fn pack(alloc: Global, meta: &Meta) -> Result<List<Bytes>, Memory>
     ensures pieces { IfOk result (λ pieces. pieces ≡ pack_of meta.now) }
     ensures ordered { OnOk result (names_ascend meta.now ≡ true) }
 {
-    let text = entries_text(alloc, meta.pairs())?;
-    pieces(alloc, text.as_slice())
+    let text = pack_entries_text(alloc, meta.pairs())?;
+    pack_pieces(alloc, text.as_slice())
 }
 
-fn entries_text(alloc: Global, entries: &[Pair]) -> Result<Bytes, Memory>
+fn pack_entries_text(alloc: Global, entries: &[Pair]) -> Result<Bytes, Memory>
     ensures { IfOk result (λ text. text ≡ flat_map entry_text entries.now) }
 {
     let mut text = Bytes::new(alloc);
     for entry in entries {
-        append_entry(&mut text, entry)?;
+        append_pack_entry(&mut text, entry)?;
     }
     Ok(text)
 }
 
-fn append_entry(text: &mut Bytes, entry: &Pair) -> Result<(), Memory>
+fn append_pack_entry(text: &mut Bytes, entry: &Pair) -> Result<(), Memory>
     ensures { OnOk result (text.new ≡ text.old ++ entry_text entry.now) }
 {
     append_decimal(text, entry.name.len() as u64)?;
@@ -49,13 +49,13 @@ fn append_entry(text: &mut Bytes, entry: &Pair) -> Result<(), Memory>
     text.append(entry.value.as_slice())
 }
 
-fn pieces(alloc: Global, text: &[u8]) -> Result<List<Bytes>, Memory>
+fn pack_pieces(alloc: Global, text: &[u8]) -> Result<List<Bytes>, Memory>
     ensures { IfOk result (λ pieces. pieces ≡ pieces_of text.now) }
 {
     let mut pieces = List::new(alloc);
     let mut rest = text;
     'cut: while rest.len() != 0 {
-        let (piece, behind) = cut_at(rest, PIECE);
+        let (piece, behind) = cut_pack_text(rest, PIECE);
         pieces.push(bracketed(alloc, piece)?)?;
         rest = behind;
     }
@@ -77,16 +77,16 @@ fn bracketed(alloc: Global, piece: &[u8]) -> Result<Bytes, Memory>
 pub fn unpack(alloc: Global, pieces: &[Bytes]) -> Result<Meta, MarkFault>
     ensures { Unpacks (unpacked pieces.now) result }
 {
-    let text = insides(alloc, pieces)?;
-    let meta = entries(alloc, text.as_slice())?;
+    let text = pack_piece_insides(alloc, pieces)?;
+    let meta = read_pack_entries(alloc, text.as_slice())?;
     let packed = pack(alloc, &meta)?;
-    if !are_same(pieces, packed.as_slice()) {
+    if !are_same_pack_pieces(pieces, packed.as_slice()) {
         return Err(MarkFault::BadPack);
     }
     Ok(meta)
 }
 
-fn insides(alloc: Global, pieces: &[Bytes]) -> Result<Bytes, Memory>
+fn pack_piece_insides(alloc: Global, pieces: &[Bytes]) -> Result<Bytes, Memory>
     ensures { IfOk result (λ text. text ≡ flat_map inside pieces.now) }
 {
     let mut text = Bytes::new(alloc);
@@ -108,13 +108,13 @@ fn inside(piece: &[u8]) -> &[u8]
 }
 
 /// The entries that stand in the places of a text, BadPack exactly where their names don't ascend.
-fn entries(alloc: Global, text: &[u8]) -> Result<Meta, MarkFault>
+fn read_pack_entries(alloc: Global, text: &[u8]) -> Result<Meta, MarkFault>
     ensures { ReadsEntries (entries_of text.now) result }
 {
     let mut meta = Meta::new(alloc);
     let mut rest = text;
     'entries: while rest.len() != 0 {
-        let (name, value, behind) = cut_entry(rest);
+        let (name, value, behind) = cut_pack_entry(rest);
         if !is_behind(name, meta.pairs()) {
             return Err(MarkFault::BadPack);
         }
@@ -126,20 +126,20 @@ fn entries(alloc: Global, text: &[u8]) -> Result<Meta, MarkFault>
 
 /// The name and the value in the places of the first entry, and what stands behind it.
 #[tactic(auto, unfolding(crate::specs::Pack::first_entry, crate::specs::Pack::other_entries))]
-fn cut_entry(text: &[u8]) -> (&[u8], &[u8], &[u8])
+fn cut_pack_entry(text: &[u8]) -> (&[u8], &[u8], &[u8])
     ensures name { result.0.now ≡ (first_entry text.now).name }
     ensures value { result.1.now ≡ (first_entry text.now).value }
     ensures behind { result.2.now ≡ other_entries text.now }
 {
     let (name_size, sized) = cut(text, b'.');
     let (value_size, body) = cut(sized, b'.');
-    let (name, more) = cut_at(body, number_of(name_size));
-    let (value, behind) = cut_at(more, number_of(value_size));
+    let (name, more) = cut_pack_text(body, number_of(name_size));
+    let (value, behind) = cut_pack_text(more, number_of(value_size));
     (name, value, behind)
 }
 
 /// The first bytes, as many or all, and those behind them.
-fn cut_at(text: &[u8], size: u64) -> (&[u8], &[u8])
+fn cut_pack_text(text: &[u8], size: u64) -> (&[u8], &[u8])
     ensures front { result.0.now ≡ take size text.now }
     ensures behind { result.1.now ≡ drop size text.now }
 {
@@ -160,7 +160,7 @@ fn is_behind(name: &[u8], entries: &[Pair]) -> bool
     }
 }
 
-fn are_same(pieces: &[Bytes], others: &[Bytes]) -> bool
+fn are_same_pack_pieces(pieces: &[Bytes], others: &[Bytes]) -> bool
     ensures { result ≡ pointwise bytes_eq pieces.now others.now }
 {
     if pieces.len() != others.len() {

@@ -2,9 +2,9 @@ ghost use Rattle.std.specs.Prelude.{◌≡◌, true, IfOk};
 
 use crate::MarkFault;
 use crate::forms::{is_content_type, is_etag};
-use crate::number::{append_id, fits_id, number_of};
+use crate::number::{append_tag_id, id_fits_tag, number_of};
 use gate_base::{Bytes, Copying, MOMENT_LIMIT, Memory, cut, cut_last};
-use s3_names::id_of;
+use s3_names::read_id_digits;
 use std::alloc::Global;
 use text_forms::append_decimal;
 
@@ -80,7 +80,7 @@ impl Stamp {
         Ok(Stamp {
             etag: Bytes::from_slice(alloc, etag)?,
             moment: number_of(moment),
-            id: id_of(id),
+            id: read_id_digits(id),
         })
     }
 
@@ -89,7 +89,7 @@ impl Stamp {
     fn is_stamp(&self) -> bool
         ensures { result ≡ is_stamp self.now }
     {
-        is_etag(self.etag.as_slice()) && self.moment < MOMENT_LIMIT && fits_id(self.id)
+        is_etag(self.etag.as_slice()) && self.moment < MOMENT_LIMIT && id_fits_tag(self.id)
     }
 
     /// The text of the stamp.
@@ -103,7 +103,7 @@ impl Stamp {
         text.append(b".")?;
         append_decimal(&mut text, self.moment)?;
         text.append(b".")?;
-        append_id(&mut text, self.id)?;
+        append_tag_id(&mut text, self.id)?;
         Ok(text)
     }
 }
@@ -140,7 +140,7 @@ impl Tag {
             content_type: Bytes::from_slice(alloc, content_type)?,
             etag: Bytes::from_slice(alloc, etag)?,
             moment: number_of(moment),
-            id: id_of(id),
+            id: read_id_digits(id),
         })
     }
 
@@ -156,7 +156,7 @@ impl Tag {
         text.append(b".")?;
         append_decimal(&mut text, self.moment)?;
         text.append(b".")?;
-        append_id(&mut text, self.id)?;
+        append_tag_id(&mut text, self.id)?;
         Ok(text)
     }
 
@@ -170,6 +170,6 @@ impl Tag {
         is_content_type(self.content_type.as_slice())
             && is_etag(self.etag.as_slice())
             && self.moment < MOMENT_LIMIT
-            && fits_id(self.id)
+            && id_fits_tag(self.id)
     }
 }

@@ -7,7 +7,7 @@ use Rattle.swift_calls.specs.declared.calls.SwiftRequest.{SwiftRequest}
 use Rattle.swift_calls.specs.declared.calls.SwiftReply.{SwiftReply}
 use Rattle.http_answers.specs.Framing.{HasHead, expected, expected_of, headers_in}
 use Rattle.http_answers.specs.Head.{IsDead, IsOpen, Shows}
-use Rattle.swift_replies.specs.Answers.{Said, asks_head, body_by, reply_of, said, SpellsAnswer, SpellsNone}
+use Rattle.swift_replies.specs.Answers.{Said, asks_head, reply_body_by_size, reply_of, said, SpellsAnswer, SpellsNone}
 use Rattle.http_answers.specs.declared.head.Head.{Head}
 use Rattle.http_answers.specs.declared.head.Front.TheVariants.{Whole}
 use Rattle.http_answers.proofs.lemmas.HeadLemmas.{no_head}
@@ -39,7 +39,7 @@ same_said : (h : ResponseHead) (found : Head) (body : List ℕ) → found.status
 same_said h found body status headers = λ i. record { status = status i; headers = headers i; body = body }
 
 -- the body that there is, by the size that is expected
-body_is : (bytes : List ℕ) (n : ℕ) (size : Option ℕ) (body : List ℕ) → Some body ≡ body_by bytes n size
+body_is : (bytes : List ℕ) (n : ℕ) (size : Option ℕ) (body : List ℕ) → Some body ≡ reply_body_by_size bytes n size
     → (m : ℕ) × (size ≡ Some m) × (length (drop n bytes) ≡ m) × (body ≡ drop n bytes)
 body_is bytes n None body is = absurd (subst filled is tt)
   where
@@ -62,7 +62,7 @@ body_is bytes n (Some m) body is = by_size (length (drop n bytes) == m) refl is
     by_size false other is = absurd (subst filled is tt)
 
 pub reads_reply : (call : SwiftRequest) (bytes : List ℕ) (found : Head) (body : List ℕ) (reply : SwiftReply) → Shows bytes (Whole found)
-    → Some body ≡ body_by bytes found.len (expected (asks_head call) found.status found.headers)
+    → Some body ≡ reply_body_by_size bytes found.len (expected (asks_head call) found.status found.headers)
     → Some reply ≡ reply_of call (record { status = found.status; headers = found.headers; body = body }) → SpellsAnswer call reply bytes
 reads_reply call bytes found body reply (h, has, status, headers) is gives =
     let parts = body_is bytes found.len (expected (asks_head call) found.status found.headers) body is in
@@ -85,7 +85,7 @@ some_is_not A B a o none some = absurd (subst filled (sym (none ∙ some)) tt)
 
 -- the body gives no reply
 pub reads_none : (call : SwiftRequest) (bytes : List ℕ) (found : Head) (body : List ℕ) → Shows bytes (Whole found)
-    → Some body ≡ body_by bytes found.len (expected (asks_head call) found.status found.headers)
+    → Some body ≡ reply_body_by_size bytes found.len (expected (asks_head call) found.status found.headers)
     → no_reply ≡ reply_of call (record { status = found.status; headers = found.headers; body = body }) → SpellsNone call bytes
 reads_none call bytes found body (h, has, status, headers) is gives reply (k, p, q, answer, given) =
     let parts = body_is bytes found.len (expected (asks_head call) found.status found.headers) body is in
@@ -95,19 +95,19 @@ reads_none call bytes found body (h, has, status, headers) is gives reply (k, p,
     same_said h found body status headers ∙ ap (said h) (parts.3 ∙ ap (λ v. drop v bytes) size) ∙ ap (λ v. said v (drop p bytes)) head in
     some_is_not SwiftReply ⊥ reply (reply_of call (said_found found body)) gives (ap (reply_of call) says ∙ given)
 
-body_whole : (bytes : List ℕ) (n m : ℕ) → length (drop n bytes) ≡ m → body_by bytes n (Some m) ≡ Some (drop n bytes)
+body_whole : (bytes : List ℕ) (n m : ℕ) → length (drop n bytes) ≡ m → reply_body_by_size bytes n (Some m) ≡ Some (drop n bytes)
 body_whole bytes n m same =
     let is : (length (drop n bytes) == m) ≡ true = grind (arith, nat_tests) in
     ap (λ b. cond b (Some (drop n bytes)) no_body) is
 
 -- the bytes are no head with exactly the body that has to follow
 pub reads_no_body : (call : SwiftRequest) (bytes : List ℕ) (found : Head) → Shows bytes (Whole found)
-    → no_body ≡ body_by bytes found.len (expected (asks_head call) found.status found.headers) → SpellsNone call bytes
+    → no_body ≡ reply_body_by_size bytes found.len (expected (asks_head call) found.status found.headers) → SpellsNone call bytes
 reads_no_body call bytes found (h, has, status, headers) none reply (k, p, q, answer, given) =
     let head : h ≡ k = same_head bytes h k found.len p has answer.0 in
     let size : found.len ≡ p = same_size bytes h k found.len p has answer.0 in
     let expects : expected (asks_head call) found.status found.headers ≡ Some q =
     same_expected (asks_head call) h found status headers ∙ ap (expected_of (asks_head call)) head ∙ answer.1 in
     let rest : length (drop found.len bytes) ≡ q = omega (arith, answer.2, size, length-drop found.len bytes) in
-    some_is_not (List ℕ) ⊥ (drop found.len bytes) (body_by bytes found.len (expected (asks_head call) found.status found.headers)) none
-    (ap (body_by bytes found.len) expects ∙ body_whole bytes found.len q rest)
+    some_is_not (List ℕ) ⊥ (drop found.len bytes) (reply_body_by_size bytes found.len (expected (asks_head call) found.status found.headers)) none
+    (ap (reply_body_by_size bytes found.len) expects ∙ body_whole bytes found.len q rest)

@@ -24,7 +24,7 @@ use Rattle.serde_json.proofs.Numbers.{number_of-decimal}
 use Rattle.serde_json.proofs.Texts.{print-outline}
 use Rattle.swift_calls.specs.declared.heads.NameItem.{NameItem}
 use Rattle.swift_replies.specs.Answers.{each, container_name, name_item, items_in}
-use Rattle.swift_replies.specs.AnswerText.{container_value, item_value, is_item, list_text}
+use Rattle.swift_replies.specs.AnswerText.{container_value, item_value, is_spelled_name_item, list_text}
 use Rattle.swift_replies.proofs.ListLemmas.{json_read}
 use Rattle.swift_replies.proofs.ListTextLemmas.{parts_of}
 
@@ -139,7 +139,7 @@ container_read name fine = record {
 pub container_back : (name : List ℕ) → is_utf8 name ≡ true → container_name (container_value name) ≡ Some name
 container_back name fine = refl
 
-pub item_read : (i : NameItem) → is_item i ≡ true → IsRead (item_value i)
+pub item_read : (i : NameItem) → is_spelled_name_item i ≡ true → IsRead (item_value i)
 item_read i fine =
     let parts = parts_of i fine in
     record {
@@ -155,5 +155,5 @@ item_read i fine =
           (one_member true (codes "name") _ _ refl (utf8_text i.name parts.name) closed)))));
     }
 
-pub item_back : (i : NameItem) → is_item i ≡ true → name_item (item_value i) ≡ Some i
+pub item_back : (i : NameItem) → is_spelled_name_item i ≡ true → name_item (item_value i) ≡ Some i
 item_back i fine = refl

@@ -11,7 +11,7 @@ use Rattle.serde_json.specs.Written.{has_float, items_have_float, compact_text}
 use Rattle.serde_json.specs.declared.value.Value.{Value, Array}
 use Rattle.serde_json.proofs.Views.{view-Array}
 use Rattle.swift_calls.specs.declared.heads.NameItem.{NameItem}
-use Rattle.swift_replies.specs.AnswerText.{list_text, container_value, item_value, is_item}
+use Rattle.swift_replies.specs.AnswerText.{list_text, container_value, item_value, is_spelled_name_item}
 
 -- ---- what an entry that is written has
 
@@ -21,20 +21,20 @@ pub record Parts (i : NameItem) : Type 0 where
   pub content_type : is_utf8 i.content_type ≡ true
   pub size : i.size < 2 ^ 64
 
-pub parts_of : (i : NameItem) → is_item i ≡ true → Parts i
+pub parts_of : (i : NameItem) → is_spelled_name_item i ≡ true → Parts i
 parts_of i fine =
     let first = and_parts (is_utf8 i.name) _ fine in
     let second = and_parts (is_utf8 i.hash) _ first.1 in
     let third = and_parts (is_utf8 i.content_type) _ second.1 in
     record { name = first.0; hash = second.0; content_type = third.0; size = ltb-true i.size (2 ^ 64) third.1 }
 
-pub name_is_utf8 : (i : NameItem) → is_item i ≡ true → is_utf8 i.name ≡ true
+pub name_is_utf8 : (i : NameItem) → is_spelled_name_item i ≡ true → is_utf8 i.name ≡ true
 name_is_utf8 i fine = (parts_of i fine).name
 
-pub hash_is_utf8 : (i : NameItem) → is_item i ≡ true → is_utf8 i.hash ≡ true
+pub hash_is_utf8 : (i : NameItem) → is_spelled_name_item i ≡ true → is_utf8 i.hash ≡ true
 hash_is_utf8 i fine = (parts_of i fine).hash
 
-pub type_is_utf8 : (i : NameItem) → is_item i ≡ true → is_utf8 i.content_type ≡ true
+pub type_is_utf8 : (i : NameItem) → is_spelled_name_item i ≡ true → is_utf8 i.content_type ≡ true
 type_is_utf8 i fine = (parts_of i fine).content_type
 
 -- ---- entries

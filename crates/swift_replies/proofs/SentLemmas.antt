@@ -10,7 +10,7 @@ use Rattle.std.proofs.lemmas.Grind.{flat_map-append}
 use Rattle.std.proofs.lemmas.List.{take_more, length-take-le}
 use Rattle.httparse.proofs.GrammarLemmas.{cons-append}
 use Rattle.http1.specs.Head.{print_header, print_headers, section_text, status_digits}
-use Rattle.swift_replies.specs.AnswerText.{Field, Sent, meta_fields, head_text, line_of, status_line, phrase_of, within_limit, text_by, refusal, length_field, readers_text, readers_fields, readers_sent, created_fields, is_created, etag_field, is_tag, stored_by, stored_sent, manifest_fields, object_fields, is_head, head_by, head_sent, bytes_by, range_text, range_field}
+use Rattle.swift_replies.specs.AnswerText.{Field, Sent, meta_fields, head_text, line_of, status_line, phrase_of, within_limit, text_by, refusal, length_field, readers_text, readers_fields, readers_sent, created_fields, is_spelled_created, etag_field, is_tag, stored_by, stored_sent, manifest_fields, object_fields, is_head, head_by, head_sent, bytes_by, range_text, range_field}
 
 -- one header behind a text
 pub one_header : (text : List ℕ) (h : Field) → text ++ print_header h ≡ text ++ print_headers (h ∷ [])
@@ -110,7 +110,7 @@ if_true b o is = ap (λ v. text_by (if v then o else None)) (sym is)
 if_false : (b : Bool) (o : Option Sent) → b ≡ false → refusal 500 ≡ text_by (if b then o else None)
 if_false b o is = ap (λ v. text_by (if v then o else None)) (sym is)
 
-pub readers_is : (readers : ReadList) (created : Option ℕ) (first second third last : List ℕ) → is_created created ≡ true
+pub readers_is : (readers : ReadList) (created : Option ℕ) (first second third last : List ℕ) → is_spelled_created created ≡ true
     → first ≡ status_line 204 ++ print_headers (length_field 0 ∷ [])
     → second ≡ first ++ print_header (codes "X-Container-Read", readers_text readers) → third ≡ second ++ print_headers (created_fields created)
     → last ≡ (third ++ 13 ∷ 10 ∷ []) ++ [] → last ≡ text_by (readers_sent readers created)
@@ -121,7 +121,7 @@ readers_is readers created first second third last fine one two three four =
     ∙ header_first (line ++ print_headers (length_field 0 ∷ [])) (codes "X-Container-Read", readers_text readers) (created_fields created)
     ∙ join_headers line (length_field 0 ∷ []) ((codes "X-Container-Read", readers_text readers) ∷ created_fields created) in
     four ∙ ap (λ v. (v ++ 13 ∷ 10 ∷ []) ++ []) head ∙ sent_parts line (readers_fields readers created) []
-    ∙ if_true (is_created created) (Some (record { status = 204; headers = readers_fields readers created; body = [] })) fine
+    ∙ if_true (is_spelled_created created) (Some (record { status = 204; headers = readers_fields readers created; body = [] })) fine
 
 pub stored_is : (etag first second last : List ℕ) → is_tag etag ≡ true → first ≡ status_line 201 ++ print_headers (length_field 0 ∷ [])
     → second ≡ first ++ print_header (codes "Etag", etag) → last ≡ limited second [] → last ≡ text_by (stored_sent etag)

@@ -76,7 +76,7 @@ use Rattle.swift_calls.specs.declared.calls.SwiftReply.TheVariants.{
   Manifest,
 }
 use Rattle.http_answers.specs.declared.head.TheConstants.{HEAD_LIMIT}
-use Rattle.swift_replies.specs.Fields.{everybody, is_tag_byte}
+use Rattle.swift_replies.specs.Fields.{everybody, is_reply_etag_byte}
 use Rattle.swift_replies.specs.Answers.{is_part}
 
 -- a header to be sent, by its name and its value
@@ -149,19 +149,19 @@ abbrev pub readers_fields : ReadList → Option ℕ → List Field
 readers_fields readers created = length_field 0 ∷ (codes "X-Container-Read", readers_text readers) ∷ created_fields created
 
 -- a creation time that is read
-abbrev pub is_created : Option ℕ → Bool
-is_created None = true
-is_created (Some moment) = nat_lt moment moment_limit
+abbrev pub is_spelled_created : Option ℕ → Bool
+is_spelled_created None = true
+is_spelled_created (Some moment) = nat_lt moment moment_limit
 
 abbrev pub readers_sent : ReadList → Option ℕ → Option Sent
 readers_sent readers created =
-    if is_created created then Some (record { status = 204; headers = readers_fields readers created; body = [] }) else None
+    if is_spelled_created created then Some (record { status = 204; headers = readers_fields readers created; body = [] }) else None
 
 -- ---- objects
 
 -- an ETag that is read
 abbrev pub is_tag : List ℕ → Bool
-is_tag etag = list_all is_tag_byte etag
+is_tag etag = list_all is_reply_etag_byte etag
 
 abbrev pub etag_field : List ℕ → Field
 etag_field etag = (codes "Etag", etag)
@@ -185,8 +185,8 @@ abbrev pub object_fields : StoredHead → List Field
 object_fields head = (codes "Content-Type", head.content_type) ∷ etag_field head.etag ∷ manifest_fields head.manifest ++ meta_fields 0 head.meta
 
 -- a size of at most 19 digits
-abbrev pub is_size : ℕ → Bool
-is_size size = nat_lt size (10 ^ 19)
+abbrev pub is_spelled_size : ℕ → Bool
+is_spelled_size size = nat_lt size (10 ^ 19)
 
 -- at most 11 pieces of metadata, without control bytes and without white space at either end
 abbrev pub is_meta : List (List ℕ) → Bool
@@ -196,7 +196,7 @@ is_meta pieces = nat_le (length pieces) 11 && list_all is_trimmed_value pieces
 abbrev pub is_head : StoredHead → Bool
 is_head head =
     is_trimmed_value head.content_type
-    && (is_tag head.etag && (is_size head.size && is_meta head.meta))
+    && (is_tag head.etag && (is_spelled_size head.size && is_meta head.meta))
 
 abbrev pub head_by : StoredHead → Sent
 head_by head = record { status = 200; headers = length_field head.size ∷ object_fields head; body = [] }
@@ -237,8 +237,8 @@ abbrev pub item_value : NameItem → Data
 item_value i = item_by i.name i.hash i.size i.content_type
 
 -- the texts of an entry are UTF-8, as JSON has them, and its size is read as a whole number
-abbrev pub is_item : NameItem → Bool
-is_item i = is_utf8 i.name && (is_utf8 i.hash && (is_utf8 i.content_type && nat_lt i.size (2 ^ 64)))
+abbrev pub is_spelled_name_item : NameItem → Bool
+is_spelled_name_item i = is_utf8 i.name && (is_utf8 i.hash && (is_utf8 i.content_type && nat_lt i.size (2 ^ 64)))
 
 abbrev pub list_text : List Data → List ℕ
 list_text entries = compact_text (array (items_of entries))
@@ -250,7 +250,7 @@ abbrev pub containers_sent : List (List ℕ) → Option Sent
 containers_sent names = if list_all is_utf8 names then Some (list_sent (list_text (map container_value names))) else None
 
 abbrev pub names_sent : List NameItem → Option Sent
-names_sent items = if list_all is_item items then Some (list_sent (list_text (map item_value items))) else None
+names_sent items = if list_all is_spelled_name_item items then Some (list_sent (list_text (map item_value items))) else None
 
 -- ---- segments
 

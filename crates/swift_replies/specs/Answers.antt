@@ -74,8 +74,8 @@ use Rattle.swift_calls.specs.declared.calls.SwiftReply.TheVariants.{
   Manifest,
 }
 use Rattle.http_answers.specs.Framing.{IsAnswer, headers_in}
-use Rattle.swift_replies.specs.Fields.{readers_in, created_in, etag_in, whole_size_in, head_in, lists_in}
-use Rattle.http_answers.specs.Fields.{size_in}
+use Rattle.swift_replies.specs.Fields.{reply_readers_in, container_created_in, etag_in, whole_size_in, head_in, reply_segments_flag_in}
+use Rattle.http_answers.specs.Fields.{answer_content_length}
 use Rattle.swift_replies.specs.declared.fault.WireFault.{WireFault}
 use Rattle.swift_replies.specs.declared.fault.WireFault.TheVariants.{NotACall, NotAnAnswer, Memory}
 
@@ -164,7 +164,7 @@ names_reply status body =
     if status == 200 then option_map (λ items. Names items) (name_items body) else (if status == 204 then Some (Names []) else missing status)
 
 abbrev pub readers_reply : List Pair → Option SwiftReply
-readers_reply headers = both (λ readers created. Readers readers created) (readers_in headers) (created_in headers)
+readers_reply headers = both (λ readers created. Readers readers created) (reply_readers_in headers) (container_created_in headers)
 
 abbrev pub head_container_reply : ℕ → List Pair → Option SwiftReply
 head_container_reply status headers = if status == 204 then readers_reply headers else missing status
@@ -186,10 +186,10 @@ manifest_by (Some false) body = Some NotFound
 manifest_by (Some true) body = option_map (λ segments. Manifest segments) (segments_in Got body)
 
 abbrev pub get_manifest_reply : ℕ → List Pair → List ℕ → Option SwiftReply
-get_manifest_reply status headers body = if status == 200 then manifest_by (lists_in headers) body else missing status
+get_manifest_reply status headers body = if status == 200 then manifest_by (reply_segments_flag_in headers) body else missing status
 
 abbrev pub head_reply : List Pair → Option SwiftReply
-head_reply headers = option_map (λ head. Head head) (head_in (size_in headers) headers)
+head_reply headers = option_map (λ head. Head head) (head_in (answer_content_length headers) headers)
 
 abbrev pub head_object_reply : ℕ → List Pair → Option SwiftReply
 head_object_reply status headers = if status == 200 then head_reply headers else missing status
@@ -199,14 +199,14 @@ abbrev pub is_part : Option (ℕ × ℕ) → ℕ → ℕ → Bool
 is_part None size count = count == size
 is_part (Some range) size count = nat_lt range.0 size && count == min (range.1 + 1) size - range.0
 
-abbrev pub bytes_from : Option (ℕ × ℕ) → Option StoredHead → List ℕ → Option SwiftReply
-bytes_from range None body = None
-bytes_from range (Some head) body = if is_part range head.size (length body) then Some (Bytes head body) else None
+abbrev pub sized_bytes_reply : Option (ℕ × ℕ) → Option StoredHead → List ℕ → Option SwiftReply
+sized_bytes_reply range None body = None
+sized_bytes_reply range (Some head) body = if is_part range head.size (length body) then Some (Bytes head body) else None
 
 -- 206, which only a range is answered with
 abbrev pub part_reply : Option (ℕ × ℕ) → List Pair → List ℕ → Option SwiftReply
 part_reply None headers body = None
-part_reply (Some range) headers body = bytes_from (Some range) (head_in (whole_size_in headers) headers) body
+part_reply (Some range) headers body = sized_bytes_reply (Some range) (head_in (whole_size_in headers) headers) body
 
 -- 416, which only a range is answered with
 abbrev pub beyond : Option (ℕ × ℕ) → Option SwiftReply
@@ -215,7 +215,7 @@ beyond (Some range) = Some Unsatisfiable
 
 abbrev pub bytes_reply : Option (ℕ × ℕ) → ℕ → List Pair → List ℕ → Option SwiftReply
 bytes_reply range status headers body =
-    if status == 200 then bytes_from range (head_in (size_in headers) headers) body
+    if status == 200 then sized_bytes_reply range (head_in (answer_content_length headers) headers) body
     else (if status == 206 then part_reply range headers body else (if status == 416 then beyond range else missing status))
 
 -- the reply that an answer gives to a call, if it gives one
@@ -251,9 +251,9 @@ asks_head (GetManifest container name) = false
 asks_head (DeleteObject container name) = false
 
 -- the body, where the bytes are a head of this length and exactly the body that has to follow
-abbrev pub body_by : List ℕ → ℕ → Option ℕ → Option (List ℕ)
-body_by bytes len None = None
-body_by bytes len (Some size) = if length (drop len bytes) == size then Some (drop len bytes) else None
+abbrev pub reply_body_by_size : List ℕ → ℕ → Option ℕ → Option (List ℕ)
+reply_body_by_size bytes len None = None
+reply_body_by_size bytes len (Some size) = if length (drop len bytes) == size then Some (drop len bytes) else None
 
 -- what an answer of a head and a body says
 abbrev pub said : ResponseHead → List ℕ → Said

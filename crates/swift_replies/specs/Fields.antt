@@ -46,14 +46,14 @@ abbrev pub everybody : List ℕ
 everybody = codes ".r:*,.rlistings"
 
 -- the read list that a value writes
-abbrev pub readers_by : List ℕ → Option ReadList
-readers_by value = if bytes_eq value [] then Some Nobody else (if bytes_eq value everybody then Some Everybody else None)
+abbrev pub container_readers_by_value : List ℕ → Option ReadList
+container_readers_by_value value = if bytes_eq value [] then Some Nobody else (if bytes_eq value everybody then Some Everybody else None)
 
 -- the same where the header may be absent
 abbrev pub readers_from : Option (Option (List ℕ)) → Option ReadList
 readers_from None = None
 readers_from (Some None) = Some Nobody
-readers_from (Some (Some value)) = readers_by value
+readers_from (Some (Some value)) = container_readers_by_value value
 
 abbrev pub before_limit : ℕ → Option ℕ
 before_limit moment = if nat_lt moment moment_limit then Some moment else None
@@ -68,20 +68,20 @@ created_from None = None
 created_from (Some None) = Some None
 created_from (Some (Some value)) = option_map (λ moment. Some moment) (moment_in value)
 
-abbrev pub readers_in : List Pair → Option ReadList
-readers_in headers = readers_from (field (codes "x-container-read") headers)
+abbrev pub reply_readers_in : List Pair → Option ReadList
+reply_readers_in headers = readers_from (field (codes "x-container-read") headers)
 
-abbrev pub created_in : List Pair → Option (Option ℕ)
-created_in headers = created_from (field (codes "x-container-meta-s3-created") headers)
+abbrev pub container_created_in : List Pair → Option (Option ℕ)
+container_created_in headers = created_from (field (codes "x-container-meta-s3-created") headers)
 
 -- ---- objects
 
 -- the bytes that an entity tag has between its quotes (RFC 9110, section 8.8.3)
-abbrev pub is_tag_byte : ℕ → Bool
-is_tag_byte b = nat_lt 32 b && (not (b == 34) && not (b == 127))
+abbrev pub is_reply_etag_byte : ℕ → Bool
+is_reply_etag_byte b = nat_lt 32 b && (not (b == 34) && not (b == 127))
 
 abbrev pub tag_only : List ℕ → Option (List ℕ)
-tag_only text = if list_all is_tag_byte text then Some text else None
+tag_only text = if list_all is_reply_etag_byte text then Some text else None
 
 -- the text has a double quote at each end
 abbrev pub is_quoted : List ℕ → Bool
@@ -104,8 +104,8 @@ manifest_from None = None
 manifest_from (Some None) = Some false
 manifest_from (Some (Some value)) = if bytes_eq value (codes "True") then Some true else None
 
-abbrev pub manifest_in : List Pair → Option Bool
-manifest_in headers = manifest_from (field (codes "x-static-large-object") headers)
+abbrev pub reply_manifest_flag_in : List Pair → Option Bool
+reply_manifest_flag_in headers = manifest_from (field (codes "x-static-large-object") headers)
 
 -- whether an answer lists segments: `True`, and nothing else says so
 abbrev pub lists_from : Option (Option (List ℕ)) → Option Bool
@@ -113,8 +113,8 @@ lists_from None = None
 lists_from (Some None) = Some false
 lists_from (Some (Some value)) = Some (bytes_eq value (codes "True"))
 
-abbrev pub lists_in : List Pair → Option Bool
-lists_in headers = lists_from (field (codes "x-static-large-object") headers)
+abbrev pub reply_segments_flag_in : List Pair → Option Bool
+reply_segments_flag_in headers = lists_from (field (codes "x-static-large-object") headers)
 
 -- the name of a piece of metadata, in lower case
 abbrev pub meta_name : ℕ → List ℕ
@@ -153,4 +153,4 @@ head_from (Some content_type) (Some size) (Some etag) (Some manifest) (Some meta
 
 -- the head of an object of a size
 abbrev pub head_in : Option ℕ → List Pair → Option StoredHead
-head_in size headers = head_from (only (codes "content-type") headers) size (etag_in headers) (manifest_in headers) (meta_in headers)
+head_in size headers = head_from (only (codes "content-type") headers) size (etag_in headers) (reply_manifest_flag_in headers) (meta_in headers)

@@ -2,16 +2,16 @@
 ghost use Rattle.std.specs.Prelude.{◌≡◌, ◌≤◌, ◌-◌, ◌+◌, min, drop, length, option_map, IfOk, Some};
 ghost use Rattle.http_answers.specs.Head.{Shows};
 ghost use Rattle.http_answers.specs.declared.head.Front.TheVariants.{Whole};
-ghost use Rattle.swift_replies.specs.Answers.{ReadsAnswer, asks_head, body_by, reply_of, missing, gone, put_reply, delete_reply, containers_reply, names_reply, head_container_reply, readers_reply, put_object_reply, stored_reply, put_manifest_reply, head_object_reply, head_reply, is_part, bytes_from, part_reply, beyond, bytes_reply};
+ghost use Rattle.swift_replies.specs.Answers.{ReadsAnswer, asks_head, reply_body_by_size, reply_of, missing, gone, put_reply, delete_reply, containers_reply, names_reply, head_container_reply, readers_reply, put_object_reply, stored_reply, put_manifest_reply, head_object_reply, head_reply, is_part, sized_bytes_reply, part_reply, beyond, bytes_reply};
 
 use crate::WireFault;
-use crate::fields::created_in;
+use crate::fields::container_created_in;
 use crate::lists::{container_names, name_items};
 use crate::manifests::get_manifest_reply;
 use crate::objects::head_in;
-use crate::values::{etag_in, readers_in, whole_size_in};
+use crate::values::{etag_in, reply_readers_in, whole_size_in};
 use gate_base::{Bytes, List, Memory, Pair};
-use http_answers::{Front, Head, expected, find_head, size_in};
+use http_answers::{Front, Head, answer_content_length, expected, find_head};
 use std::alloc::Global;
 use swift_calls::{StoredHead, SwiftReply, SwiftRequest};
 
@@ -45,7 +45,7 @@ fn read_answer_with_head(
 {
     let headers = found.headers.as_slice();
     let size = expected(asks_head(call), found.status, headers);
-    let Some(body) = body_by(bytes, found.len, size) else {
+    let Some(body) = reply_body_by_size(bytes, found.len, size) else {
         return Err(WireFault::NotAnAnswer);
     };
     match reply_of(alloc, call, found.status, headers, body)? {
@@ -55,9 +55,9 @@ fn read_answer_with_head(
 }
 
 /// The body, where the bytes are a head of this length and exactly the body that has to follow.
-fn body_by(bytes: &[u8], len: usize, size: Option<u64>) -> Option<&[u8]>
+fn reply_body_by_size(bytes: &[u8], len: usize, size: Option<u64>) -> Option<&[u8]>
     requires { len ≤ length bytes.now }
-    ensures { option_map (λ body. body.now) result ≡ body_by bytes.now len size }
+    ensures { option_map (λ body. body.now) result ≡ reply_body_by_size bytes.now len size }
 {
     let body = &bytes[len..];
     if body.len() as u64 == size? {
@@ -192,8 +192,8 @@ fn head_container_reply(status: u16, headers: &[Pair]) -> Option<SwiftReply>
 fn readers_reply(headers: &[Pair]) -> Option<SwiftReply>
     ensures { result ≡ readers_reply headers.now }
 {
-    let readers = readers_in(headers)?;
-    let created = created_in(headers)?;
+    let readers = reply_readers_in(headers)?;
+    let created = container_created_in(headers)?;
     Some(SwiftReply::Readers { readers, created })
 }
 
@@ -253,7 +253,7 @@ fn head_object_reply(
 fn head_reply(alloc: Global, headers: &[Pair]) -> Result<Option<SwiftReply>, Memory>
     ensures { IfOk result (λ reply. reply ≡ head_reply headers.now) }
 {
-    match head_in(alloc, size_in(headers), headers)? {
+    match head_in(alloc, answer_content_length(headers), headers)? {
         Some(head) => Ok(Some(SwiftReply::Head(head))),
         None => Ok(None),
     }
@@ -269,8 +269,8 @@ fn bytes_reply(
     ensures { IfOk result (λ reply. reply ≡ bytes_reply range status headers.now body.now) }
 {
     if status == 200 {
-        let head = head_in(alloc, size_in(headers), headers)?;
-        return bytes_from(alloc, range, head, body);
+        let head = head_in(alloc, answer_content_length(headers), headers)?;
+        return sized_bytes_reply(alloc, range, head, body);
     }
     if status == 206 {
         return part_reply(alloc, range, headers, body);
@@ -293,7 +293,7 @@ fn part_reply(
     match range {
         Some(range) => {
             let head = head_in(alloc, whole_size_in(headers), headers)?;
-            bytes_from(alloc, Some(range), head, body)
+            sized_bytes_reply(alloc, Some(range), head, body)
         }
         None => Ok(None),
     }
@@ -309,13 +309,13 @@ fn beyond(range: Option<(u64, u64)>) -> Option<SwiftReply>
 }
 
 /// The bytes of an object, where they are as many as its size and the range say.
-fn bytes_from(
+fn sized_bytes_reply(
     alloc: Global,
     range: Option<(u64, u64)>,
     head: Option<StoredHead>,
     body: &[u8],
 ) -> Result<Option<SwiftReply>, Memory>
-    ensures { IfOk result (λ reply. reply ≡ bytes_from range head body.now) }
+    ensures { IfOk result (λ reply. reply ≡ sized_bytes_reply range head body.now) }
 {
     let Some(head) = head else {
         return Ok(None);
@@ -335,13 +335,13 @@ pub(crate) fn is_part(range: Option<(u64, u64)>, size: u64, count: usize) -> boo
     match range {
         None => count as u64 == size,
         Some((first, last)) => {
-            first < size && count as u64 == range_end_in_object(last, size).saturating_sub(first)
+            first < size && count as u64 == reply_range_end(last, size).saturating_sub(first)
         }
     }
 }
 
 /// The end of a range in an object of this size.
-fn range_end_in_object(last: u64, size: u64) -> u64
+fn reply_range_end(last: u64, size: u64) -> u64
     ensures { result ≡ min (last + 1) size }
 {
     if last < size { last + 1 } else { size }

@@ -2,7 +2,7 @@
 ghost use Rattle.std.specs.Prelude.{◌≡◌, option_map, IfOk};
 ghost use Rattle.std.specs.Option.{option_copied};
 ghost use Rattle.http_answers.specs.Fields.{field};
-ghost use Rattle.swift_replies.specs.Fields.{readers_by, moment_in, created_in, meta_name, meta_in};
+ghost use Rattle.swift_replies.specs.Fields.{container_readers_by_value, moment_in, container_created_in, meta_name, meta_in};
 
 use gate_base::{Bytes, List, MOMENT_LIMIT, Memory, Pair};
 use http_answers::{field, plain_number};
@@ -15,8 +15,8 @@ use text_forms::append_decimal;
 const MOST_PIECES: u64 = 11;
 
 /// The read list that a value of `X-Container-Read` writes.
-pub fn readers_by(value: &[u8]) -> Option<ReadList>
-    ensures { result ≡ readers_by value.now }
+pub fn container_readers_by_value(value: &[u8]) -> Option<ReadList>
+    ensures { result ≡ container_readers_by_value value.now }
 {
     if value == b"".as_slice() {
         return Some(ReadList::Nobody);
@@ -39,8 +39,8 @@ pub(crate) fn moment_in(value: &[u8]) -> Option<u64>
 }
 
 /// The creation time of a container, where the header may be absent.
-pub fn created_in(headers: &[Pair]) -> Option<Option<u64>>
-    ensures { result ≡ created_in headers.now }
+pub fn container_created_in(headers: &[Pair]) -> Option<Option<u64>>
+    ensures { result ≡ container_created_in headers.now }
 {
     match field(headers, b"x-container-meta-s3-created") {
         Some(Some(value)) => match moment_in(value) {
@@ -62,7 +62,7 @@ fn meta_name(alloc: Global, index: u64) -> Result<Bytes, Memory>
 }
 
 /// The piece of metadata of an index.
-fn piece_at<'a>(
+fn object_meta_piece_in<'a>(
     alloc: Global,
     headers: &'a [Pair],
     index: u64,
@@ -80,7 +80,7 @@ pub fn meta_in(alloc: Global, headers: &[Pair]) -> Result<Option<List<Bytes>>, M
 {
     let mut pieces = List::new(alloc);
     'pieces: for index in 0..MOST_PIECES {
-        match piece_at(alloc, headers, index)? {
+        match object_meta_piece_in(alloc, headers, index)? {
             Some(Some(piece)) => pieces.push(Bytes::from_slice(alloc, piece)?)?,
             Some(None) => return Ok(Some(pieces)),
             None => return Ok(None),

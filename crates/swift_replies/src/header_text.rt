@@ -8,29 +8,29 @@ use swift_calls::ReadList;
 use text_forms::append_decimal;
 
 /// Adds a status line.
-pub(crate) fn append_status(text: &mut Bytes, status: u16) -> Result<(), Memory>
+pub(crate) fn append_answer_status(text: &mut Bytes, status: u16) -> Result<(), Memory>
     ensures { OnOk result (text.new ≡ text.old ++ status_line status) }
 {
     text.append(b"HTTP/1.1 ")?;
-    append_digits(text, status)?;
+    append_answer_status_digits(text, status)?;
     text.append(phrase_of(status))?;
     text.append(b"\r\n")?;
     Ok(())
 }
 
 /// Adds the three digits of a status, and a space.
-fn append_digits(text: &mut Bytes, status: u16) -> Result<(), Memory>
+fn append_answer_status_digits(text: &mut Bytes, status: u16) -> Result<(), Memory>
     ensures { OnOk result (text.new ≡ text.old ++ status_digits status ++ 32 ∷ []) }
 {
     text.append(&[
-        last_digit(status / 100),
-        last_digit(status / 10),
-        last_digit(status),
+        swift_status_digit(status / 100),
+        swift_status_digit(status / 10),
+        swift_status_digit(status),
         b' ',
     ])
 }
 
-fn last_digit(number: u16) -> u8
+fn swift_status_digit(number: u16) -> u8
     ensures { result ≡ 48 + number % 10 }
 {
     b'0' + (number % 10) as u8
@@ -55,10 +55,10 @@ fn phrase_of(status: u16) -> &'static [u8]
     if status == 206 {
         return b"Partial Content";
     }
-    phrase_of_error(status)
+    swift_error_phrase(status)
 }
 
-fn phrase_of_error(status: u16) -> &'static [u8]
+fn swift_error_phrase(status: u16) -> &'static [u8]
     ensures { result.now ≡ error_phrase status }
 {
     if status == 400 {
@@ -85,7 +85,11 @@ fn phrase_of_error(status: u16) -> &'static [u8]
 
 /// Adds a header.
 #[tactic(auto, using(crate::proofs::SentLemmas::header_is))]
-pub(crate) fn append_header(text: &mut Bytes, name: &[u8], value: &[u8]) -> Result<(), Memory>
+pub(crate) fn append_answer_header(
+    text: &mut Bytes,
+    name: &[u8],
+    value: &[u8],
+) -> Result<(), Memory>
     ensures { OnOk result (text.new ≡ text.old ++ print_header (name.now, value.now)) }
 {
     text.append(name)?;
@@ -96,7 +100,11 @@ pub(crate) fn append_header(text: &mut Bytes, name: &[u8], value: &[u8]) -> Resu
 
 /// Adds a header whose value is a number.
 #[tactic(auto, using(crate::proofs::SentLemmas::header_is))]
-pub(crate) fn append_number(text: &mut Bytes, name: &[u8], number: u64) -> Result<(), Memory>
+pub(crate) fn append_answer_number_header(
+    text: &mut Bytes,
+    name: &[u8],
+    number: u64,
+) -> Result<(), Memory>
     ensures { OnOk result (text.new ≡ text.old ++ print_header (name.now, decimal number)) }
 {
     text.append(name)?;
@@ -106,12 +114,12 @@ pub(crate) fn append_number(text: &mut Bytes, name: &[u8], number: u64) -> Resul
 }
 
 /// Adds the creation time, where there is one.
-pub(crate) fn append_created(text: &mut Bytes, created: Option<u64>) -> Result<(), Memory>
+pub(crate) fn append_answer_created(text: &mut Bytes, created: Option<u64>) -> Result<(), Memory>
     ensures { OnOk result (text.new ≡ text.old ++ print_headers (created_fields created)) }
 {
     match created {
         Some(moment) => {
-            append_number(text, b"X-Container-Meta-S3-Created", moment)?;
+            append_answer_number_header(text, b"X-Container-Meta-S3-Created", moment)?;
             Ok(())
         }
         None => Ok(()),
@@ -119,18 +127,18 @@ pub(crate) fn append_created(text: &mut Bytes, created: Option<u64>) -> Result<(
 }
 
 /// Adds the pieces of metadata, each under its number.
-pub(crate) fn append_meta(text: &mut Bytes, pieces: &[Bytes]) -> Result<(), Memory>
+pub(crate) fn append_answer_meta(text: &mut Bytes, pieces: &[Bytes]) -> Result<(), Memory>
     ensures { OnOk result (text.new ≡ text.old ++ print_headers (meta_fields 0 pieces.now)) }
 {
     for (index, piece) in pieces.iter().enumerate() {
-        append_meta_header(text, index as u64, piece.as_slice())?;
+        append_answer_meta_header(text, index as u64, piece.as_slice())?;
     }
     Ok(())
 }
 
 /// Adds the piece of metadata of a number.
 #[tactic(auto, using(crate::proofs::SentLemmas::piece_is))]
-fn append_meta_header(text: &mut Bytes, index: u64, piece: &[u8]) -> Result<(), Memory>
+fn append_answer_meta_header(text: &mut Bytes, index: u64, piece: &[u8]) -> Result<(), Memory>
     ensures { OnOk result (text.new ≡ text.old
         ++ print_header (codes "X-Object-Meta-S3-" ++ decimal index, piece.now)) }
 {

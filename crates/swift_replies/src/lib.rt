@@ -16,6 +16,6 @@ mod written;
 pub use answer_laws::{law_one_answer, law_one_reply, law_reads_back};
 pub use answers::read_answer;
 pub use fault::WireFault;
-pub use fields::{created_in, meta_in, readers_by};
-pub use manifests::segments_in;
+pub use fields::{container_created_in, container_readers_by_value, meta_in};
+pub use manifests::spelled_segments_in;
 pub use written::{refusal, write_answer};

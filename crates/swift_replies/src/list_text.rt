@@ -3,7 +3,7 @@ ghost use Rattle.std.specs.Prelude.{◌≡◌, ◌&&◌, ◌^◌, nat_lt, map, I
 ghost use Rattle.std.specs.List.{list_all};
 ghost use Rattle.std.specs.Str.{is_utf8};
 ghost use Rattle.serde_json.specs.View.{view};
-ghost use Rattle.swift_replies.specs.AnswerText.{list_text, container_value, item_by, item_value, is_item};
+ghost use Rattle.swift_replies.specs.AnswerText.{list_text, container_value, item_by, item_value, is_spelled_name_item};
 
 use gate_base::{Bytes, Memory};
 use serde_json::{Value, json};
@@ -16,7 +16,7 @@ pub(crate) fn containers_text(alloc: Global, names: &[Bytes]) -> Result<Option<B
     ensures { IfOk result (λ text. text ≡ (if list_all is_utf8 names.now then Some
         (list_text (map container_value names.now)) else None)) }
 {
-    if are_utf8(names) {
+    if are_spelled_container_names(names) {
         Ok(Some(json_of_container_names(alloc, names)?))
     } else {
         Ok(None)
@@ -25,38 +25,38 @@ pub(crate) fn containers_text(alloc: Global, names: &[Bytes]) -> Result<Option<B
 
 /// The text of a listing of objects; none where one of their texts isn't UTF-8.
 pub(crate) fn items_text(alloc: Global, items: &[NameItem]) -> Result<Option<Bytes>, Memory>
-    ensures { IfOk result (λ text. text ≡ (if list_all is_item items.now then Some
+    ensures { IfOk result (λ text. text ≡ (if list_all is_spelled_name_item items.now then Some
         (list_text (map item_value items.now)) else None)) }
 {
-    if are_items(items) {
+    if are_spelled_name_items(items) {
         Ok(Some(json_of_name_items(alloc, items)?))
     } else {
         Ok(None)
     }
 }
 
-fn are_utf8(names: &[Bytes]) -> bool
+fn are_spelled_container_names(names: &[Bytes]) -> bool
     ensures { result ≡ list_all is_utf8 names.now }
 {
     names.iter().all(|name| is_utf8(name.as_slice()))
 }
 
-fn are_items(items: &[NameItem]) -> bool
-    ensures { result ≡ list_all is_item items.now }
+fn are_spelled_name_items(items: &[NameItem]) -> bool
+    ensures { result ≡ list_all is_spelled_name_item items.now }
 {
-    items.iter().all(|item| is_item(item))
+    items.iter().all(|item| is_spelled_name_item(item))
 }
 
-fn is_item(item: &NameItem) -> bool
-    ensures { result ≡ is_item item.now }
+fn is_spelled_name_item(item: &NameItem) -> bool
+    ensures { result ≡ is_spelled_name_item item.now }
 {
     is_utf8(item.name.as_slice())
         && (is_utf8(item.hash.as_slice())
-            && (is_utf8(item.content_type.as_slice()) && is_whole_number(item.size)))
+            && (is_utf8(item.content_type.as_slice()) && is_spelled_item_size(item.size)))
 }
 
 /// Whether a size is read as a whole number, which each `u64` is.
-fn is_whole_number(size: u64) -> bool
+fn is_spelled_item_size(size: u64) -> bool
     ensures { result ≡ nat_lt size (2 ^ 64) }
 {
     true
@@ -76,7 +76,7 @@ fn json_of_container_names(alloc: Global, names: &[Bytes]) -> Result<Bytes, Memo
 
 #[tactic(auto, using(crate::proofs::ListTextLemmas::passes, crate::proofs::ListTextLemmas::map_more))]
 fn json_of_name_items(alloc: Global, items: &[NameItem]) -> Result<Bytes, Memory>
-    requires { list_all is_item items.now ≡ true }
+    requires { list_all is_spelled_name_item items.now ≡ true }
     ensures { IfOk result (λ text. text ≡ list_text (map item_value items.now)) }
 {
     let mut entries = Vec::new(alloc);
@@ -94,7 +94,7 @@ fn container_value(alloc: Global, name: &str) -> Result<Value, AllocError>
 
 #[tactic(auto, using(crate::proofs::ListTextLemmas::name_is_utf8, crate::proofs::ListTextLemmas::hash_is_utf8, crate::proofs::ListTextLemmas::type_is_utf8))]
 fn json_value_of_item(alloc: Global, item: &NameItem) -> Result<Value, AllocError>
-    requires { is_item item.now ≡ true }
+    requires { is_spelled_name_item item.now ≡ true }
     ensures { IfOk result (λ value. view value ≡ item_value item.now) }
 {
     let name = text_of(item.name.as_slice());

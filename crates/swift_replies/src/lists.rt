@@ -15,13 +15,13 @@ use swift_calls::NameItem;
 pub(crate) fn container_names(alloc: Global, body: &[u8]) -> Result<Option<List<Bytes>>, Memory>
     ensures { IfOk result (λ names. names ≡ container_names body.now) }
 {
-    let Some(value) = json_value_in(alloc, body)? else {
+    let Some(value) = listing_json_in(alloc, body)? else {
         return Ok(None);
     };
     let Some(entries) = value.as_array() else {
         return Ok(None);
     };
-    container_names_in_entries(alloc, entries)
+    container_names_in_json_entries(alloc, entries)
 }
 
 /// The objects of a listing of a container; none where the text is no such listing.
@@ -29,18 +29,18 @@ pub(crate) fn container_names(alloc: Global, body: &[u8]) -> Result<Option<List<
 pub(crate) fn name_items(alloc: Global, body: &[u8]) -> Result<Option<List<NameItem>>, Memory>
     ensures { IfOk result (λ items. items ≡ name_items body.now) }
 {
-    let Some(value) = json_value_in(alloc, body)? else {
+    let Some(value) = listing_json_in(alloc, body)? else {
         return Ok(None);
     };
     let Some(entries) = value.as_array() else {
         return Ok(None);
     };
-    name_items_in_entries(alloc, entries)
+    name_items_in_json_entries(alloc, entries)
 }
 
 /// The JSON of a text.
 #[tactic(auto, using(crate::proofs::ListLemmas::json_read, crate::proofs::ListLemmas::json_refused))]
-fn json_value_in(alloc: Global, bytes: &[u8]) -> Result<Option<Value>, Memory>
+fn listing_json_in(alloc: Global, bytes: &[u8]) -> Result<Option<Value>, Memory>
     ensures { IfOk result (λ value. option_map view value ≡ json_of bytes.now) }
 {
     match Value::from_slice(alloc, bytes) {
@@ -53,7 +53,7 @@ fn json_value_in(alloc: Global, bytes: &[u8]) -> Result<Option<Value>, Memory>
 }
 
 #[tactic(auto, using(crate::proofs::ListLemmas::each_more, crate::proofs::ListLemmas::each_none, crate::proofs::ListLemmas::each_all))]
-fn container_names_in_entries(
+fn container_names_in_json_entries(
     alloc: Global,
     entries: &[Value],
 ) -> Result<Option<List<Bytes>>, Memory>
@@ -61,7 +61,7 @@ fn container_names_in_entries(
 {
     let mut names = List::new(alloc);
     for entry in entries {
-        let Some(name) = text_at(entry, "name") else {
+        let Some(name) = json_listing_entry_text(entry, "name") else {
             return Ok(None);
         };
         names.push(Bytes::from_slice(alloc, name.as_bytes())?)?;
@@ -70,12 +70,15 @@ fn container_names_in_entries(
 }
 
 #[tactic(auto, using(crate::proofs::ListLemmas::each_more, crate::proofs::ListLemmas::each_none, crate::proofs::ListLemmas::each_all))]
-fn name_items_in_entries(alloc: Global, entries: &[Value]) -> Result<Option<List<NameItem>>, Memory>
+fn name_items_in_json_entries(
+    alloc: Global,
+    entries: &[Value],
+) -> Result<Option<List<NameItem>>, Memory>
     ensures { IfOk result (λ items. items ≡ each name_item (items_view entries.now)) }
 {
     let mut items = List::new(alloc);
     for entry in entries {
-        let Some(item) = name_item_in_entry(alloc, entry)? else {
+        let Some(item) = name_item_in_json_entry(alloc, entry)? else {
             return Ok(None);
         };
         items.push(item)?;
@@ -84,19 +87,19 @@ fn name_items_in_entries(alloc: Global, entries: &[Value]) -> Result<Option<List
 }
 
 /// The object that an entry of a listing has.
-fn name_item_in_entry(alloc: Global, entry: &Value) -> Result<Option<NameItem>, Memory>
+fn name_item_in_json_entry(alloc: Global, entry: &Value) -> Result<Option<NameItem>, Memory>
     ensures { IfOk result (λ item. item ≡ name_item (view entry.now)) }
 {
-    let Some(name) = text_at(entry, "name") else {
+    let Some(name) = json_listing_entry_text(entry, "name") else {
         return Ok(None);
     };
-    let Some(hash) = text_at(entry, "hash") else {
+    let Some(hash) = json_listing_entry_text(entry, "hash") else {
         return Ok(None);
     };
-    let Some(size) = number_at(entry, "bytes") else {
+    let Some(size) = json_listing_entry_number(entry, "bytes") else {
         return Ok(None);
     };
-    let Some(content_type) = text_at(entry, "content_type") else {
+    let Some(content_type) = json_listing_entry_text(entry, "content_type") else {
         return Ok(None);
     };
     Ok(Some(NameItem {
@@ -107,13 +110,13 @@ fn name_item_in_entry(alloc: Global, entry: &Value) -> Result<Option<NameItem>, 
     }))
 }
 
-fn text_at<'v>(value: &'v Value, field: &str) -> Option<&'v str>
+fn json_listing_entry_text<'v>(value: &'v Value, field: &str) -> Option<&'v str>
     ensures { option_map (λ text. text.now) result ≡ text_at field.now (view value.now) }
 {
     value.get(field)?.as_str()
 }
 
-fn number_at(value: &Value, field: &str) -> Option<u64>
+fn json_listing_entry_number(value: &Value, field: &str) -> Option<u64>
     ensures { result ≡ number_at field.now (view value.now) }
 {
     value.get(field)?.as_u64()

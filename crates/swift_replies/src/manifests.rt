@@ -5,7 +5,7 @@ ghost use Rattle.slo_manifest.specs.declared.manifest.Form.TheVariants.{Got};
 ghost use Rattle.swift_calls.specs.declared.calls.SwiftReply.TheVariants.{Manifest};
 
 use crate::answers::missing;
-use crate::values::lists_in;
+use crate::values::reply_segments_flag_in;
 use gate_base::{List, Memory, Pair};
 use slo_manifest::{Form, ManifestFault, Segment, read};
 use std::alloc::Global;
@@ -14,7 +14,11 @@ use swift_calls::SwiftReply;
 /// The segments that a text lists, in the form; none where it is no such list of segments, or has more than one
 /// manifest lists.
 #[tactic(auto, using(crate::proofs::ManifestLemmas::segments_read, crate::proofs::ManifestLemmas::segments_refused))]
-pub fn segments_in(alloc: Global, text: &[u8], form: Form) -> Result<Option<List<Segment>>, Memory>
+pub fn spelled_segments_in(
+    alloc: Global,
+    text: &[u8],
+    form: Form,
+) -> Result<Option<List<Segment>>, Memory>
     ensures { IfOk result (λ segments. segments ≡ segments_in form text.now) }
 {
     match read(alloc, text, form) {
@@ -33,7 +37,7 @@ pub(crate) fn get_manifest_reply(
     ensures { IfOk result (λ reply. reply ≡ get_manifest_reply status headers.now body.now) }
 {
     if status == 200 {
-        manifest_by(alloc, lists_in(headers), body)
+        manifest_by(alloc, reply_segments_flag_in(headers), body)
     } else {
         Ok(missing(status))
     }
@@ -58,7 +62,7 @@ fn segments_reply(alloc: Global, body: &[u8]) -> Result<Option<SwiftReply>, Memo
     ensures { IfOk result
         (λ reply. reply ≡ option_map (λ segments. Manifest segments) (segments_in Got body.now)) }
 {
-    match segments_in(alloc, body, Form::Got)? {
+    match spelled_segments_in(alloc, body, Form::Got)? {
         Some(segments) => Ok(Some(SwiftReply::Manifest(segments))),
         None => Ok(None),
     }

@@ -3,7 +3,7 @@ ghost use Rattle.std.specs.Prelude.{◌≡◌, IfOk};
 ghost use Rattle.swift_replies.specs.Fields.{head_in};
 
 use crate::fields::meta_in;
-use crate::values::{etag_in, manifest_in};
+use crate::values::{etag_in, reply_manifest_flag_in};
 use gate_base::{Bytes, Memory, Pair};
 use http_answers::only;
 use std::alloc::Global;
@@ -26,7 +26,7 @@ pub(crate) fn head_in(
     let Some(etag) = etag_in(headers) else {
         return Ok(None);
     };
-    let Some(manifest) = manifest_in(headers) else {
+    let Some(manifest) = reply_manifest_flag_in(headers) else {
         return Ok(None);
     };
     let Some(meta) = meta_in(alloc, headers)? else {

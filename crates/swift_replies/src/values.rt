@@ -2,19 +2,19 @@
 ghost use Rattle.std.specs.Prelude.{◌≡◌, Some};
 ghost use Rattle.std.specs.List.{list_all};
 ghost use Rattle.std.specs.Option.{option_copied};
-ghost use Rattle.swift_replies.specs.Fields.{readers_in, is_tag_byte, is_quoted, unquoted, tag_in, etag_in, manifest_from, manifest_in, lists_in, size_behind, whole_size_in};
+ghost use Rattle.swift_replies.specs.Fields.{reply_readers_in, is_reply_etag_byte, is_quoted, unquoted, tag_in, etag_in, manifest_from, reply_manifest_flag_in, reply_segments_flag_in, size_behind, whole_size_in};
 
-use crate::fields::readers_by;
+use crate::fields::container_readers_by_value;
 use gate_base::{Pair, cut};
 use http_answers::{field, only, plain_number};
 use swift_calls::ReadList;
 
 /// The read list: nobody without the header.
-pub(crate) fn readers_in(headers: &[Pair]) -> Option<ReadList>
-    ensures { result ≡ readers_in headers.now }
+pub(crate) fn reply_readers_in(headers: &[Pair]) -> Option<ReadList>
+    ensures { result ≡ reply_readers_in headers.now }
 {
     match field(headers, b"x-container-read") {
-        Some(Some(value)) => readers_by(value),
+        Some(Some(value)) => container_readers_by_value(value),
         Some(None) => Some(ReadList::Nobody),
         None => None,
     }
@@ -52,29 +52,29 @@ fn is_quoted(text: &[u8]) -> bool
 
 /// Whether the bytes are those that an entity tag has between its quotes.
 pub(crate) fn is_tag(text: &[u8]) -> bool
-    ensures { result ≡ list_all is_tag_byte text.now }
+    ensures { result ≡ list_all is_reply_etag_byte text.now }
 {
-    text.iter().all(|byte| is_tag_byte(*byte))
+    text.iter().all(|byte| is_reply_etag_byte(*byte))
 }
 
-fn is_tag_byte(byte: u8) -> bool
-    ensures { result ≡ is_tag_byte byte }
+fn is_reply_etag_byte(byte: u8) -> bool
+    ensures { result ≡ is_reply_etag_byte byte }
 {
     32 < byte && (byte != b'"' && byte != 127)
 }
 
 /// Whether the object is a static large object.
-pub(crate) fn manifest_in(headers: &[Pair]) -> Option<bool>
-    ensures { result ≡ manifest_in headers.now }
+pub(crate) fn reply_manifest_flag_in(headers: &[Pair]) -> Option<bool>
+    ensures { result ≡ reply_manifest_flag_in headers.now }
 {
     match field(headers, b"x-static-large-object") {
-        Some(Some(value)) => is_true(value),
+        Some(Some(value)) => reply_manifest_flag_of(value),
         Some(None) => Some(false),
         None => None,
     }
 }
 
-fn is_true(value: &[u8]) -> Option<bool>
+fn reply_manifest_flag_of(value: &[u8]) -> Option<bool>
     ensures { result ≡ manifest_from (Some (Some value.now)) }
 {
     if value == b"True".as_slice() {
@@ -85,8 +85,8 @@ fn is_true(value: &[u8]) -> Option<bool>
 }
 
 /// Whether an answer says that it lists segments.
-pub(crate) fn lists_in(headers: &[Pair]) -> Option<bool>
-    ensures { result ≡ lists_in headers.now }
+pub(crate) fn reply_segments_flag_in(headers: &[Pair]) -> Option<bool>
+    ensures { result ≡ reply_segments_flag_in headers.now }
 {
     match field(headers, b"x-static-large-object") {
         Some(Some(value)) => Some(value == b"True".as_slice()),

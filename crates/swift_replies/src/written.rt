@@ -3,11 +3,12 @@ ghost use Rattle.std.specs.Prelude.{◌≡◌, ◌++◌, ◌&&◌, ◌∷◌, []
 ghost use Rattle.std.specs.List.{list_all};
 ghost use Rattle.swift_replies.specs.Answers.{is_part};
 ghost use Rattle.http1.specs.Head.{is_trimmed_value, print_header, print_headers};
-ghost use Rattle.swift_replies.specs.AnswerText.{answer_text, text_by, refusal, status_line, length_field, put_sent, post_sent, delete_sent, list_containers_sent, head_container_sent, list_names_sent, put_object_sent, head_object_sent, get_sent, is_created, readers_fields, readers_sent, etag_field, stored_sent, manifest_fields, object_fields, is_size, is_meta, is_head, head_sent, range_text, within_limit, bytes_by, bytes_sent, containers_sent, names_sent, list_sent, sent_text, put_manifest_sent, get_manifest_sent, segments_by, segments_sent};
+ghost use Rattle.swift_replies.specs.AnswerText.{answer_text, text_by, refusal, status_line, length_field, put_sent, post_sent, delete_sent, list_containers_sent, head_container_sent, list_names_sent, put_object_sent, head_object_sent, get_sent, is_spelled_created, readers_fields, readers_sent, etag_field, stored_sent, manifest_fields, object_fields, is_spelled_size, is_meta, is_head, head_sent, range_text, within_limit, bytes_by, bytes_sent, containers_sent, names_sent, list_sent, sent_text, put_manifest_sent, get_manifest_sent, segments_by, segments_sent};
 
 use crate::answers::is_part;
 use crate::header_text::{
-    append_created, append_header, append_meta, append_number, append_status, readers_text,
+    append_answer_created, append_answer_header, append_answer_meta, append_answer_number_header,
+    append_answer_status, readers_text,
 };
 use crate::list_text::{containers_text, items_text};
 use crate::values::is_tag;
@@ -57,7 +58,7 @@ pub fn refusal(alloc: Global, status: u16) -> Result<Bytes, Memory>
     ensures { IfOk result (λ text. text ≡ refusal status) }
 {
     let mut text = begin_answer(alloc, status, 0, 0)?;
-    finish_answer(&mut text, b"")?;
+    append_answer_body(&mut text, b"")?;
     Ok(text)
 }
 
@@ -182,21 +183,21 @@ fn begin_answer(alloc: Global, status: u16, size: u64, room: usize) -> Result<By
         (λ text. text ≡ status_line status ++ print_headers (length_field size ∷ [])) }
 {
     let mut text = Bytes::with_room(alloc, room.saturating_add(HEAD_ROOM))?;
-    append_status(&mut text, status)?;
-    append_length(&mut text, size)?;
+    append_answer_status(&mut text, status)?;
+    append_answer_length(&mut text, size)?;
     Ok(text)
 }
 
 #[tactic(auto, using(crate::proofs::SentLemmas::one_header))]
-fn append_length(text: &mut Bytes, size: u64) -> Result<(), Memory>
+fn append_answer_length(text: &mut Bytes, size: u64) -> Result<(), Memory>
     ensures { OnOk result (text.new ≡ text.old ++ print_headers (length_field size ∷ [])) }
 {
-    append_number(text, b"Content-Length", size)?;
+    append_answer_number_header(text, b"Content-Length", size)?;
     Ok(())
 }
 
 /// Adds the empty line and the body.
-fn finish_answer(text: &mut Bytes, body: &[u8]) -> Result<(), Memory>
+fn append_answer_body(text: &mut Bytes, body: &[u8]) -> Result<(), Memory>
     ensures { OnOk result (text.new ≡ (text.old ++ 13 ∷ 10 ∷ []) ++ body.now) }
 {
     text.append(b"\r\n")?;
@@ -204,27 +205,27 @@ fn finish_answer(text: &mut Bytes, body: &[u8]) -> Result<(), Memory>
 }
 
 /// The same for a head of at most 65,536 bytes, and else an answer of status 500.
-fn finish_answer_within_limit(alloc: Global, head: Bytes, body: &[u8]) -> Result<Bytes, Memory>
+fn head_limited_answer(alloc: Global, head: Bytes, body: &[u8]) -> Result<Bytes, Memory>
     ensures { IfOk result (λ text. text ≡ (if nat_le (length (head ++ 13 ∷ 10 ∷ [])) HEAD_LIMIT then
         (head ++ 13 ∷ 10 ∷ []) ++ body.now else refusal 500)) }
 {
     let mut text = head;
     text.append(b"\r\n")?;
-    if is_head_too_long(&text) {
+    if is_written_head_too_long(&text) {
         return refusal(alloc, 500);
     }
     text.append(body)?;
     Ok(text)
 }
 
-fn is_head_too_long(text: &Bytes) -> bool
+fn is_written_head_too_long(text: &Bytes) -> bool
     ensures { result ≡ not (nat_le (length text.now) HEAD_LIMIT) }
 {
     text.len() > HEAD_LIMIT
 }
 
-fn is_created(created: Option<u64>) -> bool
-    ensures { result ≡ is_created created }
+fn is_spelled_created(created: Option<u64>) -> bool
+    ensures { result ≡ is_spelled_created created }
 {
     match created {
         Some(moment) => moment < MOMENT_LIMIT,
@@ -235,13 +236,13 @@ fn is_created(created: Option<u64>) -> bool
 fn readers_answer(alloc: Global, readers: ReadList, created: Option<u64>) -> Result<Bytes, Memory>
     ensures { IfOk result (λ text. text ≡ text_by (readers_sent readers created)) }
 {
-    if !is_created(created) {
+    if !is_spelled_created(created) {
         return refusal(alloc, 500);
     }
     let mut text = begin_answer(alloc, 204, 0, 0)?;
-    append_header(&mut text, b"X-Container-Read", readers_text(readers))?;
-    append_created(&mut text, created)?;
-    finish_answer(&mut text, b"")?;
+    append_answer_header(&mut text, b"X-Container-Read", readers_text(readers))?;
+    append_answer_created(&mut text, created)?;
+    append_answer_body(&mut text, b"")?;
     Ok(text)
 }
 
@@ -253,13 +254,13 @@ fn stored_answer(alloc: Global, etag: &[u8]) -> Result<Bytes, Memory>
         return refusal(alloc, 500);
     }
     let mut text = begin_answer(alloc, 201, 0, 0)?;
-    append_header(&mut text, b"Etag", etag)?;
-    let answer = finish_answer_within_limit(alloc, text, b"")?;
+    append_answer_header(&mut text, b"Etag", etag)?;
+    let answer = head_limited_answer(alloc, text, b"")?;
     Ok(answer)
 }
 
 /// Whether the value of a header is read as it is written.
-fn is_trimmed(value: &[u8]) -> bool
+fn is_trimmed_header_value(value: &[u8]) -> bool
     ensures { result ≡ is_trimmed_value value.now }
 {
     match value {
@@ -270,20 +271,22 @@ fn is_trimmed(value: &[u8]) -> bool
     }
 }
 
-fn are_trimmed(values: &[Bytes]) -> bool
+fn are_trimmed_header_values(values: &[Bytes]) -> bool
     ensures { result ≡ list_all is_trimmed_value values.now }
 {
-    values.iter().all(|value| is_trimmed(value.as_slice()))
+    values
+        .iter()
+        .all(|value| is_trimmed_header_value(value.as_slice()))
 }
 
 fn is_meta(pieces: &[Bytes]) -> bool
     ensures { result ≡ is_meta pieces.now }
 {
-    pieces.len() <= MOST_PIECES && are_trimmed(pieces)
+    pieces.len() <= MOST_PIECES && are_trimmed_header_values(pieces)
 }
 
-fn is_size(size: u64) -> bool
-    ensures { result ≡ is_size size }
+fn is_spelled_size(size: u64) -> bool
+    ensures { result ≡ is_spelled_size size }
 {
     size < SIZE_LIMIT
 }
@@ -291,26 +294,27 @@ fn is_size(size: u64) -> bool
 fn is_head(head: &StoredHead) -> bool
     ensures { result ≡ is_head head.now }
 {
-    is_trimmed(head.content_type.as_slice())
-        && (is_tag(head.etag.as_slice()) && (is_size(head.size) && is_meta(head.meta.as_slice())))
+    is_trimmed_header_value(head.content_type.as_slice())
+        && (is_tag(head.etag.as_slice())
+            && (is_spelled_size(head.size) && is_meta(head.meta.as_slice())))
 }
 
-fn append_object_headers(text: &mut Bytes, head: &StoredHead) -> Result<(), Memory>
+fn append_answer_object_headers(text: &mut Bytes, head: &StoredHead) -> Result<(), Memory>
     ensures { OnOk result (text.new ≡ text.old ++ print_headers (object_fields head.now)) }
 {
-    append_header(text, b"Content-Type", head.content_type.as_slice())?;
-    append_header(text, b"Etag", head.etag.as_slice())?;
-    append_manifest(text, head.manifest)?;
-    append_meta(text, head.meta.as_slice())?;
+    append_answer_header(text, b"Content-Type", head.content_type.as_slice())?;
+    append_answer_header(text, b"Etag", head.etag.as_slice())?;
+    append_answer_manifest_flag(text, head.manifest)?;
+    append_answer_meta(text, head.meta.as_slice())?;
     Ok(())
 }
 
 #[tactic(auto, using(crate::proofs::SentLemmas::one_header))]
-fn append_manifest(text: &mut Bytes, manifest: bool) -> Result<(), Memory>
+fn append_answer_manifest_flag(text: &mut Bytes, manifest: bool) -> Result<(), Memory>
     ensures { OnOk result (text.new ≡ text.old ++ print_headers (manifest_fields manifest)) }
 {
     if manifest {
-        append_header(text, b"X-Static-Large-Object", b"True")?;
+        append_answer_header(text, b"X-Static-Large-Object", b"True")?;
     }
     Ok(())
 }
@@ -323,8 +327,8 @@ fn head_answer(alloc: Global, head: &StoredHead) -> Result<Bytes, Memory>
         return refusal(alloc, 500);
     }
     let mut text = begin_answer(alloc, 200, head.size, 0)?;
-    append_object_headers(&mut text, head)?;
-    let answer = finish_answer_within_limit(alloc, text, b"")?;
+    append_answer_object_headers(&mut text, head)?;
+    let answer = head_limited_answer(alloc, text, b"")?;
     Ok(answer)
 }
 
@@ -341,7 +345,7 @@ fn bytes_answer(
     }
     match range {
         Some((first, last)) => part_answer(alloc, first, last, head, body),
-        None => whole_answer(alloc, head, body),
+        None => whole_object_answer(alloc, head, body),
     }
 }
 
@@ -352,13 +356,13 @@ fn is_spelled_content(range: Option<(u64, u64)>, head: &StoredHead, count: usize
 }
 
 #[tactic(auto, using(crate::proofs::SentLemmas::whole_is))]
-fn whole_answer(alloc: Global, head: &StoredHead, body: &[u8]) -> Result<Bytes, Memory>
+fn whole_object_answer(alloc: Global, head: &StoredHead, body: &[u8]) -> Result<Bytes, Memory>
     ensures { IfOk result
         (λ text. text ≡ text_by (within_limit (bytes_by None head.now body.now))) }
 {
     let mut text = begin_answer(alloc, 200, body.len() as u64, body.len())?;
-    append_object_headers(&mut text, head)?;
-    let answer = finish_answer_within_limit(alloc, text, body)?;
+    append_answer_object_headers(&mut text, head)?;
+    let answer = head_limited_answer(alloc, text, body)?;
     Ok(answer)
 }
 
@@ -374,26 +378,36 @@ fn part_answer(
         (λ text. text ≡ text_by (within_limit (bytes_by (Some (first, last)) head.now body.now))) }
 {
     let mut text = begin_answer(alloc, 206, body.len() as u64, body.len())?;
-    append_object_headers(&mut text, head)?;
-    append_content_range(&mut text, first, body.len() as u64, head.size)?;
-    let answer = finish_answer_within_limit(alloc, text, body)?;
+    append_answer_object_headers(&mut text, head)?;
+    append_answer_content_range(&mut text, first, body.len() as u64, head.size)?;
+    let answer = head_limited_answer(alloc, text, body)?;
     Ok(answer)
 }
 
 #[tactic(auto, using(crate::proofs::SentLemmas::header_is))]
-fn append_content_range(text: &mut Bytes, first: u64, count: u64, size: u64) -> Result<(), Memory>
+fn append_answer_content_range(
+    text: &mut Bytes,
+    first: u64,
+    count: u64,
+    size: u64,
+) -> Result<(), Memory>
     requires { first + count < 2 ^ 64 }
     ensures { OnOk result (text.new ≡ text.old
         ++ print_header (codes "Content-Range", range_text first count size)) }
 {
     text.append(b"Content-Range")?;
     text.append(b": ")?;
-    append_range_value(text, first, count, size)?;
+    append_answer_range_value(text, first, count, size)?;
     text.append(b"\r\n")
 }
 
 #[tactic(auto, using(crate::proofs::SentLemmas::range_is))]
-fn append_range_value(text: &mut Bytes, first: u64, count: u64, size: u64) -> Result<(), Memory>
+fn append_answer_range_value(
+    text: &mut Bytes,
+    first: u64,
+    count: u64,
+    size: u64,
+) -> Result<(), Memory>
     requires { first + count < 2 ^ 64 }
     ensures { OnOk result (text.new ≡ text.old ++ range_text first count size) }
 {
@@ -428,7 +442,7 @@ fn json_listing_answer(alloc: Global, body: &[u8]) -> Result<Bytes, Memory>
     ensures { IfOk result (λ text. text ≡ sent_text (list_sent body.now)) }
 {
     let mut text = begin_answer(alloc, 200, body.len() as u64, body.len())?;
-    finish_answer(&mut text, body)?;
+    append_answer_body(&mut text, body)?;
     Ok(text)
 }
 
@@ -447,7 +461,7 @@ fn json_segments_answer(alloc: Global, body: &[u8]) -> Result<Bytes, Memory>
     ensures { IfOk result (λ text. text ≡ sent_text (segments_by body.now)) }
 {
     let mut text = begin_answer(alloc, 200, body.len() as u64, body.len())?;
-    append_manifest(&mut text, true)?;
-    finish_answer(&mut text, body)?;
+    append_answer_manifest_flag(&mut text, true)?;
+    append_answer_body(&mut text, body)?;
     Ok(text)
 }

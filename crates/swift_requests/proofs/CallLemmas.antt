@@ -37,10 +37,10 @@ use Rattle.swift_calls.specs.declared.calls.SwiftRequest.TheVariants.{
 use Rattle.swift_replies.specs.AnswerText.{readers_text, meta_fields, header_pair}
 use Rattle.swift_replies.specs.Answers.{both, segments_in}
 use Rattle.swift_requests.specs.CallText.{account_text, container_text, object_text, listing_text, target_text, call_fields, call_message}
-use Rattle.swift_requests.specs.Calls.{is_dash, byte_place, places_of, range_of, limit_of, up_to, containers_listing, names_listing, unasked, is_word, asks_manifest, put_listed, put_manifest, listed_by, put_object, bare_object_call, call_at, call_within, account_in, call_of, account_names, container_names}
-use Rattle.swift_replies.specs.Fields.{before_limit, moment_in, readers_by, meta_in}
+use Rattle.swift_requests.specs.Calls.{is_dash, call_range_bound, places_of, range_of, limit_of, up_to, containers_listing_call, names_listing_call, unasked, is_word, asks_manifest, put_listed, put_manifest, listed_by, put_object, bare_object_call, call_at, call_within, account_in, call_of, account_names, container_names}
+use Rattle.swift_replies.specs.Fields.{before_limit, moment_in, container_readers_by_value, meta_in}
 use Rattle.http_answers.specs.Fields.{needed, at_most_one}
-use Rattle.swift_requests.specs.Paths.{path_of, last_value, values_named}
+use Rattle.swift_requests.specs.Paths.{path_of, last_call_query_value, values_named}
 use Rattle.swift_requests.specs.Place.{IsPlace, is_place_text}
 use Rattle.swift_requests.specs.declared.paths.Path.{Path}
 use Rattle.swift_requests.specs.declared.paths.Path.TheVariants.{Account, Container, Object}
@@ -170,8 +170,8 @@ object_row place call c n small little tiny target at =
     (at ∙ bare (query_text (target_text place call)) (Some call) (ap query_text target ∙ object_unasked place c n small little tiny))
 
 -- without a query nothing asks for a list of segments
-asks_none : (word query : List ℕ) → query ≡ [] → is_word word (last_value (codes "multipart-manifest") query) ≡ false
-asks_none word query none = ap (λ q. is_word word (last_value (codes "multipart-manifest") q)) none
+asks_none : (word query : List ℕ) → query ≡ [] → is_word word (last_call_query_value (codes "multipart-manifest") query) ≡ false
+asks_none word query none = ap (λ q. is_word word (last_call_query_value (codes "multipart-manifest") q)) none
 
 no_get : (place : Place) (c n : List ℕ) (message : Message) (call : Option SwiftRequest) → All IsByte place.account → All IsByte c → All IsByte n
     → message.target ≡ object_text place c n → cond (asks_manifest (codes "get") message) (Some (GetManifest c n)) call ≡ call
@@ -197,11 +197,11 @@ moment_read moment low =
     let test : nat_lt moment moment_limit ≡ true = grind (arith, nat_tests) in
     ap (option_and_then before_limit) (plain_decimal moment (omega (arith, low))) ∙ cond-true (nat_lt moment moment_limit) (Some moment) None test
 
-readers_read : (readers : ReadList) → readers_by (readers_text readers) ≡ Some readers
+readers_read : (readers : ReadList) → container_readers_by_value (readers_text readers) ≡ Some readers
 readers_read Nobody = refl
 readers_read Everybody = refl
 
-place_read : (byte : ℕ) → byte < 9223372036854775808 → byte_place (decimal byte) ≡ Some byte
+place_read : (byte : ℕ) → byte < 9223372036854775808 → call_range_bound (decimal byte) ≡ Some byte
 place_read byte low =
     let test : nat_le byte 9223372036854775807 ≡ true = grind (arith, nat_tests) in
     ap (option_and_then (up_to 9223372036854775807)) (plain_decimal byte (omega (arith, low)))
@@ -213,7 +213,7 @@ digit_no_dash b h = grind (arith, nat_tests)
 places_read : (first last : ℕ) → first < 9223372036854775808 → last < 9223372036854775808 → places_of (decimal first ++ 45 ∷ decimal last) ≡ Some (first, last)
 places_read first last low high =
     let lacks : Lacks is_dash (decimal first) = weaker is_digit (λ b. not (is_dash b)) digit_no_dash (decimal first) (decimal_digits first (omega (arith, low))) in
-    ap₂ (λ x y. both (λ f l. (f, l)) (byte_place x) (byte_place y)) (before_at is_dash (decimal first) (decimal last) 45 refl lacks)
+    ap₂ (λ x y. both (λ f l. (f, l)) (call_range_bound x) (call_range_bound y)) (before_at is_dash (decimal first) (decimal last) 45 refl lacks)
     (after_at is_dash (decimal first) (decimal last) 45 refl lacks)
     ∙ ap₂ (both (λ f l. (f, l))) (place_read first low) (place_read last high)
 
@@ -236,9 +236,9 @@ list_containers_read place marker limit small mark low =
     ap (λ t. account_text place ++ t) (listing_is limit marker) in
     found place (call_message place call) (Account place.account) call
     (ap path_of target ∙ path_asked (escaped_all place.account) (account_query limit marker) lacks ∙ account_path place.account small) refl
-    (ap (λ q. option_and_then containers_listing (values_named account_names q))
+    (ap (λ q. option_and_then containers_listing_call (values_named account_names q))
     (ap query_text target ∙ query_asked (escaped_all place.account) (account_query limit marker) lacks)
-    ∙ ap (option_and_then containers_listing) (account_values limit marker (omega (arith, low)) bytes)
+    ∙ ap (option_and_then containers_listing_call) (account_values limit marker (omega (arith, low)) bytes)
     ∙ ap (option_map (λ most. ListContainers marker most)) (limit_read limit low))
 
 list_names_read : (place : Place) (c prefix marker : List ℕ) (limit : ℕ) → All IsByte place.account → IsContainerName c → IsMarker prefix → IsMarker marker → limit ≤ 1000
@@ -251,8 +251,8 @@ list_names_read place c prefix marker limit small name before mark low =
     let target = names_is place c prefix marker limit in
     found place (call_message place call) (Container place.account c) call
     (ap path_of target ∙ path_asked (below_account place c) query lacks ∙ container_path place.account c small little) refl
-    (ap (λ q. option_and_then (names_listing c) (values_named container_names q)) (ap query_text target ∙ query_asked (below_account place c) query lacks)
-    ∙ ap (option_and_then (names_listing c)) (container_values limit marker prefix (omega (arith, low)) (text_bytes 1028 marker mark) (text_bytes 1028 prefix before))
+    (ap (λ q. option_and_then (names_listing_call c) (values_named container_names q)) (ap query_text target ∙ query_asked (below_account place c) query lacks)
+    ∙ ap (option_and_then (names_listing_call c)) (container_values limit marker prefix (omega (arith, low)) (text_bytes 1028 marker mark) (text_bytes 1028 prefix before))
     ∙ ap (option_map (λ most. ListNames c prefix marker most)) (limit_read limit low))
 
 put_container_read : (place : Place) (c : List ℕ) (readers : ReadList) (created : Option ℕ) → All IsByte place.account → IsContainerName c → IfSome created IsMoment
@@ -323,15 +323,15 @@ asked_query place c n word small little tiny =
     ap query_text (asked_is place c n word) ∙ query_asked (below_container place c n) (word_query word) (object_lacks place c n small little tiny)
 
 asks_put : (place : Place) (c n : List ℕ) → All IsByte place.account → All IsByte c → All IsByte n
-    → last_value (codes "multipart-manifest") (query_text (object_asked place c n (codes "put"))) ≡ Some (codes "put")
+    → last_call_query_value (codes "multipart-manifest") (query_text (object_asked place c n (codes "put"))) ≡ Some (codes "put")
 asks_put place c n small little tiny =
-    ap (last_value (codes "multipart-manifest")) (asked_query place c n (codes "put") small little tiny)
+    ap (last_call_query_value (codes "multipart-manifest")) (asked_query place c n (codes "put") small little tiny)
     ∙ last_is (codes "multipart-manifest") (codes "put") (codes "put") refl refl refl (itself (codes "put") refl)
 
 asks_get : (place : Place) (c n : List ℕ) → All IsByte place.account → All IsByte c → All IsByte n
-    → last_value (codes "multipart-manifest") (query_text (object_asked place c n (codes "get"))) ≡ Some (codes "get")
+    → last_call_query_value (codes "multipart-manifest") (query_text (object_asked place c n (codes "get"))) ≡ Some (codes "get")
 asks_get place c n small little tiny =
-    ap (last_value (codes "multipart-manifest")) (asked_query place c n (codes "get") small little tiny)
+    ap (last_call_query_value (codes "multipart-manifest")) (asked_query place c n (codes "get") small little tiny)
     ∙ last_is (codes "multipart-manifest") (codes "get") (codes "get") refl refl refl (itself (codes "get") refl)
 
 put_manifest_read : TextReadsBack → (place : Place) (c n content_type : List ℕ) (meta : List (List ℕ)) (segments : List Segment) → All IsByte place.account

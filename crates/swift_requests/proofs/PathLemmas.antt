@@ -8,7 +8,7 @@ use Rattle.s3_names.specs.Escapes.{is_unreserved, stays_in_path, is_escaped_byte
 use Rattle.s3_names.specs.Query.{is_ampersand}
 use Rattle.s3_names.specs.Target.{is_question, path_text, query_text}
 use Rattle.s3_names.proofs.lemmas.EscapeLemmas.{escaped_bytes_all, escaped_bytes_path, decoded_all, decoded_path}
-use Rattle.swift_requests.specs.Paths.{value_of, unescaped, is_nested, object_path, path_below, path_in, has_version, path_of}
+use Rattle.swift_requests.specs.Paths.{value_of, unescaped, is_nested_call_path, object_path, path_below, account_call_path, is_versioned_call_path, path_of}
 use Rattle.swift_replies.specs.Answers.{both}
 use Rattle.swift_requests.specs.declared.paths.Path.TheVariants.{Account, Container, Object}
 use Rattle.swift_replies.proofs.lemmas.CutLemmas.{IsByte, Lacks, weaker, Lacks-append, before_at, after_at, before_none, after_none, any_none, any_at}
@@ -51,26 +51,26 @@ unescaped_path text small = ap value_of (decoded_path text small)
 
 -- ---- the three kinds of path
 
-pub account_path : (a : List ℕ) → All IsByte a → path_in (escaped_all a) ≡ Some (Account a)
+pub account_path : (a : List ℕ) → All IsByte a → account_call_path (escaped_all a) ≡ Some (Account a)
 account_path a small =
-    cond-false (is_nested (escaped_all a)) _ _ (any_none is_slash (escaped_all a) (no_slash a small))
+    cond-false (is_nested_call_path (escaped_all a)) _ _ (any_none is_slash (escaped_all a) (no_slash a small))
     ∙ ap (λ found. option_map (λ account. Account account) found) (unescaped_all a small)
 
-below : (a text rest : List ℕ) → All IsByte a → path_in (escaped_all a ++ 47 ∷ rest) ≡ path_below (escaped_all a) rest
+below : (a text rest : List ℕ) → All IsByte a → account_call_path (escaped_all a ++ 47 ∷ rest) ≡ path_below (escaped_all a) rest
 below a text rest small =
-    cond-true (is_nested (escaped_all a ++ 47 ∷ rest)) _ _ (any_at is_slash (escaped_all a) rest 47 refl)
+    cond-true (is_nested_call_path (escaped_all a ++ 47 ∷ rest)) _ _ (any_at is_slash (escaped_all a) rest 47 refl)
     ∙ ap₂ path_below (before_at is_slash (escaped_all a) rest 47 refl (no_slash a small)) (after_at is_slash (escaped_all a) rest 47 refl (no_slash a small))
 
-pub container_path : (a c : List ℕ) → All IsByte a → All IsByte c → path_in (escaped_all a ++ 47 ∷ escaped_all c) ≡ Some (Container a c)
+pub container_path : (a c : List ℕ) → All IsByte a → All IsByte c → account_call_path (escaped_all a ++ 47 ∷ escaped_all c) ≡ Some (Container a c)
 container_path a c small little =
-    below a [] (escaped_all c) small ∙ cond-false (is_nested (escaped_all c)) _ _ (any_none is_slash (escaped_all c) (no_slash c little))
+    below a [] (escaped_all c) small ∙ cond-false (is_nested_call_path (escaped_all c)) _ _ (any_none is_slash (escaped_all c) (no_slash c little))
     ∙ ap₂ (both (λ x y. Container x y)) (unescaped_all a small) (unescaped_all c little)
 
 pub whole_path : (a c n : List ℕ) → All IsByte a → All IsByte c → All IsByte n
-    → path_in (escaped_all a ++ 47 ∷ (escaped_all c ++ 47 ∷ escaped_path n)) ≡ Some (Object a c n)
+    → account_call_path (escaped_all a ++ 47 ∷ (escaped_all c ++ 47 ∷ escaped_path n)) ≡ Some (Object a c n)
 whole_path a c n small little tiny =
     below a [] (escaped_all c ++ 47 ∷ escaped_path n) small
-    ∙ cond-true (is_nested (escaped_all c ++ 47 ∷ escaped_path n)) _ _ (any_at is_slash (escaped_all c) (escaped_path n) 47 refl)
+    ∙ cond-true (is_nested_call_path (escaped_all c ++ 47 ∷ escaped_path n)) _ _ (any_at is_slash (escaped_all c) (escaped_path n) 47 refl)
     ∙ ap₂ (λ x y. object_path (unescaped (escaped_all a)) (unescaped x) (unescaped y))
     (before_at is_slash (escaped_all c) (escaped_path n) 47 refl (no_slash c little)) (after_at is_slash (escaped_all c) (escaped_path n) 47 refl (no_slash c little))
     ∙ ap (λ x. object_path x (unescaped (escaped_all c)) (unescaped (escaped_path n))) (unescaped_all a small)
@@ -78,19 +78,19 @@ whole_path a c n small little tiny =
 
 -- ---- a target
 
-pub path_bare : (rest : List ℕ) → Lacks is_question rest → path_of (codes "/v1/" ++ rest) ≡ path_in rest
+pub path_bare : (rest : List ℕ) → Lacks is_question rest → path_of (codes "/v1/" ++ rest) ≡ account_call_path rest
 path_bare rest lacks =
     let whole : path_text (codes "/v1/" ++ rest) ≡ codes "/v1/" ++ rest = before_none is_question (codes "/v1/" ++ rest) (Lacks-append is_question (codes "/v1/") rest refl lacks) in
-    ap (λ path. cond (has_version path) (path_in (drop 4 path)) None) whole
+    ap (λ path. cond (is_versioned_call_path path) (account_call_path (drop 4 path)) None) whole
 
 pub query_bare : (rest : List ℕ) → Lacks is_question rest → query_text (codes "/v1/" ++ rest) ≡ []
 query_bare rest lacks = after_none is_question (codes "/v1/" ++ rest) (Lacks-append is_question (codes "/v1/") rest refl lacks)
 
-pub path_asked : (rest query : List ℕ) → Lacks is_question rest → path_of ((codes "/v1/" ++ rest) ++ 63 ∷ query) ≡ path_in rest
+pub path_asked : (rest query : List ℕ) → Lacks is_question rest → path_of ((codes "/v1/" ++ rest) ++ 63 ∷ query) ≡ account_call_path rest
 path_asked rest query lacks =
     let whole : path_text ((codes "/v1/" ++ rest) ++ 63 ∷ query) ≡ codes "/v1/" ++ rest =
     before_at is_question (codes "/v1/" ++ rest) query 63 refl (Lacks-append is_question (codes "/v1/") rest refl lacks) in
-    ap (λ path. cond (has_version path) (path_in (drop 4 path)) None) whole
+    ap (λ path. cond (is_versioned_call_path path) (account_call_path (drop 4 path)) None) whole
 
 pub query_asked : (rest query : List ℕ) → Lacks is_question rest → query_text ((codes "/v1/" ++ rest) ++ 63 ∷ query) ≡ query
 query_asked rest query lacks =

@@ -8,7 +8,7 @@ use Rattle.std.proofs.lemmas.List.Elements.{All-nil, All-cons}
 use Rattle.gate_base.specs.Ascii.{is_digit}
 use Rattle.s3_names.specs.Escapes.{is_unreserved, escaped_all}
 use Rattle.s3_names.specs.Query.{is_ampersand, is_equals}
-use Rattle.swift_requests.specs.Paths.{unescaped, has_more, value_named, first_value, last_value, values_named}
+use Rattle.swift_requests.specs.Paths.{unescaped, has_more_call_query, named_call_query_value, first_value, last_call_query_value, values_named}
 use Rattle.swift_replies.proofs.lemmas.CutLemmas.{IsByte, Lacks, weaker, Lacks-append, before_at, after_at, any_none, any_at}
 use Rattle.swift_requests.proofs.PathLemmas.{unescaped_all, no_ampersand}
 use Rattle.text_forms.proofs.lemmas.Decimals.{decimal_digits}
@@ -46,7 +46,7 @@ decimal_stays n fits = weaker is_digit is_unreserved digit_stays (decimal n) (de
 
 -- ---- the pieces of a query
 
-named_is : (name value v : List ℕ) → Lacks is_equals name → unescaped value ≡ Some v → value_named name (name ++ 61 ∷ value) ≡ Some v
+named_is : (name value v : List ℕ) → Lacks is_equals name → unescaped value ≡ Some v → named_call_query_value name (name ++ 61 ∷ value) ≡ Some v
 named_is name value v lacks read =
     ap₂ (λ n t. cond (bytes_eq n name) (unescaped t) None) (before_at is_equals name value 61 refl lacks) (after_at is_equals name value 61 refl lacks)
     ∙ cond-true (bytes_eq name name) (unescaped value) None (same_bytes name) ∙ read
@@ -55,16 +55,16 @@ pub first_is : (name value rest v : List ℕ) → Lacks is_equals name → Lacks
     → first_value name ((name ++ 61 ∷ value) ++ 38 ∷ rest) ≡ Some (v, rest)
 first_is name value rest v lacks free clear read =
     let piece : Lacks is_ampersand (name ++ 61 ∷ value) = Lacks-append is_ampersand name (61 ∷ value) free clear in
-    cond-true (has_more ((name ++ 61 ∷ value) ++ 38 ∷ rest)) _ None (any_at is_ampersand (name ++ 61 ∷ value) rest 38 refl)
-    ∙ ap₂ (λ front more. option_map (λ x. (x, more)) (value_named name front)) (before_at is_ampersand (name ++ 61 ∷ value) rest 38 refl piece)
+    cond-true (has_more_call_query ((name ++ 61 ∷ value) ++ 38 ∷ rest)) _ None (any_at is_ampersand (name ++ 61 ∷ value) rest 38 refl)
+    ∙ ap₂ (λ front more. option_map (λ x. (x, more)) (named_call_query_value name front)) (before_at is_ampersand (name ++ 61 ∷ value) rest 38 refl piece)
     (after_at is_ampersand (name ++ 61 ∷ value) rest 38 refl piece)
     ∙ ap (λ found. option_map (λ x. (x, rest)) found) (named_is name value v lacks read)
 
 pub last_is : (name value v : List ℕ) → Lacks is_equals name → Lacks is_ampersand name → Lacks is_ampersand value → unescaped value ≡ Some v
-    → last_value name (name ++ 61 ∷ value) ≡ Some v
+    → last_call_query_value name (name ++ 61 ∷ value) ≡ Some v
 last_is name value v lacks free clear read =
     let piece : Lacks is_ampersand (name ++ 61 ∷ value) = Lacks-append is_ampersand name (61 ∷ value) free clear in
-    cond-false (has_more (name ++ 61 ∷ value)) None _ (any_none is_ampersand (name ++ 61 ∷ value) piece) ∙ named_is name value v lacks read
+    cond-false (has_more_call_query (name ++ 61 ∷ value)) None _ (any_none is_ampersand (name ++ 61 ∷ value) piece) ∙ named_is name value v lacks read
 
 abbrev after : (names : List (List ℕ)) → Option (List ℕ × List ℕ) → Option (List (List ℕ))
 after names first = option_and_then (λ f. option_map (λ values. f.0 ∷ values) (values_named names f.1)) first

@@ -28,8 +28,8 @@ use Rattle.swift_calls.specs.declared.calls.SwiftRequest.TheVariants.{
 }
 use Rattle.swift_replies.specs.Answers.{both, segments_in}
 use Rattle.http_answers.specs.Fields.{field, only, plain_number}
-use Rattle.swift_replies.specs.Fields.{readers_by, created_in, meta_in}
-use Rattle.swift_requests.specs.Paths.{path_of, last_value, values_named}
+use Rattle.swift_replies.specs.Fields.{container_readers_by_value, container_created_in, meta_in}
+use Rattle.swift_requests.specs.Paths.{path_of, last_call_query_value, values_named}
 use Rattle.swift_requests.specs.Place.{HasToken}
 use Rattle.swift_replies.specs.declared.fault.WireFault.{WireFault}
 use Rattle.swift_replies.specs.declared.fault.WireFault.TheVariants.{NotACall, NotAnAnswer, Memory}
@@ -57,21 +57,21 @@ up_to most number = if nat_le number most then Some number else None
 abbrev pub limit_of : List ℕ → Option ℕ
 limit_of text = option_and_then (up_to 1000) (plain_number text)
 
-abbrev pub containers_listing : List (List ℕ) → Option SwiftRequest
-containers_listing [] = None
-containers_listing (format ∷ []) = None
-containers_listing (format ∷ limit ∷ []) = None
-containers_listing (format ∷ limit ∷ marker ∷ []) = if is_json format then option_map (λ most. ListContainers marker most) (limit_of limit) else None
-containers_listing (format ∷ limit ∷ marker ∷ other ∷ values) = None
+abbrev pub containers_listing_call : List (List ℕ) → Option SwiftRequest
+containers_listing_call [] = None
+containers_listing_call (format ∷ []) = None
+containers_listing_call (format ∷ limit ∷ []) = None
+containers_listing_call (format ∷ limit ∷ marker ∷ []) = if is_json format then option_map (λ most. ListContainers marker most) (limit_of limit) else None
+containers_listing_call (format ∷ limit ∷ marker ∷ other ∷ values) = None
 
-abbrev pub names_listing : List ℕ → List (List ℕ) → Option SwiftRequest
-names_listing container [] = None
-names_listing container (format ∷ []) = None
-names_listing container (format ∷ limit ∷ []) = None
-names_listing container (format ∷ limit ∷ marker ∷ []) = None
-names_listing container (format ∷ limit ∷ marker ∷ prefix ∷ []) =
+abbrev pub names_listing_call : List ℕ → List (List ℕ) → Option SwiftRequest
+names_listing_call container [] = None
+names_listing_call container (format ∷ []) = None
+names_listing_call container (format ∷ limit ∷ []) = None
+names_listing_call container (format ∷ limit ∷ marker ∷ []) = None
+names_listing_call container (format ∷ limit ∷ marker ∷ prefix ∷ []) =
     if is_json format then option_map (λ most. ListNames container prefix marker most) (limit_of limit) else None
-names_listing container (format ∷ limit ∷ marker ∷ prefix ∷ other ∷ values) = None
+names_listing_call container (format ∷ limit ∷ marker ∷ prefix ∷ other ∷ values) = None
 
 -- ---- ranges
 
@@ -79,12 +79,12 @@ abbrev pub is_dash : ℕ → Bool
 is_dash byte = byte == 45
 
 -- the place of a byte, below 2^63
-abbrev pub byte_place : List ℕ → Option ℕ
-byte_place text = option_and_then (up_to 9223372036854775807) (plain_number text)
+abbrev pub call_range_bound : List ℕ → Option ℕ
+call_range_bound text = option_and_then (up_to 9223372036854775807) (plain_number text)
 
 -- `FROM-TO`
 abbrev pub places_of : List ℕ → Option (ℕ × ℕ)
-places_of text = both (λ first last. (first, last)) (byte_place (before_first is_dash text)) (byte_place (after_first is_dash text))
+places_of text = both (λ first last. (first, last)) (call_range_bound (before_first is_dash text)) (call_range_bound (after_first is_dash text))
 
 -- `bytes=FROM-TO`
 abbrev pub range_of : List ℕ → Option (ℕ × ℕ)
@@ -96,13 +96,13 @@ range_from (Some None) = Some None
 range_from (Some (Some value)) = option_map (λ range. Some range) (range_of value)
 
 -- the range where the header may be absent
-abbrev pub range_in : List Pair → Option (Option (ℕ × ℕ))
-range_in headers = range_from (field (codes "range") headers)
+abbrev pub call_range_in : List Pair → Option (Option (ℕ × ℕ))
+call_range_in headers = range_from (field (codes "range") headers)
 
 -- ---- the calls of each kind of path, by the method
 
-abbrev pub has_method : List ℕ → Message → Bool
-has_method name message = bytes_eq message.method name
+abbrev pub has_call_method : List ℕ → Message → Bool
+has_call_method name message = bytes_eq message.method name
 
 -- a call that has no query
 abbrev pub unasked : Message → Option SwiftRequest → Option SwiftRequest
@@ -115,33 +115,33 @@ bodiless message call = if bytes_eq message.body [] then call else None
 -- GET of an account
 abbrev pub account_call : Message → Option SwiftRequest
 account_call message =
-    if has_method (codes "GET") message then option_and_then containers_listing (values_named account_names (query_text message.target)) else None
+    if has_call_method (codes "GET") message then option_and_then containers_listing_call (values_named account_names (query_text message.target)) else None
 
 -- the read list, which PUT and POST of a container have to give
 abbrev pub readers_given : List Pair → Option ReadList
-readers_given headers = option_and_then readers_by (only (codes "x-container-read") headers)
+readers_given headers = option_and_then container_readers_by_value (only (codes "x-container-read") headers)
 
 -- PUT of a container
 abbrev pub put_container : List ℕ → Message → Option SwiftRequest
-put_container container message = both (λ readers created. PutContainer container readers created) (readers_given message.headers) (created_in message.headers)
+put_container container message = both (λ readers created. PutContainer container readers created) (readers_given message.headers) (container_created_in message.headers)
 
 -- POST of a container
 abbrev pub post_container : List ℕ → Message → Option SwiftRequest
 post_container container message = option_map (λ readers. PostContainer container readers) (readers_given message.headers)
 
 -- HEAD, PUT, POST and DELETE of a container
-abbrev pub changed_container : List ℕ → Message → Option SwiftRequest
-changed_container container message =
-    if has_method (codes "HEAD") message then Some (HeadContainer container)
-    else (if has_method (codes "PUT") message then put_container container message
-    else (if has_method (codes "POST") message then post_container container message
-    else (if has_method (codes "DELETE") message then Some (DeleteContainer container) else None)))
+abbrev pub container_call_by_method : List ℕ → Message → Option SwiftRequest
+container_call_by_method container message =
+    if has_call_method (codes "HEAD") message then Some (HeadContainer container)
+    else (if has_call_method (codes "PUT") message then put_container container message
+    else (if has_call_method (codes "POST") message then post_container container message
+    else (if has_call_method (codes "DELETE") message then Some (DeleteContainer container) else None)))
 
 -- those, and GET of a container
 abbrev pub container_call : List ℕ → Message → Option SwiftRequest
 container_call container message =
-    if has_method (codes "GET") message then option_and_then (names_listing container) (values_named container_names (query_text message.target))
-    else unasked message (changed_container container message)
+    if has_call_method (codes "GET") message then option_and_then (names_listing_call container) (values_named container_names (query_text message.target))
+    else unasked message (container_call_by_method container message)
 
 -- PUT of an object
 abbrev pub put_object : List ℕ → List ℕ → Message → Option SwiftRequest
@@ -155,7 +155,7 @@ is_word word None = false
 is_word word (Some value) = bytes_eq value word
 
 abbrev pub asks_manifest : List ℕ → Message → Bool
-asks_manifest word message = is_word word (last_value (codes "multipart-manifest") (query_text message.target))
+asks_manifest word message = is_word word (last_call_query_value (codes "multipart-manifest") (query_text message.target))
 
 -- PUT of an object that lists segments
 abbrev pub put_listed : List ℕ → List ℕ → List ℕ → List (List ℕ) → Option (List Segment) → Option SwiftRequest
@@ -178,13 +178,13 @@ put_call container name message =
 -- HEAD, GET and DELETE of an object
 abbrev pub bare_object_call : List ℕ → List ℕ → Message → Option SwiftRequest
 bare_object_call container name message =
-    if has_method (codes "HEAD") message then Some (HeadObject container name)
-    else (if has_method (codes "GET") message then option_map (λ range. GetObject container name range) (range_in message.headers)
-    else (if has_method (codes "DELETE") message then Some (DeleteObject container name) else None))
+    if has_call_method (codes "HEAD") message then Some (HeadObject container name)
+    else (if has_call_method (codes "GET") message then option_map (λ range. GetObject container name range) (call_range_in message.headers)
+    else (if has_call_method (codes "DELETE") message then Some (DeleteObject container name) else None))
 
 -- GET of the segments that an object lists
 abbrev pub asks_segments : Message → Bool
-asks_segments message = has_method (codes "GET") message && asks_manifest (codes "get") message
+asks_segments message = has_call_method (codes "GET") message && asks_manifest (codes "get") message
 
 -- those without a body
 abbrev pub small_object_call : List ℕ → List ℕ → Message → Option SwiftRequest
@@ -194,7 +194,7 @@ small_object_call container name message =
 -- all; PUT of an object alone may have a body
 abbrev pub object_call : List ℕ → List ℕ → Message → Option SwiftRequest
 object_call container name message =
-    if has_method (codes "PUT") message then put_call container name message else bodiless message (small_object_call container name message)
+    if has_call_method (codes "PUT") message then put_call container name message else bodiless message (small_object_call container name message)
 
 -- ---- the call of a message
 

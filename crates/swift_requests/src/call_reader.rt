@@ -3,19 +3,21 @@ ghost use Rattle.std.specs.Prelude.{◌≡◌, [], not, IfOk, bytes_eq};
 ghost use Rattle.http_wire.specs.declared.message.Message.{Message};
 ghost use Rattle.s3_names.specs.Target.{query_text};
 ghost use Rattle.swift_requests.specs.Place.{IsPlace};
-ghost use Rattle.swift_requests.specs.Calls.{account_in, has_method, unasked, bodiless, account_call, put_container, post_container, changed_container, container_call, readers_given, put_object, put_listed, put_manifest, put_call, is_word, asks_manifest, asks_segments, bare_object_call, small_object_call, object_call, call_at, call_of, ReadsCall};
+ghost use Rattle.swift_requests.specs.Calls.{account_in, has_call_method, unasked, bodiless, account_call, put_container, post_container, container_call_by_method, container_call, readers_given, put_object, put_listed, put_manifest, put_call, is_word, asks_manifest, asks_segments, bare_object_call, small_object_call, object_call, call_at, call_of, ReadsCall};
 
 use crate::Place;
-use crate::listings::{containers_listing, last_value, names_listing};
-use crate::paths::{Path, account_in, read_path};
-use crate::ranges::range_in;
+use crate::listings::{containers_listing_call, last_call_query_value, names_listing_call};
+use crate::paths::{Path, account_in, read_call_path};
+use crate::ranges::call_range_in;
 use gate_base::{Bytes, Memory, Pair, cut};
 use http_answers::only;
 use http_wire::Message;
 use slo_manifest::Form;
 use std::alloc::Global;
 use swift_calls::{ReadList, SwiftRequest, is_fit};
-use swift_replies::{WireFault, created_in, meta_in, readers_by, segments_in};
+use swift_replies::{
+    WireFault, container_created_in, container_readers_by_value, meta_in, spelled_segments_in,
+};
 
 /// The call that a message spells at the place. `NotACall` exactly where it spells none that is within the limits of a
 /// store; whether it has the place's token is for `has_token` to say. The message is taken, so that the body of a
@@ -40,7 +42,7 @@ pub fn read_call(alloc: Global, place: &Place, message: Message) -> Result<Swift
 fn call_of(alloc: Global, place: &Place, message: Message) -> Result<Option<SwiftRequest>, Memory>
     ensures { IfOk result (λ call. call ≡ call_of place.now message) }
 {
-    match read_path(alloc, message.target.as_slice())? {
+    match read_call_path(alloc, message.target.as_slice())? {
         Some(path) => {
             if account_in(&path) == place.account.as_slice() {
                 call_at(alloc, path, message)
@@ -67,10 +69,10 @@ fn call_at(alloc: Global, path: Path, message: Message) -> Result<Option<SwiftRe
 fn account_call(alloc: Global, message: &Message) -> Result<Option<SwiftRequest>, Memory>
     ensures { IfOk result (λ call. call ≡ bodiless message.now (account_call message.now)) }
 {
-    if has_body(message) || !has_method(message, b"GET") {
+    if has_call_body(message) || !has_call_method(message, b"GET") {
         return Ok(None);
     }
-    containers_listing(alloc, query_of(message))
+    containers_listing_call(alloc, call_query(message))
 }
 
 /// The calls of a container.
@@ -82,32 +84,32 @@ fn container_call(
     ensures { IfOk result
         (λ call. call ≡ bodiless message.now (container_call container message.now)) }
 {
-    if has_body(message) {
+    if has_call_body(message) {
         return Ok(None);
     }
-    if has_method(message, b"GET") {
-        return names_listing(alloc, container, query_of(message));
+    if has_call_method(message, b"GET") {
+        return names_listing_call(alloc, container, call_query(message));
     }
-    if has_query(message) {
+    if has_call_query(message) {
         return Ok(None);
     }
-    Ok(changed_container(container, message))
+    Ok(container_call_by_method(container, message))
 }
 
 /// HEAD, PUT, POST and DELETE of a container.
-fn changed_container(container: Bytes, message: &Message) -> Option<SwiftRequest>
-    ensures { result ≡ changed_container container message.now }
+fn container_call_by_method(container: Bytes, message: &Message) -> Option<SwiftRequest>
+    ensures { result ≡ container_call_by_method container message.now }
 {
-    if has_method(message, b"HEAD") {
+    if has_call_method(message, b"HEAD") {
         return Some(SwiftRequest::HeadContainer { container });
     }
-    if has_method(message, b"PUT") {
+    if has_call_method(message, b"PUT") {
         return put_container(container, message);
     }
-    if has_method(message, b"POST") {
+    if has_call_method(message, b"POST") {
         return post_container(container, message);
     }
-    if has_method(message, b"DELETE") {
+    if has_call_method(message, b"DELETE") {
         Some(SwiftRequest::DeleteContainer { container })
     } else {
         None
@@ -118,7 +120,7 @@ fn put_container(container: Bytes, message: &Message) -> Option<SwiftRequest>
     ensures { result ≡ put_container container message.now }
 {
     let readers = readers_given(message.headers.as_slice())?;
-    let created = created_in(message.headers.as_slice())?;
+    let created = container_created_in(message.headers.as_slice())?;
     Some(SwiftRequest::PutContainer {
         container,
         readers,
@@ -138,7 +140,7 @@ fn readers_given(headers: &[Pair]) -> Option<ReadList>
     ensures { result ≡ readers_given headers.now }
 {
     match only(headers, b"x-container-read") {
-        Some(value) => readers_by(value),
+        Some(value) => container_readers_by_value(value),
         None => None,
     }
 }
@@ -152,10 +154,10 @@ fn object_call(
 ) -> Result<Option<SwiftRequest>, Memory>
     ensures { IfOk result (λ call. call ≡ object_call container name message) }
 {
-    if has_method(&message, b"PUT") {
+    if has_call_method(&message, b"PUT") {
         return put_call(alloc, container, name, message);
     }
-    if has_body(&message) {
+    if has_call_body(&message) {
         return Ok(None);
     }
     small_object_call(alloc, container, name, &message)
@@ -173,7 +175,7 @@ fn small_object_call(
     if asks_segments(alloc, message)? {
         return Ok(Some(SwiftRequest::GetManifest { container, name }));
     }
-    if has_query(message) {
+    if has_call_query(message) {
         return Ok(None);
     }
     Ok(bare_object_call(container, name, message))
@@ -182,7 +184,7 @@ fn small_object_call(
 fn asks_segments(alloc: Global, message: &Message) -> Result<bool, Memory>
     ensures { IfOk result (λ asks. asks ≡ asks_segments message.now) }
 {
-    if has_method(message, b"GET") {
+    if has_call_method(message, b"GET") {
         asks_manifest(alloc, message, b"get")
     } else {
         Ok(false)
@@ -193,7 +195,7 @@ fn asks_segments(alloc: Global, message: &Message) -> Result<bool, Memory>
 fn asks_manifest(alloc: Global, message: &Message, word: &[u8]) -> Result<bool, Memory>
     ensures { IfOk result (λ asks. asks ≡ asks_manifest word.now message.now) }
 {
-    let value = last_value(alloc, query_of(message), b"multipart-manifest")?;
+    let value = last_call_query_value(alloc, call_query(message), b"multipart-manifest")?;
     Ok(is_word(&value, word))
 }
 
@@ -210,18 +212,18 @@ fn is_word(value: &Option<Bytes>, word: &[u8]) -> bool
 fn bare_object_call(container: Bytes, name: Bytes, message: &Message) -> Option<SwiftRequest>
     ensures { result ≡ bare_object_call container name message.now }
 {
-    if has_method(message, b"HEAD") {
+    if has_call_method(message, b"HEAD") {
         return Some(SwiftRequest::HeadObject { container, name });
     }
-    if has_method(message, b"GET") {
-        let range = range_in(message.headers.as_slice())?;
+    if has_call_method(message, b"GET") {
+        let range = call_range_in(message.headers.as_slice())?;
         return Some(SwiftRequest::GetObject {
             container,
             name,
             range,
         });
     }
-    if has_method(message, b"DELETE") {
+    if has_call_method(message, b"DELETE") {
         Some(SwiftRequest::DeleteObject { container, name })
     } else {
         None
@@ -240,7 +242,7 @@ fn put_call(
     if asks_manifest(alloc, &message, b"put")? {
         return put_manifest(alloc, container, name, &message);
     }
-    if has_query(&message) {
+    if has_call_query(&message) {
         return Ok(None);
     }
     put_object(alloc, container, name, message)
@@ -263,7 +265,7 @@ fn put_manifest(
     let Some(meta) = meta_in(alloc, headers)? else {
         return Ok(None);
     };
-    match segments_in(alloc, message.body.as_slice(), Form::Put)? {
+    match spelled_segments_in(alloc, message.body.as_slice(), Form::Put)? {
         Some(segments) => Ok(Some(SwiftRequest::PutManifest {
             container,
             name,
@@ -301,28 +303,28 @@ fn put_object(
     }))
 }
 
-fn has_method(message: &Message, name: &[u8]) -> bool
-    ensures { result ≡ has_method name.now message.now }
+fn has_call_method(message: &Message, name: &[u8]) -> bool
+    ensures { result ≡ has_call_method name.now message.now }
 {
     message.method.as_slice() == name
 }
 
-fn has_body(message: &Message) -> bool
+fn has_call_body(message: &Message) -> bool
     ensures { result ≡ not (bytes_eq message.now.body []) }
 {
     message.body.as_slice() != b"".as_slice()
 }
 
 /// The query of the target; empty where there is none.
-fn query_of(message: &Message) -> &[u8]
+fn call_query(message: &Message) -> &[u8]
     ensures { result.now ≡ query_text message.now.target }
 {
     let (_, query) = cut(message.target.as_slice(), b'?');
     query
 }
 
-fn has_query(message: &Message) -> bool
+fn has_call_query(message: &Message) -> bool
     ensures { result ≡ not (bytes_eq (query_text message.now.target) []) }
 {
-    query_of(message) != b"".as_slice()
+    call_query(message) != b"".as_slice()
 }

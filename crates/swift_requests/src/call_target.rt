@@ -21,7 +21,7 @@ pub(crate) fn append_target(
 {
     match call {
         SwiftRequest::ListContainers { marker, limit } => {
-            append_account_listing(alloc, text, place, *limit, marker.as_slice())
+            append_account_listing_target(alloc, text, place, *limit, marker.as_slice())
         }
         SwiftRequest::ListNames {
             container,
@@ -30,9 +30,9 @@ pub(crate) fn append_target(
             limit,
         } => {
             append_container(alloc, text, place, container)?;
-            append_listing(alloc, text, *limit, marker.as_slice())?;
+            append_listing_query(alloc, text, *limit, marker.as_slice())?;
             text.append(b"&prefix=")?;
-            append_escaped(alloc, text, prefix.as_slice())
+            append_escaped_to_target(alloc, text, prefix.as_slice())
         }
         SwiftRequest::HeadContainer { container }
         | SwiftRequest::PutContainer { container, .. }
@@ -74,11 +74,11 @@ fn append_account(alloc: Global, text: &mut Bytes, place: &Place) -> Result<(), 
     ensures { OnOk result (text.new ≡ text.old ++ account_text place.now) }
 {
     text.append(b"/v1/")?;
-    append_escaped(alloc, text, place.account.as_slice())
+    append_escaped_to_target(alloc, text, place.account.as_slice())
 }
 
 /// Adds `/v1/ACCOUNT?format=json&limit=N&marker=M`.
-fn append_account_listing(
+fn append_account_listing_target(
     alloc: Global,
     text: &mut Bytes,
     place: &Place,
@@ -89,7 +89,7 @@ fn append_account_listing(
         (text.new ≡ text.old ++ account_text place.now ++ listing_text limit marker.now) }
 {
     append_account(alloc, text, place)?;
-    append_listing(alloc, text, limit, marker)
+    append_listing_query(alloc, text, limit, marker)
 }
 
 /// Adds `/v1/ACCOUNT/CONTAINER`.
@@ -103,7 +103,7 @@ fn append_container(
 {
     append_account(alloc, text, place)?;
     text.append(b"/")?;
-    append_escaped(alloc, text, container.as_slice())
+    append_escaped_to_target(alloc, text, container.as_slice())
 }
 
 /// Adds `/v1/ACCOUNT/CONTAINER/NAME`.
@@ -123,17 +123,22 @@ fn append_object_path(
 }
 
 /// Adds `?format=json&limit=N&marker=M`.
-fn append_listing(alloc: Global, text: &mut Bytes, limit: u32, marker: &[u8]) -> Result<(), Memory>
+fn append_listing_query(
+    alloc: Global,
+    text: &mut Bytes,
+    limit: u32,
+    marker: &[u8],
+) -> Result<(), Memory>
     ensures { OnOk result (text.new ≡ text.old ++ listing_text limit marker.now) }
 {
     text.append(b"?format=json&limit=")?;
     append_decimal(text, u64::from(limit))?;
     text.append(b"&marker=")?;
-    append_escaped(alloc, text, marker)
+    append_escaped_to_target(alloc, text, marker)
 }
 
 /// Adds bytes, each escaped but the unreserved.
-fn append_escaped(alloc: Global, text: &mut Bytes, bytes: &[u8]) -> Result<(), Memory>
+fn append_escaped_to_target(alloc: Global, text: &mut Bytes, bytes: &[u8]) -> Result<(), Memory>
     ensures { OnOk result (text.new ≡ text.old ++ escaped_all bytes.now) }
 {
     let escaped = encode_all(alloc, bytes)?;

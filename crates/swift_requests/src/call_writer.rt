@@ -59,7 +59,7 @@ fn write_call_with_body(
     law_call_reads_back();
     let mut text = Bytes::with_room(alloc, body.len().saturating_add(HEAD_ROOM))?;
     append_request_line(alloc, &mut text, place, call)?;
-    append_fields(&mut text, place, call, body.len())?;
+    append_call_fields(&mut text, place, call, body.len())?;
     text.append(b"\r\n")?;
     text.append(body)?;
     Ok(text)
@@ -100,7 +100,7 @@ fn append_request_line(
 }
 
 /// Adds the header fields of a call whose body has so many bytes.
-fn append_fields(
+fn append_call_fields(
     text: &mut Bytes,
     place: &Place,
     call: &SwiftRequest,
@@ -109,14 +109,14 @@ fn append_fields(
     requires { size ≡ length (body_of call.now) }
     ensures { OnOk result (text.new ≡ text.old ++ print_headers (call_fields place.now call.now)) }
 {
-    append_field(text, b"Host", place.host.as_slice())?;
-    append_field(text, b"X-Auth-Token", place.token.as_slice())?;
-    append_own_fields(text, call)?;
-    append_number(text, b"Content-Length", size as u64)
+    append_call_field(text, b"Host", place.host.as_slice())?;
+    append_call_field(text, b"X-Auth-Token", place.token.as_slice())?;
+    append_own_call_fields(text, call)?;
+    append_call_number_field(text, b"Content-Length", size as u64)
 }
 
 /// Adds a field.
-fn append_field(text: &mut Bytes, name: &[u8], value: &[u8]) -> Result<(), Memory>
+fn append_call_field(text: &mut Bytes, name: &[u8], value: &[u8]) -> Result<(), Memory>
     ensures { OnOk result (text.new ≡ text.old ++ print_header (name.now, value.now)) }
 {
     text.append(name)?;
@@ -126,7 +126,7 @@ fn append_field(text: &mut Bytes, name: &[u8], value: &[u8]) -> Result<(), Memor
 }
 
 /// Adds a field whose value is a number.
-fn append_number(text: &mut Bytes, name: &[u8], number: u64) -> Result<(), Memory>
+fn append_call_number_field(text: &mut Bytes, name: &[u8], number: u64) -> Result<(), Memory>
     ensures { OnOk result (text.new ≡ text.old ++ print_header (name.now, decimal number)) }
 {
     text.append(name)?;
@@ -136,7 +136,7 @@ fn append_number(text: &mut Bytes, name: &[u8], number: u64) -> Result<(), Memor
 }
 
 /// Adds the fields of the call's own.
-fn append_own_fields(text: &mut Bytes, call: &SwiftRequest) -> Result<(), Memory>
+fn append_own_call_fields(text: &mut Bytes, call: &SwiftRequest) -> Result<(), Memory>
     ensures { OnOk result (text.new ≡ text.old ++ print_headers (own_fields call.now)) }
 {
     match call {
@@ -145,41 +145,45 @@ fn append_own_fields(text: &mut Bytes, call: &SwiftRequest) -> Result<(), Memory
             created,
             ..
         } => {
-            append_readers(text, *readers)?;
-            append_created(text, *created)
+            append_call_readers(text, *readers)?;
+            append_call_created(text, *created)
         }
-        SwiftRequest::PostContainer { readers, .. } => append_readers(text, *readers),
+        SwiftRequest::PostContainer { readers, .. } => append_call_readers(text, *readers),
         SwiftRequest::PutObject {
             content_type,
             meta,
             ..
-        } => append_content(text, content_type, meta),
+        } => append_call_content(text, content_type, meta),
         SwiftRequest::PutManifest {
             content_type,
             meta,
             ..
-        } => append_content(text, content_type, meta),
-        SwiftRequest::GetObject { range, .. } => append_range_if_asked(text, *range),
+        } => append_call_content(text, content_type, meta),
+        SwiftRequest::GetObject { range, .. } => append_call_range_if_asked(text, *range),
         _ => Ok(()),
     }
 }
 
 /// Adds the type and the metadata of an object that is put.
-fn append_content(text: &mut Bytes, content_type: &Bytes, meta: &List<Bytes>) -> Result<(), Memory>
+fn append_call_content(
+    text: &mut Bytes,
+    content_type: &Bytes,
+    meta: &List<Bytes>,
+) -> Result<(), Memory>
     ensures { OnOk result
         (text.new ≡ text.old ++ print_headers (content_fields content_type.now meta.now)) }
 {
-    append_field(text, b"Content-Type", content_type.as_slice())?;
-    append_meta(text, meta.as_slice())
+    append_call_field(text, b"Content-Type", content_type.as_slice())?;
+    append_call_meta(text, meta.as_slice())
 }
 
-fn append_readers(text: &mut Bytes, readers: ReadList) -> Result<(), Memory>
+fn append_call_readers(text: &mut Bytes, readers: ReadList) -> Result<(), Memory>
     ensures { OnOk result (text.new ≡ text.old ++ print_header (readers_field readers)) }
 {
-    append_field(text, b"X-Container-Read", readers_text(readers))
+    append_call_field(text, b"X-Container-Read", call_readers_text(readers))
 }
 
-fn readers_text(readers: ReadList) -> &'static [u8]
+fn call_readers_text(readers: ReadList) -> &'static [u8]
     ensures { result.now ≡ readers_text readers }
 {
     match readers {
@@ -188,25 +192,25 @@ fn readers_text(readers: ReadList) -> &'static [u8]
     }
 }
 
-fn append_created(text: &mut Bytes, created: Option<u64>) -> Result<(), Memory>
+fn append_call_created(text: &mut Bytes, created: Option<u64>) -> Result<(), Memory>
     ensures { OnOk result (text.new ≡ text.old ++ print_headers (created_fields created)) }
 {
     match created {
-        Some(moment) => append_number(text, b"X-Container-Meta-S3-Created", moment),
+        Some(moment) => append_call_number_field(text, b"X-Container-Meta-S3-Created", moment),
         None => Ok(()),
     }
 }
 
-fn append_range_if_asked(text: &mut Bytes, range: Option<(u64, u64)>) -> Result<(), Memory>
+fn append_call_range_if_asked(text: &mut Bytes, range: Option<(u64, u64)>) -> Result<(), Memory>
     ensures { OnOk result (text.new ≡ text.old ++ print_headers (range_fields range)) }
 {
     match range {
-        Some((first, last)) => append_places(text, first, last),
+        Some((first, last)) => append_call_range(text, first, last),
         None => Ok(()),
     }
 }
 
-fn append_places(text: &mut Bytes, first: u64, last: u64) -> Result<(), Memory>
+fn append_call_range(text: &mut Bytes, first: u64, last: u64) -> Result<(), Memory>
     ensures { OnOk result (text.new ≡ text.old ++ print_header (range_field first last)) }
 {
     text.append(b"Range: bytes=")?;
@@ -217,16 +221,16 @@ fn append_places(text: &mut Bytes, first: u64, last: u64) -> Result<(), Memory>
 }
 
 /// Adds the pieces of metadata, each under its index.
-fn append_meta(text: &mut Bytes, pieces: &[Bytes]) -> Result<(), Memory>
+fn append_call_meta(text: &mut Bytes, pieces: &[Bytes]) -> Result<(), Memory>
     ensures { OnOk result (text.new ≡ text.old ++ print_headers (meta_fields 0 pieces.now)) }
 {
     'pieces: for (index, piece) in pieces.iter().enumerate() {
-        append_meta_field(text, index as u64, piece.as_slice())?;
+        append_call_meta_field(text, index as u64, piece.as_slice())?;
     }
     Ok(())
 }
 
-fn append_meta_field(text: &mut Bytes, index: u64, piece: &[u8]) -> Result<(), Memory>
+fn append_call_meta_field(text: &mut Bytes, index: u64, piece: &[u8]) -> Result<(), Memory>
     ensures { OnOk result (text.new ≡ text.old
         ++ print_header (codes "X-Object-Meta-S3-" ++ decimal index, piece.now)) }
 {

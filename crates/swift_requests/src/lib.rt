@@ -16,4 +16,4 @@ pub use call_reader::read_call;
 pub use call_writer::write_call;
 pub use laws::{law_call_head_fits, law_call_reads_back, law_one_call};
 pub use link::{Link, LinkFault};
-pub use place::{Place, has_token, is_place};
+pub use place::{Place, has_account_token, is_place};

@@ -1,7 +1,7 @@
 //! The queries of listings.
 ghost use Rattle.std.specs.Prelude.{◌≡◌, ◌∷◌, [], IfOk, option_and_then, option_map};
-ghost use Rattle.swift_requests.specs.Paths.{has_more, value_named, first_value, last_value, values_named};
-ghost use Rattle.swift_requests.specs.Calls.{account_names, container_names, containers_listing, names_listing, is_json, limit_of};
+ghost use Rattle.swift_requests.specs.Paths.{has_more_call_query, named_call_query_value, first_value, last_call_query_value, values_named};
+ghost use Rattle.swift_requests.specs.Calls.{account_names, container_names, containers_listing_call, names_listing_call, is_json, limit_of};
 
 use crate::paths::unescaped;
 use gate_base::{Bytes, Memory, cut};
@@ -13,11 +13,11 @@ use swift_calls::SwiftRequest;
 const MOST_NAMES: u64 = 1000;
 
 /// The listing of containers that a query asks for: `format=json&limit=N&marker=M`.
-pub(crate) fn containers_listing(
+pub(crate) fn containers_listing_call(
     alloc: Global,
     query: &[u8],
 ) -> Result<Option<SwiftRequest>, Memory>
-    ensures { IfOk result (λ call. call ≡ option_and_then containers_listing
+    ensures { IfOk result (λ call. call ≡ option_and_then containers_listing_call
         (values_named account_names query.now)) }
 {
     let Some((format, rest)) = first_value(alloc, query, b"format")? else {
@@ -26,7 +26,7 @@ pub(crate) fn containers_listing(
     let Some((limit, rest)) = first_value(alloc, rest, b"limit")? else {
         return Ok(None);
     };
-    let Some(marker) = last_value(alloc, rest, b"marker")? else {
+    let Some(marker) = last_call_query_value(alloc, rest, b"marker")? else {
         return Ok(None);
     };
     if !is_json(format.as_slice()) {
@@ -39,12 +39,12 @@ pub(crate) fn containers_listing(
 }
 
 /// The listing of a container's objects that a query asks for: `format=json&limit=N&marker=M&prefix=P`.
-pub(crate) fn names_listing(
+pub(crate) fn names_listing_call(
     alloc: Global,
     container: Bytes,
     query: &[u8],
 ) -> Result<Option<SwiftRequest>, Memory>
-    ensures { IfOk result (λ call. call ≡ option_and_then (names_listing container)
+    ensures { IfOk result (λ call. call ≡ option_and_then (names_listing_call container)
         (values_named container_names query.now)) }
 {
     let Some((format, rest)) = first_value(alloc, query, b"format")? else {
@@ -56,10 +56,10 @@ pub(crate) fn names_listing(
     let Some((marker, rest)) = first_value(alloc, rest, b"marker")? else {
         return Ok(None);
     };
-    let Some(prefix) = last_value(alloc, rest, b"prefix")? else {
+    let Some(prefix) = last_call_query_value(alloc, rest, b"prefix")? else {
         return Ok(None);
     };
-    Ok(names_asked(
+    Ok(names_listing_call_by_values(
         container,
         format.as_slice(),
         limit.as_slice(),
@@ -69,14 +69,14 @@ pub(crate) fn names_listing(
 }
 
 /// The listing that the values of its query ask for.
-fn names_asked(
+fn names_listing_call_by_values(
     container: Bytes,
     format: &[u8],
     limit: &[u8],
     marker: Bytes,
     prefix: Bytes,
 ) -> Option<SwiftRequest>
-    ensures { result ≡ names_listing container (format.now ∷ limit.now ∷ marker ∷ prefix ∷ []) }
+    ensures { result ≡ names_listing_call container (format.now ∷ limit.now ∷ marker ∷ prefix ∷ []) }
 {
     if !is_json(format) {
         return None;
@@ -101,29 +101,33 @@ fn first_value<'a>(
     ensures { IfOk result (λ found. option_map (λ first. (first.0, first.1.now)) found ≡ first_value
         name.now text.now) }
 {
-    if !has_more(text) {
+    if !has_more_call_query(text) {
         return Ok(None);
     }
     let (piece, rest) = cut(text, b'&');
-    match value_named(alloc, piece, name)? {
+    match named_call_query_value(alloc, piece, name)? {
         Some(value) => Ok(Some((value, rest))),
         None => Ok(None),
     }
 }
 
 /// The value of the last piece, which has the name.
-pub(crate) fn last_value(alloc: Global, text: &[u8], name: &[u8]) -> Result<Option<Bytes>, Memory>
-    ensures { IfOk result (λ value. value ≡ last_value name.now text.now) }
+pub(crate) fn last_call_query_value(
+    alloc: Global,
+    text: &[u8],
+    name: &[u8],
+) -> Result<Option<Bytes>, Memory>
+    ensures { IfOk result (λ value. value ≡ last_call_query_value name.now text.now) }
 {
-    if has_more(text) {
+    if has_more_call_query(text) {
         return Ok(None);
     }
-    value_named(alloc, text, name)
+    named_call_query_value(alloc, text, name)
 }
 
 /// The value of a piece `name=value` that has the name.
-fn value_named(alloc: Global, piece: &[u8], name: &[u8]) -> Result<Option<Bytes>, Memory>
-    ensures { IfOk result (λ value. value ≡ value_named name.now piece.now) }
+fn named_call_query_value(alloc: Global, piece: &[u8], name: &[u8]) -> Result<Option<Bytes>, Memory>
+    ensures { IfOk result (λ value. value ≡ named_call_query_value name.now piece.now) }
 {
     let (found, value) = cut(piece, b'=');
     if found == name {
@@ -133,8 +137,8 @@ fn value_named(alloc: Global, piece: &[u8], name: &[u8]) -> Result<Option<Bytes>
     }
 }
 
-fn has_more(text: &[u8]) -> bool
-    ensures { result ≡ has_more text.now }
+fn has_more_call_query(text: &[u8]) -> bool
+    ensures { result ≡ has_more_call_query text.now }
 {
     text.iter().any(|byte| *byte == b'&')
 }

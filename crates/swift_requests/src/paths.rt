@@ -1,6 +1,6 @@
 //! The target of a call: its path, and the values of its query.
 ghost use Rattle.std.specs.Prelude.{◌≡◌, IfOk};
-ghost use Rattle.swift_requests.specs.Paths.{unescaped, is_nested, path_below, path_in, has_version, path_of, object_path};
+ghost use Rattle.swift_requests.specs.Paths.{unescaped, is_nested_call_path, path_below, account_call_path, is_versioned_call_path, path_of, object_path};
 ghost use Rattle.swift_requests.specs.Calls.{account_in};
 
 use gate_base::{Bytes, Memory, cut};
@@ -27,28 +27,28 @@ pub(crate) fn account_in(path: &Path) -> &[u8]
 }
 
 /// What the path of a target names.
-pub(crate) fn read_path(alloc: Global, target: &[u8]) -> Result<Option<Path>, Memory>
+pub(crate) fn read_call_path(alloc: Global, target: &[u8]) -> Result<Option<Path>, Memory>
     ensures { IfOk result (λ path. path ≡ path_of target.now) }
 {
     let (path, _) = cut(target, b'?');
-    if has_version(path) {
-        path_in(alloc, &path[4..])
+    if is_versioned_call_path(path) {
+        account_call_path(alloc, &path[4..])
     } else {
         Ok(None)
     }
 }
 
-fn has_version(path: &[u8]) -> bool
-    ensures { result ≡ has_version path.now }
+fn is_versioned_call_path(path: &[u8]) -> bool
+    ensures { result ≡ is_versioned_call_path path.now }
 {
     path.starts_with(b"/v1/")
 }
 
 /// An account, or behind a `/` what is in it.
-fn path_in(alloc: Global, text: &[u8]) -> Result<Option<Path>, Memory>
-    ensures { IfOk result (λ path. path ≡ path_in text.now) }
+fn account_call_path(alloc: Global, text: &[u8]) -> Result<Option<Path>, Memory>
+    ensures { IfOk result (λ path. path ≡ account_call_path text.now) }
 {
-    if is_nested(text) {
+    if is_nested_call_path(text) {
         let (account, others) = cut(text, b'/');
         return path_below(alloc, account, others);
     }
@@ -62,7 +62,7 @@ fn path_in(alloc: Global, text: &[u8]) -> Result<Option<Path>, Memory>
 fn path_below(alloc: Global, account: &[u8], text: &[u8]) -> Result<Option<Path>, Memory>
     ensures { IfOk result (λ path. path ≡ path_below account.now text.now) }
 {
-    if is_nested(text) {
+    if is_nested_call_path(text) {
         let (container, name) = cut(text, b'/');
         return object_path(alloc, account, container, name);
     }
@@ -96,8 +96,8 @@ fn object_path(
     }
 }
 
-fn is_nested(text: &[u8]) -> bool
-    ensures { result ≡ is_nested text.now }
+fn is_nested_call_path(text: &[u8]) -> bool
+    ensures { result ≡ is_nested_call_path text.now }
 {
     text.iter().any(|byte| *byte == b'/')
 }

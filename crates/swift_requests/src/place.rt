@@ -42,16 +42,16 @@ pub fn is_place(place: &Place) -> bool
 fn is_place_text(text: &[u8]) -> bool
     ensures { result ≡ is_place_text text.now }
 {
-    1 <= text.len() && text.len() <= MOST_PLACE_BYTES && are_visible(text)
+    1 <= text.len() && text.len() <= MOST_PLACE_BYTES && are_account_place_bytes(text)
 }
 
-fn are_visible(text: &[u8]) -> bool
+fn are_account_place_bytes(text: &[u8]) -> bool
     ensures { result ≡ list_all is_visible text.now }
 {
-    text.iter().all(|byte| is_visible(*byte))
+    text.iter().all(|byte| is_account_place_byte(*byte))
 }
 
-fn is_visible(byte: u8) -> bool
+fn is_account_place_byte(byte: u8) -> bool
     ensures { result ≡ is_visible byte }
 {
     b'!' <= byte && byte <= b'~'
@@ -60,7 +60,7 @@ fn is_visible(byte: u8) -> bool
 /// Whether the message has exactly one `X-Auth-Token`, and it is the place's. A store answers 401 where it isn't,
 /// before it asks what call the message spells.
 #[tactic(auto, using(crate::proofs::PlaceLemmas::has_only, crate::proofs::PlaceLemmas::has_none))]
-pub fn has_token(place: &Place, message: &Message) -> bool
+pub fn has_account_token(place: &Place, message: &Message) -> bool
     ensures { IsTrue result ↔ HasToken place.now message.now }
 {
     match only(message.headers.as_slice(), b"x-auth-token") {

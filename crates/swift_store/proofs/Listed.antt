@@ -16,7 +16,7 @@ use Rattle.swift_calls.specs.Limits.{most_segments}
 use Rattle.swift_calls.specs.declared.account.Content.{Content}
 use Rattle.swift_calls.specs.declared.account.Content.TheVariants.{Plain, Segments}
 use Rattle.swift_calls.specs.declared.heads.StoredHead.{StoredHead}
-use Rattle.swift_store.specs.Listed.{found_lists, is_as_listed, is_counted, is_inner, is_no_list, is_outer, passes_in, segments_at}
+use Rattle.swift_store.specs.Listed.{found_lists, is_shelved_as_listed, is_counted, is_inner, is_no_list_on_shelf, is_outer, passes_in, segments_at}
 use Rattle.swift_store.specs.Made.{IsSized}
 
 -- what begins at a place is what stands there and the rest
@@ -26,23 +26,23 @@ drop_at segments i s within at = drop-cons segments i s within ∙ (λ j. sym at
 -- ---- what is found
 
 module _ (look : Look) (s : Segment) where
-  pub found_so : (head : StoredHead) → Some head ≡ option_map head_of (look s.container s.name) → is_as_listed s head ≡ true → Some head.manifest ≡ found_lists look s
+  pub found_so : (head : StoredHead) → Some head ≡ option_map head_of (look s.container s.name) → is_shelved_as_listed s head ≡ true → Some head.manifest ≡ found_lists look s
   found_so head e is = by (look s.container s.name) e
     where
       by : (v : Option SwiftObject) → Some head ≡ option_map head_of v → Some head.manifest ≡ option_map is_list (as_segment s v)
       by None e = absurd (none-some _ (sym e))
       by (Some f) e =
           let same = same_Some head (head_of f) e in
-          let there : is_segment s f ≡ true = sym (ap (is_as_listed s) same) ∙ is in
+          let there : is_segment s f ≡ true = sym (ap (is_shelved_as_listed s) same) ∙ is in
           ap (λ (h : StoredHead). Some h.manifest) same ∙ sym (ap (λ b. option_map is_list (cond b (Some f.content) None)) there)
 
-  pub found_other : (head : StoredHead) → Some head ≡ option_map head_of (look s.container s.name) → is_as_listed s head ≡ false → None ≡ found_lists look s
+  pub found_other : (head : StoredHead) → Some head ≡ option_map head_of (look s.container s.name) → is_shelved_as_listed s head ≡ false → None ≡ found_lists look s
   found_other head e is = by (look s.container s.name) e
     where
       by : (v : Option SwiftObject) → Some head ≡ option_map head_of v → None ≡ option_map is_list (as_segment s v)
       by None e = refl
       by (Some f) e =
-          let other : is_segment s f ≡ false = sym (ap (is_as_listed s) (same_Some head (head_of f) e)) ∙ is in
+          let other : is_segment s f ≡ false = sym (ap (is_shelved_as_listed s) (same_Some head (head_of f) e)) ∙ is in
           sym (ap (λ b. option_map is_list (cond b (Some f.content) None)) other)
 
   pub found_none : None ≡ option_map head_of (look s.container s.name) → None ≡ found_lists look s
@@ -52,14 +52,14 @@ module _ (look : Look) (s : Segment) where
       by None e = refl
       by (Some f) e = absurd (none-some _ e)
 
-  pub no_list_some : (head : StoredHead) → Some head ≡ option_map head_of (look s.container s.name) → not head.manifest ≡ is_no_list look s
+  pub no_list_some : (head : StoredHead) → Some head ≡ option_map head_of (look s.container s.name) → not head.manifest ≡ is_no_list_on_shelf look s
   no_list_some head e = by (look s.container s.name) e
     where
       by : (v : Option SwiftObject) → Some head ≡ option_map head_of v → not head.manifest ≡ not (lists_at v)
       by None e = absurd (none-some _ (sym e))
       by (Some f) e = ap (λ (h : StoredHead). not h.manifest) (same_Some head (head_of f) e)
 
-  pub no_list_none : None ≡ option_map head_of (look s.container s.name) → true ≡ is_no_list look s
+  pub no_list_none : None ≡ option_map head_of (look s.container s.name) → true ≡ is_no_list_on_shelf look s
   no_list_none e = by (look s.container s.name) e
     where
       by : (v : Option SwiftObject) → None ≡ option_map head_of v → true ≡ not (lists_at v)
@@ -162,18 +162,18 @@ module _ (look : Look) (s : Segment) where
       by None e = refl
       by (Some content) e = absurd (none-some _ e)
 
-  listed_shallow : (content : Content) → is_list content ≡ true → passes_in (is_no_list look) (listed_in content) ≡ is_shallow look content
+  listed_shallow : (content : Content) → is_list content ≡ true → passes_in (is_no_list_on_shelf look) (listed_in content) ≡ is_shallow look content
   listed_shallow (Plain bytes) e = absurd (true≢false (sym e))
   listed_shallow (Segments segments) e = none_any (λ s. lists_at (look s.container s.name)) segments
 
-  pub shallow_listed : Some true ≡ found_lists look s → passes_in (is_no_list look) (segments_at (look s.container s.name)) ≡ is_shallow_there look (found look s)
+  pub shallow_listed : Some true ≡ found_lists look s → passes_in (is_no_list_on_shelf look) (segments_at (look s.container s.name)) ≡ is_shallow_there look (found look s)
   shallow_listed e = by (found look s) refl e
     where
       by : (v : Option Content) → found look s ≡ v → Some true ≡ option_map is_list v
-          → passes_in (is_no_list look) (segments_at (look s.container s.name)) ≡ is_shallow_there look v
+          → passes_in (is_no_list_on_shelf look) (segments_at (look s.container s.name)) ≡ is_shallow_there look v
       by None at e = absurd (none-some _ (sym e))
       by (Some content) at e =
-          ap (passes_in (is_no_list look)) (stands (look s.container s.name) content at)
+          ap (passes_in (is_no_list_on_shelf look)) (stands (look s.container s.name) content at)
           ∙ listed_shallow content (sym (same_Some true (is_list content) e))
 
   pub shallow_own : Some false ≡ found_lists look s → true ≡ is_shallow_there look (found look s)

@@ -16,7 +16,7 @@ use Rattle.md5.proofs.StandardFacts.{length-md5}
 use Rattle.hex.specs.Hex.{lower_digits, encode_with, encode_lower}
 use Rattle.hex.proofs.HexLemmas.{length-encode_with}
 use Rattle.swift_calls.specs.Bodies.{etag_text}
-use Rattle.swift_replies.specs.Fields.{is_tag_byte}
+use Rattle.swift_replies.specs.Fields.{is_reply_etag_byte}
 use Rattle.swift_replies.specs.AnswerText.{is_tag}
 
 -- ---- the bytes of a hash
@@ -44,7 +44,7 @@ hash_is_bytes text = digest_is_bytes _ 4
 -- ---- their digits
 
 abbrev is_ascii_tag : ℕ → Bool
-is_ascii_tag b = is_tag_byte b && nat_lt b 128
+is_ascii_tag b = is_reply_etag_byte b && nat_lt b 128
 
 digit_of : (d : ℕ) → d < 16 → is_ascii_tag (get_or lower_digits d 0) ≡ true
 digit_of d small = AllPass-from_list_all is_ascii_tag lower_digits refl d 0 small
@@ -67,8 +67,8 @@ etag_length text = length-encode_with lower_digits (md5 text) ∙ ap (λ n. 2 * 
 
 pub etag_tag : (text : List ℕ) → is_tag (etag_text text) ≡ true
 etag_tag text =
-    list_all-from_AllPass is_tag_byte (etag_text text)
-    (All-weaker (λ b. is_ascii_tag b ≡ true) (λ b. is_tag_byte b ≡ true) (λ b both. (and_parts (is_tag_byte b) (nat_lt b 128) both).0) (etag_text text)
+    list_all-from_AllPass is_reply_etag_byte (etag_text text)
+    (All-weaker (λ b. is_ascii_tag b ≡ true) (λ b. is_reply_etag_byte b ≡ true) (λ b both. (and_parts (is_reply_etag_byte b) (nat_lt b 128) both).0) (etag_text text)
     (AllPass-from_list_all is_ascii_tag (etag_text text) (etag_digits text)))
 
 pub etag_utf8 : (text : List ℕ) → is_utf8 (etag_text text) ≡ true
@@ -76,5 +76,5 @@ etag_utf8 text =
     is_utf8-from_IsUtf8 (etag_text text)
     (IsUtf8-from_ascii (etag_text text)
     (IsAscii-from_all (etag_text text)
-    (All-weaker (λ b. is_ascii_tag b ≡ true) (λ b. b < 128) (λ b both. ltb-true b 128 (and_parts (is_tag_byte b) (nat_lt b 128) both).1) (etag_text text)
+    (All-weaker (λ b. is_ascii_tag b ≡ true) (λ b. b < 128) (λ b both. ltb-true b 128 (and_parts (is_reply_etag_byte b) (nat_lt b 128) both).1) (etag_text text)
     (AllPass-from_list_all is_ascii_tag (etag_text text) (etag_digits text)))))

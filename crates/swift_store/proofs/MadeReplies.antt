@@ -25,8 +25,8 @@ use Rattle.swift_calls.specs.declared.account.Content.TheVariants.{Plain, Segmen
 use Rattle.swift_replies.specs.Answers.{is_part}
 use Rattle.swift_replies.specs.AnswerText.{
   Sent,
-  is_created,
-  is_item,
+  is_spelled_created,
+  is_spelled_name_item,
   is_tag,
   list_containers_sent,
   head_container_sent,
@@ -69,7 +69,7 @@ type_utf8 text is =
     (IsAscii-from_all text
     (All-weaker (λ b. is_printable b ≡ true) (λ b. b < 128) value_ascii text (AllPass-from_list_all is_printable text (value_bytes 512 text is)))))
 
-created_read : (created : Option ℕ) → IfSome created IsMoment → is_created created ≡ true
+created_read : (created : Option ℕ) → IfSome created IsMoment → is_spelled_created created ≡ true
 created_read None moment = refl
 created_read (Some at) moment = lt-ltb at moment_limit moment
 
@@ -97,7 +97,7 @@ module _ (n content_type : List ℕ) (meta : List (List ℕ)) where
   item_size : (content : Content) → IsMadeObject n (object content) → nat_lt (size_of content) (2 ^ 64) ≡ true
   item_size content own = lt-ltb (size_of content) (2 ^ 64) (omega (arith, made_size content own.content))
 
-  item_is : (content : Content) → IsMadeObject n (object content) → is_item (item_of n (object content)) ≡ true
+  item_is : (content : Content) → IsMadeObject n (object content) → is_spelled_name_item (item_of n (object content)) ≡ true
   item_is content own =
       and_from _ _ (is_utf8-from_IsUtf8 n own.named.1.utf8)
       (and_from _ _ (content_utf8 content) (and_from _ _ (type_utf8 content_type own.content_type) (item_size content own)))
@@ -171,8 +171,8 @@ module _ (account : SwiftAccount) (made : IsMade account) where
       by : (v : Option SwiftContainer) → get account c ≡ v → is_some (list_names_sent (items_reply limit prefix marker v)) ≡ true
       by None at = refl
       by (Some folder) at =
-          sent_if _ _ (page_passes is_item limit (λ e. item_of e.0 e.1) (λ e. is_listed prefix marker e.0) (entries folder.files)
-          (All-weaker (IsEntry folder.files) (λ e. is_item (item_of e.0 e.1) ≡ true)
+          sent_if _ _ (page_passes is_spelled_name_item limit (λ e. item_of e.0 e.1) (λ e. is_listed prefix marker e.0) (entries folder.files)
+          (All-weaker (IsEntry folder.files) (λ e. is_spelled_name_item (item_of e.0 e.1) ≡ true)
           (λ e found. item_is e.0 e.1.content_type e.1.meta e.1.content ((made c folder at).objects e.0 e.1 found)) (entries folder.files)
           (entries_found folder.files))) refl
 

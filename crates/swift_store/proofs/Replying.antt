@@ -24,7 +24,7 @@ use Rattle.swift_store.specs.Listed.{is_outer, segments_at, window}
 use Rattle.swift_store.specs.Shelf.{container_head, object_page, part, part_of}
 use Rattle.swift_store.proofs.Joining.{joined_length, outer_sized}
 use Rattle.swift_store.proofs.Listed.{joined_some}
-use Rattle.swift_store.specs.Serving.{bounds, listed_part, listed_reply, parted, reply_of}
+use Rattle.swift_store.specs.Serving.{served_bounds, listed_part, shelf_reply_to_manifest, parted, reply_of}
 
 -- ---- containers
 
@@ -181,7 +181,7 @@ module _ (looks : Look) (content_type : List ℕ) (meta : List (List ℕ)) where
   abbrev object : Content → SwiftObject
   object content = record { content_type = content_type; meta = meta; content = content }
 
-  read_plain : (range : Option (ℕ × ℕ)) (bytes : List ℕ) (from end : ℕ) → Some (from, end) ≡ bounds range (length bytes) → Bytes (head_of (object (Plain bytes))) (part from end bytes) ≡ get_reply looks range (Some (object (Plain bytes)))
+  read_plain : (range : Option (ℕ × ℕ)) (bytes : List ℕ) (from end : ℕ) → Some (from, end) ≡ served_bounds range (length bytes) → Bytes (head_of (object (Plain bytes))) (part from end bytes) ≡ get_reply looks range (Some (object (Plain bytes)))
   read_plain None bytes from end e =
       let ends = same_Some (from, end) (0, length bytes) e in
       ap (Bytes (head_of (object (Plain bytes)))) (ap (λ (p : ℕ × ℕ). part p.0 p.1 bytes) ends ∙ part_within 0 (length bytes) bytes (omega arith) ∙ all_of bytes)
@@ -194,18 +194,18 @@ module _ (looks : Look) (content_type : List ℕ) (meta : List (List ℕ)) where
     | false ↦ λ past. absurd (none-some _ (sym (e ∙ cond-false _ _ _ past)))
   ] refl
 
-  beyond_plain : (range : Option (ℕ × ℕ)) (bytes : List ℕ) → None ≡ bounds range (length bytes) → Unsatisfiable ≡ get_reply looks range (Some (object (Plain bytes)))
+  beyond_plain : (range : Option (ℕ × ℕ)) (bytes : List ℕ) → None ≡ served_bounds range (length bytes) → Unsatisfiable ≡ get_reply looks range (Some (object (Plain bytes)))
   beyond_plain None bytes e = absurd (none-some _ e)
   beyond_plain (Some range) bytes e = elim (nat_lt range.0 (length bytes)) as (λ b. nat_lt range.0 (length bytes) ≡ b → Unsatisfiable ≡ get_reply looks (Some range) (Some (object (Plain bytes)))) [
     | true ↦ λ within. absurd (none-some _ (e ∙ cond-true _ _ _ within))
     | false ↦ λ past. sym (ap (λ v. part_reply (head_of (object (Plain bytes))) v) (cond-false _ _ _ past))
   ] refl
 
-  read_content : (range : Option (ℕ × ℕ)) (content : Content) (from end : ℕ) → is_list content ≡ false → Some (from, end) ≡ bounds range (size_of content) → Bytes (head_of (object content)) (part_of from end (Some (object content))) ≡ get_reply looks range (Some (object content))
+  read_content : (range : Option (ℕ × ℕ)) (content : Content) (from end : ℕ) → is_list content ≡ false → Some (from, end) ≡ served_bounds range (size_of content) → Bytes (head_of (object content)) (part_of from end (Some (object content))) ≡ get_reply looks range (Some (object content))
   read_content range (Plain bytes) from end plain e = read_plain range bytes from end e
   read_content range (Segments segments) from end plain e = absurd (true≢false plain)
 
-  beyond_content : (range : Option (ℕ × ℕ)) (content : Content) → is_list content ≡ false → None ≡ bounds range (size_of content) → Unsatisfiable ≡ get_reply looks range (Some (object content))
+  beyond_content : (range : Option (ℕ × ℕ)) (content : Content) → is_list content ≡ false → None ≡ served_bounds range (size_of content) → Unsatisfiable ≡ get_reply looks range (Some (object content))
   beyond_content range (Plain bytes) plain e = beyond_plain range bytes e
   beyond_content range (Segments segments) plain e = absurd (true≢false plain)
 
@@ -238,7 +238,7 @@ module _ (looks : Look) (content_type : List ℕ) (meta : List (List ℕ)) where
 
 module _ (c n : List ℕ) (account : SwiftAccount) (range : Option (ℕ × ℕ)) where
   -- of an object with bytes of its own
-  pub bytes_some : (head : StoredHead) (from end : ℕ) (body : List ℕ) → Some (from, end) ≡ bounds range head.size → body ≡ part_of from end (find_object account c n)
+  pub bytes_some : (head : StoredHead) (from end : ℕ) (body : List ℕ) → Some (from, end) ≡ served_bounds range head.size → body ≡ part_of from end (find_object account c n)
       → Some head ≡ option_map head_of (find_object account c n) → head.manifest ≡ false → Bytes head body ≡ (swift_step (GetObject c n range) account).reply
   bytes_some head from end body asked read e own = ap (Bytes head) read ∙ by (find_object account c n) e
     where
@@ -247,16 +247,16 @@ module _ (c n : List ℕ) (account : SwiftAccount) (range : Option (ℕ × ℕ))
       by (Some f) e =
           let is = same_Some head (head_of f) e in
           ap (λ h. Bytes h (part_of from end (Some f))) is
-          ∙ read_content (find_object account) f.content_type f.meta range f.content from end (sym (ap (λ (h : StoredHead). h.manifest) is) ∙ own) (asked ∙ ap (λ h. bounds range h.size) is)
+          ∙ read_content (find_object account) f.content_type f.meta range f.content from end (sym (ap (λ (h : StoredHead). h.manifest) is) ∙ own) (asked ∙ ap (λ h. served_bounds range h.size) is)
 
-  pub bytes_beyond : (head : StoredHead) → None ≡ bounds range head.size → Some head ≡ option_map head_of (find_object account c n) → head.manifest ≡ false → Unsatisfiable ≡ (swift_step (GetObject c n range) account).reply
+  pub bytes_beyond : (head : StoredHead) → None ≡ served_bounds range head.size → Some head ≡ option_map head_of (find_object account c n) → head.manifest ≡ false → Unsatisfiable ≡ (swift_step (GetObject c n range) account).reply
   bytes_beyond head asked e own = by (find_object account c n) e
     where
       by : (v : Option SwiftObject) → Some head ≡ option_map head_of v → Unsatisfiable ≡ get_reply (find_object account) range v
       by None e = absurd (none-some _ (sym e))
       by (Some f) e =
           let is = same_Some head (head_of f) e in
-          beyond_content (find_object account) f.content_type f.meta range f.content (sym (ap (λ (h : StoredHead). h.manifest) is) ∙ own) (asked ∙ ap (λ h. bounds range h.size) is)
+          beyond_content (find_object account) f.content_type f.meta range f.content (sym (ap (λ (h : StoredHead). h.manifest) is) ∙ own) (asked ∙ ap (λ h. served_bounds range h.size) is)
 
   pub bytes_none : None ≡ option_map head_of (find_object account c n) → NotFound ≡ (swift_step (GetObject c n range) account).reply
   bytes_none e = by (find_object account c n) e
@@ -308,10 +308,10 @@ there_part look range size segments part there is = by (joined (outer_bytes look
     by None at e = absurd (true≢false e)
     by (Some bytes) at e = ap Some (is bytes at)
 
-pub part_some : (range : Option (ℕ × ℕ)) (size from end : ℕ) (body bytes : List ℕ) → Some (from, end) ≡ bounds range size → body ≡ window from (end - from) bytes → Some body ≡ parted range size bytes
+pub part_some : (range : Option (ℕ × ℕ)) (size from end : ℕ) (body bytes : List ℕ) → Some (from, end) ≡ served_bounds range size → body ≡ window from (end - from) bytes → Some body ≡ parted range size bytes
 part_some range size from end body bytes ends is = ap Some is ∙ ap (option_map (λ (p : ℕ × ℕ). window p.0 (p.1 - p.0) bytes)) ends
 
-pub part_beyond : (range : Option (ℕ × ℕ)) (size : ℕ) (bytes : List ℕ) → None ≡ bounds range size → None ≡ parted range size bytes
+pub part_beyond : (range : Option (ℕ × ℕ)) (size : ℕ) (bytes : List ℕ) → None ≡ served_bounds range size → None ≡ parted range size bytes
 part_beyond range size bytes ends = ap (option_map (λ (p : ℕ × ℕ). window p.0 (p.1 - p.0) bytes)) ends
 
 -- ---- manifests
@@ -339,14 +339,14 @@ list_tag segments = refl
 module _ (c n content_type : List ℕ) (meta : List (List ℕ)) (segments : List Segment) (account : SwiftAccount) where
   -- the container is there
   pub listed_there : (head : Option (ReadList × Option ℕ)) (reply : SwiftReply) → head ≡ option_map container_head (get account c) → is_some head ≡ true
-      → reply ≡ listed_reply (is_good_list (find_object account) segments) segments → reply ≡ (swift_step (PutManifest c n content_type meta segments) account).reply
+      → reply ≡ shelf_reply_to_manifest (is_good_list (find_object account) segments) segments → reply ≡ (swift_step (PutManifest c n content_type meta segments) account).reply
   listed_there head reply e is replies = replies ∙ by (get account c) (sym (is_there c account head e) ∙ is)
     where
-      of : (b : Bool) (folder : SwiftContainer) → listed_reply b segments ≡ (put_listed b (Some folder) c n (record { content_type = content_type; meta = meta; content = Segments segments }) account).reply
+      of : (b : Bool) (folder : SwiftContainer) → shelf_reply_to_manifest b segments ≡ (put_listed b (Some folder) c n (record { content_type = content_type; meta = meta; content = Segments segments }) account).reply
       of true folder = refl
       of false folder = refl
 
-      by : (v : Option SwiftContainer) → is_some v ≡ true → listed_reply (is_good_list (find_object account) segments) segments ≡ (put_manifest v c n content_type meta segments account).reply
+      by : (v : Option SwiftContainer) → is_some v ≡ true → shelf_reply_to_manifest (is_good_list (find_object account) segments) segments ≡ (put_manifest v c n content_type meta segments account).reply
       by None e = absurd (true≢false (sym e))
       by (Some folder) e = of (is_good_list (find_object account) segments) folder
 

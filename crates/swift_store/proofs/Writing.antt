@@ -18,7 +18,7 @@ use Rattle.swift_calls.specs.declared.calls.SwiftReply.TheVariants as replies
 use Rattle.slo_manifest.specs.declared.Segment.{Segment}
 use Rattle.swift_store.specs.Made.{IsMadeContent, IsMadeList, IsMadeObject, IsSized}
 use Rattle.swift_store.specs.Shelf.{Writes, container_head, with_container}
-use Rattle.swift_store.specs.Serving.{TagsList, TagsWith, etag_in, is_gone}
+use Rattle.swift_store.specs.Serving.{TagsList, TagsWith, etag_in, is_gone_reply}
 use Rattle.swift_store.specs.declared.faults.StoreFault.{StoreFault}
 use Rattle.swift_store.proofs.Listed.{good_sized}
 use Rattle.swift_store.specs.declared.faults.StoreFault.TheVariants.{Failed, Memory}
@@ -69,25 +69,25 @@ not_posted n readers account e = by (get account n) e
 
 -- ---- DELETE of a container
 
-pub dropped : (n : List ℕ) (account : SwiftAccount) (reply : SwiftReply) → is_gone reply ≡ true → reply ≡ (swift_step (DeleteContainer n) account).reply → remove account n ≡ (swift_step (DeleteContainer n) account).tree
-dropped n account reply gone e = by (get account n) (sym (ap is_gone e) ∙ gone)
+pub dropped : (n : List ℕ) (account : SwiftAccount) (reply : SwiftReply) → is_gone_reply reply ≡ true → reply ≡ (swift_step (DeleteContainer n) account).reply → remove account n ≡ (swift_step (DeleteContainer n) account).tree
+dropped n account reply gone e = by (get account n) (sym (ap is_gone_reply e) ∙ gone)
   where
-    on_test : (b : Bool) → is_gone (delete_by b n account).reply ≡ true → remove account n ≡ (delete_by b n account).tree
+    on_test : (b : Bool) → is_gone_reply (delete_by b n account).reply ≡ true → remove account n ≡ (delete_by b n account).tree
     on_test true e = refl
     on_test false e = absurd (true≢false (sym e))
 
-    by : (v : Option SwiftContainer) → is_gone (delete_container v n account).reply ≡ true → remove account n ≡ (delete_container v n account).tree
+    by : (v : Option SwiftContainer) → is_gone_reply (delete_container v n account).reply ≡ true → remove account n ≡ (delete_container v n account).tree
     by None e = absurd (true≢false (sym e))
     by (Some c) e = on_test (is_bare c) e
 
-pub not_dropped : (n : List ℕ) (account : SwiftAccount) (reply : SwiftReply) → is_gone reply ≡ false → reply ≡ (swift_step (DeleteContainer n) account).reply → account ≡ (swift_step (DeleteContainer n) account).tree
-not_dropped n account reply gone e = by (get account n) (sym (ap is_gone e) ∙ gone)
+pub not_dropped : (n : List ℕ) (account : SwiftAccount) (reply : SwiftReply) → is_gone_reply reply ≡ false → reply ≡ (swift_step (DeleteContainer n) account).reply → account ≡ (swift_step (DeleteContainer n) account).tree
+not_dropped n account reply gone e = by (get account n) (sym (ap is_gone_reply e) ∙ gone)
   where
-    on_test : (b : Bool) → is_gone (delete_by b n account).reply ≡ false → account ≡ (delete_by b n account).tree
+    on_test : (b : Bool) → is_gone_reply (delete_by b n account).reply ≡ false → account ≡ (delete_by b n account).tree
     on_test true e = absurd (true≢false e)
     on_test false e = refl
 
-    by : (v : Option SwiftContainer) → is_gone (delete_container v n account).reply ≡ false → account ≡ (delete_container v n account).tree
+    by : (v : Option SwiftContainer) → is_gone_reply (delete_container v n account).reply ≡ false → account ≡ (delete_container v n account).tree
     by None e = refl
     by (Some c) e = on_test (is_bare c) e
 
@@ -230,16 +230,16 @@ good_made c n content_type meta segments look good fit = record {
 
 -- ---- DELETE of an object
 
-pub removed : (c n : List ℕ) (account : SwiftAccount) (reply : SwiftReply) → is_gone reply ≡ true → reply ≡ (swift_step (DeleteObject c n) account).reply → remove_file c n account ≡ (swift_step (DeleteObject c n) account).tree
-removed c n account reply gone e = by (find_object account c n) (sym (ap is_gone e) ∙ gone)
+pub removed : (c n : List ℕ) (account : SwiftAccount) (reply : SwiftReply) → is_gone_reply reply ≡ true → reply ≡ (swift_step (DeleteObject c n) account).reply → remove_file c n account ≡ (swift_step (DeleteObject c n) account).tree
+removed c n account reply gone e = by (find_object account c n) (sym (ap is_gone_reply e) ∙ gone)
   where
-    by : (v : Option SwiftObject) → is_gone (delete_object v c n account).reply ≡ true → remove_file c n account ≡ (delete_object v c n account).tree
+    by : (v : Option SwiftObject) → is_gone_reply (delete_object v c n account).reply ≡ true → remove_file c n account ≡ (delete_object v c n account).tree
     by None e = absurd (true≢false (sym e))
     by (Some found) e = refl
 
-pub not_removed : (c n : List ℕ) (account : SwiftAccount) (reply : SwiftReply) → is_gone reply ≡ false → reply ≡ (swift_step (DeleteObject c n) account).reply → account ≡ (swift_step (DeleteObject c n) account).tree
-not_removed c n account reply gone e = by (find_object account c n) (sym (ap is_gone e) ∙ gone)
+pub not_removed : (c n : List ℕ) (account : SwiftAccount) (reply : SwiftReply) → is_gone_reply reply ≡ false → reply ≡ (swift_step (DeleteObject c n) account).reply → account ≡ (swift_step (DeleteObject c n) account).tree
+not_removed c n account reply gone e = by (find_object account c n) (sym (ap is_gone_reply e) ∙ gone)
   where
-    by : (v : Option SwiftObject) → is_gone (delete_object v c n account).reply ≡ false → account ≡ (delete_object v c n account).tree
+    by : (v : Option SwiftObject) → is_gone_reply (delete_object v c n account).reply ≡ false → account ≡ (delete_object v c n account).tree
     by None e = refl
     by (Some found) e = absurd (true≢false e)

@@ -15,8 +15,8 @@ segments_at None = None
 segments_at (Some object) = listed_in object.content
 
 -- a head that is as a segment says
-abbrev pub is_as_listed : Segment → StoredHead → Bool
-is_as_listed s head = bytes_eq head.etag s.etag && nat_eq head.size s.size
+abbrev pub is_shelved_as_listed : Segment → StoredHead → Bool
+is_shelved_as_listed s head = bytes_eq head.etag s.etag && nat_eq head.size s.size
 
 -- whether the object of a segment lists segments, if it is there as the segment says
 abbrev pub found_lists : Look → Segment → Option Bool
@@ -31,8 +31,8 @@ abbrev pub is_outer : Look → Segment → Bool
 is_outer look s = is_some (outer_bytes look s)
 
 -- at the place of a segment nothing lists segments
-abbrev pub is_no_list : Look → Segment → Bool
-is_no_list look s = not (lists_at (look s.container s.name))
+abbrev pub is_no_list_on_shelf : Look → Segment → Bool
+is_no_list_on_shelf look s = not (lists_at (look s.container s.name))
 
 -- segments are listed, and each passes
 abbrev pub passes_in : (Segment → Bool) → Option (List Segment) → Bool

@@ -36,9 +36,9 @@ use Rattle.swift_store.specs.declared.faults.StoreFault.TheVariants.{Failed, Mem
 
 -- ---- replies
 
-abbrev pub is_gone : SwiftReply → Bool
-is_gone replies.Gone = true
-is_gone reply = false
+abbrev pub is_gone_reply : SwiftReply → Bool
+is_gone_reply replies.Gone = true
+is_gone_reply reply = false
 
 -- the ETag of the object that was put
 abbrev pub etag_in : SwiftReply → Option (List ℕ)
@@ -70,22 +70,22 @@ TagsBody (GetManifest container name) reply = Unit {0}
 TagsBody (DeleteObject container name) reply = Unit {0}
 
 -- the reply to a PUT of segments into a container that is there
-abbrev pub listed_reply : Bool → List Segment → SwiftReply
-listed_reply true segments = replies.Stored (etag_text (joined_etags segments))
-listed_reply false segments = replies.BadManifest
+abbrev pub shelf_reply_to_manifest : Bool → List Segment → SwiftReply
+shelf_reply_to_manifest true segments = replies.Stored (etag_text (joined_etags segments))
+shelf_reply_to_manifest false segments = replies.BadManifest
 
 -- the reply to a call of an account
 abbrev pub IsReply : SwiftRequest → SwiftAccount → SwiftReply → Type 0
 IsReply call account reply = reply ≡ (swift_step call account).reply
 
 -- from where to where an object of a size is read; nothing where the range begins past its end
-abbrev pub bounds : Option (ℕ × ℕ) → ℕ → Option (ℕ × ℕ)
-bounds None size = Some (0, size)
-bounds (Some range) size = if nat_lt range.0 size then Some (range.0, min (range.1 + 1) size) else None
+abbrev pub served_bounds : Option (ℕ × ℕ) → ℕ → Option (ℕ × ℕ)
+served_bounds None size = Some (0, size)
+served_bounds (Some range) size = if nat_lt range.0 size then Some (range.0, min (range.1 + 1) size) else None
 
 -- the bytes of a range of bytes of a size
 abbrev pub parted : Option (ℕ × ℕ) → ℕ → List ℕ → Option (List ℕ)
-parted range size bytes = option_map (λ ends. window ends.0 (ends.1 - ends.0) bytes) (bounds range size)
+parted range size bytes = option_map (λ ends. window ends.0 (ends.1 - ends.0) bytes) (served_bounds range size)
 
 -- of segments in a row, if each is there
 abbrev pub listed_part : Look → Option (ℕ × ℕ) → ℕ → Option (List Segment) → Option (Option (List ℕ))

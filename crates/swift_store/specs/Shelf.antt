@@ -60,8 +60,8 @@ abbrev pub container_head : SwiftContainer → ReadList × Option ℕ
 container_head c = (c.readers, c.created)
 
 -- a page of the names of containers
-abbrev pub container_page : ℕ → List ℕ → SwiftAccount → List (List ℕ)
-container_page limit marker account = page limit (λ e. e.0) (λ e. is_listed [] marker e.0) (entries account)
+abbrev pub map_shelf_container_page : ℕ → List ℕ → SwiftAccount → List (List ℕ)
+map_shelf_container_page limit marker account = page limit (λ e. e.0) (λ e. is_listed [] marker e.0) (entries account)
 
 -- a page of a container's objects
 abbrev pub object_page : ℕ → List ℕ → List ℕ → Names SwiftObject → List NameItem

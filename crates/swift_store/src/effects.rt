@@ -6,15 +6,15 @@ ghost use Rattle.swift_calls.specs.Account.{put_file};
 ghost use Rattle.swift_calls.specs.Bodies.{etag_of};
 ghost use Rattle.swift_store.specs.Made.{IsMadeObject};
 ghost use Rattle.swift_store.specs.Shelf.{ShelfKeeps, ShelfWrites, Writes};
-ghost use Rattle.swift_store.specs.Serving.{TagsBody, TagsList, TagsWith, etag_in, is_gone};
+ghost use Rattle.swift_store.specs.Serving.{TagsBody, TagsList, TagsWith, etag_in, is_gone_reply};
 
 use crate::{Shelf, StoreFault};
 use gate_base::{Bytes, List};
 use slo_manifest::Segment;
 use swift_calls::{Content, ReadList, Stored, SwiftReply, SwiftRequest};
 
-fn is_gone(reply: &SwiftReply) -> bool
-    ensures { result ≡ is_gone reply.now }
+fn is_gone_reply(reply: &SwiftReply) -> bool
+    ensures { result ≡ is_gone_reply reply.now }
 {
     match reply {
         SwiftReply::Gone => true,
@@ -32,7 +32,11 @@ fn etag_in(reply: SwiftReply) -> Option<Bytes>
 }
 
 #[tactic(auto, using(crate::proofs::Writing::posted_by, crate::proofs::Writing::not_posted, crate::proofs::Writing::moment_told, crate::proofs::Writing::unwritten))]
-fn post_container<S: Shelf>(shelf: &mut S, name: &[u8], readers: ReadList) -> Result<(), StoreFault>
+fn post_container_on_shelf<S: Shelf>(
+    shelf: &mut S,
+    name: &[u8],
+    readers: ReadList,
+) -> Result<(), StoreFault>
     requires name { IsContainerName name.now }
     ensures writes { ShelfWrites
         (λ account. (swift_step (asked.PostContainer name.now readers) account).tree)
@@ -45,7 +49,7 @@ fn post_container<S: Shelf>(shelf: &mut S, name: &[u8], readers: ReadList) -> Re
 }
 
 #[tactic(auto, using(crate::proofs::Writing::dropped, crate::proofs::Writing::not_dropped))]
-fn delete_container<S: Shelf>(
+fn delete_container_on_shelf<S: Shelf>(
     shelf: &mut S,
     name: &[u8],
     reply: &SwiftReply,
@@ -58,14 +62,14 @@ fn delete_container<S: Shelf>(
         (swift_step (asked.DeleteContainer name.now) (S.model shelf.old).account).tree
         (S.model shelf.new).account result }
 {
-    if is_gone(reply) {
+    if is_gone_reply(reply) {
         shelf.drop_container(name)?;
     }
     Ok(())
 }
 
 #[tactic(auto, using(crate::proofs::Writing::put, crate::proofs::Writing::not_put, crate::proofs::Writing::tagged, crate::proofs::Writing::put_made))]
-fn put_object<S: Shelf>(
+fn put_object_on_shelf<S: Shelf>(
     shelf: &mut S,
     container: &[u8],
     name: Bytes,
@@ -85,7 +89,7 @@ fn put_object<S: Shelf>(
         (S.model shelf.old).account).tree (S.model shelf.new).account result }
 {
     match etag_in(reply) {
-        Some(etag) => put_tagged(
+        Some(etag) => put_tagged_on_shelf(
             shelf,
             container,
             name,
@@ -99,7 +103,7 @@ fn put_object<S: Shelf>(
 }
 
 #[tactic(auto, using(crate::proofs::Writing::put_list, crate::proofs::Writing::not_put_list, crate::proofs::Writing::list_tagged, crate::proofs::Writing::list_made))]
-fn put_manifest<S: Shelf>(
+fn put_manifest_on_shelf<S: Shelf>(
     shelf: &mut S,
     container: &[u8],
     name: Bytes,
@@ -119,7 +123,7 @@ fn put_manifest<S: Shelf>(
         (S.model shelf.old).account).tree (S.model shelf.new).account result }
 {
     match etag_in(reply) {
-        Some(etag) => put_tagged(
+        Some(etag) => put_tagged_on_shelf(
             shelf,
             container,
             name,
@@ -133,7 +137,7 @@ fn put_manifest<S: Shelf>(
 }
 
 /// Puts an object with this body.
-fn put_tagged<S: Shelf>(
+fn put_tagged_on_shelf<S: Shelf>(
     shelf: &mut S,
     container: &[u8],
     name: Bytes,
@@ -159,7 +163,7 @@ fn put_tagged<S: Shelf>(
 }
 
 #[tactic(auto, using(crate::proofs::Writing::removed, crate::proofs::Writing::not_removed, crate::proofs::Writing::unwritten))]
-fn delete_object<S: Shelf>(
+fn delete_object_on_shelf<S: Shelf>(
     shelf: &mut S,
     container: &[u8],
     name: &[u8],
@@ -173,14 +177,14 @@ fn delete_object<S: Shelf>(
         (swift_step (asked.DeleteObject container.now name.now) (S.model shelf.old).account).tree
         (S.model shelf.new).account result }
 {
-    if is_gone(reply) {
+    if is_gone_reply(reply) {
         let _there = shelf.remove(container, name)?;
     }
     Ok(())
 }
 
 /// Writes what a call writes. Its body, or its segments, are moved.
-pub(crate) fn apply_call<S: Shelf>(
+pub(crate) fn apply_call_to_shelf<S: Shelf>(
     shelf: &mut S,
     call: SwiftRequest,
     reply: SwiftReply,
@@ -200,7 +204,7 @@ pub(crate) fn apply_call<S: Shelf>(
             content_type,
             meta,
             body,
-        } => put_object(
+        } => put_object_on_shelf(
             shelf,
             container.as_slice(),
             name,
@@ -209,12 +213,12 @@ pub(crate) fn apply_call<S: Shelf>(
             body,
             reply,
         ),
-        other => apply_other_than_bytes(shelf, other, reply),
+        other => apply_other_call_to_shelf(shelf, other, reply),
     }
 }
 
 /// Writes what a call other than a PUT of bytes writes. Its segments are moved.
-fn apply_other_than_bytes<S: Shelf>(
+fn apply_other_call_to_shelf<S: Shelf>(
     shelf: &mut S,
     call: SwiftRequest,
     reply: SwiftReply,
@@ -234,7 +238,7 @@ fn apply_other_than_bytes<S: Shelf>(
             content_type,
             meta,
             segments,
-        } => put_manifest(
+        } => put_manifest_on_shelf(
             shelf,
             container.as_slice(),
             name,
@@ -243,12 +247,12 @@ fn apply_other_than_bytes<S: Shelf>(
             segments,
             reply,
         ),
-        other => apply_owned_call(shelf, other, &reply),
+        other => apply_owned_call_to_shelf(shelf, other, &reply),
     }
 }
 
 /// Writes what any other call writes, and lets go of the call.
-fn apply_owned_call<S: Shelf>(
+fn apply_owned_call_to_shelf<S: Shelf>(
     shelf: &mut S,
     call: SwiftRequest,
     reply: &SwiftReply,
@@ -260,12 +264,12 @@ fn apply_owned_call<S: Shelf>(
         → Writes (S.model shelf.old).account (swift_step (call) (S.model shelf.old).account).tree
         (S.model shelf.new).account result }
 {
-    apply_lent_call(shelf, &call, reply)
+    apply_lent_call_to_shelf(shelf, &call, reply)
 }
 
 /// The same, of a call that is lent. A PUT of an object doesn't come here, of bytes or of segments.
 #[tactic(auto, using(crate::proofs::Writing::head_leaves))]
-fn apply_lent_call<S: Shelf>(
+fn apply_lent_call_to_shelf<S: Shelf>(
     shelf: &mut S,
     call: &SwiftRequest,
     reply: &SwiftReply,
@@ -285,15 +289,15 @@ fn apply_lent_call<S: Shelf>(
             created,
         } => shelf.put_container(container.as_slice(), *readers, *created),
         SwiftRequest::PostContainer { container, readers } => {
-            post_container(shelf, container.as_slice(), *readers)
+            post_container_on_shelf(shelf, container.as_slice(), *readers)
         }
         SwiftRequest::DeleteContainer { container } => {
-            delete_container(shelf, container.as_slice(), reply)
+            delete_container_on_shelf(shelf, container.as_slice(), reply)
         }
         SwiftRequest::PutObject { .. } => Err(StoreFault::Memory),
         SwiftRequest::PutManifest { .. } => Err(StoreFault::Memory),
         SwiftRequest::DeleteObject { container, name } => {
-            delete_object(shelf, container.as_slice(), name.as_slice(), reply)
+            delete_object_on_shelf(shelf, container.as_slice(), name.as_slice(), reply)
         }
         SwiftRequest::ListContainers { .. } => Ok(()),
         SwiftRequest::HeadContainer { .. } => Ok(()),

@@ -7,7 +7,7 @@ ghost use Rattle.swift_calls.specs.Account.{new_folder, on_files, put_file, remo
 ghost use Rattle.swift_calls.specs.Step.{is_bare};
 ghost use Rattle.std.specs.Range.Bound.{bound_map};
 ghost use Rattle.swift_store.specs.Listing.{object_run};
-ghost use Rattle.swift_store.specs.Shelf.{container_head, container_page, object_page};
+ghost use Rattle.swift_store.specs.Shelf.{container_head, map_shelf_container_page, object_page};
 
 use crate::kept::Kept;
 use gate_base::{Bytes, List, Memory};
@@ -103,7 +103,7 @@ impl Folder {
 
 /// Replaces the read list and the creation time of a container, if it is there.
 #[tactic(auto, using(name_table::proofs::lemmas::Tables::nothing_there))]
-pub(crate) fn set_head(
+pub(crate) fn set_head_in_map_shelf(
     folders: &mut Table<Folder>,
     container: &[u8],
     readers: ReadList,
@@ -119,7 +119,7 @@ pub(crate) fn set_head(
 /// Puts an object into a container, if it is there, in place of what stands under its name. Where memory runs out, all is
 /// as before.
 #[tactic(auto, using(name_table::proofs::lemmas::Tables::nothing_there))]
-pub(crate) fn put_object(
+pub(crate) fn put_object_in_map_shelf(
     folders: &mut Table<Folder>,
     container: &[u8],
     name: &[u8],
@@ -136,7 +136,7 @@ pub(crate) fn put_object(
 
 /// Takes away the object of a name in a container, if there is one.
 #[tactic(auto, using(name_table::proofs::lemmas::Tables::nothing_there))]
-pub(crate) fn drop_object(folders: &mut Table<Folder>, container: &[u8], name: &[u8])
+pub(crate) fn drop_object_in_map_shelf(folders: &mut Table<Folder>, container: &[u8], name: &[u8])
     ensures { folders.new ≡ remove_file container.now name.now folders.old }
 {
     if let Some(found) = folders.get_mut(container) {
@@ -145,13 +145,13 @@ pub(crate) fn drop_object(folders: &mut Table<Folder>, container: &[u8], name: &
 }
 
 /// The names after the marker, at most so many. Only these are visited, and one more.
-pub(crate) fn container_page(
+pub(crate) fn map_shelf_container_page(
     folders: &Table<Folder>,
     alloc: Global,
     marker: &[u8],
     limit: usize,
 ) -> Result<List<Bytes>, Memory>
-    ensures { IfOk result (λ names. names ≡ container_page limit marker.now folders.now) }
+    ensures { IfOk result (λ names. names ≡ map_shelf_container_page limit marker.now folders.now) }
 {
     let after = Vec::from_slice(alloc, marker)?;
     let mut names = List::new(alloc);

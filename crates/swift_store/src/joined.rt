@@ -11,7 +11,7 @@ use slo_manifest::Segment;
 use std::alloc::Global;
 
 /// Appends so many bytes of a segment with bytes of its own behind the first ones, and no more than it has.
-fn read_own<S: Shelf>(
+fn read_own_bytes_from_shelf<S: Shelf>(
     shelf: &mut S,
     segment: &Segment,
     skip: u64,
@@ -35,7 +35,7 @@ fn read_own<S: Shelf>(
 }
 
 /// The same. A segment of which nothing is asked isn't touched.
-fn read_inner<S: Shelf>(
+fn read_inner_segment_from_shelf<S: Shelf>(
     shelf: &mut S,
     segment: &Segment,
     skip: u64,
@@ -48,14 +48,14 @@ fn read_inner<S: Shelf>(
         (S.model shelf.new) }
 {
     if skip < segment.size && 0 < count {
-        read_own(shelf, segment, skip, count, out)
+        read_own_bytes_from_shelf(shelf, segment, skip, count, out)
     } else {
         Ok(())
     }
 }
 
 /// Appends so many bytes of segments in a row behind the first ones. None of these lists segments.
-fn read_all_inner<S: Shelf>(
+fn read_inner_segments_from_shelf<S: Shelf>(
     shelf: &mut S,
     segments: &[Segment],
     skip: u64,
@@ -70,7 +70,7 @@ fn read_all_inner<S: Shelf>(
     let mut skip = skip;
     let mut count = count;
     for segment in segments {
-        read_inner(shelf, segment, skip, count, out)?;
+        read_inner_segment_from_shelf(shelf, segment, skip, count, out)?;
         count = count.saturating_sub(segment.size.saturating_sub(skip));
         skip = skip.saturating_sub(segment.size);
     }
@@ -78,7 +78,7 @@ fn read_all_inner<S: Shelf>(
 }
 
 /// Appends so many bytes of a segment that may list segments behind the first ones, and no more than it has.
-fn read_listed<S: Shelf>(
+fn read_listed_bytes_from_shelf<S: Shelf>(
     shelf: &mut S,
     segment: &Segment,
     skip: u64,
@@ -91,13 +91,19 @@ fn read_listed<S: Shelf>(
         (S.model shelf.new) }
 {
     match shelf.segments(segment.container.as_slice(), segment.name.as_slice())? {
-        Some(segments) => read_all_inner(shelf, segments.as_slice(), skip, count, out),
-        None => read_own(shelf, segment, skip, count, out),
+        Some(segments) => read_inner_segments_from_shelf(
+            shelf,
+            segments.as_slice(),
+            skip,
+            count,
+            out,
+        ),
+        None => read_own_bytes_from_shelf(shelf, segment, skip, count, out),
     }
 }
 
 /// The same. A segment of which nothing is asked isn't touched.
-fn read_outer<S: Shelf>(
+fn read_outer_segment_from_shelf<S: Shelf>(
     shelf: &mut S,
     segment: &Segment,
     skip: u64,
@@ -110,14 +116,14 @@ fn read_outer<S: Shelf>(
         (S.model shelf.new) }
 {
     if skip < segment.size && 0 < count {
-        read_listed(shelf, segment, skip, count, out)
+        read_listed_bytes_from_shelf(shelf, segment, skip, count, out)
     } else {
         Ok(())
     }
 }
 
 /// Appends so many bytes of segments in a row behind the first ones.
-fn read_all_outer<S: Shelf>(
+fn read_outer_segments_from_shelf<S: Shelf>(
     shelf: &mut S,
     segments: &[Segment],
     skip: u64,
@@ -132,7 +138,7 @@ fn read_all_outer<S: Shelf>(
     let mut skip = skip;
     let mut count = count;
     for segment in segments {
-        read_outer(shelf, segment, skip, count, out)?;
+        read_outer_segment_from_shelf(shelf, segment, skip, count, out)?;
         count = count.saturating_sub(segment.size.saturating_sub(skip));
         skip = skip.saturating_sub(segment.size);
     }
@@ -140,7 +146,7 @@ fn read_all_outer<S: Shelf>(
 }
 
 /// So many bytes of segments in a row behind the first ones. Room is taken once, so that no byte is moved again.
-pub(crate) fn read_joined<S: Shelf>(
+pub(crate) fn read_joined_from_shelf<S: Shelf>(
     shelf: &mut S,
     alloc: Global,
     segments: &[Segment],
@@ -152,6 +158,6 @@ pub(crate) fn read_joined<S: Shelf>(
         → body ≡ window skip count bytes) (S.model shelf.old) result (S.model shelf.new) }
 {
     let mut body = Bytes::with_room(alloc, count as usize)?;
-    read_all_outer(shelf, segments, skip, count, &mut body)?;
+    read_outer_segments_from_shelf(shelf, segments, skip, count, &mut body)?;
     Ok(body)
 }

@@ -44,7 +44,7 @@ impl Kept {
         requires size { size_of object.content < 2 ^ 63 }
         ensures { result ≡ object_of object }
     {
-        let size = size_of(&object.content);
+        let size = shelved_size(&object.content);
         Kept {
             content_type: object.content_type,
             meta: object.meta,
@@ -61,7 +61,7 @@ impl Kept {
             content_type: self.content_type.copy()?,
             size: self.size,
             etag: self.etag.copy()?,
-            manifest: is_list(&self.content),
+            manifest: is_list_content(&self.content),
             meta: self.meta.copy()?,
         })
     }
@@ -110,7 +110,7 @@ fn part(bytes: &[u8], from: u64, end: u64) -> &[u8]
     }
 }
 
-fn is_list(content: &Content) -> bool
+fn is_list_content(content: &Content) -> bool
     ensures { result ≡ is_list content.now }
 {
     match content {
@@ -120,7 +120,7 @@ fn is_list(content: &Content) -> bool
 }
 
 /// The size of an object in bytes.
-fn size_of(content: &Content) -> u64
+fn shelved_size(content: &Content) -> u64
     requires { size_of content.now < 2 ^ 63 }
     ensures { result ≡ size_of content.now }
 {
@@ -132,7 +132,7 @@ fn size_of(content: &Content) -> u64
 
 /// The MD5 (RFC 1321) of bytes in lower-case hexadecimal digits.
 #[tactic(auto, unfolding(swift_calls::specs::Bodies::etag_text))]
-pub(crate) fn etag_text(alloc: Global, bytes: &[u8]) -> Result<Bytes, Memory>
+pub(crate) fn etag_of_shelved_bytes(alloc: Global, bytes: &[u8]) -> Result<Bytes, Memory>
     ensures { IfOk result (λ etag. etag ≡ etag_text bytes.now) }
 {
     let text = hex::encode(alloc, Md5::digest(bytes))?;

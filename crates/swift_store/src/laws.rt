@@ -7,6 +7,6 @@ pub fn law_stays_made()
 {}
 
 /// Over such an account the reply to each such call has a spelling: a store answers no 500 in place of a reply.
-pub fn law_has_spelling()
+pub fn law_served_has_spelling()
     ensures { HasSpelling }
 {}

@@ -15,7 +15,7 @@ mod shelf_ref;
 mod store;
 
 pub use faults::StoreFault;
-pub use laws::{law_has_spelling, law_stays_made};
+pub use laws::{law_served_has_spelling, law_stays_made};
 pub use map_shelf::MapShelf;
 pub use shelf::Shelf;
 pub use store::serve;

@@ -5,7 +5,10 @@ ghost use Rattle.std.proofs.Props.{props};
 ghost use Rattle.swift_calls.specs.Account.{find_object};
 ghost use Rattle.swift_store.specs.Made.{IsMade};
 
-use crate::folder::{Folder, container_page, drop_object, put_object, set_head};
+use crate::folder::{
+    Folder, drop_object_in_map_shelf, map_shelf_container_page, put_object_in_map_shelf,
+    set_head_in_map_shelf,
+};
 use crate::kept::Kept;
 use crate::{Shelf, StoreFault};
 use gate_base::{Bytes, Copying, List};
@@ -52,7 +55,7 @@ impl Shelf for MapShelf {
     ghost made = { λ s observable. s.made };
 
     fn containers(&mut self, marker: &[u8], limit: u32) -> Result<List<Bytes>, StoreFault> {
-        Ok(container_page(&self.folders, self.alloc, marker, limit as usize)?)
+        Ok(map_shelf_container_page(&self.folders, self.alloc, marker, limit as usize)?)
     }
 
     #[tactic(auto, using(crate::proofs::Shelves::moment_found))]
@@ -78,7 +81,7 @@ impl Shelf for MapShelf {
         created: Option<u64>,
     ) -> Result<(), StoreFault> {
         if self.folders.get(name).is_some() {
-            set_head(&mut self.folders, name, readers, created);
+            set_head_in_map_shelf(&mut self.folders, name, readers, created);
         } else {
             self.folders
                 .put(name, Folder::new(self.alloc, readers, created))?;
@@ -141,12 +144,12 @@ impl Shelf for MapShelf {
     fn put(&mut self, container: &[u8], object: Stored, etag: Bytes) -> Result<(), StoreFault> {
         let name = object.name.copy()?;
         let object = Kept::new(object, etag);
-        Ok(put_object(&mut self.folders, container, name.as_slice(), object)?)
+        Ok(put_object_in_map_shelf(&mut self.folders, container, name.as_slice(), object)?)
     }
 
     fn remove(&mut self, container: &[u8], name: &[u8]) -> Result<bool, StoreFault> {
         let there = self.object(container, name).is_some();
-        drop_object(&mut self.folders, container, name);
+        drop_object_in_map_shelf(&mut self.folders, container, name);
         Ok(there)
     }
 }

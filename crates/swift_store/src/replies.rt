@@ -6,19 +6,19 @@ ghost use Rattle.swift_calls.specs.Bodies.{head_of, joined, outer_bytes, is_good
 ghost use Rattle.swift_calls.specs.declared.calls.SwiftRequest.TheVariants as asked;
 ghost use Rattle.swift_store.specs.Shelf.{ShelfReads};
 ghost use Rattle.swift_store.specs.Listed.{segments_at};
-ghost use Rattle.swift_store.specs.Serving.{IsReply, TagsBody, TagsList, TagsWith, bounds, listed_part, listed_reply, parted};
+ghost use Rattle.swift_store.specs.Serving.{IsReply, TagsBody, TagsList, TagsWith, served_bounds, listed_part, shelf_reply_to_manifest, parted};
 ghost use Rattle.swift_calls.specs.declared.account.ReadList.{ReadList};
 
-use crate::joined::read_joined;
-use crate::kept::etag_text;
-use crate::segments::{are_outer, is_good_list};
+use crate::joined::read_joined_from_shelf;
+use crate::kept::etag_of_shelved_bytes;
+use crate::segments::{are_outer_segments_on_shelf, is_good_list_on_shelf};
 use crate::{Shelf, StoreFault};
 use gate_base::Bytes;
 use slo_manifest::{Segment, joined_etag};
 use std::alloc::Global;
 use swift_calls::{StoredHead, SwiftReply, SwiftRequest};
 
-fn list_containers<S: Shelf>(
+fn shelf_reply_to_list_containers<S: Shelf>(
     shelf: &mut S,
     marker: &[u8],
     limit: u32,
@@ -30,7 +30,10 @@ fn list_containers<S: Shelf>(
 }
 
 #[tactic(auto, using(crate::proofs::Replying::head_some, crate::proofs::Replying::head_none))]
-fn head_container<S: Shelf>(shelf: &mut S, name: &[u8]) -> Result<SwiftReply, StoreFault>
+fn shelf_reply_to_head_container<S: Shelf>(
+    shelf: &mut S,
+    name: &[u8],
+) -> Result<SwiftReply, StoreFault>
     ensures reads { ShelfReads (IsReply (asked.HeadContainer name.now)) (S.model shelf.old) result
         (S.model shelf.new) }
 {
@@ -41,7 +44,10 @@ fn head_container<S: Shelf>(shelf: &mut S, name: &[u8]) -> Result<SwiftReply, St
 }
 
 #[tactic(auto, using(crate::proofs::Replying::put_there, crate::proofs::Replying::put_made))]
-fn put_container<S: Shelf>(shelf: &mut S, name: &[u8]) -> Result<SwiftReply, StoreFault>
+fn shelf_reply_to_put_container<S: Shelf>(
+    shelf: &mut S,
+    name: &[u8],
+) -> Result<SwiftReply, StoreFault>
     ensures reads { ShelfReads (λ account reply. (readers : ReadList) (created : Option ℕ)
         → IsReply (asked.PutContainer name.now readers created) account reply) (S.model shelf.old)
         result (S.model shelf.new) }
@@ -54,7 +60,10 @@ fn put_container<S: Shelf>(shelf: &mut S, name: &[u8]) -> Result<SwiftReply, Sto
 }
 
 #[tactic(auto, using(crate::proofs::Replying::post_there, crate::proofs::Replying::post_missing))]
-fn post_container<S: Shelf>(shelf: &mut S, name: &[u8]) -> Result<SwiftReply, StoreFault>
+fn shelf_reply_to_post_container<S: Shelf>(
+    shelf: &mut S,
+    name: &[u8],
+) -> Result<SwiftReply, StoreFault>
     ensures reads { ShelfReads (λ account reply. (readers : ReadList)
         → IsReply (asked.PostContainer name.now readers) account reply) (S.model shelf.old) result
         (S.model shelf.new) }
@@ -67,7 +76,10 @@ fn post_container<S: Shelf>(shelf: &mut S, name: &[u8]) -> Result<SwiftReply, St
 }
 
 #[tactic(auto, using(crate::proofs::Replying::delete_gone, crate::proofs::Replying::delete_full, crate::proofs::Replying::delete_missing))]
-fn delete_container<S: Shelf>(shelf: &mut S, name: &[u8]) -> Result<SwiftReply, StoreFault>
+fn shelf_reply_to_delete_container<S: Shelf>(
+    shelf: &mut S,
+    name: &[u8],
+) -> Result<SwiftReply, StoreFault>
     ensures reads { ShelfReads (IsReply (asked.DeleteContainer name.now)) (S.model shelf.old) result
         (S.model shelf.new) }
 {
@@ -79,7 +91,7 @@ fn delete_container<S: Shelf>(shelf: &mut S, name: &[u8]) -> Result<SwiftReply, 
 }
 
 #[tactic(auto, using(crate::proofs::Replying::names_there, crate::proofs::Replying::names_missing))]
-fn list_names<S: Shelf>(
+fn shelf_reply_to_list_names<S: Shelf>(
     shelf: &mut S,
     container: &[u8],
     prefix: &[u8],
@@ -98,7 +110,7 @@ fn list_names<S: Shelf>(
 
 /// The body is hashed here, and only here.
 #[tactic(auto, using(crate::proofs::Replying::stored_there, crate::proofs::Replying::stored_missing))]
-fn put_object<S: Shelf>(
+fn shelf_reply_to_put_object<S: Shelf>(
     shelf: &mut S,
     alloc: Global,
     container: &[u8],
@@ -110,7 +122,7 @@ fn put_object<S: Shelf>(
     ensures tags { IfOk result (TagsWith body.now) }
 {
     if shelf.container(container)?.is_some() {
-        let etag = etag_text(alloc, body)?;
+        let etag = etag_of_shelved_bytes(alloc, body)?;
         Ok(SwiftReply::Stored { etag })
     } else {
         Ok(SwiftReply::NotFound)
@@ -118,7 +130,7 @@ fn put_object<S: Shelf>(
 }
 
 #[tactic(auto, using(crate::proofs::Replying::object_some, crate::proofs::Replying::object_none))]
-fn head_object<S: Shelf>(
+fn shelf_reply_to_head_object<S: Shelf>(
     shelf: &mut S,
     container: &[u8],
     name: &[u8],
@@ -133,7 +145,7 @@ fn head_object<S: Shelf>(
 }
 
 #[tactic(auto, using(crate::proofs::Replying::object_gone, crate::proofs::Replying::object_missing))]
-fn delete_object<S: Shelf>(
+fn shelf_reply_to_delete_object<S: Shelf>(
     shelf: &mut S,
     container: &[u8],
     name: &[u8],
@@ -150,7 +162,7 @@ fn delete_object<S: Shelf>(
 
 /// Reads an object, of which only the bytes that are asked for are read.
 #[tactic(auto, using(crate::proofs::Replying::bytes_none))]
-fn get_object<S: Shelf>(
+fn shelf_reply_to_get_object<S: Shelf>(
     shelf: &mut S,
     alloc: Global,
     container: &[u8],
@@ -163,9 +175,9 @@ fn get_object<S: Shelf>(
     match shelf.head(container, name)? {
         Some(head) => {
             if head.manifest {
-                get_listed(shelf, alloc, container, name, head, range)
+                get_listed_from_shelf(shelf, alloc, container, name, head, range)
             } else {
-                get_plain(shelf, alloc, container, name, head, range)
+                get_plain_from_shelf(shelf, alloc, container, name, head, range)
             }
         }
         None => Ok(SwiftReply::NotFound),
@@ -173,7 +185,7 @@ fn get_object<S: Shelf>(
 }
 
 /// Reads an object with bytes of its own, by its head.
-fn get_plain<S: Shelf>(
+fn get_plain_from_shelf<S: Shelf>(
     shelf: &mut S,
     alloc: Global,
     container: &[u8],
@@ -186,7 +198,7 @@ fn get_plain<S: Shelf>(
         → IsReply (asked.GetObject container.now name.now range) account reply) (S.model shelf.old)
         result (S.model shelf.new) }
 {
-    match bounds(range, head.size) {
+    match served_bounds(range, head.size) {
         Some((from, end)) => {
             let mut body = Bytes::new(alloc);
             shelf.read(container, name, from, end, &mut body)?;
@@ -197,7 +209,7 @@ fn get_plain<S: Shelf>(
 }
 
 /// Reads an object that lists segments, by its head. That they are there is tested before the range.
-fn get_listed<S: Shelf>(
+fn get_listed_from_shelf<S: Shelf>(
     shelf: &mut S,
     alloc: Global,
     container: &[u8],
@@ -210,7 +222,7 @@ fn get_listed<S: Shelf>(
         → IsReply (asked.GetObject container.now name.now range) account reply) (S.model shelf.old)
         result (S.model shelf.new) }
 {
-    match bytes_of_listing_object(shelf, alloc, container, name, head.size, range)? {
+    match listing_object_bytes_on_shelf(shelf, alloc, container, name, head.size, range)? {
         Some(Some(body)) => Ok(SwiftReply::Bytes { head, body }),
         Some(None) => Ok(SwiftReply::Unsatisfiable),
         None => Ok(SwiftReply::NotFound),
@@ -219,7 +231,7 @@ fn get_listed<S: Shelf>(
 
 /// The bytes of a range of an object that lists segments of a size together; none where a segment isn't there, and none of
 /// these where the range isn't.
-fn bytes_of_listing_object<S: Shelf>(
+fn listing_object_bytes_on_shelf<S: Shelf>(
     shelf: &mut S,
     alloc: Global,
     container: &[u8],
@@ -232,13 +244,13 @@ fn bytes_of_listing_object<S: Shelf>(
         (S.model shelf.new) }
 {
     match shelf.segments(container, name)? {
-        Some(segments) => bytes_of_segments(shelf, alloc, segments.as_slice(), size, range),
+        Some(segments) => segment_bytes_on_shelf(shelf, alloc, segments.as_slice(), size, range),
         None => Ok(None),
     }
 }
 
 /// The bytes of a range of segments of a size together.
-fn bytes_of_segments<S: Shelf>(
+fn segment_bytes_on_shelf<S: Shelf>(
     shelf: &mut S,
     alloc: Global,
     segments: &[Segment],
@@ -249,15 +261,15 @@ fn bytes_of_segments<S: Shelf>(
         (joined (outer_bytes (find_object account)) segments.now)) (S.model shelf.old) result
         (S.model shelf.new) }
 {
-    if !are_outer(shelf, segments)? {
+    if !are_outer_segments_on_shelf(shelf, segments)? {
         return Ok(None);
     }
-    let part = bytes_of_present_segments(shelf, alloc, segments, size, range)?;
+    let part = present_segment_bytes_on_shelf(shelf, alloc, segments, size, range)?;
     Ok(Some(part))
 }
 
 /// The bytes of a range of segments that are there.
-fn bytes_of_present_segments<S: Shelf>(
+fn present_segment_bytes_on_shelf<S: Shelf>(
     shelf: &mut S,
     alloc: Global,
     segments: &[Segment],
@@ -268,10 +280,10 @@ fn bytes_of_present_segments<S: Shelf>(
         → joined (outer_bytes (find_object account)) segments.now ≡ Some bytes
         → part ≡ parted range size bytes) (S.model shelf.old) result (S.model shelf.new) }
 {
-    match bounds(range, size) {
+    match served_bounds(range, size) {
         Some((from, end)) => {
             let count = end.saturating_sub(from);
-            let body = read_joined(shelf, alloc, segments, from, count)?;
+            let body = read_joined_from_shelf(shelf, alloc, segments, from, count)?;
             Ok(Some(body))
         }
         None => Ok(None),
@@ -280,7 +292,7 @@ fn bytes_of_present_segments<S: Shelf>(
 
 /// The segments that an object lists.
 #[tactic(auto, using(crate::proofs::Replying::manifest_some, crate::proofs::Replying::manifest_none))]
-fn get_manifest<S: Shelf>(
+fn shelf_reply_to_get_manifest<S: Shelf>(
     shelf: &mut S,
     container: &[u8],
     name: &[u8],
@@ -296,7 +308,7 @@ fn get_manifest<S: Shelf>(
 
 /// The container is looked for first, and then each segment.
 #[tactic(auto, using(crate::proofs::Replying::listed_missing))]
-fn put_manifest<S: Shelf>(
+fn shelf_reply_to_put_manifest<S: Shelf>(
     shelf: &mut S,
     alloc: Global,
     container: &[u8],
@@ -308,7 +320,7 @@ fn put_manifest<S: Shelf>(
     ensures tags { IfOk result (TagsList segments.now) }
 {
     if shelf.container(container)?.is_some() {
-        listed_reply(shelf, alloc, segments)
+        shelf_reply_to_manifest(shelf, alloc, segments)
     } else {
         Ok(SwiftReply::NotFound)
     }
@@ -316,17 +328,17 @@ fn put_manifest<S: Shelf>(
 
 /// The reply where the container is there.
 #[tactic(auto, using(crate::proofs::Replying::list_tag))]
-fn listed_reply<S: Shelf>(
+fn shelf_reply_to_manifest<S: Shelf>(
     shelf: &mut S,
     alloc: Global,
     segments: &[Segment],
 ) -> Result<SwiftReply, StoreFault>
-    ensures reads { ShelfReads (λ account reply. reply ≡ listed_reply
+    ensures reads { ShelfReads (λ account reply. reply ≡ shelf_reply_to_manifest
         (is_good_list (find_object account) segments.now) segments.now) (S.model shelf.old) result
         (S.model shelf.new) }
     ensures tags { IfOk result (TagsList segments.now) }
 {
-    if is_good_list(shelf, segments)? {
+    if is_good_list_on_shelf(shelf, segments)? {
         let etag = joined_etag(alloc, segments)?;
         Ok(SwiftReply::Stored { etag })
     } else {
@@ -335,8 +347,8 @@ fn listed_reply<S: Shelf>(
 }
 
 /// From where to where an object of a size is read; nothing where the range begins past its end.
-fn bounds(range: Option<(u64, u64)>, size: u64) -> Option<(u64, u64)>
-    ensures { result ≡ bounds range size }
+fn served_bounds(range: Option<(u64, u64)>, size: u64) -> Option<(u64, u64)>
+    ensures { result ≡ served_bounds range size }
 {
     match range {
         Some((from, to)) if from < size => Some((from, if to < size { to + 1 } else { size })),
@@ -346,7 +358,7 @@ fn bounds(range: Option<(u64, u64)>, size: u64) -> Option<(u64, u64)>
 }
 
 /// The reply to a call. Nothing is written.
-pub(crate) fn reply_to<S: Shelf>(
+pub(crate) fn shelf_reply_to_call<S: Shelf>(
     alloc: Global,
     shelf: &mut S,
     call: &SwiftRequest,
@@ -356,22 +368,28 @@ pub(crate) fn reply_to<S: Shelf>(
 {
     match call {
         SwiftRequest::ListContainers { marker, limit } => {
-            list_containers(shelf, marker.as_slice(), *limit)
+            shelf_reply_to_list_containers(shelf, marker.as_slice(), *limit)
         }
-        SwiftRequest::HeadContainer { container } => head_container(shelf, container.as_slice()),
-        SwiftRequest::PutContainer { container, .. } => put_container(shelf, container.as_slice()),
+        SwiftRequest::HeadContainer { container } => shelf_reply_to_head_container(
+            shelf,
+            container.as_slice(),
+        ),
+        SwiftRequest::PutContainer { container, .. } => shelf_reply_to_put_container(
+            shelf,
+            container.as_slice(),
+        ),
         SwiftRequest::PostContainer { container, .. } => {
-            post_container(shelf, container.as_slice())
+            shelf_reply_to_post_container(shelf, container.as_slice())
         }
         SwiftRequest::DeleteContainer { container } => {
-            delete_container(shelf, container.as_slice())
+            shelf_reply_to_delete_container(shelf, container.as_slice())
         }
         SwiftRequest::ListNames {
             container,
             prefix,
             marker,
             limit,
-        } => list_names(
+        } => shelf_reply_to_list_names(
             shelf,
             container.as_slice(),
             prefix.as_slice(),
@@ -382,25 +400,25 @@ pub(crate) fn reply_to<S: Shelf>(
             container,
             body,
             ..
-        } => put_object(shelf, alloc, container.as_slice(), body.as_slice()),
+        } => shelf_reply_to_put_object(shelf, alloc, container.as_slice(), body.as_slice()),
         SwiftRequest::PutManifest {
             container,
             segments,
             ..
-        } => put_manifest(shelf, alloc, container.as_slice(), segments.as_slice()),
+        } => shelf_reply_to_put_manifest(shelf, alloc, container.as_slice(), segments.as_slice()),
         SwiftRequest::HeadObject { container, name } => {
-            head_object(shelf, container.as_slice(), name.as_slice())
+            shelf_reply_to_head_object(shelf, container.as_slice(), name.as_slice())
         }
         SwiftRequest::GetObject {
             container,
             name,
             range,
-        } => get_object(shelf, alloc, container.as_slice(), name.as_slice(), *range),
+        } => shelf_reply_to_get_object(shelf, alloc, container.as_slice(), name.as_slice(), *range),
         SwiftRequest::GetManifest { container, name } => {
-            get_manifest(shelf, container.as_slice(), name.as_slice())
+            shelf_reply_to_get_manifest(shelf, container.as_slice(), name.as_slice())
         }
         SwiftRequest::DeleteObject { container, name } => {
-            delete_object(shelf, container.as_slice(), name.as_slice())
+            shelf_reply_to_delete_object(shelf, container.as_slice(), name.as_slice())
         }
     }
 }

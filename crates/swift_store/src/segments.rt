@@ -3,7 +3,7 @@ ghost use Rattle.std.specs.Prelude.{◌≡◌, ◌^◌, IfOk, IsTrue, nat_lt, su
 ghost use Rattle.std.specs.List.{list_all};
 ghost use Rattle.swift_calls.specs.Account.{find_object};
 ghost use Rattle.swift_calls.specs.Bodies.{found, is_good_list, is_shallow_there, may_be_listed};
-ghost use Rattle.swift_store.specs.Listed.{found_lists, is_as_listed, is_counted, is_inner, is_no_list, is_outer, passes_in, segments_at};
+ghost use Rattle.swift_store.specs.Listed.{found_lists, is_shelved_as_listed, is_counted, is_inner, is_no_list_on_shelf, is_outer, passes_in, segments_at};
 ghost use Rattle.swift_store.specs.Made.{IsSized};
 ghost use Rattle.swift_store.specs.Shelf.{ShelfReads};
 
@@ -15,22 +15,25 @@ use swift_calls::StoredHead;
 const SIZE_LIMIT: u64 = 1 << 63;
 
 /// Whether an object is as a segment says: with its ETag and its size.
-fn is_as_listed(segment: &Segment, head: &StoredHead) -> bool
-    ensures { result ≡ is_as_listed segment.now head.now }
+fn is_shelved_as_listed(segment: &Segment, head: &StoredHead) -> bool
+    ensures { result ≡ is_shelved_as_listed segment.now head.now }
 {
     head.etag.as_slice() == segment.etag.as_slice() && head.size == segment.size
 }
 
 /// Whether the object of a segment lists segments, where it is there as the segment says.
 #[tactic(auto, using(crate::proofs::Listed::found_so, crate::proofs::Listed::found_other, crate::proofs::Listed::found_none))]
-fn is_list_if_found<S: Shelf>(shelf: &mut S, segment: &Segment) -> Result<Option<bool>, StoreFault>
+fn is_segment_list_on_shelf<S: Shelf>(
+    shelf: &mut S,
+    segment: &Segment,
+) -> Result<Option<bool>, StoreFault>
     ensures reads { ShelfReads
         (λ account found. found ≡ found_lists (find_object account) segment.now) (S.model shelf.old)
         result (S.model shelf.new) }
 {
     match shelf.head(segment.container.as_slice(), segment.name.as_slice())? {
         Some(head) => {
-            if is_as_listed(segment, &head) {
+            if is_shelved_as_listed(segment, &head) {
                 Ok(Some(head.manifest))
             } else {
                 Ok(None)
@@ -46,14 +49,17 @@ fn is_inner<S: Shelf>(shelf: &mut S, segment: &Segment) -> Result<bool, StoreFau
     ensures reads { ShelfReads (λ account is. is ≡ is_inner (find_object account) segment.now)
         (S.model shelf.old) result (S.model shelf.new) }
 {
-    match is_list_if_found(shelf, segment)? {
+    match is_segment_list_on_shelf(shelf, segment)? {
         Some(lists) => Ok(!lists),
         None => Ok(false),
     }
 }
 
 /// Whether each segment is there as it says, with bytes of its own.
-fn are_inner<S: Shelf>(shelf: &mut S, segments: &[Segment]) -> Result<bool, StoreFault>
+fn are_inner_segments_on_shelf<S: Shelf>(
+    shelf: &mut S,
+    segments: &[Segment],
+) -> Result<bool, StoreFault>
     ensures reads { ShelfReads
         (λ account are. are ≡ list_all (is_inner (find_object account)) segments.now)
         (S.model shelf.old) result (S.model shelf.new) }
@@ -67,13 +73,16 @@ fn are_inner<S: Shelf>(shelf: &mut S, segments: &[Segment]) -> Result<bool, Stor
 }
 
 /// Whether what stands at a segment's place lists segments that are there, each with bytes of its own.
-fn lists_inner<S: Shelf>(shelf: &mut S, segment: &Segment) -> Result<bool, StoreFault>
+fn lists_inner_segments_on_shelf<S: Shelf>(
+    shelf: &mut S,
+    segment: &Segment,
+) -> Result<bool, StoreFault>
     ensures reads { ShelfReads (λ account are. are ≡ passes_in (is_inner (find_object account))
         (segments_at (find_object account segment.now.container segment.now.name)))
         (S.model shelf.old) result (S.model shelf.new) }
 {
     match shelf.segments(segment.container.as_slice(), segment.name.as_slice())? {
-        Some(segments) => are_inner(shelf, segments.as_slice()),
+        Some(segments) => are_inner_segments_on_shelf(shelf, segments.as_slice()),
         None => Ok(false),
     }
 }
@@ -83,15 +92,18 @@ fn is_outer<S: Shelf>(shelf: &mut S, segment: &Segment) -> Result<bool, StoreFau
     ensures reads { ShelfReads (λ account is. is ≡ is_outer (find_object account) segment.now)
         (S.model shelf.old) result (S.model shelf.new) }
 {
-    match is_list_if_found(shelf, segment)? {
-        Some(true) => lists_inner(shelf, segment),
+    match is_segment_list_on_shelf(shelf, segment)? {
+        Some(true) => lists_inner_segments_on_shelf(shelf, segment),
         Some(false) => Ok(true),
         None => Ok(false),
     }
 }
 
 /// Whether each segment is there as it says, and each segment that one of them lists.
-pub(crate) fn are_outer<S: Shelf>(shelf: &mut S, segments: &[Segment]) -> Result<bool, StoreFault>
+pub(crate) fn are_outer_segments_on_shelf<S: Shelf>(
+    shelf: &mut S,
+    segments: &[Segment],
+) -> Result<bool, StoreFault>
     ensures reads { ShelfReads
         (λ account are. are ≡ list_all (is_outer (find_object account)) segments.now)
         (S.model shelf.old) result (S.model shelf.new) }
@@ -106,8 +118,8 @@ pub(crate) fn are_outer<S: Shelf>(shelf: &mut S, segments: &[Segment]) -> Result
 
 /// Whether nothing at a segment's place lists segments.
 #[tactic(auto, using(crate::proofs::Listed::no_list_some, crate::proofs::Listed::no_list_none))]
-fn is_no_list<S: Shelf>(shelf: &mut S, segment: &Segment) -> Result<bool, StoreFault>
-    ensures reads { ShelfReads (λ account is. is ≡ is_no_list (find_object account) segment.now)
+fn is_no_list_on_shelf<S: Shelf>(shelf: &mut S, segment: &Segment) -> Result<bool, StoreFault>
+    ensures reads { ShelfReads (λ account is. is ≡ is_no_list_on_shelf (find_object account) segment.now)
         (S.model shelf.old) result (S.model shelf.new) }
 {
     match shelf.head(segment.container.as_slice(), segment.name.as_slice())? {
@@ -117,13 +129,13 @@ fn is_no_list<S: Shelf>(shelf: &mut S, segment: &Segment) -> Result<bool, StoreF
 }
 
 /// Whether none of these is a list.
-fn are_no_lists<S: Shelf>(shelf: &mut S, segments: &[Segment]) -> Result<bool, StoreFault>
+fn are_no_lists_on_shelf<S: Shelf>(shelf: &mut S, segments: &[Segment]) -> Result<bool, StoreFault>
     ensures reads { ShelfReads
-        (λ account are. are ≡ list_all (is_no_list (find_object account)) segments.now)
+        (λ account are. are ≡ list_all (is_no_list_on_shelf (find_object account)) segments.now)
         (S.model shelf.old) result (S.model shelf.new) }
 {
     for segment in segments {
-        if !is_no_list(shelf, segment)? {
+        if !is_no_list_on_shelf(shelf, segment)? {
             return Ok(false);
         }
     }
@@ -131,47 +143,47 @@ fn are_no_lists<S: Shelf>(shelf: &mut S, segments: &[Segment]) -> Result<bool, S
 }
 
 /// Whether what stands at a segment's place lists segments, none of which is a list.
-fn lists_no_list<S: Shelf>(shelf: &mut S, segment: &Segment) -> Result<bool, StoreFault>
-    ensures reads { ShelfReads (λ account are. are ≡ passes_in (is_no_list (find_object account))
+fn lists_no_list_on_shelf<S: Shelf>(shelf: &mut S, segment: &Segment) -> Result<bool, StoreFault>
+    ensures reads { ShelfReads (λ account are. are ≡ passes_in (is_no_list_on_shelf (find_object account))
         (segments_at (find_object account segment.now.container segment.now.name)))
         (S.model shelf.old) result (S.model shelf.new) }
 {
     match shelf.segments(segment.container.as_slice(), segment.name.as_slice())? {
-        Some(segments) => are_no_lists(shelf, segments.as_slice()),
+        Some(segments) => are_no_lists_on_shelf(shelf, segments.as_slice()),
         None => Ok(false),
     }
 }
 
 /// Whether a segment may be listed by its place: it is there as it says, and lists no list.
-fn is_shallow<S: Shelf>(shelf: &mut S, segment: &Segment) -> Result<bool, StoreFault>
+fn is_shallow_on_shelf<S: Shelf>(shelf: &mut S, segment: &Segment) -> Result<bool, StoreFault>
     ensures reads { ShelfReads (λ account is. is ≡ is_shallow_there (find_object account)
         (found (find_object account) segment.now)) (S.model shelf.old) result (S.model shelf.new) }
 {
-    match is_list_if_found(shelf, segment)? {
-        Some(true) => lists_no_list(shelf, segment),
+    match is_segment_list_on_shelf(shelf, segment)? {
+        Some(true) => lists_no_list_on_shelf(shelf, segment),
         Some(false) => Ok(true),
         None => Ok(false),
     }
 }
 
 /// Whether a segment may be listed: it isn't empty, and it is there as it says, and lists no list.
-fn may_be_listed<S: Shelf>(shelf: &mut S, segment: &Segment) -> Result<bool, StoreFault>
+fn is_listable_on_shelf<S: Shelf>(shelf: &mut S, segment: &Segment) -> Result<bool, StoreFault>
     ensures reads { ShelfReads
         (λ account may. may ≡ may_be_listed (find_object account) segment.now) (S.model shelf.old)
         result (S.model shelf.new) }
 {
-    let is_there = is_shallow(shelf, segment)?;
+    let is_there = is_shallow_on_shelf(shelf, segment)?;
     Ok(0 < segment.size && is_there)
 }
 
 /// Whether each of these may be listed.
-fn may_all_be_listed<S: Shelf>(shelf: &mut S, segments: &[Segment]) -> Result<bool, StoreFault>
+fn are_listable_on_shelf<S: Shelf>(shelf: &mut S, segments: &[Segment]) -> Result<bool, StoreFault>
     ensures reads { ShelfReads
         (λ account may. may ≡ list_all (may_be_listed (find_object account)) segments.now)
         (S.model shelf.old) result (S.model shelf.new) }
 {
     for segment in segments {
-        if !may_be_listed(shelf, segment)? {
+        if !is_listable_on_shelf(shelf, segment)? {
             return Ok(false);
         }
     }
@@ -180,7 +192,7 @@ fn may_all_be_listed<S: Shelf>(shelf: &mut S, segments: &[Segment]) -> Result<bo
 
 /// Whether segments have less than 2^63 bytes together.
 #[tactic(auto, using(crate::proofs::Listed::leaves_next, crate::proofs::Listed::leaves_lost, crate::proofs::Listed::leaves_end))]
-fn are_small(segments: &[Segment]) -> bool
+fn are_small_enough_to_shelve(segments: &[Segment]) -> bool
     ensures { result ≡ nat_lt (sum_by (λ s. s.size) segments.now) (2 ^ 63) }
 {
     let mut left = SIZE_LIMIT;
@@ -196,12 +208,12 @@ fn are_small(segments: &[Segment]) -> bool
 fn is_counted(segments: &[Segment]) -> bool
     ensures { result ≡ is_counted segments.now }
 {
-    0 < segments.len() && segments.len() <= MOST_SEGMENTS && are_small(segments)
+    0 < segments.len() && segments.len() <= MOST_SEGMENTS && are_small_enough_to_shelve(segments)
 }
 
 /// Whether an object may list these segments. The shelf is asked only where their number and their sizes are right.
 #[tactic(auto, using(crate::proofs::Listed::good_counted, crate::proofs::Listed::not_counted, crate::proofs::Listed::sized_counted))]
-pub(crate) fn is_good_list<S: Shelf>(
+pub(crate) fn is_good_list_on_shelf<S: Shelf>(
     shelf: &mut S,
     segments: &[Segment],
 ) -> Result<bool, StoreFault>
@@ -210,7 +222,7 @@ pub(crate) fn is_good_list<S: Shelf>(
     ensures sized { IfOk result (λ is. IsTrue is → IsSized segments.now) }
 {
     if is_counted(segments) {
-        may_all_be_listed(shelf, segments)
+        are_listable_on_shelf(shelf, segments)
     } else {
         Ok(false)
     }

@@ -12,7 +12,7 @@ ghost use Rattle.swift_store.specs.Shelf.{
   ShelfReads,
   ShelfWrites,
   container_head,
-  container_page,
+  map_shelf_container_page,
   object_of,
   object_page,
   part_of,
@@ -34,7 +34,7 @@ pub trait Shelf {
     /// The names of the containers after a marker, in byte order, at most so many.
     fn containers(&mut self, marker: &[u8], limit: u32) -> Result<List<Bytes>, StoreFault>
         ensures reads { ShelfReads
-            (λ account names. names ≡ container_page limit marker.now account) (model self.old)
+            (λ account names. names ≡ map_shelf_container_page limit marker.now account) (model self.old)
             result (model self.new) };
 
     /// The read list and the creation time of a container. The time is a moment, so that it can be given to

@@ -7,18 +7,18 @@ ghost use Rattle.swift_requests.specs.Place.{IsPlace};
 ghost use Rattle.swift_store.specs.Shelf.{ShelfKeeps, ShelfReads, Writes};
 ghost use Rattle.swift_store.specs.Serving.{Answers, IsReply, Served, TagsBody};
 
-use crate::effects::apply_call;
-use crate::replies::reply_to;
+use crate::effects::apply_call_to_shelf;
+use crate::replies::shelf_reply_to_call;
 use crate::{Shelf, StoreFault};
 use gate_base::{Bytes, Memory};
 use http_wire::Message;
 use std::alloc::Global;
 use swift_calls::{SwiftReply, SwiftRequest};
 use swift_replies::{WireFault, refusal, write_answer};
-use swift_requests::{Place, has_token, read_call};
+use swift_requests::{Place, has_account_token, read_call};
 
 /// A text with another behind it. Where it is empty nothing is copied.
-fn joined(alloc: Global, before: &Bytes, text: Bytes) -> Result<Bytes, Memory>
+fn with_served_text(alloc: Global, before: &Bytes, text: Bytes) -> Result<Bytes, Memory>
     ensures { IfOk result (λ all. all ≡ before.now ++ text) }
 {
     if before.is_empty() {
@@ -31,7 +31,7 @@ fn joined(alloc: Global, before: &Bytes, text: Bytes) -> Result<Bytes, Memory>
 }
 
 /// What is written so far with the answer of a call behind it.
-fn with_answer(
+fn with_served_answer(
     alloc: Global,
     before: &Bytes,
     call: &SwiftRequest,
@@ -40,7 +40,7 @@ fn with_answer(
     ensures { IfOk result (λ all. all ≡ before.now ++ answer_text call.now reply.now) }
 {
     let answer = write_answer(alloc, call, reply)?;
-    joined(alloc, before, answer)
+    with_served_text(alloc, before, answer)
 }
 
 /// Serves one call: its reply first, then its answer's bytes, for which memory is taken, and at last what it writes.
@@ -56,12 +56,12 @@ fn serve_call<S: Shelf>(
     ensures answers { Answers (S.model shelf.old).observable call (S.model shelf.old).account
         (S.model shelf.new).account out.old out.new result }
 {
-    let (reply, ready) = ready_reply(alloc, shelf, &call, out)?;
-    apply_ready(shelf, call, reply, ready, out)
+    let (reply, ready) = ready_shelf_reply(alloc, shelf, &call, out)?;
+    apply_ready_call_to_shelf(shelf, call, reply, ready, out)
 }
 
 /// The reply to a call, and what is written so far with its answer behind it. Nothing is written to the shelf.
-fn ready_reply<S: Shelf>(
+fn ready_shelf_reply<S: Shelf>(
     alloc: Global,
     shelf: &mut S,
     call: &SwiftRequest,
@@ -72,14 +72,14 @@ fn ready_reply<S: Shelf>(
     ensures tags { IfOk result (λ found. TagsBody call.now found.0) }
     ensures text { IfOk result (λ found. found.1 ≡ before.now ++ answer_text call.now found.0) }
 {
-    let reply = reply_to(alloc, shelf, call)?;
-    let ready = with_answer(alloc, before, call, &reply)?;
+    let reply = shelf_reply_to_call(alloc, shelf, call)?;
+    let ready = with_served_answer(alloc, before, call, &reply)?;
     Ok((reply, ready))
 }
 
 /// Writes what a call writes whose reply is known, and then puts the answer that is ready in the place of what was written
 /// so far. After an Err `out` is as before.
-fn apply_ready<S: Shelf>(
+fn apply_ready_call_to_shelf<S: Shelf>(
     shelf: &mut S,
     call: SwiftRequest,
     reply: SwiftReply,
@@ -97,17 +97,17 @@ fn apply_ready<S: Shelf>(
     ensures text { IfOk result (λ done. out.new ≡ out.old ++ answer_text call reply) }
     ensures text_err { OnErr result (out.new ≡ out.old) }
 {
-    apply_call(shelf, call, reply)?;
+    apply_call_to_shelf(shelf, call, reply)?;
     *out = ready;
     Ok(())
 }
 
 /// What is written so far with an answer behind it that says its status alone.
-fn with_refusal(alloc: Global, before: &Bytes, status: u16) -> Result<Bytes, Memory>
+fn with_served_refusal(alloc: Global, before: &Bytes, status: u16) -> Result<Bytes, Memory>
     ensures { IfOk result (λ all. all ≡ before.now ++ refusal status) }
 {
     let text = refusal(alloc, status)?;
-    let all = joined(alloc, before, text)?;
+    let all = with_served_text(alloc, before, text)?;
     Ok(all)
 }
 
@@ -127,14 +127,14 @@ pub fn serve<S: Shelf>(
     ensures served { Served (S.model shelf.old).observable place.now message
         (S.model shelf.old).account (S.model shelf.new).account out.old out.new result }
 {
-    if !has_token(place, &message) {
-        *out = with_refusal(alloc, out, 401)?;
+    if !has_account_token(place, &message) {
+        *out = with_served_refusal(alloc, out, 401)?;
         return Ok(());
     }
     match read_call(alloc, place, message) {
         Ok(call) => serve_call(alloc, shelf, call, out),
         Err(WireFault::NotACall) => {
-            *out = with_refusal(alloc, out, 400)?;
+            *out = with_served_refusal(alloc, out, 400)?;
             Ok(())
         }
         Err(WireFault::Memory) => Err(StoreFault::Memory),

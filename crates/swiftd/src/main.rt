@@ -2,7 +2,10 @@
 //! serves the clients that come to the place which `SWIFTD_LISTEN` names.
 #![tactic(auto)]
 
-use environment::{SetupFault, Why, listener, number, own_runtime, report_setup, switch, words};
+use environment::{
+    SetupFault, Why, clone_environment_runtime, is_variable_on, listener_at_variable_place,
+    number_in_variable, report_variable_fault, words,
+};
 use gate_base::{Line, List, MemLine, NoCount, StdSink};
 use sockets::TcpLine;
 use std::io::ErrorKind;
@@ -40,7 +43,7 @@ fn main(rt: HostRuntime) -> ExitCode {
         Ok(status) => ExitCode::from(status),
         Err(SetupFault::Memory) => ExitCode::from(MEMORY),
         Err(SetupFault::Variable(name, why)) => {
-            report_setup(&rt, b"swiftd: setup\n", name, why);
+            report_variable_fault(&rt, b"swiftd: setup\n", name, why);
             ExitCode::from(SETUP)
         }
     }
@@ -73,7 +76,7 @@ fn run_over<N: Line<NoCount>>(
     words: &[String],
     line: &mut N,
 ) -> Result<u8, SetupFault> {
-    let mut report = StdSink::output(own_runtime(rt)?);
+    let mut report = StdSink::output(clone_environment_runtime(rt)?);
     let mut shelf = MapShelf::new(rt.alloc());
     Ok(run_store(rt.alloc(), words, line, &mut report, &mut shelf))
 }
@@ -83,7 +86,7 @@ fn run_over<N: Line<NoCount>>(
 /// The listener is the first that is opened and stays. So where standard error is closed its number is the listener's, to which no
 /// line can be written, and never that of a client or of the store.
 fn clients(rt: &HostRuntime) -> Result<Clients, SetupFault> {
-    let limit = number(rt, "SWIFTD_IDLE", USUAL_IDLE, LONGEST_IDLE)?;
+    let limit = number_in_variable(rt, "SWIFTD_IDLE", USUAL_IDLE, LONGEST_IDLE)?;
     let ahead = ahead(rt)?;
     let log = log(rt)?;
     let line = tcp_line(rt, limit, ahead)?;
@@ -95,8 +98,15 @@ fn tcp_line(
     limit: u64,
     ahead: usize,
 ) -> Result<TcpLine<HostRuntime>, SetupFault> {
-    let listener = listener(rt, LISTEN)?;
-    match TcpLine::new(own_runtime(rt)?, rt.alloc(), listener, limit, None, ahead) {
+    let listener = listener_at_variable_place(rt, LISTEN)?;
+    match TcpLine::new(
+        clone_environment_runtime(rt)?,
+        rt.alloc(),
+        listener,
+        limit,
+        None,
+        ahead,
+    ) {
         Ok(line) => Ok(line),
         Err(error) if error.kind() == ErrorKind::OutOfMemory => Err(SetupFault::Memory),
         Err(_) => Err(SetupFault::Variable(LISTEN, Why::CannotListen)),
@@ -105,13 +115,13 @@ fn tcp_line(
 
 /// How many bytes are read ahead or kept to be sent, at most.
 fn ahead(rt: &HostRuntime) -> Result<usize, SetupFault> {
-    let count = number(rt, "SWIFTD_AHEAD", USUAL_AHEAD, MOST_AHEAD)?;
+    let count = number_in_variable(rt, "SWIFTD_AHEAD", USUAL_AHEAD, MOST_AHEAD)?;
     Ok(count.saturating_mul(MEBIBYTE) as usize)
 }
 
 /// A log on standard error, unless the environment ends it.
 fn log(rt: &HostRuntime) -> Result<Log<StdSink, HostRuntime>, SetupFault> {
-    let is_on = switch(rt, "SWIFTD_LOG")?;
-    let sink = StdSink::error(own_runtime(rt)?);
-    Ok(Log::new(own_runtime(rt)?, rt.alloc(), sink, is_on))
+    let is_on = is_variable_on(rt, "SWIFTD_LOG")?;
+    let sink = StdSink::error(clone_environment_runtime(rt)?);
+    Ok(Log::new(clone_environment_runtime(rt)?, rt.alloc(), sink, is_on))
 }

@@ -1,6 +1,6 @@
 -- A change of the gateway's own container leaves the buckets; the PUT of the container itself leaves the state, and the PUT of a
 -- sealed completion into it is the step of the service.
-use Rattle.std.specs.Prelude.{◌≡◌, ◌&&◌, ℕ, Bool, true, false, cond, bytes_eq, List, is_some, Option, None, Some}
+use Rattle.std.specs.Prelude.{◌≡◌, ℕ, Bool, true, false, cond, List, is_some, Option, None, Some}
 use Rattle.std.specs.Option.{option_map, option_and_then}
 use Rattle.std.specs.Ordering.{eq_by_cmp}
 use Rattle.std.specs.FinMap.{get, insert}
@@ -18,14 +18,14 @@ use Rattle.swift_calls.specs.declared.calls.SwiftRequest.TheVariants.{PutContain
 use Rattle.swift_calls.specs.Account.{SwiftObject, SwiftContainer, SwiftAccount, files, files_of, find_object, on_files, with_head, put_file}
 use Rattle.swift_calls.specs.Bodies.{plain_bytes}
 use Rattle.swift_calls.specs.Step.{put_container}
-use Rattle.upload_texts.specs.Places.{json_or_null}
-use Rattle.upload_texts.specs.Sealed.{is_sealed_place, read_sealed, has_sealed_text, sealed_in as sealed_place, sealed_text}
+use Rattle.upload_texts.specs.Sealed.{is_sealed_place, read_sealed, has_sealed_text}
 use Rattle.upload_texts.specs.declared.sealed.Sealed.{Sealed}
 use Rattle.upload_records.specs.Layout.{uploads_name, segments_name, gateway_name, sealed_name}
 use Rattle.upload_records.specs.Native.{bucket_from, bucket_of, plain, seal_by, seal_of, sealed_of, finished_from, laid, IsUnsealed, s3_state}
 use Rattle.upload_records.specs.Consistent.{Head, head_of, heads, IsFolderName, ConsistentContainers, ConsistentBucket, sealed_in, sealed_id, ConsistentSealed, IsSealedFile, IsStored, IsThere, SealedIn, IsConsistent}
 use Rattle.upload_records.specs.Laws.{file_put, MakesGateway, SealsCompletion}
 use Rattle.upload_records.proofs.Apart.{gateway_apart}
+use Rattle.upload_records.proofs.lemmas.SealedTexts.{sealed_has}
 use Rattle.upload_records.proofs.lemmas.Sides.{gateway_uploads, gateway_segments}
 use Rattle.upload_records.proofs.Carried.{none_found, bucket_as, containers_same, heads_stay, files_after}
 use Rattle.upload_records.proofs.lemmas.Plain.{get_plain}
@@ -167,15 +167,6 @@ module _ (tree : SwiftAccount) (created : Option ℕ) (sound : IsConsistent tree
   }
 
 -- ---- the PUT of a sealed completion
-
--- what reads as a sealed completion has a text
-pub sealed_has : (text : List ℕ) (s : Sealed) → read_sealed text ≡ Some s → has_sealed_text s ≡ true
-unfolding read_sealed
-sealed_has text s reads = from_parts (sealed_place (json_or_null text)) _ refl reads
-  where
-    from_parts : (r : Sealed) (t : Bool) → (has_sealed_text r && bytes_eq (sealed_text r) text) ≡ t → cond t (Some r) None ≡ Some s → has_sealed_text s ≡ true
-    from_parts r true both same = ap has_sealed_text (sym (same_Some r s same)) ∙ (and_parts (has_sealed_text r) _ both).0
-    from_parts r false both never = absurd (none_found s never)
 
 -- its bucket has the name of one
 pub sealed_bucket : (text : List ℕ) (s : Sealed) → read_sealed text ≡ Some s → is_bucket s.bucket ≡ true

@@ -28,7 +28,7 @@ use Rattle.swift_calls.specs.declared.account.Content.TheVariants.{Plain, Segmen
 use Rattle.swift_calls.specs.Account.{SwiftObject, SwiftAccount, files, find_object}
 use Rattle.swift_calls.specs.Bodies.{bytes_of, outer_bytes, joined_two, joined}
 use Rattle.swift_marks.specs.declared.tag.Tag.{Tag}
-use Rattle.swift_marks.specs.Number.{fits_id}
+use Rattle.swift_marks.specs.Number.{id_fits_tag}
 use Rattle.swift_marks.specs.Pack.{unpacked}
 use Rattle.swift_marks.specs.Tag.{is_etag, has_text, read_tag}
 use Rattle.swift_marks.specs.Tag as mark
@@ -52,7 +52,7 @@ record TagKeeps (tag : Tag) : Type 0 where
 tag_keeps : (text : List ℕ) (tag : Tag) → read_tag text ≡ Some tag → TagKeeps tag
 unfolding has_text is_content_type
 tag_keeps text tag reads =
-    let all = and_parts (mark.is_content_type tag.content_type && is_etag tag.etag && nat_lt tag.moment moment_limit) (fits_id tag.id) (tag_has_one_text text tag reads).0 in
+    let all = and_parts (mark.is_content_type tag.content_type && is_etag tag.etag && nat_lt tag.moment moment_limit) (id_fits_tag tag.id) (tag_has_one_text text tag reads).0 in
     let most = and_parts (mark.is_content_type tag.content_type && is_etag tag.etag) (nat_lt tag.moment moment_limit) all.0 in
     let some = and_parts (mark.is_content_type tag.content_type) (is_etag tag.etag) most.0 in
     record { typed = some.0; etag = some.1; dated = ltb-true tag.moment moment_limit most.1 }

@@ -37,7 +37,8 @@ use Rattle.upload_records.proofs.lemmas.Sides.{gateway_side, segments_uploads}
 use Rattle.upload_records.proofs.Carried.{none_found, bucket_as, id_stays, containers_same, heads_stay, found_after, files_after, records_stay, segments_stay}
 use Rattle.upload_records.proofs.lemmas.Plain.{get_plain, plain_put}
 use Rattle.upload_records.proofs.lemmas.Beside.{bucket_stays, other_records, other_segments, id_beside, same_beside, plain_beside, records_there, file_off, files_new}
-use Rattle.upload_records.proofs.GatewayPut.{sealed_bucket, sealed_has, plain_stays, sound_gateway}
+use Rattle.upload_records.proofs.GatewayPut.{sealed_bucket, plain_stays, sound_gateway}
+use Rattle.upload_records.proofs.lemmas.SealedTexts.{sealed_has}
 
 -- ---- what is sealed
 

@@ -6,6 +6,7 @@ pub mod Off
 pub mod Plain
 pub mod Readers
 pub mod Rolling
+pub mod SealedTexts
 pub mod Settled
 pub mod SideCalls
 pub mod Sides

@@ -9,7 +9,7 @@ use std::alloc::Global;
 use swift_calls::ReadList;
 
 /// The read list that a bucket's container has for a canned access control list (this profile).
-pub fn readers(acl: Acl) -> ReadList
+pub fn container_readers_of_acl(acl: Acl) -> ReadList
     ensures { result ≡ readers_of acl }
 {
     match acl {
@@ -19,7 +19,7 @@ pub fn readers(acl: Acl) -> ReadList
 }
 
 /// The canned access control list that a read list represents (this profile).
-pub fn acl(readers: ReadList) -> Acl
+pub fn acl_of_container_readers(readers: ReadList) -> Acl
     ensures { result ≡ acl_of readers }
 {
     match readers {
@@ -91,15 +91,15 @@ fn five_digits(number: u32) -> [u8; 5]
     ensures { result ≡ five_digits number }
 {
     [
-        digit(number / 10000),
-        digit(number / 1000 % 10),
-        digit(number / 100 % 10),
-        digit(number / 10 % 10),
-        digit(number % 10),
+        segment_name_digit(number / 10000),
+        segment_name_digit(number / 1000 % 10),
+        segment_name_digit(number / 100 % 10),
+        segment_name_digit(number / 10 % 10),
+        segment_name_digit(number % 10),
     ]
 }
 
-fn digit(value: u32) -> u8
+fn segment_name_digit(value: u32) -> u8
     requires { value ≤ 9 }
     ensures { result ≡ 48 + value }
 {

@@ -10,8 +10,8 @@ pub use laws::{
     law_empty_consistent, law_object_found, law_object_gone, law_object_put, law_reads_stutter,
 };
 pub use layout::{
-    acl, gateway_container, readers, sealed_name, segment_name, segments_container,
-    segments_prefix, uploads_container,
+    acl_of_container_readers, container_readers_of_acl, gateway_container, sealed_name,
+    segment_name, segments_container, segments_prefix, uploads_container,
 };
 pub use upload_laws::{
     law_completed_stands, law_completion_sealed, law_file_put, law_gateway_made, law_listing_found,

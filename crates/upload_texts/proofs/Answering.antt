@@ -10,13 +10,13 @@ use Rattle.s3_names.specs.Bucket.{is_bucket}
 use Rattle.s3_names.specs.Key.{is_key}
 use Rattle.slo_manifest.specs.Manifest.{json_of}
 use Rattle.upload_texts.specs.Places.{json_or_null, version_in, version_of}
-use Rattle.upload_texts.specs.Records.{has_record_text, is_known_version, read_record, record_in, record_text, record_value, unless_known, Parses, ReadsRecord}
+use Rattle.upload_texts.specs.Records.{has_record_text, is_known_version, read_record, record_in, record_text, record_value, unless_known_record_version, Parses, ReadsRecord}
 use Rattle.upload_texts.specs.Sealed.{has_sealed_text, is_first_version, read_sealed, sealed_in, sealed_text, sealed_value, ReadsSealed}
 use Rattle.upload_texts.specs.declared.record.Record.{Record}
 use Rattle.upload_texts.specs.declared.record.RecordFault.{RecordFault}
 use Rattle.upload_texts.specs.declared.record.RecordFault.TheVariants.{NotARecord, Version, Memory}
 use Rattle.upload_texts.specs.declared.sealed.Sealed.{Sealed}
-use Rattle.upload_texts.proofs.Back.{record_reads, sealed_reads}
+use Rattle.upload_texts.proofs.lemmas.Back.{record_reads, sealed_reads}
 use Rattle.upload_texts.proofs.Json.{json_read}
 use Rattle.upload_texts.proofs.Levels.{record_depth, record_float, sealed_depth, sealed_float}
 
@@ -61,7 +61,7 @@ module _ (text : List ℕ) where
   unfolding read_record has_record_text is_key
   record_unparsed NotARecord none =
       let is : json_or_null text ≡ null = ap (λ v. unwrap_or v null) none in
-      (ap (λ d. cond (has_record_text (record_in d) && bytes_eq (record_text (record_in d)) text) (Some (record_in d)) None) is, ap (λ d. unless_known is_known_version (version_in d)) is)
+      (ap (λ d. cond (has_record_text (record_in d) && bytes_eq (record_text (record_in d)) text) (Some (record_in d)) None) is, ap (λ d. unless_known_record_version is_known_version (version_in d)) is)
   record_unparsed (Version version) never = absurd never
   record_unparsed Memory h = tt
 
@@ -69,7 +69,7 @@ module _ (text : List ℕ) where
   unfolding read_sealed has_sealed_text is_bucket
   sealed_unparsed NotARecord none =
       let is : json_or_null text ≡ null = ap (λ v. unwrap_or v null) none in
-      (ap (λ d. cond (has_sealed_text (sealed_in d) && bytes_eq (sealed_text (sealed_in d)) text) (Some (sealed_in d)) None) is, ap (λ d. unless_known is_first_version (version_in d)) is)
+      (ap (λ d. cond (has_sealed_text (sealed_in d) && bytes_eq (sealed_text (sealed_in d)) text) (Some (sealed_in d)) None) is, ap (λ d. unless_known_record_version is_first_version (version_in d)) is)
   sealed_unparsed (Version version) never = absurd never
   sealed_unparsed Memory h = tt
 
@@ -77,14 +77,14 @@ module _ (text : List ℕ) where
     is_json : json_or_null text ≡ d
     is_json = ap (λ v. unwrap_or v null) parsed
 
-    pub record_version : (v : Option ℕ) → unless_known is_known_version (version_in d) ≡ v → unless_known is_known_version (version_of text) ≡ v
-    record_version v e = ap (λ d. unless_known is_known_version (version_in d)) is_json ∙ e
+    pub record_version : (v : Option ℕ) → unless_known_record_version is_known_version (version_in d) ≡ v → unless_known_record_version is_known_version (version_of text) ≡ v
+    record_version v e = ap (λ d. unless_known_record_version is_known_version (version_in d)) is_json ∙ e
 
-    pub sealed_version : (v : Option ℕ) → unless_known is_first_version (version_in d) ≡ v → unless_known is_first_version (version_of text) ≡ v
-    sealed_version v e = ap (λ d. unless_known is_first_version (version_in d)) is_json ∙ e
+    pub sealed_version : (v : Option ℕ) → unless_known_record_version is_first_version (version_in d) ≡ v → unless_known_record_version is_first_version (version_of text) ≡ v
+    sealed_version v e = ap (λ d. unless_known_record_version is_first_version (version_in d)) is_json ∙ e
 
     pub record_refused : (r : Record) → (has_record_text (record_in d) ≡ true → r ≡ record_in d) → (has_record_text r ≡ true → bytes_eq (record_text r) text ≡ false)
-        → unless_known is_known_version (version_in d) ≡ None → ReadsRecord text (Err NotARecord)
+        → unless_known_record_version is_known_version (version_in d) ≡ None → ReadsRecord text (Err NotARecord)
     unfolding read_record
     record_refused r same other known = (
       ap (λ d. cond (has_record_text (record_in d) && bytes_eq (record_text (record_in d)) text) (Some (record_in d)) None) is_json
@@ -93,7 +93,7 @@ module _ (text : List ℕ) where
     )
 
     pub sealed_refused : (s : Sealed) → (has_sealed_text (sealed_in d) ≡ true → s ≡ sealed_in d) → (has_sealed_text s ≡ true → bytes_eq (sealed_text s) text ≡ false)
-        → unless_known is_first_version (version_in d) ≡ None → ReadsSealed text (Err NotARecord)
+        → unless_known_record_version is_first_version (version_in d) ≡ None → ReadsSealed text (Err NotARecord)
     unfolding read_sealed
     sealed_refused s same other known = (
       ap (λ d. cond (has_sealed_text (sealed_in d) && bytes_eq (sealed_text (sealed_in d)) text) (Some (sealed_in d)) None) is_json

@@ -6,23 +6,23 @@ use Rattle.serde_json.specs.View.{items_of}
 use Rattle.serde_json.specs.Written.{has_float, items_have_float}
 use Rattle.gate_base.specs.declared.page.Pair.{Pair}
 use Rattle.s3_machine.specs.declared.operation.Listed.{Listed}
-use Rattle.upload_texts.specs.Places.{pair_value, listed_value}
+use Rattle.upload_texts.specs.Places.{metadata_pair_json, record_part_json}
 use Rattle.upload_texts.specs.Records.{record_value}
-use Rattle.upload_texts.specs.Sealed.{part_value, sealed_value}
+use Rattle.upload_texts.specs.Sealed.{sealed_part_json, sealed_value}
 use Rattle.upload_texts.specs.declared.record.Record.{Record}
 use Rattle.upload_texts.specs.declared.record.Record.TheVariants.{Open, Done}
 use Rattle.upload_texts.specs.declared.sealed.Sealed.{Sealed}
 use Rattle.upload_texts.specs.declared.sealed.SealedPart.{SealedPart}
 
-pairs_float : (ps : List Pair) → items_have_float (items_of (map pair_value ps)) ≡ false
+pairs_float : (ps : List Pair) → items_have_float (items_of (map metadata_pair_json ps)) ≡ false
 pairs_float [] = refl
 pairs_float (p ∷ ps) = pairs_float ps
 
-listed_float : (ls : List Listed) → items_have_float (items_of (map listed_value ls)) ≡ false
+listed_float : (ls : List Listed) → items_have_float (items_of (map record_part_json ls)) ≡ false
 listed_float [] = refl
 listed_float (l ∷ ls) = listed_float ls
 
-parts_float : (ps : List SealedPart) → items_have_float (items_of (map part_value ps)) ≡ false
+parts_float : (ps : List SealedPart) → items_have_float (items_of (map sealed_part_json ps)) ≡ false
 parts_float [] = refl
 parts_float (p ∷ ps) = parts_float ps
 
@@ -34,15 +34,15 @@ record_float (Done key list etag started (Some moment)) = rw (listed_float list)
 pub sealed_float : (s : Sealed) → has_float (sealed_value s) ≡ false
 sealed_float s = rw (parts_float s.list, pairs_float s.meta) refl
 
-pairs_depth : (ps : List Pair) → items_depth (items_of (map pair_value ps)) ≤ 1
+pairs_depth : (ps : List Pair) → items_depth (items_of (map metadata_pair_json ps)) ≤ 1
 pairs_depth [] = omega arith
 pairs_depth (p ∷ ps) = let later = pairs_depth ps in omega arith
 
-listed_depth : (ls : List Listed) → items_depth (items_of (map listed_value ls)) ≤ 1
+listed_depth : (ls : List Listed) → items_depth (items_of (map record_part_json ls)) ≤ 1
 listed_depth [] = omega arith
 listed_depth (l ∷ ls) = let later = listed_depth ls in omega arith
 
-parts_depth : (ps : List SealedPart) → items_depth (items_of (map part_value ps)) ≤ 1
+parts_depth : (ps : List SealedPart) → items_depth (items_of (map sealed_part_json ps)) ≤ 1
 parts_depth [] = omega arith
 parts_depth (p ∷ ps) = let later = parts_depth ps in omega arith
 

@@ -1,7 +1,7 @@
 pub mod Answering
-pub mod Back
 pub mod Json
 pub mod Levels
 pub mod Limits
 pub mod Lists
 pub mod Utf8
+pub mod lemmas

@@ -11,8 +11,8 @@ use Rattle.s3_machine.specs.Limits.{is_content_type, is_proper_meta, is_proper_p
 use Rattle.s3_machine.specs.declared.operation.Listed.{Listed}
 use Rattle.swift_marks.specs.Tag as mark
 use Rattle.upload_texts.specs.Places.{is_part_count}
-use Rattle.upload_texts.specs.Records.{has_record_text, is_kept_content, is_kept_list, is_kept_part}
-use Rattle.upload_texts.specs.Sealed.{has_sealed_text, is_sealed_dated, is_sealed_list, is_sealed_part, is_sealed_place}
+use Rattle.upload_texts.specs.Records.{has_record_text, content_fits_record_text, list_fits_record_text, part_fits_record_text}
+use Rattle.upload_texts.specs.Sealed.{has_sealed_text, is_sealed_dated, is_sealed_list, part_fits_sealed_text, is_sealed_place}
 use Rattle.upload_texts.specs.declared.record.Record.TheVariants.{Open, Done}
 use Rattle.upload_texts.specs.declared.sealed.Sealed.{Sealed}
 use Rattle.upload_texts.proofs.Utf8.{key_is_utf8, mark_is_utf8, type_is_utf8, bucket_is_utf8}
@@ -23,7 +23,7 @@ pub record Content (content_type : List ℕ) (meta : List Pair) : Type 0 where
   pub pairs : list_all is_proper_pair meta ≡ true
   pub ascends : names_ascend meta ≡ true
 
-content_of : (content_type : List ℕ) (meta : List Pair) → is_kept_content content_type meta ≡ true → Content content_type meta
+content_of : (content_type : List ℕ) (meta : List Pair) → content_fits_record_text content_type meta ≡ true → Content content_type meta
 unfolding is_proper_meta
 content_of content_type meta h =
     let outer = and_parts (is_content_type content_type) _ h in
@@ -37,7 +37,7 @@ content_of content_type meta h =
 module _ (key content_type : List ℕ) (meta : List Pair) (started : ℕ) (h : has_record_text (Open key content_type meta started) ≡ true) where
   open_content : Content content_type meta
   unfolding has_record_text
-  open_content = content_of content_type meta (and_parts (is_kept_content content_type meta) _ (and_parts (is_key key) _ h).1).0
+  open_content = content_of content_type meta (and_parts (content_fits_record_text content_type meta) _ (and_parts (is_key key) _ h).1).0
 
   pub open_key : is_utf8 key ≡ true
   unfolding has_record_text
@@ -57,24 +57,24 @@ module _ (key : List ℕ) (list : List Listed) (etag : List ℕ) (started : ℕ)
   unfolding has_record_text
   done_key = key_is_utf8 key (and_parts (is_key key) _ h).0
 
-  pub done_list : list_all is_kept_part list ≡ true
+  pub done_list : list_all part_fits_record_text list ≡ true
   unfolding has_record_text
-  done_list = (and_parts (is_part_count (length list)) (list_all is_kept_part list) (and_parts (is_kept_list list) _ (and_parts (is_key key) _ h).1).0).1
+  done_list = (and_parts (is_part_count (length list)) (list_all part_fits_record_text list) (and_parts (list_fits_record_text list) _ (and_parts (is_key key) _ h).1).0).1
 
   pub done_etag : is_utf8 etag ≡ true
   unfolding has_record_text
-  done_etag = mark_is_utf8 etag (and_parts (mark.is_etag etag) _ (and_parts (is_kept_list list) _ (and_parts (is_key key) _ h).1).1).0
+  done_etag = mark_is_utf8 etag (and_parts (mark.is_etag etag) _ (and_parts (list_fits_record_text list) _ (and_parts (is_key key) _ h).1).1).0
 
 module _ (s : Sealed) (h : has_sealed_text s ≡ true) where
   sealed_content : Content s.content_type s.meta
   unfolding has_sealed_text
   sealed_content =
       let behind = and_parts (nat_lt s.id (2 ^ 128)) _ (and_parts (is_sealed_place s) _ h).1 in
-      content_of s.content_type s.meta (and_parts (is_kept_content s.content_type s.meta) _ behind.1).0
+      content_of s.content_type s.meta (and_parts (content_fits_record_text s.content_type s.meta) _ behind.1).0
 
   sealed_rest : ((is_sealed_list s.list && (mark.is_etag s.etag && is_sealed_dated s)) ≡ true)
   unfolding has_sealed_text
-  sealed_rest = (and_parts (is_kept_content s.content_type s.meta) _ (and_parts (nat_lt s.id (2 ^ 128)) _ (and_parts (is_sealed_place s) _ h).1).1).1
+  sealed_rest = (and_parts (content_fits_record_text s.content_type s.meta) _ (and_parts (nat_lt s.id (2 ^ 128)) _ (and_parts (is_sealed_place s) _ h).1).1).1
 
   pub sealed_bucket : is_utf8 s.bucket ≡ true
   unfolding has_sealed_text
@@ -93,8 +93,8 @@ module _ (s : Sealed) (h : has_sealed_text s ≡ true) where
   pub sealed_meta : names_ascend s.meta ≡ true
   sealed_meta = sealed_content.ascends
 
-  pub sealed_parts : list_all is_sealed_part s.list ≡ true
-  sealed_parts = (and_parts (is_part_count (length s.list)) (list_all is_sealed_part s.list) (and_parts (is_sealed_list s.list) _ sealed_rest).0).1
+  pub sealed_parts : list_all part_fits_sealed_text s.list ≡ true
+  sealed_parts = (and_parts (is_part_count (length s.list)) (list_all part_fits_sealed_text s.list) (and_parts (is_sealed_list s.list) _ sealed_rest).0).1
 
   pub sealed_etag : is_utf8 s.etag ≡ true
   sealed_etag = mark_is_utf8 s.etag (and_parts (mark.is_etag s.etag) _ (and_parts (is_sealed_list s.list) _ sealed_rest).1).0

@@ -17,9 +17,9 @@ use Rattle.s3_machine.specs.Limits.{is_proper_pair}
 use Rattle.s3_machine.specs.Uploads.{greatest_part}
 use Rattle.s3_machine.specs.declared.operation.Listed.{Listed}
 use Rattle.slo_manifest.specs.Segments.{is_etag}
-use Rattle.upload_texts.specs.Places.{is_part_number, list_of, pair_in, text_in}
-use Rattle.upload_texts.specs.Records.{is_kept_part}
-use Rattle.upload_texts.specs.Sealed.{is_sealed_part}
+use Rattle.upload_texts.specs.Places.{part_number_fits_record_text, list_of, pair_in, text_in}
+use Rattle.upload_texts.specs.Records.{part_fits_record_text}
+use Rattle.upload_texts.specs.Sealed.{part_fits_sealed_text}
 use Rattle.upload_texts.specs.declared.sealed.SealedPart.{SealedPart}
 
 pub list_back : (ds : List Data) → list_of (items_of ds) ≡ ds
@@ -39,11 +39,11 @@ passes_at test (x ∷ xs) (suc i) d h below = passes_at test xs i d (and_parts (
 pub pair_there : (ps : List Pair) (i : ℕ) (p : Pair) → list_all is_proper_pair ps ≡ true → i < length ps → p ≡ get_or ps i p → is_proper_pair p ≡ true
 pair_there ps i p h below same = ap is_proper_pair same ∙ passes_at is_proper_pair ps i p h below
 
-pub listed_there : (ls : List Listed) (i : ℕ) (l : Listed) → list_all is_kept_part ls ≡ true → i < length ls → l ≡ get_or ls i l → is_kept_part l ≡ true
-listed_there ls i l h below same = ap is_kept_part same ∙ passes_at is_kept_part ls i l h below
+pub listed_there : (ls : List Listed) (i : ℕ) (l : Listed) → list_all part_fits_record_text ls ≡ true → i < length ls → l ≡ get_or ls i l → part_fits_record_text l ≡ true
+listed_there ls i l h below same = ap part_fits_record_text same ∙ passes_at part_fits_record_text ls i l h below
 
-pub part_there : (ps : List SealedPart) (i : ℕ) (p : SealedPart) → list_all is_sealed_part ps ≡ true → i < length ps → p ≡ get_or ps i p → is_sealed_part p ≡ true
-part_there ps i p h below same = ap is_sealed_part same ∙ passes_at is_sealed_part ps i p h below
+pub part_there : (ps : List SealedPart) (i : ℕ) (p : SealedPart) → list_all part_fits_sealed_text ps ≡ true → i < length ps → p ≡ get_or ps i p → part_fits_sealed_text p ≡ true
+part_there ps i p h below same = ap part_fits_sealed_text same ∙ passes_at part_fits_sealed_text ps i p h below
 
 -- the items of values, with one more
 module _ {Y : Type 0} (f : Data → Y) (values : List Value) (i : ℕ) (value : Value) (below : i < length values) (same : value ≡ get_or values i value) where
@@ -86,13 +86,13 @@ meta_more values i value old new added name text so below same named valued told
 
 -- ---- what has a text keeps its limits
 
-pub kept_number : (l : Listed) → is_kept_part l ≡ true → l.number < 2 ^ 32
+pub kept_number : (l : Listed) → part_fits_record_text l ≡ true → l.number < 2 ^ 32
 unfolding greatest_part
-kept_number l h = let both = and_parts (nat_le 1 l.number) (nat_le l.number greatest_part) (and_parts (is_part_number l.number) (is_etag l.etag) h).0 in grind (arith, nat_tests)
+kept_number l h = let both = and_parts (nat_le 1 l.number) (nat_le l.number greatest_part) (and_parts (part_number_fits_record_text l.number) (is_etag l.etag) h).0 in grind (arith, nat_tests)
 
-pub sealed_number : (p : SealedPart) → is_sealed_part p ≡ true → p.number < 2 ^ 32
+pub sealed_number : (p : SealedPart) → part_fits_sealed_text p ≡ true → p.number < 2 ^ 32
 unfolding greatest_part
-sealed_number p h = let both = and_parts (nat_le 1 p.number) (nat_le p.number greatest_part) (and_parts (is_part_number p.number) (is_etag p.etag) (and_parts _ _ h).0).0 in grind (arith, nat_tests)
+sealed_number p h = let both = and_parts (nat_le 1 p.number) (nat_le p.number greatest_part) (and_parts (part_number_fits_record_text p.number) (is_etag p.etag) (and_parts _ _ h).0).0 in grind (arith, nat_tests)
 
 -- the parts read so far, where each keeps its limits
 module _ {Y : Type 0} (test : Y → Bool) (f : Data → Y) where

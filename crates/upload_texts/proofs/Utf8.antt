@@ -27,9 +27,9 @@ use Rattle.s3_machine.specs.declared.operation.Listed.{Listed}
 use Rattle.slo_manifest.specs.Segments.{is_etag}
 use Rattle.swift_marks.specs.Number.{number_of}
 use Rattle.swift_marks.specs.Tag as mark
-use Rattle.upload_texts.specs.Places.{is_part_number}
-use Rattle.upload_texts.specs.Records.{is_kept_part}
-use Rattle.upload_texts.specs.Sealed.{is_sealed_part}
+use Rattle.upload_texts.specs.Places.{part_number_fits_record_text}
+use Rattle.upload_texts.specs.Records.{part_fits_record_text}
+use Rattle.upload_texts.specs.Sealed.{part_fits_sealed_text}
 use Rattle.upload_texts.specs.declared.sealed.SealedPart.{SealedPart}
 
 -- bytes of which each passes a test that only ASCII passes
@@ -117,11 +117,11 @@ etag_is_utf8 : (etag : List ℕ) → is_etag etag ≡ true → is_utf8 etag ≡ 
 unfolding is_etag
 etag_is_utf8 etag h = utf8_by is_lower_hex hex_small etag (and_parts (length etag == 32) _ h).1
 
-pub kept_etag_is_utf8 : (l : Listed) → is_kept_part l ≡ true → is_utf8 l.etag ≡ true
-kept_etag_is_utf8 l h = etag_is_utf8 l.etag (and_parts (is_part_number l.number) (is_etag l.etag) h).1
+pub kept_etag_is_utf8 : (l : Listed) → part_fits_record_text l ≡ true → is_utf8 l.etag ≡ true
+kept_etag_is_utf8 l h = etag_is_utf8 l.etag (and_parts (part_number_fits_record_text l.number) (is_etag l.etag) h).1
 
-pub sealed_etag_is_utf8 : (p : SealedPart) → is_sealed_part p ≡ true → is_utf8 p.etag ≡ true
-sealed_etag_is_utf8 p h = etag_is_utf8 p.etag (and_parts (is_part_number p.number) (is_etag p.etag) (and_parts _ _ h).0).1
+pub sealed_etag_is_utf8 : (p : SealedPart) → part_fits_sealed_text p ≡ true → is_utf8 p.etag ≡ true
+sealed_etag_is_utf8 p h = etag_is_utf8 p.etag (and_parts (part_number_fits_record_text p.number) (is_etag p.etag) (and_parts _ _ h).0).1
 
 suffix_is_ascii : (suffix : List ℕ) → mark.is_parts_suffix suffix ≡ true → IsAscii suffix
 suffix_is_ascii [] h = IsAscii-nil

@@ -47,22 +47,22 @@ version_of text = version_in (json_or_null text)
 -- ---- entries of metadata, and parts
 
 -- `[NAME,VALUE]`
-abbrev pub pair_value : Pair → Data
-pair_value pair = array (item (string pair.name) (item (string pair.value) no_items))
+abbrev pub metadata_pair_json : Pair → Data
+metadata_pair_json pair = array (item (string pair.name) (item (string pair.value) no_items))
 
 abbrev pub pair_in : Data → Pair
 pair_in d = record { name = text_in (at 0 d); value = text_in (at 1 d) }
 
 -- `[NUMBER,ETAG]`
-abbrev pub listed_value : Listed → Data
-listed_value l = array (item (number (unsigned l.number)) (item (string l.etag) no_items))
+abbrev pub record_part_json : Listed → Data
+record_part_json l = array (item (number (unsigned l.number)) (item (string l.etag) no_items))
 
 abbrev pub listed_in : Data → Listed
 listed_in d = record { number = number_in (at 0 d); etag = text_in (at 1 d) }
 
 -- the number of a part
-abbrev pub is_part_number : ℕ → Bool
-is_part_number n = nat_le 1 n && nat_le n greatest_part
+abbrev pub part_number_fits_record_text : ℕ → Bool
+part_number_fits_record_text n = nat_le 1 n && nat_le n greatest_part
 
 -- as many parts as a completion may list
 abbrev pub is_part_count : ℕ → Bool

@@ -17,7 +17,7 @@ use Rattle.s3_machine.specs.declared.operation.Listed.{Listed}
 use Rattle.slo_manifest.specs.Manifest.{json_of}
 use Rattle.slo_manifest.specs.Segments.{is_etag}
 use Rattle.swift_marks.specs.Tag as mark
-use Rattle.upload_texts.specs.Places.{text_in, number_in, list_in, array_of, json_or_null, version_of, pair_value, pair_in, listed_value, listed_in, is_part_number, is_part_count}
+use Rattle.upload_texts.specs.Places.{text_in, number_in, list_in, array_of, json_or_null, version_of, metadata_pair_json, pair_in, record_part_json, listed_in, part_number_fits_record_text, is_part_count}
 use Rattle.upload_texts.specs.declared.record.Record.{Record}
 use Rattle.upload_texts.specs.declared.record.Record.TheVariants.{Open, Done}
 use Rattle.upload_texts.specs.declared.record.RecordFault.{RecordFault}
@@ -26,35 +26,35 @@ use Rattle.upload_texts.specs.declared.record.RecordFault.TheVariants.{NotARecor
 -- ---- which have a text
 
 -- what an upload's object is put with
-abbrev pub is_kept_content : List ℕ → List Pair → Bool
-is_kept_content content_type meta = is_content_type content_type && (is_proper_meta meta && names_ascend meta)
+abbrev pub content_fits_record_text : List ℕ → List Pair → Bool
+content_fits_record_text content_type meta = is_content_type content_type && (is_proper_meta meta && names_ascend meta)
 
 -- a part as a completion lists it
-abbrev pub is_kept_part : Listed → Bool
-is_kept_part l = is_part_number l.number && is_etag l.etag
+abbrev pub part_fits_record_text : Listed → Bool
+part_fits_record_text l = part_number_fits_record_text l.number && is_etag l.etag
 
 -- a moment that is known has a date
 abbrev pub is_dated : Option ℕ → Bool
 is_dated moment = option_map_or (λ m. nat_lt m moment_limit) moment true
 
-abbrev pub is_kept_list : List Listed → Bool
-is_kept_list list = is_part_count (length list) && list_all is_kept_part list
+abbrev pub list_fits_record_text : List Listed → Bool
+list_fits_record_text list = is_part_count (length list) && list_all part_fits_record_text list
 
 -- the groups stand in brackets, so that a proof takes the first of them by one step
 unfoldable pub has_record_text : Record → Bool
-has_record_text (Open key content_type meta started) = is_key key && (is_kept_content content_type meta && nat_lt started moment_limit)
+has_record_text (Open key content_type meta started) = is_key key && (content_fits_record_text content_type meta && nat_lt started moment_limit)
 has_record_text (Done key list etag started moment) =
-    is_key key && (is_kept_list list && (mark.is_etag etag && (nat_lt started moment_limit && is_dated moment)))
+    is_key key && (list_fits_record_text list && (mark.is_etag etag && (nat_lt started moment_limit && is_dated moment)))
 
 -- ---- the text
 
-abbrev pub open_object : ℕ → List ℕ → Data → List ℕ → Data
-open_object started key meta content_type =
+abbrev pub open_record_object : ℕ → List ℕ → Data → List ℕ → Data
+open_record_object started key meta content_type =
     object (member (codes "at") (number (unsigned started)) (member (codes "key") (string key) (member (codes "meta") meta
     (member (codes "state") (string (codes "open")) (member (codes "type") (string content_type) (member (codes "v") (number (unsigned 1)) no_members))))))
 
-abbrev pub open_value : List ℕ → List ℕ → List Pair → ℕ → Data
-open_value key content_type meta started = open_object started key (array_of pair_value meta) content_type
+abbrev pub open_record_json : List ℕ → List ℕ → List Pair → ℕ → Data
+open_record_json key content_type meta started = open_record_object started key (array_of metadata_pair_json meta) content_type
 
 -- the members behind the moment, put one after another
 abbrev pub open_put : List ℕ → Data → List ℕ → Members → Members
@@ -75,20 +75,20 @@ done_put etag key list version ms =
     (with_member (codes "list") list (with_member (codes "key") (string key) (with_member (codes "etag") (string etag) ms))))
 
 -- a completion whose moment isn't known, and one whose moment is
-abbrev pub undated_value : ℕ → List ℕ → List ℕ → Data → Data
-undated_value started etag key list = object (member (codes "at") (number (unsigned started)) (done_members etag key list 1))
+abbrev pub undated_record_json : ℕ → List ℕ → List ℕ → Data → Data
+undated_record_json started etag key list = object (member (codes "at") (number (unsigned started)) (done_members etag key list 1))
 
-abbrev pub dated_value : ℕ → ℕ → List ℕ → List ℕ → Data → Data
-dated_value started moment etag key list =
+abbrev pub dated_record_json : ℕ → ℕ → List ℕ → List ℕ → Data → Data
+dated_record_json started moment etag key list =
     object (member (codes "at") (number (unsigned started)) (member (codes "done") (number (unsigned moment)) (done_members etag key list 2)))
 
-abbrev pub done_value : List ℕ → List Listed → List ℕ → ℕ → Option ℕ → Data
-done_value key list etag started None = undated_value started etag key (array_of listed_value list)
-done_value key list etag started (Some moment) = dated_value started moment etag key (array_of listed_value list)
+abbrev pub done_record_json : List ℕ → List Listed → List ℕ → ℕ → Option ℕ → Data
+done_record_json key list etag started None = undated_record_json started etag key (array_of record_part_json list)
+done_record_json key list etag started (Some moment) = dated_record_json started moment etag key (array_of record_part_json list)
 
 abbrev pub record_value : Record → Data
-record_value (Open key content_type meta started) = open_value key content_type meta started
-record_value (Done key list etag started moment) = done_value key list etag started moment
+record_value (Open key content_type meta started) = open_record_json key content_type meta started
+record_value (Done key list etag started moment) = done_record_json key list etag started moment
 
 -- the one text of a record
 unfoldable pub record_text : Record → List ℕ
@@ -104,11 +104,11 @@ moment_in d = cond (number_in (get (codes "v") d) == 1) None (Some (number_in (g
 abbrev pub open_in : Data → Record
 open_in d = Open (text_in (get (codes "key") d)) (text_in (get (codes "type") d)) (map pair_in (list_in (get (codes "meta") d))) (number_in (get (codes "at") d))
 
-abbrev pub done_in : Data → Record
-done_in d = Done (text_in (get (codes "key") d)) (map listed_in (list_in (get (codes "list") d))) (text_in (get (codes "etag") d)) (number_in (get (codes "at") d)) (moment_in d)
+abbrev pub done_record_in_json : Data → Record
+done_record_in_json d = Done (text_in (get (codes "key") d)) (map listed_in (list_in (get (codes "list") d))) (text_in (get (codes "etag") d)) (number_in (get (codes "at") d)) (moment_in d)
 
 abbrev pub record_in : Data → Record
-record_in d = cond (bytes_eq (text_in (get (codes "state") d)) (codes "open")) (open_in d) (done_in d)
+record_in d = cond (bytes_eq (text_in (get (codes "state") d)) (codes "open")) (open_in d) (done_record_in_json d)
 
 -- the record that has this text, and no other one
 abbrev pub record_from : Record → List ℕ → Option Record
@@ -122,15 +122,15 @@ abbrev pub is_known_version : ℕ → Bool
 is_known_version version = (version == 1) || (version == 2)
 
 -- the version of a text, where it is another one than these
-abbrev pub unless_known : (ℕ → Bool) → Option ℕ → Option ℕ
-unless_known known None = None
-unless_known known (Some version) = cond (known version) None (Some version)
+abbrev pub unless_known_record_version : (ℕ → Bool) → Option ℕ → Option ℕ
+unless_known_record_version known None = None
+unless_known_record_version known (Some version) = cond (known version) None (Some version)
 
 -- what reading answers; memory may run out for any text
 abbrev pub ReadsRecord : List ℕ → Result Record RecordFault → Type 0
 ReadsRecord text (Ok r) = read_record text ≡ Some r
-ReadsRecord text (Err NotARecord) = (read_record text ≡ None) × (unless_known is_known_version (version_of text) ≡ None)
-ReadsRecord text (Err (Version version)) = unless_known is_known_version (version_of text) ≡ Some version
+ReadsRecord text (Err NotARecord) = (read_record text ≡ None) × (unless_known_record_version is_known_version (version_of text) ≡ None)
+ReadsRecord text (Err (Version version)) = unless_known_record_version is_known_version (version_of text) ≡ Some version
 ReadsRecord text (Err Memory) = ⊤
 
 -- ---- the steps of reading

@@ -12,22 +12,22 @@ use Rattle.s3_machine.specs.Limits.{most_body_bytes}
 use Rattle.s3_machine.specs.Uploads.{id_value}
 use Rattle.slo_manifest.specs.Segments.{is_etag}
 use Rattle.swift_marks.specs.Tag as mark
-use Rattle.upload_texts.specs.Places.{text_in, number_in, list_in, array_of, json_or_null, version_of, pair_value, pair_in, is_part_number, is_part_count}
-use Rattle.upload_texts.specs.Records.{is_kept_content, unless_known}
+use Rattle.upload_texts.specs.Places.{text_in, number_in, list_in, array_of, json_or_null, version_of, metadata_pair_json, pair_in, part_number_fits_record_text, is_part_count}
+use Rattle.upload_texts.specs.Records.{content_fits_record_text, unless_known_record_version}
 use Rattle.upload_texts.specs.declared.sealed.Sealed.{Sealed}
 use Rattle.upload_texts.specs.declared.sealed.SealedPart.{SealedPart}
 use Rattle.upload_texts.specs.declared.record.RecordFault.{RecordFault}
 use Rattle.upload_texts.specs.declared.record.RecordFault.TheVariants.{NotARecord, Version, Memory}
 
-abbrev pub is_sealed_part : SealedPart → Bool
-is_sealed_part p = is_part_number p.number && is_etag p.etag && nat_le p.size most_body_bytes
+abbrev pub part_fits_sealed_text : SealedPart → Bool
+part_fits_sealed_text p = part_number_fits_record_text p.number && is_etag p.etag && nat_le p.size most_body_bytes
 
 -- where the object comes to be
 abbrev pub is_sealed_place : Sealed → Bool
 is_sealed_place s = is_bucket s.bucket && is_key s.key
 
 abbrev pub is_sealed_list : List SealedPart → Bool
-is_sealed_list list = is_part_count (length list) && list_all is_sealed_part list
+is_sealed_list list = is_part_count (length list) && list_all part_fits_sealed_text list
 
 abbrev pub is_sealed_dated : Sealed → Bool
 is_sealed_dated s = nat_lt s.started moment_limit && nat_lt s.moment moment_limit
@@ -35,12 +35,12 @@ is_sealed_dated s = nat_lt s.started moment_limit && nat_lt s.moment moment_limi
 -- the groups stand in brackets, so that a proof takes the first of them by one step
 unfoldable pub has_sealed_text : Sealed → Bool
 has_sealed_text s =
-    is_sealed_place s && (nat_lt s.id (2 ^ 128) && (is_kept_content s.content_type s.meta && (is_sealed_list s.list && (mark.is_etag s.etag && is_sealed_dated s))))
+    is_sealed_place s && (nat_lt s.id (2 ^ 128) && (content_fits_record_text s.content_type s.meta && (is_sealed_list s.list && (mark.is_etag s.etag && is_sealed_dated s))))
 
 -- ---- the text
 
-abbrev pub part_value : SealedPart → Data
-part_value p = array (item (number (unsigned p.number)) (item (string p.etag) (item (number (unsigned p.size)) no_items)))
+abbrev pub sealed_part_json : SealedPart → Data
+sealed_part_json p = array (item (number (unsigned p.number)) (item (string p.etag) (item (number (unsigned p.size)) no_items)))
 
 abbrev pub sealed_object : ℕ → List ℕ → List ℕ → List ℕ → List ℕ → Data → Data → ℕ → List ℕ → Data
 sealed_object moment bucket etag id key list meta started content_type =
@@ -61,7 +61,7 @@ rest_put list meta started content_type ms =
     (with_member (codes "meta") meta (with_member (codes "list") list ms))))
 
 abbrev pub sealed_value : Sealed → Data
-sealed_value s = sealed_object s.moment s.bucket s.etag (id_digits s.id) s.key (array_of part_value s.list) (array_of pair_value s.meta) s.started s.content_type
+sealed_value s = sealed_object s.moment s.bucket s.etag (id_digits s.id) s.key (array_of sealed_part_json s.list) (array_of metadata_pair_json s.meta) s.started s.content_type
 
 -- the one text of a sealed completion
 unfoldable pub sealed_text : Sealed → List ℕ
@@ -99,6 +99,6 @@ is_first_version version = version == 1
 -- what reading answers; memory may run out for any text
 abbrev pub ReadsSealed : List ℕ → Result Sealed RecordFault → Type 0
 ReadsSealed text (Ok s) = read_sealed text ≡ Some s
-ReadsSealed text (Err NotARecord) = (read_sealed text ≡ None) × (unless_known is_first_version (version_of text) ≡ None)
-ReadsSealed text (Err (Version version)) = unless_known is_first_version (version_of text) ≡ Some version
+ReadsSealed text (Err NotARecord) = (read_sealed text ≡ None) × (unless_known_record_version is_first_version (version_of text) ≡ None)
+ReadsSealed text (Err (Version version)) = unless_known_record_version is_first_version (version_of text) ≡ Some version
 ReadsSealed text (Err Memory) = ⊤

@@ -3,9 +3,9 @@ ghost use Rattle.std.specs.Prelude.{◌≡◌, ◌&&◌, length, nat_lt};
 ghost use Rattle.std.specs.List.{list_all};
 ghost use Rattle.gate_base.specs.Told.{moment_limit};
 ghost use Rattle.slo_manifest.specs.Segments.{is_etag};
-ghost use Rattle.upload_texts.specs.Places.{is_part_count, is_part_number};
-ghost use Rattle.upload_texts.specs.Records.{is_dated, is_kept_content, is_kept_list, is_kept_part};
-ghost use Rattle.upload_texts.specs.Sealed.{is_sealed_list, is_sealed_part};
+ghost use Rattle.upload_texts.specs.Places.{is_part_count, part_number_fits_record_text};
+ghost use Rattle.upload_texts.specs.Records.{is_dated, content_fits_record_text, list_fits_record_text, part_fits_record_text};
+ghost use Rattle.upload_texts.specs.Sealed.{is_sealed_list, part_fits_sealed_text};
 
 use crate::sealed::SealedPart;
 use gate_base::MOMENT_LIMIT;
@@ -32,16 +32,16 @@ pub(crate) fn is_dated(moment: Option<u64>) -> bool
 }
 
 /// Whether an object may be put with this.
-pub(crate) fn is_kept_content(content_type: &[u8], meta: &Meta) -> bool
-    ensures { result ≡ is_kept_content content_type.now meta.now }
+pub(crate) fn content_fits_record_text(content_type: &[u8], meta: &Meta) -> bool
+    ensures { result ≡ content_fits_record_text content_type.now meta.now }
 {
     let _ordered = meta.pairs();
     is_content_type(content_type) && is_proper_meta(meta)
 }
 
 #[tactic(auto, unfolding(s3_machine::specs::Uploads::greatest_part))]
-fn is_part_number(number: u32) -> bool
-    ensures { result ≡ is_part_number number }
+fn part_number_fits_record_text(number: u32) -> bool
+    ensures { result ≡ part_number_fits_record_text number }
 {
     1 <= number && number <= GREATEST_PART_NUMBER
 }
@@ -55,46 +55,47 @@ fn is_part_count(count: usize) -> bool
 
 /// The ETag of a part: 32 hexadecimal digits in lower case.
 #[tactic(auto, unfolding(slo_manifest::specs::Segments::is_etag))]
-fn is_part_etag(etag: &[u8]) -> bool
+fn part_etag_fits_record_text(etag: &[u8]) -> bool
     ensures { result ≡ is_etag etag.now }
 {
     etag.len() == 32 && all_lower_hex(etag)
 }
 
-fn is_kept_part(listed: &Listed) -> bool
-    ensures { result ≡ is_kept_part listed.now }
+fn part_fits_record_text(listed: &Listed) -> bool
+    ensures { result ≡ part_fits_record_text listed.now }
 {
-    is_part_number(listed.number) && is_part_etag(listed.etag.as_slice())
+    part_number_fits_record_text(listed.number)
+        && part_etag_fits_record_text(listed.etag.as_slice())
 }
 
-fn are_kept_parts(list: &[Listed]) -> bool
-    ensures { result ≡ list_all is_kept_part list.now }
+fn parts_fit_record_text(list: &[Listed]) -> bool
+    ensures { result ≡ list_all part_fits_record_text list.now }
 {
-    list.iter().all(|listed| is_kept_part(listed))
+    list.iter().all(|listed| part_fits_record_text(listed))
 }
 
-pub(crate) fn is_kept_list(list: &[Listed]) -> bool
-    ensures { result ≡ is_kept_list list.now }
+pub(crate) fn list_fits_record_text(list: &[Listed]) -> bool
+    ensures { result ≡ list_fits_record_text list.now }
 {
-    is_part_count(list.len()) && are_kept_parts(list)
+    is_part_count(list.len()) && parts_fit_record_text(list)
 }
 
-fn is_sealed_part(part: &SealedPart) -> bool
-    ensures { result ≡ is_sealed_part part.now }
+fn part_fits_sealed_text(part: &SealedPart) -> bool
+    ensures { result ≡ part_fits_sealed_text part.now }
 {
-    is_part_number(part.number)
-        && is_part_etag(part.etag.as_slice())
+    part_number_fits_record_text(part.number)
+        && part_etag_fits_record_text(part.etag.as_slice())
         && part.size <= MOST_BODY_BYTES
 }
 
-fn are_sealed_parts(list: &[SealedPart]) -> bool
-    ensures { result ≡ list_all is_sealed_part list.now }
+fn parts_fit_sealed_text(list: &[SealedPart]) -> bool
+    ensures { result ≡ list_all part_fits_sealed_text list.now }
 {
-    list.iter().all(|part| is_sealed_part(part))
+    list.iter().all(|part| part_fits_sealed_text(part))
 }
 
 pub(crate) fn is_sealed_list(list: &[SealedPart]) -> bool
     ensures { result ≡ is_sealed_list list.now }
 {
-    is_part_count(list.len()) && are_sealed_parts(list)
+    is_part_count(list.len()) && parts_fit_sealed_text(list)
 }

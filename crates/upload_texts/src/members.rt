@@ -7,7 +7,7 @@ use gate_base::Memory;
 use serde_json::{Map, ToValue, Value, put};
 use std::alloc::Global;
 
-pub(crate) fn put_text(
+pub(crate) fn put_record_field_text(
     map: &mut Map<String, Value>,
     alloc: Global,
     key: &str,
@@ -21,7 +21,7 @@ pub(crate) fn put_text(
     Ok(())
 }
 
-pub(crate) fn put_value(
+pub(crate) fn put_record_field_value(
     map: &mut Map<String, Value>,
     alloc: Global,
     key: &str,
@@ -35,7 +35,7 @@ pub(crate) fn put_value(
     Ok(())
 }
 
-pub(crate) fn put_number(
+pub(crate) fn put_record_field_number(
     map: &mut Map<String, Value>,
     alloc: Global,
     key: &str,

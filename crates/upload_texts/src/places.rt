@@ -7,26 +7,26 @@ ghost use Rattle.upload_texts.specs.Places.{items_in, list_in, number_in, text_i
 use serde_json::Value;
 
 /// The text under a name.
-pub(crate) fn text_at<'v>(value: &'v Value, field: &str) -> &'v str
+pub(crate) fn record_field_text<'v>(value: &'v Value, field: &str) -> &'v str
     ensures { result.now ≡ text_in (get field.now (view value.now)) }
 {
     match value.get(field) {
-        Some(found) => text_of(found),
+        Some(found) => record_value_text(found),
         None => "",
     }
 }
 
 /// The text at an index.
-pub(crate) fn text_item(value: &Value, index: usize) -> &str
+pub(crate) fn record_item_text(value: &Value, index: usize) -> &str
     ensures { result.now ≡ text_in (at index (view value.now)) }
 {
     match value.get(index) {
-        Some(found) => text_of(found),
+        Some(found) => record_value_text(found),
         None => "",
     }
 }
 
-fn text_of(value: &Value) -> &str
+fn record_value_text(value: &Value) -> &str
     ensures { result.now ≡ unwrap_or (as_str (view value.now)) [] }
 {
     match value.as_str() {
@@ -36,26 +36,26 @@ fn text_of(value: &Value) -> &str
 }
 
 /// The whole number under a name.
-pub(crate) fn number_at(value: &Value, field: &str) -> u64
+pub(crate) fn record_field_number(value: &Value, field: &str) -> u64
     ensures { result ≡ number_in (get field.now (view value.now)) }
 {
     match value.get(field) {
-        Some(found) => number_of(found),
+        Some(found) => record_value_number(found),
         None => 0,
     }
 }
 
 /// The whole number at an index.
-pub(crate) fn number_item(value: &Value, index: usize) -> u64
+pub(crate) fn record_item_number(value: &Value, index: usize) -> u64
     ensures { result ≡ number_in (at index (view value.now)) }
 {
     match value.get(index) {
-        Some(found) => number_of(found),
+        Some(found) => record_value_number(found),
         None => 0,
     }
 }
 
-fn number_of(value: &Value) -> u64
+fn record_value_number(value: &Value) -> u64
     ensures { result ≡ unwrap_or (option_and_then as_u64 (as_number (view value.now))) 0 }
 {
     match value.as_u64() {
@@ -65,7 +65,7 @@ fn number_of(value: &Value) -> u64
 }
 
 /// What the list under a name has.
-pub(crate) fn list_at<'v>(value: &'v Value, field: &str) -> &'v [Value]
+pub(crate) fn record_field_list<'v>(value: &'v Value, field: &str) -> &'v [Value]
     ensures { map view result.now ≡ list_in (get field.now (view value.now)) }
 {
     match value.get(field) {
@@ -85,7 +85,7 @@ fn list_of(value: &Value) -> &[Value]
 }
 
 /// The whole number under `v`, if there is one.
-pub(crate) fn version_at(value: &Value) -> Option<u64>
+pub(crate) fn record_field_version(value: &Value) -> Option<u64>
     ensures { result ≡ version_in (view value.now) }
 {
     value.get("v")?.as_u64()

@@ -4,10 +4,10 @@ ghost use Rattle.std.specs.List.{list_all};
 ghost use Rattle.serde_json.specs.View.{view};
 ghost use Rattle.s3_names.specs.Meta.{names_ascend};
 ghost use Rattle.upload_texts.specs.Places.{listed_in, pair_in};
-ghost use Rattle.upload_texts.specs.Records.{is_kept_part, is_known_version, unless_known, Parses};
-ghost use Rattle.upload_texts.specs.Sealed.{is_first_version, is_sealed_part, part_in};
+ghost use Rattle.upload_texts.specs.Records.{part_fits_record_text, is_known_version, unless_known_record_version, Parses};
+ghost use Rattle.upload_texts.specs.Sealed.{is_first_version, part_fits_sealed_text, part_in};
 
-use crate::places::{number_item, text_item};
+use crate::places::{record_item_number, record_item_text};
 use crate::record::RecordFault;
 use crate::sealed::SealedPart;
 use gate_base::{Bytes, List, Memory};
@@ -18,7 +18,7 @@ use std::alloc::Global;
 
 /// The JSON of a text.
 #[tactic(auto, using(crate::proofs::Json::json_read, crate::proofs::Json::json_refused))]
-pub(crate) fn parse(alloc: Global, bytes: &[u8]) -> Result<Value, RecordFault>
+pub(crate) fn parse_record_json(alloc: Global, bytes: &[u8]) -> Result<Value, RecordFault>
     ensures { Parses bytes.now result }
 {
     match Value::from_slice(alloc, bytes) {
@@ -31,8 +31,8 @@ pub(crate) fn parse(alloc: Global, bytes: &[u8]) -> Result<Value, RecordFault>
 }
 
 /// A version other than those of records.
-pub(crate) fn unless_known(version: Option<u64>) -> Option<u64>
-    ensures { result ≡ unless_known is_known_version version }
+pub(crate) fn unless_known_record_version(version: Option<u64>) -> Option<u64>
+    ensures { result ≡ unless_known_record_version is_known_version version }
 {
     match version {
         Some(version) if version != 1 && version != 2 => Some(version),
@@ -41,8 +41,8 @@ pub(crate) fn unless_known(version: Option<u64>) -> Option<u64>
 }
 
 /// A version other than that of sealed completions.
-pub(crate) fn unless_first(version: Option<u64>) -> Option<u64>
-    ensures { result ≡ unless_known is_first_version version }
+pub(crate) fn unless_first_sealed_version(version: Option<u64>) -> Option<u64>
+    ensures { result ≡ unless_known_record_version is_first_version version }
 {
     match version {
         Some(version) if version != 1 => Some(version),
@@ -50,7 +50,7 @@ pub(crate) fn unless_first(version: Option<u64>) -> Option<u64>
     }
 }
 
-pub(crate) fn is_same(one: &[u8], other: &[u8]) -> bool
+pub(crate) fn is_same_record_text(one: &[u8], other: &[u8]) -> bool
     ensures { result ≡ bytes_eq one.now other.now }
 {
     one == other
@@ -64,15 +64,15 @@ pub(crate) fn meta_in(alloc: Global, values: &[Value]) -> Result<Meta, Memory>
 {
     let mut meta = Meta::new(alloc);
     for value in values {
-        let name = text_item(value, 0);
-        let text = text_item(value, 1);
+        let name = record_item_text(value, 0);
+        let text = record_item_text(value, 1);
         meta.add(name.as_bytes(), text.as_bytes())?;
     }
     Ok(meta)
 }
 
 /// A number that fits, and 0 for every other one.
-fn small(number: u64) -> u32
+fn record_number_or_zero(number: u64) -> u32
     ensures { number < 2 ^ 32 → result ≡ number }
 {
     if number <= u64::from(u32::MAX) {
@@ -84,47 +84,50 @@ fn small(number: u64) -> u32
 
 /// The parts that a completion lists, where each keeps its limits.
 pub(crate) fn listed_in(alloc: Global, values: &[Value]) -> Result<List<Listed>, Memory>
-    ensures { IfOk result (λ list. list_all is_kept_part
+    ensures { IfOk result (λ list. list_all part_fits_record_text
         (map listed_in (map view values.now)) ≡ true → list ≡ map listed_in (map view values.now)) }
 {
     let mut list = List::new(alloc);
     for value in values {
-        list.push(one_listed(alloc, value)?)?;
+        list.push(record_part_in_json(alloc, value)?)?;
     }
     Ok(list)
 }
 
 #[tactic(auto, using(crate::proofs::Lists::kept_number))]
-fn one_listed(alloc: Global, value: &Value) -> Result<Listed, Memory>
-    ensures { IfOk result (λ listed. is_kept_part (listed_in (view value.now)) ≡ true
+fn record_part_in_json(alloc: Global, value: &Value) -> Result<Listed, Memory>
+    ensures { IfOk result (λ listed. part_fits_record_text (listed_in (view value.now)) ≡ true
         → listed ≡ listed_in (view value.now)) }
 {
     Ok(Listed {
-        number: small(number_item(value, 0)),
-        etag: Bytes::from_slice(alloc, text_item(value, 1).as_bytes())?,
+        number: record_number_or_zero(record_item_number(value, 0)),
+        etag: Bytes::from_slice(alloc, record_item_text(value, 1).as_bytes())?,
     })
 }
 
 /// The parts of a sealed completion, where each keeps its limits.
-pub(crate) fn parts_in(alloc: Global, values: &[Value]) -> Result<List<SealedPart>, Memory>
-    ensures { IfOk result (λ list. list_all is_sealed_part
+pub(crate) fn sealed_parts_in_json(
+    alloc: Global,
+    values: &[Value],
+) -> Result<List<SealedPart>, Memory>
+    ensures { IfOk result (λ list. list_all part_fits_sealed_text
         (map part_in (map view values.now)) ≡ true → list ≡ map part_in (map view values.now)) }
 {
     let mut list = List::new(alloc);
     for value in values {
-        list.push(one_part(alloc, value)?)?;
+        list.push(sealed_part_in_json(alloc, value)?)?;
     }
     Ok(list)
 }
 
 #[tactic(auto, using(crate::proofs::Lists::sealed_number))]
-fn one_part(alloc: Global, value: &Value) -> Result<SealedPart, Memory>
-    ensures { IfOk result (λ part. is_sealed_part (part_in (view value.now)) ≡ true
+fn sealed_part_in_json(alloc: Global, value: &Value) -> Result<SealedPart, Memory>
+    ensures { IfOk result (λ part. part_fits_sealed_text (part_in (view value.now)) ≡ true
         → part ≡ part_in (view value.now)) }
 {
     Ok(SealedPart {
-        number: small(number_item(value, 0)),
-        etag: Bytes::from_slice(alloc, text_item(value, 1).as_bytes())?,
-        size: number_item(value, 2),
+        number: record_number_or_zero(record_item_number(value, 0)),
+        etag: Bytes::from_slice(alloc, record_item_text(value, 1).as_bytes())?,
+        size: record_item_number(value, 2),
     })
 }

@@ -4,13 +4,17 @@ ghost use Rattle.serde_json.specs.View.{members_view, view};
 ghost use Rattle.slo_manifest.specs.Manifest.{json_of};
 ghost use Rattle.upload_texts.specs.Places.{version_in};
 ghost use Rattle.upload_texts.specs.declared.record.Record.TheVariants.{Done, Open};
-ghost use Rattle.upload_texts.specs.Records.{done_in, done_put, done_value, has_record_text, moment_in, open_in, open_object, open_put, open_value, read_record, record_in, record_text, record_value, undated_value, dated_value, is_known_version, unless_known, ReadsRecord};
+ghost use Rattle.upload_texts.specs.Records.{done_record_in_json, done_put, done_record_json, has_record_text, moment_in, open_in, open_record_object, open_put, open_record_json, read_record, record_in, record_text, record_value, undated_record_json, dated_record_json, is_known_version, unless_known_record_version, ReadsRecord};
 
-use crate::forms::{is_dated, is_kept_content, is_kept_list, is_moment};
-use crate::members::{put_number, put_text, put_value};
-use crate::places::{list_at, number_at, text_at, version_at};
-use crate::reading::{is_same, listed_in, meta_in, parse, unless_known};
-use crate::values::{listed_values, pair_values};
+use crate::forms::{content_fits_record_text, is_dated, is_moment, list_fits_record_text};
+use crate::members::{put_record_field_number, put_record_field_text, put_record_field_value};
+use crate::places::{
+    record_field_list, record_field_number, record_field_text, record_field_version,
+};
+use crate::reading::{
+    is_same_record_text, listed_in, meta_in, parse_record_json, unless_known_record_version,
+};
+use crate::values::{metadata_pairs_json, record_parts_json};
 use gate_base::{Bytes, Copying, List, Memory};
 use s3_machine::Listed;
 use s3_names::{Meta, is_key};
@@ -75,7 +79,7 @@ impl Record {
     pub fn read(alloc: Global, bytes: &[u8]) -> Result<Record, RecordFault>
         ensures { ReadsRecord bytes.now result }
     {
-        match parse(alloc, bytes) {
+        match parse_record_json(alloc, bytes) {
             Ok(value) => Record::versioned(alloc, bytes, &value),
             Err(fault) => Err(fault),
         }
@@ -86,7 +90,7 @@ impl Record {
         requires { json_of bytes.now ≡ Some (view value.now) }
         ensures { ReadsRecord bytes.now result }
     {
-        match unless_known(version_at(value)) {
+        match unless_known_record_version(record_field_version(value)) {
             Some(version) => Err(RecordFault::Version(version)),
             None => Record::checked(alloc, bytes, value),
         }
@@ -95,7 +99,7 @@ impl Record {
     /// The same where the version is known.
     fn checked(alloc: Global, bytes: &[u8], value: &Value) -> Result<Record, RecordFault>
         requires parsed { json_of bytes.now ≡ Some (view value.now) }
-        requires known { unless_known is_known_version (version_in (view value.now)) ≡ None }
+        requires known { unless_known_record_version is_known_version (version_in (view value.now)) ≡ None }
         ensures { ReadsRecord bytes.now result }
     {
         let found = record_in(alloc, value)?;
@@ -103,7 +107,7 @@ impl Record {
             return Err(RecordFault::NotARecord);
         }
         let text = found.write(alloc)?;
-        if !is_same(text.as_slice(), bytes) {
+        if !is_same_record_text(text.as_slice(), bytes) {
             return Err(RecordFault::NotARecord);
         }
         Ok(found)
@@ -134,7 +138,7 @@ impl Record {
                 started,
             } => {
                 is_key(key.as_slice())
-                    && is_kept_content(content_type.as_slice(), meta)
+                    && content_fits_record_text(content_type.as_slice(), meta)
                     && is_moment(*started)
             }
             Record::Done {
@@ -145,7 +149,7 @@ impl Record {
                 moment,
             } => {
                 is_key(key.as_slice())
-                    && is_kept_list(list.as_slice())
+                    && list_fits_record_text(list.as_slice())
                     && is_etag(etag.as_slice())
                     && is_moment(*started)
                     && is_dated(*moment)
@@ -163,20 +167,20 @@ impl Record {
                 content_type,
                 meta,
                 started,
-            } => open_value(alloc, key, content_type, meta, *started),
+            } => open_record_json(alloc, key, content_type, meta, *started),
             Record::Done {
                 key,
                 list,
                 etag,
                 started,
                 moment,
-            } => done_value(alloc, key, list, etag, *started, *moment),
+            } => done_record_json(alloc, key, list, etag, *started, *moment),
         }
     }
 }
 
 #[tactic(auto, using(crate::proofs::Limits::open_key, crate::proofs::Limits::open_type, crate::proofs::Limits::open_pairs))]
-fn open_value(
+fn open_record_json(
     alloc: Global,
     key: &Bytes,
     content_type: &Bytes,
@@ -185,15 +189,15 @@ fn open_value(
 ) -> Result<Value, Memory>
     requires { has_record_text (Open key.now content_type.now meta.now started) ≡ true }
     ensures { IfOk result
-        (λ value. view value ≡ open_value key.now content_type.now meta.now started) }
+        (λ value. view value ≡ open_record_json key.now content_type.now meta.now started) }
 {
-    let meta = Value::Array(pair_values(alloc, meta.pairs())?);
+    let meta = Value::Array(metadata_pairs_json(alloc, meta.pairs())?);
     let key = text_of(key.as_slice());
     let content_type = text_of(content_type.as_slice());
-    open_object(alloc, key, content_type, &meta, started)
+    open_record_object(alloc, key, content_type, &meta, started)
 }
 
-fn open_object(
+fn open_record_object(
     alloc: Global,
     key: &str,
     content_type: &str,
@@ -201,16 +205,16 @@ fn open_object(
     started: u64,
 ) -> Result<Value, Memory>
     ensures { IfOk result
-        (λ value. view value ≡ open_object started key.now (view meta.now) content_type.now) }
+        (λ value. view value ≡ open_record_object started key.now (view meta.now) content_type.now) }
 {
     let mut map = Map::new(alloc);
-    put_number(&mut map, alloc, "at", started)?;
-    put_open(&mut map, alloc, key, meta, content_type)?;
+    put_record_field_number(&mut map, alloc, "at", started)?;
+    put_open_record_fields(&mut map, alloc, key, meta, content_type)?;
     Ok(Value::Object(map))
 }
 
 /// What stands behind the moment of an open upload.
-fn put_open(
+fn put_open_record_fields(
     map: &mut Map<String, Value>,
     alloc: Global,
     key: &str,
@@ -220,15 +224,15 @@ fn put_open(
     ensures { OnOk result (members_view map.new.entries ≡ open_put key.now (view meta.now)
         content_type.now (members_view map.old.entries)) }
 {
-    put_text(map, alloc, "key", key)?;
-    put_value(map, alloc, "meta", meta)?;
-    put_text(map, alloc, "state", "open")?;
-    put_text(map, alloc, "type", content_type)?;
-    put_number(map, alloc, "v", 1)
+    put_record_field_text(map, alloc, "key", key)?;
+    put_record_field_value(map, alloc, "meta", meta)?;
+    put_record_field_text(map, alloc, "state", "open")?;
+    put_record_field_text(map, alloc, "type", content_type)?;
+    put_record_field_number(map, alloc, "v", 1)
 }
 
 #[tactic(auto, using(crate::proofs::Limits::done_key, crate::proofs::Limits::done_list, crate::proofs::Limits::done_etag))]
-fn done_value(
+fn done_record_json(
     alloc: Global,
     key: &Bytes,
     list: &List<Listed>,
@@ -238,18 +242,18 @@ fn done_value(
 ) -> Result<Value, Memory>
     requires { has_record_text (Done key.now list.now etag.now started moment) ≡ true }
     ensures { IfOk result
-        (λ value. view value ≡ done_value key.now list.now etag.now started moment) }
+        (λ value. view value ≡ done_record_json key.now list.now etag.now started moment) }
 {
-    let list = Value::Array(listed_values(alloc, list.as_slice())?);
+    let list = Value::Array(record_parts_json(alloc, list.as_slice())?);
     let key = text_of(key.as_slice());
     let etag = text_of(etag.as_slice());
     match moment {
-        Some(moment) => dated_value(alloc, key, &list, etag, started, moment),
-        None => undated_value(alloc, key, &list, etag, started),
+        Some(moment) => dated_record_json(alloc, key, &list, etag, started, moment),
+        None => undated_record_json(alloc, key, &list, etag, started),
     }
 }
 
-fn undated_value(
+fn undated_record_json(
     alloc: Global,
     key: &str,
     list: &Value,
@@ -257,15 +261,15 @@ fn undated_value(
     started: u64,
 ) -> Result<Value, Memory>
     ensures { IfOk result
-        (λ value. view value ≡ undated_value started etag.now key.now (view list.now)) }
+        (λ value. view value ≡ undated_record_json started etag.now key.now (view list.now)) }
 {
     let mut map = Map::new(alloc);
-    put_number(&mut map, alloc, "at", started)?;
-    put_done(&mut map, alloc, etag, key, list, 1)?;
+    put_record_field_number(&mut map, alloc, "at", started)?;
+    put_done_record_fields(&mut map, alloc, etag, key, list, 1)?;
     Ok(Value::Object(map))
 }
 
-fn dated_value(
+fn dated_record_json(
     alloc: Global,
     key: &str,
     list: &Value,
@@ -274,17 +278,17 @@ fn dated_value(
     moment: u64,
 ) -> Result<Value, Memory>
     ensures { IfOk result
-        (λ value. view value ≡ dated_value started moment etag.now key.now (view list.now)) }
+        (λ value. view value ≡ dated_record_json started moment etag.now key.now (view list.now)) }
 {
     let mut map = Map::new(alloc);
-    put_number(&mut map, alloc, "at", started)?;
-    put_number(&mut map, alloc, "done", moment)?;
-    put_done(&mut map, alloc, etag, key, list, 2)?;
+    put_record_field_number(&mut map, alloc, "at", started)?;
+    put_record_field_number(&mut map, alloc, "done", moment)?;
+    put_done_record_fields(&mut map, alloc, etag, key, list, 2)?;
     Ok(Value::Object(map))
 }
 
 /// What stands behind the moments of a completion, in each version.
-fn put_done(
+fn put_done_record_fields(
     map: &mut Map<String, Value>,
     alloc: Global,
     etag: &str,
@@ -295,11 +299,11 @@ fn put_done(
     ensures { OnOk result (members_view map.new.entries ≡ done_put etag.now key.now
         (view list.now) version (members_view map.old.entries)) }
 {
-    put_text(map, alloc, "etag", etag)?;
-    put_text(map, alloc, "key", key)?;
-    put_value(map, alloc, "list", list)?;
-    put_text(map, alloc, "state", "done")?;
-    put_number(map, alloc, "v", version)
+    put_record_field_text(map, alloc, "etag", etag)?;
+    put_record_field_text(map, alloc, "key", key)?;
+    put_record_field_value(map, alloc, "list", list)?;
+    put_record_field_text(map, alloc, "state", "done")?;
+    put_record_field_number(map, alloc, "v", version)
 }
 
 /// The record that stands in the places of a value, where that has a text.
@@ -307,10 +311,10 @@ fn record_in(alloc: Global, value: &Value) -> Result<Record, Memory>
     ensures { IfOk result (λ r. has_record_text (record_in (view value.now)) ≡ true
         → r ≡ record_in (view value.now)) }
 {
-    if text_at(value, "state").as_bytes() == b"open".as_slice() {
+    if record_field_text(value, "state").as_bytes() == b"open".as_slice() {
         open_in(alloc, value)
     } else {
-        done_in(alloc, value)
+        done_record_in_json(alloc, value)
     }
 }
 
@@ -320,23 +324,23 @@ fn open_in(alloc: Global, value: &Value) -> Result<Record, Memory>
         (λ r. has_record_text (open_in (view value.now)) ≡ true → r ≡ open_in (view value.now)) }
 {
     Ok(Record::Open {
-        key: Bytes::from_slice(alloc, text_at(value, "key").as_bytes())?,
-        content_type: Bytes::from_slice(alloc, text_at(value, "type").as_bytes())?,
-        meta: meta_in(alloc, list_at(value, "meta"))?,
-        started: number_at(value, "at"),
+        key: Bytes::from_slice(alloc, record_field_text(value, "key").as_bytes())?,
+        content_type: Bytes::from_slice(alloc, record_field_text(value, "type").as_bytes())?,
+        meta: meta_in(alloc, record_field_list(value, "meta"))?,
+        started: record_field_number(value, "at"),
     })
 }
 
 #[tactic(auto, using(crate::proofs::Limits::done_list))]
-fn done_in(alloc: Global, value: &Value) -> Result<Record, Memory>
+fn done_record_in_json(alloc: Global, value: &Value) -> Result<Record, Memory>
     ensures { IfOk result
-        (λ r. has_record_text (done_in (view value.now)) ≡ true → r ≡ done_in (view value.now)) }
+        (λ r. has_record_text (done_record_in_json (view value.now)) ≡ true → r ≡ done_record_in_json (view value.now)) }
 {
     Ok(Record::Done {
-        key: Bytes::from_slice(alloc, text_at(value, "key").as_bytes())?,
-        list: listed_in(alloc, list_at(value, "list"))?,
-        etag: Bytes::from_slice(alloc, text_at(value, "etag").as_bytes())?,
-        started: number_at(value, "at"),
+        key: Bytes::from_slice(alloc, record_field_text(value, "key").as_bytes())?,
+        list: listed_in(alloc, record_field_list(value, "list"))?,
+        etag: Bytes::from_slice(alloc, record_field_text(value, "etag").as_bytes())?,
+        started: record_field_number(value, "at"),
         moment: moment_in(value),
     })
 }
@@ -345,9 +349,9 @@ fn done_in(alloc: Global, value: &Value) -> Result<Record, Memory>
 fn moment_in(value: &Value) -> Option<u64>
     ensures { result ≡ moment_in (view value.now) }
 {
-    if number_at(value, "v") == 1 {
+    if record_field_number(value, "v") == 1 {
         None
     } else {
-        Some(number_at(value, "done"))
+        Some(record_field_number(value, "done"))
     }
 }

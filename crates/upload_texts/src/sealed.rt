@@ -4,18 +4,23 @@ ghost use Rattle.serde_json.specs.Find.{get};
 ghost use Rattle.serde_json.specs.View.{members_view, view};
 ghost use Rattle.slo_manifest.specs.Manifest.{json_of};
 ghost use Rattle.upload_texts.specs.Places.{text_in, version_in};
-ghost use Rattle.upload_texts.specs.Records.{unless_known};
+ghost use Rattle.upload_texts.specs.Records.{unless_known_record_version};
 ghost use Rattle.s3_machine.specs.Uploads.{id_value};
 ghost use Rattle.upload_texts.specs.Sealed.{has_sealed_text, read_sealed, sealed_in, sealed_text, sealed_value, sealed_object, names_put, rest_put, is_first_version, ReadsSealed};
 
-use crate::forms::{is_kept_content, is_moment, is_sealed_list};
-use crate::members::{put_number, put_text, put_value};
-use crate::places::{list_at, number_at, text_at, version_at};
-use crate::reading::{is_same, meta_in, parse, parts_in, unless_first};
+use crate::forms::{content_fits_record_text, is_moment, is_sealed_list};
+use crate::members::{put_record_field_number, put_record_field_text, put_record_field_value};
+use crate::places::{
+    record_field_list, record_field_number, record_field_text, record_field_version,
+};
+use crate::reading::{
+    is_same_record_text, meta_in, parse_record_json, sealed_parts_in_json,
+    unless_first_sealed_version,
+};
 use crate::record::RecordFault;
-use crate::values::{pair_values, part_values};
+use crate::values::{metadata_pairs_json, sealed_parts_json};
 use gate_base::{Bytes, Copying, List, Memory};
-use s3_names::{Meta, id_digits, id_of, is_bucket, is_key};
+use s3_names::{Meta, id_digits, is_bucket, is_key, read_id_digits};
 use serde_json::{Map, Value};
 use std::alloc::Global;
 use swift_marks::is_etag;
@@ -61,7 +66,7 @@ impl Sealed {
     pub fn read(alloc: Global, bytes: &[u8]) -> Result<Sealed, RecordFault>
         ensures { ReadsSealed bytes.now result }
     {
-        match parse(alloc, bytes) {
+        match parse_record_json(alloc, bytes) {
             Ok(value) => Sealed::versioned(alloc, bytes, &value),
             Err(fault) => Err(fault),
         }
@@ -72,7 +77,7 @@ impl Sealed {
         requires { json_of bytes.now ≡ Some (view value.now) }
         ensures { ReadsSealed bytes.now result }
     {
-        match unless_first(version_at(value)) {
+        match unless_first_sealed_version(record_field_version(value)) {
             Some(version) => Err(RecordFault::Version(version)),
             None => Sealed::checked(alloc, bytes, value),
         }
@@ -81,7 +86,7 @@ impl Sealed {
     /// The same where the version is the first.
     fn checked(alloc: Global, bytes: &[u8], value: &Value) -> Result<Sealed, RecordFault>
         requires parsed { json_of bytes.now ≡ Some (view value.now) }
-        requires known { unless_known is_first_version (version_in (view value.now)) ≡ None }
+        requires known { unless_known_record_version is_first_version (version_in (view value.now)) ≡ None }
         ensures { ReadsSealed bytes.now result }
     {
         let found = sealed_in(alloc, value)?;
@@ -89,7 +94,7 @@ impl Sealed {
             return Err(RecordFault::NotARecord);
         }
         let text = found.write(alloc)?;
-        if !is_same(text.as_slice(), bytes) {
+        if !is_same_record_text(text.as_slice(), bytes) {
             return Err(RecordFault::NotARecord);
         }
         Ok(found)
@@ -114,8 +119,8 @@ impl Sealed {
     {
         is_bucket(self.bucket.as_slice())
             && is_key(self.key.as_slice())
-            && is_id(self.id)
-            && is_kept_content(self.content_type.as_slice(), &self.meta)
+            && id_fits_sealed_text(self.id)
+            && content_fits_record_text(self.content_type.as_slice(), &self.meta)
             && is_sealed_list(self.list.as_slice())
             && is_etag(self.etag.as_slice())
             && is_moment(self.started)
@@ -127,8 +132,8 @@ impl Sealed {
         requires { has_sealed_text self.now ≡ true }
         ensures { IfOk result (λ value. view value ≡ sealed_value self.now) }
     {
-        let list = Value::Array(part_values(alloc, self.list.as_slice())?);
-        let meta = Value::Array(pair_values(alloc, self.meta.pairs())?);
+        let list = Value::Array(sealed_parts_json(alloc, self.list.as_slice())?);
+        let meta = Value::Array(metadata_pairs_json(alloc, self.meta.pairs())?);
         let id = id_digits(self.id);
         let bucket = text_of(self.bucket.as_slice());
         let etag = text_of(self.etag.as_slice());
@@ -136,7 +141,7 @@ impl Sealed {
         let content_type = text_of(self.content_type.as_slice());
         let id = text_of(&id);
         let (started, moment) = (self.started, self.moment);
-        object(
+        sealed_json_object(
             alloc,
             moment,
             bucket,
@@ -151,7 +156,7 @@ impl Sealed {
     }
 }
 
-fn object(
+fn sealed_json_object(
     alloc: Global,
     moment: u64,
     bucket: &str,
@@ -167,12 +172,12 @@ fn object(
         key.now (view list.now) (view meta.now) started content_type.now) }
 {
     let mut map = Map::new(alloc);
-    put_names(&mut map, alloc, moment, bucket, etag, id, key)?;
-    put_rest(&mut map, alloc, list, meta, started, content_type)?;
+    put_sealed_name_fields(&mut map, alloc, moment, bucket, etag, id, key)?;
+    put_other_sealed_fields(&mut map, alloc, list, meta, started, content_type)?;
     Ok(Value::Object(map))
 }
 
-fn put_names(
+fn put_sealed_name_fields(
     map: &mut Map<String, Value>,
     alloc: Global,
     moment: u64,
@@ -184,14 +189,14 @@ fn put_names(
     ensures { OnOk result (members_view map.new.entries ≡ names_put moment bucket.now etag.now
         id.now key.now (members_view map.old.entries)) }
 {
-    put_number(map, alloc, "at", moment)?;
-    put_text(map, alloc, "bucket", bucket)?;
-    put_text(map, alloc, "etag", etag)?;
-    put_text(map, alloc, "id", id)?;
-    put_text(map, alloc, "key", key)
+    put_record_field_number(map, alloc, "at", moment)?;
+    put_record_field_text(map, alloc, "bucket", bucket)?;
+    put_record_field_text(map, alloc, "etag", etag)?;
+    put_record_field_text(map, alloc, "id", id)?;
+    put_record_field_text(map, alloc, "key", key)
 }
 
-fn put_rest(
+fn put_other_sealed_fields(
     map: &mut Map<String, Value>,
     alloc: Global,
     list: &Value,
@@ -202,33 +207,33 @@ fn put_rest(
     ensures { OnOk result (members_view map.new.entries ≡ rest_put (view list.now) (view meta.now)
         started content_type.now (members_view map.old.entries)) }
 {
-    put_value(map, alloc, "list", list)?;
-    put_value(map, alloc, "meta", meta)?;
-    put_number(map, alloc, "started", started)?;
-    put_text(map, alloc, "type", content_type)?;
-    put_number(map, alloc, "v", 1)
+    put_record_field_value(map, alloc, "list", list)?;
+    put_record_field_value(map, alloc, "meta", meta)?;
+    put_record_field_number(map, alloc, "started", started)?;
+    put_record_field_text(map, alloc, "type", content_type)?;
+    put_record_field_number(map, alloc, "v", 1)
 }
 
 /// Every id has its digits: it has 128 bits.
-fn is_id(id: u128) -> bool
+fn id_fits_sealed_text(id: u128) -> bool
     ensures { result ≡ nat_lt id (2 ^ 128) }
 {
     id <= u128::MAX
 }
 
-fn id_value(text: &[u8]) -> u128
+fn sealed_id_or_zero(text: &[u8]) -> u128
     ensures { result ≡ id_value text.now }
 {
-    match id_of(text) {
+    match read_id_digits(text) {
         Some(id) => id,
         None => 0,
     }
 }
 
-fn bytes_at(alloc: Global, value: &Value, field: &str) -> Result<Bytes, Memory>
+fn sealed_field_bytes(alloc: Global, value: &Value, field: &str) -> Result<Bytes, Memory>
     ensures { IfOk result (λ bytes. bytes ≡ text_in (get field.now (view value.now))) }
 {
-    Bytes::from_slice(alloc, text_at(value, field).as_bytes())
+    Bytes::from_slice(alloc, record_field_text(value, field).as_bytes())
 }
 
 /// The sealed completion that stands in the places of a value, where that has a text.
@@ -236,18 +241,18 @@ fn sealed_in(alloc: Global, value: &Value) -> Result<Sealed, Memory>
     ensures { IfOk result (λ sealed. has_sealed_text (sealed_in (view value.now)) ≡ true
         → sealed ≡ sealed_in (view value.now)) }
 {
-    let pairs = list_at(value, "meta");
-    let parts = list_at(value, "list");
-    let digits = text_at(value, "id");
-    let id = id_value(digits.as_bytes());
-    let started = number_at(value, "started");
-    let moment = number_at(value, "at");
-    let bucket = bytes_at(alloc, value, "bucket")?;
-    let key = bytes_at(alloc, value, "key")?;
-    let content_type = bytes_at(alloc, value, "type")?;
-    let etag = bytes_at(alloc, value, "etag")?;
+    let pairs = record_field_list(value, "meta");
+    let parts = record_field_list(value, "list");
+    let digits = record_field_text(value, "id");
+    let id = sealed_id_or_zero(digits.as_bytes());
+    let started = record_field_number(value, "started");
+    let moment = record_field_number(value, "at");
+    let bucket = sealed_field_bytes(alloc, value, "bucket")?;
+    let key = sealed_field_bytes(alloc, value, "key")?;
+    let content_type = sealed_field_bytes(alloc, value, "type")?;
+    let etag = sealed_field_bytes(alloc, value, "etag")?;
     let meta = meta_in(alloc, pairs)?;
-    let list = parts_in(alloc, parts)?;
+    let list = sealed_parts_in_json(alloc, parts)?;
     Ok(Sealed {
         bucket,
         key,

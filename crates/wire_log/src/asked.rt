@@ -1,6 +1,6 @@
 //! Which request is at hand, from the bytes that are read of a connection.
 
-use crate::reply::without_cr;
+use crate::reply::trim_cr_for_log;
 use gate_base::Bytes;
 use std::alloc::Global;
 
@@ -126,7 +126,7 @@ impl Asked {
 
     fn end_line(&mut self) {
         let line = std::mem::replace(&mut self.line, Bytes::new(self.alloc));
-        let text = without_cr(line.as_slice());
+        let text = trim_cr_for_log(line.as_slice());
         if self.stage != Stage::Head {} else if text.is_empty() {
             if !self.first.is_empty() {
                 self.stage = Stage::Body(self.body);
@@ -147,7 +147,7 @@ impl Asked {
         if name.eq_ignore_ascii_case(b"transfer-encoding") {
             self.stage = Stage::Unknown;
         } else if name.eq_ignore_ascii_case(b"content-length") {
-            match number(line[colon + 1..].trim_ascii()) {
+            match body_length_for_log(line[colon + 1..].trim_ascii()) {
                 Some(length) if !self.has_length => {
                     self.has_length = true;
                     self.body = length;
@@ -169,7 +169,7 @@ impl Asked {
 }
 
 /// The number that the digits write.
-fn number(digits: &[u8]) -> Option<u64> {
+fn body_length_for_log(digits: &[u8]) -> Option<u64> {
     if digits.is_empty() || digits.len() > DIGITS {
         return None;
     }

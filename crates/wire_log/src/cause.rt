@@ -1,7 +1,7 @@
 //! Why a call of a store failed.
 ghost use Rattle.std.specs.Prelude.{◌<◌};
 
-use crate::reply::status_of;
+use crate::reply::logged_status_of_reply;
 use gate_base::{Bytes, Memory};
 use itoa::Buffer;
 
@@ -37,8 +37,8 @@ pub trait Explains {
 }
 
 /// The cause where an answer came whole and spells none of its call: by its status, where it has one.
-pub fn unread_cause(answer: &[u8]) -> Cause {
-    match status_in(answer) {
+pub fn logged_cause_of_answer(answer: &[u8]) -> Cause {
+    match logged_status_number(answer) {
         Some(401) => Cause::Answered(401),
         Some(403) => Cause::Answered(403),
         Some(status) => Cause::Unread(status),
@@ -47,14 +47,18 @@ pub fn unread_cause(answer: &[u8]) -> Cause {
 }
 
 /// The number that the three digits of an answer's status write.
-fn status_in(answer: &[u8]) -> Option<u16> {
-    match status_of(answer) {
-        [hundreds, tens, ones] => Some(value(*hundreds) * 100 + value(*tens) * 10 + value(*ones)),
+fn logged_status_number(answer: &[u8]) -> Option<u16> {
+    match logged_status_of_reply(answer) {
+        [hundreds, tens, ones] => Some(
+            status_digit_for_log(*hundreds) * 100
+                + status_digit_for_log(*tens) * 10
+                + status_digit_for_log(*ones),
+        ),
         _ => None,
     }
 }
 
-fn value(digit: u8) -> u16
+fn status_digit_for_log(digit: u8) -> u16
     ensures { result < 16 }
 {
     (digit % 16) as u16

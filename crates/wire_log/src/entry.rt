@@ -2,7 +2,7 @@
 ghost use Rattle.std.specs.Prelude.{◌≡◌};
 
 use crate::moment::moment_text;
-use crate::target::append_request;
+use crate::target::append_request_for_log;
 use gate_base::{Bytes, Memory};
 use itoa::Buffer;
 use std::alloc::Global;
@@ -32,43 +32,43 @@ const ROOM: usize = 256;
 
 /// The line, with its end: time, connection, method and target, status, id, bytes, calls and milliseconds, with a space between each
 /// two. `-` stands for what isn't known, twice where neither method nor target is.
-pub fn entry_line(alloc: Global, entry: &Entry) -> Result<Bytes, Memory> {
+pub fn log_entry_line(alloc: Global, entry: &Entry) -> Result<Bytes, Memory> {
     let mut line = Bytes::with_room(alloc, ROOM)?;
-    append_front(&mut line, entry)?;
-    append_reply(&mut line, entry)?;
-    append_costs(&mut line, entry)?;
+    append_log_front(&mut line, entry)?;
+    append_log_reply(&mut line, entry)?;
+    append_log_costs(&mut line, entry)?;
     Ok(line)
 }
 
-fn append_front(line: &mut Bytes, entry: &Entry) -> Result<(), Memory> {
+fn append_log_front(line: &mut Bytes, entry: &Entry) -> Result<(), Memory> {
     line.append(&moment_text(entry.moment))?;
-    append_number(line, entry.connection)?;
+    append_log_number(line, entry.connection)?;
     line.append(b" ")?;
     match entry.request {
-        Some(request) => append_request(line, request),
+        Some(request) => append_request_for_log(line, request),
         None => line.append(b"- -"),
     }
 }
 
-fn append_reply(line: &mut Bytes, entry: &Entry) -> Result<(), Memory> {
+fn append_log_reply(line: &mut Bytes, entry: &Entry) -> Result<(), Memory> {
     line.append(b" ")?;
     line.append(entry.status)?;
     line.append(b" ")?;
     line.append(entry.id)
 }
 
-fn append_costs(line: &mut Bytes, entry: &Entry) -> Result<(), Memory> {
+fn append_log_costs(line: &mut Bytes, entry: &Entry) -> Result<(), Memory> {
     match entry.bytes {
-        Some(bytes) => append_number(line, bytes)?,
+        Some(bytes) => append_log_number(line, bytes)?,
         None => line.append(b" -")?,
     }
-    append_number(line, entry.calls)?;
-    append_number(line, entry.took)?;
+    append_log_number(line, entry.calls)?;
+    append_log_number(line, entry.took)?;
     line.append(b"\n")
 }
 
 /// Appends a space and a number.
-fn append_number(line: &mut Bytes, number: u64) -> Result<(), Memory> {
+fn append_log_number(line: &mut Bytes, number: u64) -> Result<(), Memory> {
     let mut digits = Buffer::new();
     line.append(b" ")?;
     line.append(digits.format(number).as_bytes())

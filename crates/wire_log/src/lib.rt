@@ -11,10 +11,10 @@ mod moment;
 mod reply;
 mod target;
 
-pub use cause::{Cause, Explains, unread_cause};
-pub use entry::{Entry, entry_line};
+pub use cause::{Cause, Explains, logged_cause_of_answer};
+pub use entry::{Entry, log_entry_line};
 pub use log::Log;
 pub use logged_line::LoggedLine;
 pub use logged_store::LoggedStore;
 pub use moment::moment_text;
-pub use target::append_request;
+pub use target::append_request_for_log;

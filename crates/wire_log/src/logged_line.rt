@@ -2,9 +2,9 @@
 ghost use Rattle.std.specs.Prelude.{◌≡◌};
 
 use crate::asked::Asked;
-use crate::entry::{Entry, entry_line};
+use crate::entry::{Entry, log_entry_line};
 use crate::log::Log;
-use crate::reply::{id_of, is_interim, status_of};
+use crate::reply::{is_unlogged_interim, logged_request_id, logged_status_of_reply};
 use gate_base::{Bytes, Counted, Failed, Line, Memory, Sink};
 use std::time::Clock;
 
@@ -66,7 +66,7 @@ impl<N, K: Sink, R: Clock> LoggedLine<N, K, R> {
     fn note_write(&mut self, bytes: &[u8], calls: u64, sent: bool)
         ensures { self.new.line ≡ self.old.line }
     {
-        if !self.log.is_on() || is_interim(bytes) {
+        if !self.log.is_on() || is_unlogged_interim(bytes) {
             return;
         }
         let now = self.log.ticks();
@@ -80,8 +80,8 @@ impl<N, K: Sink, R: Clock> LoggedLine<N, K, R> {
     /// The line of the log for a reply.
     fn line_for(&self, bytes: &[u8], calls: u64, now: u64, sent: bool) -> Result<Bytes, Memory> {
         let request = self.asked.first_line();
-        let status = status_of(bytes);
-        let id = id_of(bytes);
+        let status = logged_status_of_reply(bytes);
+        let id = logged_request_id(bytes);
         let entry = Entry {
             moment: self.log.moment(),
             connection: self.connection,
@@ -92,7 +92,7 @@ impl<N, K: Sink, R: Clock> LoggedLine<N, K, R> {
             calls: calls.saturating_sub(self.calls),
             took: now.saturating_sub(self.begun),
         };
-        entry_line(self.log.alloc(), &entry)
+        log_entry_line(self.log.alloc(), &entry)
     }
 }
 

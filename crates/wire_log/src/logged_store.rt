@@ -42,7 +42,7 @@ impl<W, K: Sink, R: Clock> LoggedStore<W, K, R> {
             return;
         }
         self.failing = failing;
-        let line = store_line(
+        let line = store_log_line(
             self.log.alloc(),
             self.log.moment(),
             self.place.as_slice(),
@@ -53,14 +53,14 @@ impl<W, K: Sink, R: Clock> LoggedStore<W, K, R> {
 }
 
 /// The line, with its end: time, `store`, the place and a colon, and the cause or that it is well again.
-fn store_line(
+fn store_log_line(
     alloc: Global,
     moment: u64,
     place: &[u8],
     failing: Option<Cause>,
 ) -> Result<Bytes, Memory> {
     let mut line = Bytes::from_slice(alloc, &moment_text(moment))?;
-    append_place(&mut line, place)?;
+    append_log_place(&mut line, place)?;
     match failing {
         Some(cause) => append_cause(&mut line, cause)?,
         None => line.append(b"well again")?,
@@ -69,7 +69,7 @@ fn store_line(
     Ok(line)
 }
 
-fn append_place(line: &mut Bytes, place: &[u8]) -> Result<(), Memory> {
+fn append_log_place(line: &mut Bytes, place: &[u8]) -> Result<(), Memory> {
     line.append(b" store ")?;
     line.append(place)?;
     line.append(b": ")

@@ -17,7 +17,7 @@ const LAST: u64 = 253_402_300_799_999;
 /// A moment in UTC, as in `2026-11-28T12:34:56.789Z` (RFC 3339). It is given in milliseconds since the beginning of 1970.
 pub fn moment_text(moment: u64) -> [u8; 24] {
     let moment = moment.min(LAST);
-    let date = date_of(moment / DAY);
+    let date = logged_date_of_day(moment / DAY);
     let year = date.year.unsigned_abs() as u64;
     let month = date.month as u64;
     let day = date.day as u64;
@@ -25,35 +25,35 @@ pub fn moment_text(moment: u64) -> [u8; 24] {
     let minute = time / MINUTE;
     let second = time / SECOND;
     [
-        digit(year / 1000),
-        digit(year / 100),
-        digit(year / 10),
-        digit(year),
+        digit_of_logged_moment(year / 1000),
+        digit_of_logged_moment(year / 100),
+        digit_of_logged_moment(year / 10),
+        digit_of_logged_moment(year),
         b'-',
-        digit(month / 10),
-        digit(month),
+        digit_of_logged_moment(month / 10),
+        digit_of_logged_moment(month),
         b'-',
-        digit(day / 10),
-        digit(day),
+        digit_of_logged_moment(day / 10),
+        digit_of_logged_moment(day),
         b'T',
-        digit(time / HOUR / 10),
-        digit(time / HOUR),
+        digit_of_logged_moment(time / HOUR / 10),
+        digit_of_logged_moment(time / HOUR),
         b':',
-        digit(minute % 60 / 10),
-        digit(minute),
+        digit_of_logged_moment(minute % 60 / 10),
+        digit_of_logged_moment(minute),
         b':',
-        digit(second % 60 / 10),
-        digit(second),
+        digit_of_logged_moment(second % 60 / 10),
+        digit_of_logged_moment(second),
         b'.',
-        digit(time / 100),
-        digit(time / 10),
-        digit(time),
+        digit_of_logged_moment(time / 100),
+        digit_of_logged_moment(time / 10),
+        digit_of_logged_moment(time),
         b'Z',
     ]
 }
 
 /// The date of a day, counted from the first of 1970. The last of the year 9999 stands for each later one.
-fn date_of(day: u64) -> Date
+fn logged_date_of_day(day: u64) -> Date
     requires { day < 2932897 }
 {
     match Date::from_unix_epoch_day(day as i64) {
@@ -63,6 +63,6 @@ fn date_of(day: u64) -> Date
 }
 
 /// The last digit of a number.
-fn digit(number: u64) -> u8 {
+fn digit_of_logged_moment(number: u64) -> u8 {
     b'0' + (number % 10) as u8
 }

@@ -11,43 +11,43 @@ const MOST_LINES: usize = 100;
 
 const ID: &[u8] = b"x-amz-request-id: ";
 
-pub(crate) fn is_interim(reply: &[u8]) -> bool {
+pub(crate) fn is_unlogged_interim(reply: &[u8]) -> bool {
     reply.starts_with(INTERIM)
 }
 
 /// The three digits of a reply's status; `-` where it has none.
-pub(crate) fn status_of(reply: &[u8]) -> &[u8] {
-    if reply.starts_with(b"HTTP/1.") && 12 <= reply.len() && are_digits(&reply[9..12]) {
+pub(crate) fn logged_status_of_reply(reply: &[u8]) -> &[u8] {
+    if reply.starts_with(b"HTTP/1.") && 12 <= reply.len() && are_logged_digits(&reply[9..12]) {
         &reply[9..12]
     } else {
         b"-"
     }
 }
 
-fn are_digits(bytes: &[u8]) -> bool {
+fn are_logged_digits(bytes: &[u8]) -> bool {
     bytes.iter().all(|byte| byte.is_ascii_digit())
 }
 
 /// The value of `x-amz-request-id` in a reply's head; `-` where it has none, or one that is no short visible text.
-pub(crate) fn id_of(reply: &[u8]) -> &[u8] {
+pub(crate) fn logged_request_id(reply: &[u8]) -> &[u8] {
     let mut rest = reply;
     for _line in 0..MOST_LINES {
         let Some(end) = rest.iter().position(|byte| *byte == b'\n') else {
             break;
         };
-        let line = without_cr(&rest[..end]);
+        let line = trim_cr_for_log(&rest[..end]);
         if line.is_empty() {
             break;
         }
         if line.starts_with(ID) {
-            return shown_id(&line[ID.len()..]);
+            return logged_id_or_dash(&line[ID.len()..]);
         }
         rest = &rest[end + 1..];
     }
     b"-"
 }
 
-fn shown_id(id: &[u8]) -> &[u8] {
+fn logged_id_or_dash(id: &[u8]) -> &[u8] {
     if 0 < id.len() && id.len() <= LONGEST_ID && id.iter().all(|byte| byte.is_ascii_graphic()) {
         id
     } else {
@@ -55,7 +55,7 @@ fn shown_id(id: &[u8]) -> &[u8] {
     }
 }
 
-pub(crate) fn without_cr(line: &[u8]) -> &[u8] {
+pub(crate) fn trim_cr_for_log(line: &[u8]) -> &[u8] {
     match line.split_last() {
         Some((b'\r', front)) => front,
         _ => line,

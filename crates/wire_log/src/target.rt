@@ -24,55 +24,55 @@ const HEX: &[u8; 16] = b"0123456789abcdef";
 /// Of a target the first 1,024 bytes are shown, as they are escaped: a backslash, and a byte that is no visible ASCII, is `\xHH`
 /// with two lower-case hexadecimal digits. `...` stands for the values of the parameters `X-Amz-Signature`, `X-Amz-Credential` and
 /// `X-Amz-Security-Token`, however their names are written.
-pub fn append_request(text: &mut Bytes, line: &[u8]) -> Result<(), Memory> {
-    let (method, rest) = split_at_byte(line, b' ');
-    if !is_method(method) {
+pub fn append_request_for_log(text: &mut Bytes, line: &[u8]) -> Result<(), Memory> {
+    let (method, rest) = split_logged_text(line, b' ');
+    if !is_loggable_method(method) {
         return text.append(b"- -");
     }
     text.append(method)?;
     text.append(b" ")?;
-    let (target, _version) = split_at_byte(rest, b' ');
-    append_target(text, target)
+    let (target, _version) = split_logged_text(rest, b' ');
+    append_target_for_log(text, target)
 }
 
 /// What stands before the first such byte, and behind it; all and nothing where there is none.
-fn split_at_byte(bytes: &[u8], byte: u8) -> (&[u8], &[u8]) {
+fn split_logged_text(bytes: &[u8], byte: u8) -> (&[u8], &[u8]) {
     match bytes.iter().position(|other| *other == byte) {
         Some(at) => (&bytes[..at], &bytes[at + 1..]),
         None => (bytes, b""),
     }
 }
 
-fn is_method(method: &[u8]) -> bool {
+fn is_loggable_method(method: &[u8]) -> bool {
     0 < method.len()
         && method.len() <= LONGEST_METHOD
         && method.iter().all(|byte| byte.is_ascii_alphabetic())
 }
 
-fn append_target(text: &mut Bytes, target: &[u8]) -> Result<(), Memory> {
+fn append_target_for_log(text: &mut Bytes, target: &[u8]) -> Result<(), Memory> {
     if !target.starts_with(b"/") {
         return text.append(b"-");
     }
-    let (path, query) = split_at_byte(target, b'?');
-    let mut left = append_escaped(text, path, MOST)?;
+    let (path, query) = split_logged_text(target, b'?');
+    let mut left = append_escaped_for_log(text, path, MOST)?;
     if path.len() < target.len() {
-        left = append_piece(text, b"?", left)?;
+        left = append_piece_for_log(text, b"?", left)?;
     }
-    append_query(text, query, left)
+    append_query_for_log(text, query, left)
 }
 
 /// Appends the parameters, in so many bytes at most.
-fn append_query(text: &mut Bytes, query: &[u8], room: usize) -> Result<(), Memory> {
+fn append_query_for_log(text: &mut Bytes, query: &[u8], room: usize) -> Result<(), Memory> {
     let mut left = room;
     let mut rest = query;
     for _parameter in 0..MOST {
         if rest.is_empty() || left == 0 {
             break;
         }
-        let (parameter, behind) = split_at_byte(rest, b'&');
-        left = append_parameter(text, parameter, left)?;
+        let (parameter, behind) = split_logged_text(rest, b'&');
+        left = append_parameter_for_log(text, parameter, left)?;
         if parameter.len() < rest.len() {
-            left = append_piece(text, b"&", left)?;
+            left = append_piece_for_log(text, b"&", left)?;
         }
         rest = behind;
     }
@@ -80,39 +80,43 @@ fn append_query(text: &mut Bytes, query: &[u8], room: usize) -> Result<(), Memor
 }
 
 /// Appends one parameter. How much room is left.
-fn append_parameter(text: &mut Bytes, parameter: &[u8], room: usize) -> Result<usize, Memory> {
-    let (name, _value) = split_at_byte(parameter, b'=');
-    if name.len() == parameter.len() || !is_hidden(name) {
-        return append_escaped(text, parameter, room);
+fn append_parameter_for_log(
+    text: &mut Bytes,
+    parameter: &[u8],
+    room: usize,
+) -> Result<usize, Memory> {
+    let (name, _value) = split_logged_text(parameter, b'=');
+    if name.len() == parameter.len() || !is_hidden_in_log(name) {
+        return append_escaped_for_log(text, parameter, room);
     }
-    let left = append_escaped(text, name, room)?;
-    append_piece(text, b"=...", left)
+    let left = append_escaped_for_log(text, name, room)?;
+    append_piece_for_log(text, b"=...", left)
 }
 
 /// Appends the bytes escaped, as many as there is room for. How much room is left: none where one had to be left out.
-fn append_escaped(text: &mut Bytes, bytes: &[u8], room: usize) -> Result<usize, Memory> {
+fn append_escaped_for_log(text: &mut Bytes, bytes: &[u8], room: usize) -> Result<usize, Memory> {
     let mut left = room;
     for byte in bytes {
         if left == 0 {
             break;
         }
-        left = append_byte(text, *byte, left)?;
+        left = append_byte_for_log(text, *byte, left)?;
     }
     Ok(left)
 }
 
-fn append_byte(text: &mut Bytes, byte: u8, room: usize) -> Result<usize, Memory> {
+fn append_byte_for_log(text: &mut Bytes, byte: u8, room: usize) -> Result<usize, Memory> {
     if byte.is_ascii_graphic() && byte != b'\\' {
-        append_piece(text, &[byte], room)
+        append_piece_for_log(text, &[byte], room)
     } else {
         let high = HEX[(byte >> 4) as usize];
         let low = HEX[(byte & 15) as usize];
-        append_piece(text, &[b'\\', b'x', high, low], room)
+        append_piece_for_log(text, &[b'\\', b'x', high, low], room)
     }
 }
 
 /// Appends a piece where there is room for all of it.
-fn append_piece(text: &mut Bytes, piece: &[u8], room: usize) -> Result<usize, Memory> {
+fn append_piece_for_log(text: &mut Bytes, piece: &[u8], room: usize) -> Result<usize, Memory> {
     if room < piece.len() {
         return Ok(0);
     }
@@ -121,15 +125,17 @@ fn append_piece(text: &mut Bytes, piece: &[u8], room: usize) -> Result<usize, Me
 }
 
 /// Whether the value of a parameter with that name isn't shown.
-fn is_hidden(name: &[u8]) -> bool {
-    HIDDEN.iter().any(|hidden| spells(name, hidden))
+fn is_hidden_in_log(name: &[u8]) -> bool {
+    HIDDEN
+        .iter()
+        .any(|hidden| spells_word_hidden_in_log(name, hidden))
 }
 
 /// Whether a name is that word, in any case, once its escapes `%HH` are read.
-fn spells(name: &[u8], word: &[u8]) -> bool {
+fn spells_word_hidden_in_log(name: &[u8], word: &[u8]) -> bool {
     let mut rest = name;
     for letter in word {
-        let Some((byte, behind)) = first_byte(rest) else {
+        let Some((byte, behind)) = first_byte_of_logged_name(rest) else {
             return false;
         };
         if !byte.eq_ignore_ascii_case(letter) {
@@ -141,9 +147,12 @@ fn spells(name: &[u8], word: &[u8]) -> bool {
 }
 
 /// The first byte that a text writes, and the text behind it.
-fn first_byte(text: &[u8]) -> Option<(u8, &[u8])> {
+fn first_byte_of_logged_name(text: &[u8]) -> Option<(u8, &[u8])> {
     if let [b'%', high, low, rest @ ..] = text {
-        if let (Some(high), Some(low)) = (digit(*high), digit(*low)) {
+        if let (Some(high), Some(low)) = (
+            hex_digit_of_logged_name(*high),
+            hex_digit_of_logged_name(*low),
+        ) {
             return Some((high * 16 + low, rest));
         }
     }
@@ -154,7 +163,7 @@ fn first_byte(text: &[u8]) -> Option<(u8, &[u8])> {
 }
 
 /// The value of a hexadecimal digit.
-fn digit(byte: u8) -> Option<u8>
+fn hex_digit_of_logged_name(byte: u8) -> Option<u8>
     ensures { IfSome result (λ value. value < 16) }
 {
     match byte {

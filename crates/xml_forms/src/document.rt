@@ -4,7 +4,7 @@ ghost use Rattle.xml_forms.specs.Forms.{Exactly};
 ghost use Rattle.xml_forms.specs.Readers.{ReadsText};
 ghost use Rattle.xml_forms.specs.Openings.{Declared, DeclarationText, Opening, RootEnd, RootTag};
 
-use crate::{Class, element, nearer, skip_space, word};
+use crate::{Class, nearer, read_element_form, read_word_form, skip_space};
 
 /// How a document begins whose root has this name, which is given with its `<`: a declaration or none, and the root's tag.
 /// The value is that of the root's attribute.
@@ -12,33 +12,36 @@ pub fn opening<'a>(bytes: &'a [u8], name: &[u8]) -> Result<(&'a [u8], &'a [u8]),
     requires { (c : ℕ) × (t : List ℕ) × (name.now ≡ 60 ∷ c ∷ t) × (c ≢ 63) }
     ensures { ReadsText (Opening name.now) bytes.now result }
 {
-    nearer(declared(bytes, name), root_tag(bytes, name))
+    nearer(
+        opening_with_declaration(bytes, name),
+        opening_root_tag(bytes, name),
+    )
 }
 
-fn declared<'a>(bytes: &'a [u8], name: &[u8]) -> Result<(&'a [u8], &'a [u8]), usize>
+fn opening_with_declaration<'a>(bytes: &'a [u8], name: &[u8]) -> Result<(&'a [u8], &'a [u8]), usize>
     requires { (t : List ℕ) × (name.now ≡ 60 ∷ t) }
     ensures { ReadsText (Declared name.now) bytes.now result }
 {
-    let rest = word(bytes, b"<?xml")?;
+    let rest = read_word_form(bytes, b"<?xml")?;
     let (_, inner) = declared_text(rest)?;
-    root_tag(inner, name)
+    opening_root_tag(inner, name)
 }
 
 // The root's tag behind white space.
-fn root_tag<'a>(bytes: &'a [u8], name: &[u8]) -> Result<(&'a [u8], &'a [u8]), usize>
+fn opening_root_tag<'a>(bytes: &'a [u8], name: &[u8]) -> Result<(&'a [u8], &'a [u8]), usize>
     requires { (t : List ℕ) × (name.now ≡ 60 ∷ t) }
     ensures { ReadsText (RootTag name.now) bytes.now result }
 {
-    let rest = word(skip_space(bytes), name)?;
-    root_end(rest)
+    let rest = read_word_form(skip_space(bytes), name)?;
+    opening_root_end(rest)
 }
 
-fn root_end(bytes: &[u8]) -> Result<(&[u8], &[u8]), usize>
+fn opening_root_end(bytes: &[u8]) -> Result<(&[u8], &[u8]), usize>
     ensures { ReadsText RootEnd bytes.now result }
 {
     let quoted = nearer(
-        element(bytes, b" xmlns=\"", Class::InDouble, b"\">"),
-        element(bytes, b" xmlns='", Class::InSingle, b"'>"),
+        read_element_form(bytes, b" xmlns=\"", Class::InDouble, b"\">"),
+        read_element_form(bytes, b" xmlns='", Class::InSingle, b"'>"),
     );
     nearer(plain_end(bytes), quoted)
 }
@@ -46,7 +49,7 @@ fn root_end(bytes: &[u8]) -> Result<(&[u8], &[u8]), usize>
 fn plain_end(bytes: &[u8]) -> Result<(&[u8], &[u8]), usize>
     ensures { ReadsText (Exactly [] (codes ">")) bytes.now result }
 {
-    let rest = word(bytes, b">")?;
+    let rest = read_word_form(bytes, b">")?;
     Ok((b"", rest))
 }
 

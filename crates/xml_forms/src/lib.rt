@@ -7,4 +7,7 @@ mod scan;
 
 pub use class::Class;
 pub use document::opening;
-pub use scan::{element, nearer, only_space, run, short_element, skip_space, word};
+pub use scan::{
+    nearer, only_space, read_element_form, read_run_form, read_short_element_form, read_word_form,
+    skip_space,
+};

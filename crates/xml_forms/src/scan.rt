@@ -9,7 +9,7 @@ ghost use Rattle.xml_forms.specs.Readers.{ReadsRest, ReadsText};
 use crate::Class;
 
 /// The bytes behind a word.
-pub fn word<'a>(bytes: &'a [u8], word: &[u8]) -> Result<&'a [u8], usize>
+pub fn read_word_form<'a>(bytes: &'a [u8], word: &[u8]) -> Result<&'a [u8], usize>
     ensures { ReadsRest (Word word.now) bytes.now result }
 {
     'bytes: for (i, expected) in word.iter().enumerate() {
@@ -24,15 +24,15 @@ pub fn word<'a>(bytes: &'a [u8], word: &[u8]) -> Result<&'a [u8], usize>
 }
 
 /// The longest run of bytes of a class, of at most so many, and the bytes behind it.
-pub fn run(bytes: &[u8], class: Class, most: usize) -> (&[u8], &[u8])
+pub fn read_run_form(bytes: &[u8], class: Class, most: usize) -> (&[u8], &[u8])
     ensures { IsRun class most bytes.now result.0.now result.1.now }
 {
-    let end = run_end(bytes, class, most);
+    let end = run_form_end(bytes, class, most);
     bytes.split_at(end)
 }
 
 // Where such a run ends.
-fn run_end(bytes: &[u8], class: Class, most: usize) -> usize
+fn run_form_end(bytes: &[u8], class: Class, most: usize) -> usize
     ensures within { result ≤ length bytes.now }
     ensures short { result ≤ most }
     ensures passes { list_all (has class) (take result bytes.now) ≡ true }
@@ -50,12 +50,12 @@ fn run_end(bytes: &[u8], class: Class, most: usize) -> usize
 pub fn skip_space(bytes: &[u8]) -> &[u8]
     ensures { SkipsSpace bytes.now result.now }
 {
-    let (_, rest) = run(bytes, Class::Space, bytes.len());
+    let (_, rest) = read_run_form(bytes, Class::Space, bytes.len());
     rest
 }
 
 /// The text between two tags, of any length.
-pub fn element<'a>(
+pub fn read_element_form<'a>(
     bytes: &'a [u8],
     start: &[u8],
     class: Class,
@@ -64,11 +64,11 @@ pub fn element<'a>(
     requires ends { (c : ℕ) × (cs : List ℕ) × (end.now ≡ c ∷ cs) × (has class c ≡ false) }
     ensures { ReadsText (Element start.now class false None end.now) bytes.now result }
 {
-    sized_element(bytes, start, class, false, None, end)
+    read_sized_element_form(bytes, start, class, false, None, end)
 }
 
 /// The text between two tags, of one byte at least and at most so many.
-pub fn short_element<'a>(
+pub fn read_short_element_form<'a>(
     bytes: &'a [u8],
     start: &[u8],
     class: Class,
@@ -79,10 +79,10 @@ pub fn short_element<'a>(
     requires ends { (c : ℕ) × (cs : List ℕ) × (end.now ≡ c ∷ cs) × (has class c ≡ false) }
     ensures { ReadsText (Element start.now class true (Some most) end.now) bytes.now result }
 {
-    sized_element(bytes, start, class, true, Some(most), end)
+    read_sized_element_form(bytes, start, class, true, Some(most), end)
 }
 
-fn sized_element<'a>(
+fn read_sized_element_form<'a>(
     bytes: &'a [u8],
     start: &[u8],
     class: Class,
@@ -94,12 +94,12 @@ fn sized_element<'a>(
     requires ends { (c : ℕ) × (cs : List ℕ) × (end.now ≡ c ∷ cs) × (has class c ≡ false) }
     ensures { ReadsText (Element start.now class filled most end.now) bytes.now result }
 {
-    let rest = word(bytes, start)?;
-    let (text, last) = run(rest, class, most.unwrap_or(rest.len()));
+    let rest = read_word_form(bytes, start)?;
+    let (text, last) = read_run_form(rest, class, most.unwrap_or(rest.len()));
     if filled && text.is_empty() {
         return Err(last.len());
     }
-    let after = word(last, end)?;
+    let after = read_word_form(last, end)?;
     Ok((text, after))
 }
 

@@ -4,7 +4,7 @@ use crate::http_verbs::signatures::SECRET;
 use crate::settings::USUAL_REGION;
 use case_text::{Fault, KEY_TEXT, Told, cut_text, number_of_text, tell_value, text_of_bytes};
 use gate_base::{Bytes, MOMENT_LIMIT};
-use http_wire::{Message, has_one};
+use http_wire::{Message, has_single_header};
 use presign::{has_signature_name, is_presigned, presign, verify_query};
 use s3_names::Target;
 use sigv4::Keys;
@@ -43,7 +43,7 @@ pub(crate) fn tell_presigned_url(
     if has_signature_name(target) {
         return told.say("a name of a signature\n");
     }
-    if !has_one(message.headers.as_slice(), b"host") || moment >= MOMENT_LIMIT {
+    if !has_single_header(message.headers.as_slice(), b"host") || moment >= MOMENT_LIMIT {
         return told.note_fault(Fault::Unread("no host, or no moment"));
     }
     if expires < 1 || expires > 604_800 {

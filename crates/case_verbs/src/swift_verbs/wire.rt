@@ -13,7 +13,7 @@ use http_wire::{Got, Message};
 use std::alloc::Global;
 use swift_calls::{SwiftRequest, is_fit};
 use swift_replies::{WireFault, read_answer};
-use swift_requests::{Place, has_token, is_place, read_call, write_call};
+use swift_requests::{Place, has_account_token, is_place, read_call, write_call};
 
 /// A place of a store: its host, its account and its token.
 pub fn place_of_store(
@@ -83,7 +83,7 @@ fn tell_call_at_place(alloc: Global, place: &Place, given: &[u8], told: &mut Tol
 fn tell_call_of_message(alloc: Global, place: &Place, message: Message, told: &mut Told)
     requires { IsPlace place.now }
 {
-    let is_known = has_token(place, &message);
+    let is_known = has_account_token(place, &message);
     tell_value(&is_known, told);
     if is_known {
         let read = read_call(alloc, place, message);

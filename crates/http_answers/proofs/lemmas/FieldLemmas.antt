@@ -3,11 +3,11 @@ use Rattle.std.proofs.Common.{◌≡◌, ℕ, Bool, true, false, ◌||◌, cond,
 use Rattle.std.specs.Prelude.{filter}
 use Rattle.std.proofs.lemmas.Bool.{eqb-true, eqb-false, false≢true}
 use Rattle.gate_base.specs.declared.page.Pair.{Pair}
-use Rattle.http_wire.specs.Headers.{value_of, has_name, has_one, has_header, first_value, values_of}
+use Rattle.http_wire.specs.Headers.{value_of, has_name, has_single_header, has_header, first_value, values_of}
 use Rattle.http_wire.proofs.lemmas.HeadersLemmas.{one_value, count_values}
 use Rattle.http_answers.specs.Fields.{at_most_one, field}
 
-pub one_field : (name : List ℕ) (headers : List Pair) → has_one name headers ≡ true → field name headers ≡ Some (Some (first_value name headers))
+pub one_field : (name : List ℕ) (headers : List Pair) → has_single_header name headers ≡ true → field name headers ≡ Some (Some (first_value name headers))
 one_field name headers one = ap at_most_one (one_value name headers (eqb-true _ _ one))
 
 abbrev is_given : List (List ℕ) → Bool
@@ -30,7 +30,7 @@ many [] count same other some = absurd (false≢true some)
 many (value ∷ []) count same other some = absurd (eqb-false count 1 other (sym same))
 many (value ∷ second ∷ values) count same other some = refl
 
-pub many_fields : (name : List ℕ) (headers : List Pair) → has_one name headers ≡ false → has_header name headers ≡ true → field name headers ≡ None
+pub many_fields : (name : List ℕ) (headers : List Pair) → has_single_header name headers ≡ false → has_header name headers ≡ true → field name headers ≡ None
 many_fields name headers other some =
     many (values_of name headers) _ (count_values name headers) other (sym (given name headers) ∙ some)
 

@@ -4,7 +4,7 @@ use Rattle.std.specs.List.{list_all}
 use Rattle.std.proofs.lemmas.Bool.{and_parts}
 use Rattle.std.proofs.lemmas.List.{length-append}
 use Rattle.std.proofs.lemmas.List.Folds.{list_all-append}
-use Rattle.list_pages.specs.Listing.{Ascends, IsPageOf, BreaksAt, is_name_with}
+use Rattle.list_pages.specs.Listing.{Ascends, IsPageOf, BreaksAt, is_listed_name_with_prefix}
 
 ascends_front : (marker : List ℕ) (front rest : List (List ℕ)) → Ascends marker (front ++ rest) → Ascends marker front
 ascends_front marker [] rest h = tt
@@ -16,7 +16,7 @@ page_front prefix marker front rest page =
     record {
       within = omega (arith, length-append front rest, within);
       ascends = ascends_front marker front rest page.ascends;
-      named = (and_parts (list_all (is_name_with prefix) front) (list_all (is_name_with prefix) rest) (sym (list_all-append (is_name_with prefix) front rest) ∙ page.named)).0;
+      named = (and_parts (list_all (is_listed_name_with_prefix prefix) front) (list_all (is_listed_name_with_prefix prefix) rest) (sym (list_all-append (is_listed_name_with_prefix prefix) front rest) ∙ page.named)).0;
     }
 
 pub breaks_nowhere : (prefix marker : List ℕ) (names : List (List ℕ)) (name : List ℕ) → IsPageOf prefix marker names → BreaksAt prefix marker names name → ⊥

@@ -25,7 +25,7 @@ use Rattle.swift_calls.specs.declared.calls.SwiftReply.{SwiftReply}
 use Rattle.swift_calls.specs.declared.calls.SwiftReply.TheVariants.{Made, There, Gone, Stored, NotFound, NotEmpty, BadManifest, Unsatisfiable, Containers, Readers, Names, Head, Bytes, Manifest}
 use Rattle.swift_calls.specs.declared.heads.NameItem.{NameItem}
 use Rattle.upload_records.specs.Consistent.{IsConsistent, IsFileName}
-use Rattle.list_pages.specs.Listing.{Ascends, IsPageOf, is_name_with, AsksPage, asked, not_asked, ComesTo, IsTold, IsOdd, BreaksAt, name_in, page_request}
+use Rattle.list_pages.specs.Listing.{Ascends, IsPageOf, is_listed_name_with_prefix, AsksPage, asked, not_asked, ComesTo, IsTold, IsOdd, BreaksAt, name_in, page_request}
 use Rattle.list_pages.specs.declared.fault.PageFault.{PageFault}
 use Rattle.list_pages.specs.declared.fault.PageFault.TheVariants as fault
 use Rattle.list_pages.proofs.lemmas.Fronts.{breaks_nowhere}
@@ -144,7 +144,7 @@ module _ (tree : SwiftAccount) (folder : List ℕ) (sound : IsConsistent tree) w
     rows_keyed = all_filter (λ e. is_key e.0) (λ e. is_lt (name_cmp marker e.0)) (with_prefix prefix (entries (files tree folder)))
         (all_filter (λ e. is_key e.0) (λ e. begins prefix e.0) (entries (files tree folder)) (all_keys (entries (files tree folder)) (entries_are (files tree folder))))
 
-    rows_named : list_all (λ e. is_name_with prefix e.0) rows ≡ true
+    rows_named : list_all (λ e. is_listed_name_with_prefix prefix e.0) rows ≡ true
     rows_named = all_both (λ e. is_key e.0) (λ e. begins prefix e.0) rows rows_keyed (with_prefix_behind prefix (λ e. is_lt (name_cmp marker e.0)) (entries (files tree folder)))
 
     rows_sorted : T (is_sorted name_cmp rows)
@@ -163,7 +163,7 @@ module _ (tree : SwiftAccount) (folder : List ℕ) (sound : IsConsistent tree) w
     page_is_one = subst (IsPageOf prefix marker) (sym (names_are 1000)) (record {
       within = omega (arith, length-take 1000 (map (λ e. e.0) rows));
       ascends = ascends_take marker 1000 (map (λ e. e.0) rows) (ascends_by marker rows (below_behind marker (with_prefix prefix (entries (files tree folder)))) rows_sorted);
-      named = all_take (is_name_with prefix) 1000 (map (λ e. e.0) rows) (all_map (is_name_with prefix) (λ e. e.0) rows rows_named);
+      named = all_take (is_listed_name_with_prefix prefix) 1000 (map (λ e. e.0) rows) (all_map (is_listed_name_with_prefix prefix) (λ e. e.0) rows rows_named);
     })
 
 -- ---- what a listing answers, where it is a page

@@ -25,7 +25,7 @@ use Rattle.swift_marks.specs.Tag.{read_tag}
 use Rattle.swift_marks.specs.Pack.{unpacked}
 use Rattle.upload_records.specs.Native.{within, object_by, object_of}
 use Rattle.upload_records.specs.Consistent.{AreParts, of_parts, IsCompletedBody, of_none, of_segments, IsPlainObject, IsCompletedObject, IsObject, in_one_piece, in_parts}
-use Rattle.recovery.specs.Interpret.{agrees_with_tag}
+use Rattle.recovery.specs.Interpret.{object_head_agrees_with_tag}
 use Rattle.recovery.proofs.lemmas.Etags.{etag_agrees}
 
 -- ---- the bytes of listed parts
@@ -95,7 +95,7 @@ pub record Says (segments : Names SwiftObject) (folder : List ℕ) (file : Swift
   pub packed : unpacked file.meta ≡ Some meta
   pub over : (look : Look) → Finds segments folder look → bytes_of look file.content ≡ Some bytes
   pub sized : size_of file.content ≡ length bytes
-  pub as_tagged : size_of file.content < 2 ^ 63 → agrees_with_tag (bodies.head_of file) tag ≡ true
+  pub as_tagged : size_of file.content < 2 ^ 63 → object_head_agrees_with_tag (bodies.head_of file) tag ≡ true
 
 -- the object itself
 abbrev pub object_said : {segments : Names SwiftObject} {folder : List ℕ} {file : SwiftObject} → Says segments folder file → Object
@@ -105,9 +105,9 @@ pub said : {segments : Names SwiftObject} {folder : List ℕ} {file : SwiftObjec
 said {segments = segments} key says = λ i. object_by (says.tagged i) (says.packed i) (says.over (within segments) (λ name f there. there) i)
 
 module _ (segments : Names SwiftObject) (folder : List ℕ) (file : SwiftObject) where
-  whole_agrees : (plain : IsPlainObject file) → agrees_with_tag (bodies.head_of file) (record { content_type = plain.content_type; etag = body_etag plain.bytes; moment = plain.moment; id = None }) ≡ true
+  whole_agrees : (plain : IsPlainObject file) → object_head_agrees_with_tag (bodies.head_of file) (record { content_type = plain.content_type; etag = body_etag plain.bytes; moment = plain.moment; id = None }) ≡ true
   whole_agrees plain =
-      (λ i. agrees_with_tag (bodies.head_of (record { content_type = file.content_type; meta = file.meta; content = plain.own i })) (record { content_type = plain.content_type; etag = body_etag plain.bytes; moment = plain.moment; id = None }))
+      (λ i. object_head_agrees_with_tag (bodies.head_of (record { content_type = file.content_type; meta = file.meta; content = plain.own i })) (record { content_type = plain.content_type; etag = body_etag plain.bytes; moment = plain.moment; id = None }))
       ∙ and_from _ _ (etag_agrees plain.bytes) (le-leb (length plain.bytes) most_body_bytes plain.sized)
 
   body_agrees : (id : List ℕ) → IsCompletedBody segments folder id file.content → (is_list file.content || (size_of file.content == 0)) ≡ true
@@ -115,7 +115,7 @@ module _ (segments : Names SwiftObject) (folder : List ℕ) (file : SwiftObject)
   body_agrees id (of_segments listed own form) = ap (λ c. is_list c || (size_of c == 0)) own
 
   parts_agree : (object : IsCompletedObject segments folder file) → size_of file.content < 2 ^ 63
-      → agrees_with_tag (bodies.head_of file) (record { content_type = object.content_type; etag = object.etag; moment = object.moment; id = Some object.id }) ≡ true
+      → object_head_agrees_with_tag (bodies.head_of file) (record { content_type = object.content_type; etag = object.etag; moment = object.moment; id = Some object.id }) ≡ true
   parts_agree object below =
       and_from _ _ (and_from _ _ (lt-ltb 32 (length object.etag) object.of_upload) (body_agrees (id_digits object.id) object.body)) (lt-ltb (size_of file.content) (2 ^ 63) below)
 

@@ -33,9 +33,9 @@ use Rattle.swift_marks.specs.Pack.{pack_of}
 use Rattle.swift_marks.specs.Tag as mark
 use Rattle.swift_marks.specs.Tag.{has_text, tag_text}
 use Rattle.swift_marks.proofs.lemmas.FieldLaws.{pack_is_small, tag_is_field}
-use Rattle.upload_texts.specs.Places.{is_part_count, is_part_number}
-use Rattle.upload_texts.specs.Records.{has_record_text, record_text, is_kept_content, is_kept_list, is_kept_part}
-use Rattle.upload_texts.specs.Sealed.{has_sealed_text, is_sealed_dated, is_sealed_list, is_sealed_part, is_sealed_place}
+use Rattle.upload_texts.specs.Places.{is_part_count, part_number_fits_record_text}
+use Rattle.upload_texts.specs.Records.{has_record_text, record_text, content_fits_record_text, list_fits_record_text, part_fits_record_text}
+use Rattle.upload_texts.specs.Sealed.{has_sealed_text, is_sealed_dated, is_sealed_list, part_fits_sealed_text, is_sealed_place}
 use Rattle.upload_texts.specs.declared.sealed.Sealed.{Sealed}
 use Rattle.upload_texts.specs.declared.sealed.SealedPart.{SealedPart}
 use Rattle.upload_records.specs.Consistent.{AreParts, IsConsistent, IsListedPart, IsStored}
@@ -60,7 +60,7 @@ pub record KeepsLimits (s : Sealed) : Type 0 where
   pub meta : is_proper_meta s.meta ≡ true
   pub ascends : names_ascend s.meta ≡ true
   pub count : is_part_count (length s.list) ≡ true
-  pub parts : list_all is_sealed_part s.list ≡ true
+  pub parts : list_all part_fits_sealed_text s.list ≡ true
   pub etag : mark.is_etag s.etag ≡ true
   pub started : nat_lt s.started moment_limit ≡ true
   pub moment : nat_lt s.moment moment_limit ≡ true
@@ -71,11 +71,11 @@ limits s has =
     let place = and_parts (is_sealed_place s) _ has in
     let of_bucket = and_parts (is_bucket s.bucket) (is_key s.key) place.0 in
     let small = and_parts (nat_lt s.id (2 ^ 128)) _ place.1 in
-    let content = and_parts (is_kept_content s.content_type s.meta) _ small.1 in
+    let content = and_parts (content_fits_record_text s.content_type s.meta) _ small.1 in
     let with_type = and_parts (is_content_type s.content_type) _ content.0 in
     let with_meta = and_parts (is_proper_meta s.meta) (names_ascend s.meta) with_type.1 in
     let listed = and_parts (is_sealed_list s.list) _ content.1 in
-    let all = and_parts (is_part_count (length s.list)) (list_all is_sealed_part s.list) listed.0 in
+    let all = and_parts (is_part_count (length s.list)) (list_all part_fits_sealed_text s.list) listed.0 in
     let tagged = and_parts (mark.is_etag s.etag) (is_sealed_dated s) listed.1 in
     let dates = and_parts (nat_lt s.started moment_limit) (nat_lt s.moment moment_limit) tagged.1 in
     record {
@@ -96,14 +96,14 @@ few_parts : (n : ℕ) → is_part_count n ≡ true → n ≤ 1000
 unfolding most_parts
 few_parts n e = leb-true n most_parts (and_parts (nat_le 1 n) (nat_le n most_parts) e).1
 
-counted_part : (n : ℕ) → is_part_number n ≡ true → IsPartNumber n
+counted_part : (n : ℕ) → part_number_fits_record_text n ≡ true → IsPartNumber n
 counted_part n e = let parts = and_parts (nat_le 1 n) (nat_le n greatest_part) e in record { counted = leb-true 1 n parts.0; within = leb-true n greatest_part parts.1 }
 
 -- the number, the ETag and the size of a part
-part_of : (p : SealedPart) → is_sealed_part p ≡ true → (IsPartNumber p.number) × (is_etag p.etag ≡ true) × (p.size ≤ most_body_bytes)
+part_of : (p : SealedPart) → part_fits_sealed_text p ≡ true → (IsPartNumber p.number) × (is_etag p.etag ≡ true) × (p.size ≤ most_body_bytes)
 part_of p e =
-    let parts = and_parts (is_part_number p.number && is_etag p.etag) (nat_le p.size most_body_bytes) e in
-    let front = and_parts (is_part_number p.number) (is_etag p.etag) parts.0 in
+    let parts = and_parts (part_number_fits_record_text p.number && is_etag p.etag) (nat_le p.size most_body_bytes) e in
+    let front = and_parts (part_number_fits_record_text p.number) (is_etag p.etag) parts.0 in
     (counted_part p.number front.0, front.1, leb-true p.size most_body_bytes parts.1)
 
 -- ---- the tag, and the record
@@ -115,18 +115,18 @@ sealed_tag_has_text s has =
     let is = limits s has in
     and_from _ _ (and_from _ _ (and_from _ _ (typed s.content_type is.content_type) is.etag) is.moment) (lt-ltb s.id (2 ^ 128) is.id)
 
-listed_kept : (list : List SealedPart) → list_all is_sealed_part list ≡ true → list_all is_kept_part (map listed_of list) ≡ true
+listed_kept : (list : List SealedPart) → list_all part_fits_sealed_text list ≡ true → list_all part_fits_record_text (map listed_of list) ≡ true
 listed_kept [] e = refl
 listed_kept (p ∷ list) e =
-    let parts = and_parts (is_sealed_part p) (list_all is_sealed_part list) e in
-    and_from _ _ (and_parts (is_part_number p.number && is_etag p.etag) (nat_le p.size most_body_bytes) parts.0).0 (listed_kept list parts.1)
+    let parts = and_parts (part_fits_sealed_text p) (list_all part_fits_sealed_text list) e in
+    and_from _ _ (and_parts (part_number_fits_record_text p.number && is_etag p.etag) (nat_le p.size most_body_bytes) parts.0).0 (listed_kept list parts.1)
 
 -- and so has its record
 pub record_has_text : (s : Sealed) → has_sealed_text s ≡ true → has_record_text (sealed_record s) ≡ true
 unfolding has_record_text
 record_has_text s has =
     let is = limits s has in
-    let kept : is_kept_list (map listed_of s.list) ≡ true = and_from _ _ (ap is_part_count (length-map s.list listed_of) ∙ is.count) (listed_kept s.list is.parts) in
+    let kept : list_fits_record_text (map listed_of s.list) ≡ true = and_from _ _ (ap is_part_count (length-map s.list listed_of) ∙ is.count) (listed_kept s.list is.parts) in
     and_from _ _ is.key (and_from _ _ kept (and_from _ _ is.etag (and_from _ _ is.started is.moment)))
 
 -- ---- its list
@@ -150,21 +150,21 @@ listable bucket id p is counted tagged sized some =
     and_from _ _ proper texts
 
 -- a segment of it has names that a store takes, an ETag and a size
-place_of : (bucket : List ℕ) (id : ℕ) (p : SealedPart) → is_bucket bucket ≡ true → is_sealed_part p ≡ true → nat_lt 0 p.size ≡ true → IsSegmentPlace (part_segment (segments_name bucket) (id_digits id) p)
+place_of : (bucket : List ℕ) (id : ℕ) (p : SealedPart) → is_bucket bucket ≡ true → part_fits_sealed_text p ≡ true → nat_lt 0 p.size ≡ true → IsSegmentPlace (part_segment (segments_name bucket) (id_digits id) p)
 place_of bucket id p is part some =
     let of_part = part_of p part in
     record { container = segments_fits bucket is; name = segment_fits id p.number of_part.0; listable = listable bucket id p is of_part.0 of_part.1 of_part.2 some }
 
-add_place : (bucket : List ℕ) (id : ℕ) (p : SealedPart) (rest : List SealedPart) (t : Bool) → nat_lt 0 p.size ≡ t → is_bucket bucket ≡ true → is_sealed_part p ≡ true
+add_place : (bucket : List ℕ) (id : ℕ) (p : SealedPart) (rest : List SealedPart) (t : Bool) → nat_lt 0 p.size ≡ t → is_bucket bucket ≡ true → part_fits_sealed_text p ≡ true
     → All IsSegmentPlace (map (part_segment (segments_name bucket) (id_digits id)) rest) → All IsSegmentPlace (map (part_segment (segments_name bucket) (id_digits id)) (cond t (p ∷ rest) rest))
 add_place bucket id p rest true some is part places =
     All-cons IsSegmentPlace (part_segment (segments_name bucket) (id_digits id) p) (map (part_segment (segments_name bucket) (id_digits id)) rest) (place_of bucket id p is part some) places
 add_place bucket id p rest false none is part places = places
 
-all_places : (bucket : List ℕ) (id : ℕ) (list : List SealedPart) → is_bucket bucket ≡ true → list_all is_sealed_part list ≡ true → All IsSegmentPlace (map (part_segment (segments_name bucket) (id_digits id)) (filled_parts list))
+all_places : (bucket : List ℕ) (id : ℕ) (list : List SealedPart) → is_bucket bucket ≡ true → list_all part_fits_sealed_text list ≡ true → All IsSegmentPlace (map (part_segment (segments_name bucket) (id_digits id)) (filled_parts list))
 all_places bucket id [] is e = All-nil IsSegmentPlace
 all_places bucket id (p ∷ list) is e =
-    let parts = and_parts (is_sealed_part p) (list_all is_sealed_part list) e in
+    let parts = and_parts (part_fits_sealed_text p) (list_all part_fits_sealed_text list) e in
     add_place bucket id p (filled_parts list) (nat_lt 0 p.size) refl is parts.0 (all_places bucket id list is parts.1)
 
 few_by : (folder id : List ℕ) (p : SealedPart) (rest : List SealedPart) (most : ℕ) (t : Bool) → length (map (part_segment folder id) rest) ≤ most → length (map (part_segment folder id) (cond t (p ∷ rest) rest)) ≤ 1 + most
@@ -184,10 +184,10 @@ sum_more : (folder id : List ℕ) (p : SealedPart) (rest : List SealedPart) (mos
 sum_more folder id p rest most true sized small = let sum = sum_by-cons (λ (x : Segment). x.size) (part_segment folder id p) (map (part_segment folder id) rest) in omega (arith, sized, small, sum)
 sum_more folder id p rest most false sized small = omega (arith, small)
 
-sum_listed : (folder id : List ℕ) (list : List SealedPart) → list_all is_sealed_part list ≡ true → sum_of (map (part_segment folder id) (filled_parts list)) ≤ most_body_bytes * length list
+sum_listed : (folder id : List ℕ) (list : List SealedPart) → list_all part_fits_sealed_text list ≡ true → sum_of (map (part_segment folder id) (filled_parts list)) ≤ most_body_bytes * length list
 sum_listed folder id [] e = omega arith
 sum_listed folder id (p ∷ list) e =
-    let parts = and_parts (is_sealed_part p) (list_all is_sealed_part list) e in
+    let parts = and_parts (part_fits_sealed_text p) (list_all part_fits_sealed_text list) e in
     let more = sum_more folder id p (filled_parts list) (most_body_bytes * length list) (nat_lt 0 p.size) (part_of p parts.0).2 (sum_listed folder id list parts.1) in
     omega (arith, more)
 
@@ -249,15 +249,15 @@ upload_long etags =
     let inner = length-append (encode_lower (md5 digest)) (codes "-") in
     omega (arith, long, outer, inner)
 
-rises_up : (list : List SealedPart) → list_all is_sealed_part list ≡ true → rises (map listed_of list) ≡ true → rises_from 0 (map listed_of list) ≡ true
+rises_up : (list : List SealedPart) → list_all part_fits_sealed_text list ≡ true → rises (map listed_of list) ≡ true → rises_from 0 (map listed_of list) ≡ true
 rises_up [] all up = refl
 rises_up (p ∷ list) all up =
-    let counted = (part_of p (and_parts (is_sealed_part p) (list_all is_sealed_part list) all).0).0.counted in
+    let counted = (part_of p (and_parts (part_fits_sealed_text p) (list_all part_fits_sealed_text list) all).0).0.counted in
     and_from _ _ (lt-ltb 0 p.number (omega (arith, counted))) up
 
-pub all_counted : (list : List SealedPart) → list_all is_sealed_part list ≡ true → AreCounted list
+pub all_counted : (list : List SealedPart) → list_all part_fits_sealed_text list ≡ true → AreCounted list
 all_counted [] e = tt
-all_counted (p ∷ list) e = let parts = and_parts (is_sealed_part p) (list_all is_sealed_part list) e in ((part_of p parts.0).0.within, all_counted list parts.1)
+all_counted (p ∷ list) e = let parts = and_parts (part_fits_sealed_text p) (list_all part_fits_sealed_text list) e in ((part_of p parts.0).0.within, all_counted list parts.1)
 
 pub may_stand : (tree : SwiftAccount) (s : Sealed) → IsConsistent tree → seal_of tree ≡ Some s → MayStand (files tree (segments_name s.bucket)) s
 may_stand tree s sound seals =

@@ -16,7 +16,7 @@ use Rattle.gate_base.specs.Told.{moment_limit}
 use Rattle.swift_marks.specs.Limits.{counted_name, counted_size, is_within_limits, is_printable_entry, is_kept_metadata}
 use Rattle.gate_base.specs.Ascii.{is_digit, is_lower_hex}
 use Rattle.gate_base.specs.Fields.{is_field, is_printable}
-use Rattle.swift_marks.specs.Number.{number_of, id_text, fits_id}
+use Rattle.swift_marks.specs.Number.{number_of, id_text, id_fits_tag}
 use Rattle.swift_marks.specs.Pack.{entry_text, cut_in, bracketed, pack_of}
 use Rattle.swift_marks.specs.Tag.{is_content_type, is_part_count, is_parts_suffix, is_etag, has_text, tag_text}
 use Rattle.swift_marks.specs.declared.tag.Tag.{Tag}
@@ -117,7 +117,7 @@ front_begins type etag dec some =
 pub tag_is_field : (tag : Tag) → has_text tag ≡ true → is_field 512 (tag_text tag) ≡ true
 unfolding has_text tag_text
 tag_is_field tag h =
-    let all = and_parts (is_content_type tag.content_type && is_etag tag.etag && nat_lt tag.moment moment_limit) (fits_id tag.id) h in
+    let all = and_parts (is_content_type tag.content_type && is_etag tag.etag && nat_lt tag.moment moment_limit) (id_fits_tag tag.id) h in
     let most = and_parts (is_content_type tag.content_type && is_etag tag.etag) (nat_lt tag.moment moment_limit) all.0 in
     let some = and_parts (is_content_type tag.content_type) (is_etag tag.etag) most.0 in
     let type = tag.content_type in

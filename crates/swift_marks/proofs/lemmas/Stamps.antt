@@ -8,7 +8,7 @@ use Rattle.std.proofs.lemmas.Bool.{and_parts, and_from}
 use Rattle.std.proofs.lemmas.List.{length-append}
 use Rattle.std.proofs.lemmas.Slice.Eq.{bytes_eq-Decides}
 use Rattle.gate_base.specs.Told.{moment_limit}
-use Rattle.swift_marks.specs.Number.{id_text, fits_id}
+use Rattle.swift_marks.specs.Number.{id_text, id_fits_tag}
 use Rattle.swift_marks.specs.Tag.{is_content_type, is_etag, has_text, tag_text, tag_parts, read_tag, stamp_of, is_stamp, stamp_text, read_stamp}
 use Rattle.swift_marks.specs.declared.tag.Tag.{Tag}
 use Rattle.swift_marks.proofs.lemmas.TagLaws.{kept, tag_has_one_text}
@@ -33,7 +33,7 @@ stamped tag = regroup tag.content_type tag.etag (decimal tag.moment) (id_text ta
 stamp_has_text : (tag : Tag) → has_text tag ≡ true → is_stamp (stamp_of tag) ≡ true
 unfolding has_text is_stamp
 stamp_has_text tag h =
-    let all = and_parts (is_content_type tag.content_type && is_etag tag.etag && nat_lt tag.moment moment_limit) (fits_id tag.id) h in
+    let all = and_parts (is_content_type tag.content_type && is_etag tag.etag && nat_lt tag.moment moment_limit) (id_fits_tag tag.id) h in
     let most = and_parts (is_content_type tag.content_type && is_etag tag.etag) (nat_lt tag.moment moment_limit) all.0 in
     let some = and_parts (is_content_type tag.content_type) (is_etag tag.etag) most.0 in
     and_from _ _ (and_from _ _ some.1 most.1) all.1

@@ -10,7 +10,7 @@ use Rattle.std.proofs.lemmas.Slice.Eq.{bytes_eq-Decides}
 use Rattle.gate_base.specs.Told.{moment_limit}
 use Rattle.gate_base.specs.Ascii.{is_digit, is_lower_hex}
 use Rattle.s3_names.specs.Id.{id_digits, id_of}
-use Rattle.swift_marks.specs.Number.{number_of, id_text, fits_id}
+use Rattle.swift_marks.specs.Number.{number_of, id_text, id_fits_tag}
 use Rattle.swift_marks.specs.Tag.{is_content_type, is_part_count, is_parts_suffix, is_etag, has_text, tag_text, tag_parts, read_tag, is_equals, is_semicolon, is_dot}
 use Rattle.swift_marks.specs.declared.tag.Tag.{Tag}
 use Rattle.swift_marks.proofs.Cuts.{before_first_at, after_first_at, before_last_at, after_last_at}
@@ -83,7 +83,7 @@ no_equals a b h k = list_all-append (λ byte. not (is_equals byte)) a (46 ∷ b)
 parts_of_text : (tag : Tag) → has_text tag ≡ true → tag_parts (tag_text tag) ≡ tag
 unfolding has_text tag_text tag_parts
 parts_of_text tag h =
-    let all = and_parts (is_content_type tag.content_type && is_etag tag.etag && nat_lt tag.moment moment_limit) (fits_id tag.id) h in
+    let all = and_parts (is_content_type tag.content_type && is_etag tag.etag && nat_lt tag.moment moment_limit) (id_fits_tag tag.id) h in
     let most = and_parts (is_content_type tag.content_type && is_etag tag.etag) (nat_lt tag.moment moment_limit) all.0 in
     let some = and_parts (is_content_type tag.content_type) (is_etag tag.etag) most.0 in
     let small : tag.moment < 253402300800 = grind (arith, nat_tests, most.1) in

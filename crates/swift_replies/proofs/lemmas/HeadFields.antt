@@ -8,10 +8,10 @@ use Rattle.gate_base.specs.declared.page.Pair.{Pair}
 use Rattle.httparse.specs.Grammar.{is_token, is_token_byte}
 use Rattle.http1.specs.Head.{are_headers, is_header, is_trimmed_value}
 use Rattle.swift_calls.specs.declared.heads.StoredHead.{StoredHead}
-use Rattle.http_answers.specs.Fields.{at_most_one, needed, size_from, size_in}
-use Rattle.swift_replies.specs.Fields.{head_from, head_in, manifest_from, manifest_in, meta_in, meta_name, tag_in}
+use Rattle.http_answers.specs.Fields.{at_most_one, needed, size_from, answer_content_length}
+use Rattle.swift_replies.specs.Fields.{head_from, head_in, manifest_from, reply_manifest_flag_in, meta_in, meta_name, tag_in}
 use Rattle.http_answers.specs.Framing.{expected, is_bodiless}
-use Rattle.swift_replies.specs.AnswerText.{Field, etag_field, is_head, is_meta, is_size, is_tag, length_field, manifest_fields, meta_fields, object_fields}
+use Rattle.swift_replies.specs.AnswerText.{Field, etag_field, is_head, is_meta, is_spelled_size, is_tag, length_field, manifest_fields, meta_fields, object_fields}
 use Rattle.swift_replies.proofs.lemmas.GoodFields.{good-append, meta_good, named_ok}
 use Rattle.swift_replies.proofs.lemmas.GivenLemmas.{given, given-append, given_meta, given_other}
 use Rattle.swift_replies.proofs.lemmas.MetaFieldLemmas.{meta_read, none_has}
@@ -104,7 +104,7 @@ mark_read : (manifest : Bool) → manifest_from (at_most_one (given manifest_nam
 mark_read false = refl
 mark_read true = refl
 
-manifest_read : (count : ℕ) (head : StoredHead) (range : Option (List ℕ)) → manifest_in (map lowered (fields count head range)) ≡ Some head.manifest
+manifest_read : (count : ℕ) (head : StoredHead) (range : Option (List ℕ)) → reply_manifest_flag_in (map lowered (fields count head range)) ≡ Some head.manifest
 manifest_read count head range =
     ap (λ v. manifest_from (at_most_one v)) (parts manifest_name count head range (λ index. refl)
     ∙ ap (λ v. given manifest_name (manifest_fields head.manifest) ++ v) (no_range manifest_name range refl))
@@ -136,9 +136,9 @@ record Parts (head : StoredHead) : Type 0 where
 
 parts_of : (head : StoredHead) → is_head head ≡ true → Parts head
 parts_of head fine =
-    let type = and_parts (is_trimmed_value head.content_type) (is_tag head.etag && (is_size head.size && is_meta head.meta)) fine in
-    let etag = and_parts (is_tag head.etag) (is_size head.size && is_meta head.meta) type.1 in
-    let size = and_parts (is_size head.size) (is_meta head.meta) etag.1 in
+    let type = and_parts (is_trimmed_value head.content_type) (is_tag head.etag && (is_spelled_size head.size && is_meta head.meta)) fine in
+    let etag = and_parts (is_tag head.etag) (is_spelled_size head.size && is_meta head.meta) type.1 in
+    let size = and_parts (is_spelled_size head.size) (is_meta head.meta) etag.1 in
     let meta = and_parts (nat_le (length head.meta) 11) (list_all is_trimmed_value head.meta) size.1 in record {
       type = type.0;
       etag = etag.0;
@@ -158,13 +158,13 @@ pub head_back : (count : ℕ) (head : StoredHead) (range : Option (List ℕ)) �
 head_back count head range fine =
     let hs : List Pair = map lowered (fields count head range) in
     let p = parts_of head fine in
-    ap₂ (λ t e. head_from (needed (at_most_one t)) (Some head.size) (option_and_then tag_in (needed (at_most_one e))) (manifest_in hs) (meta_in hs))
+    ap₂ (λ t e. head_from (needed (at_most_one t)) (Some head.size) (option_and_then tag_in (needed (at_most_one e))) (reply_manifest_flag_in hs) (meta_in hs))
     (type_given count head range) (etag_given count head range)
-    ∙ ap (λ e. head_from (Some head.content_type) (Some head.size) e (manifest_in hs) (meta_in hs)) (tag_back head.etag p.etag)
+    ∙ ap (λ e. head_from (Some head.content_type) (Some head.size) e (reply_manifest_flag_in hs) (meta_in hs)) (tag_back head.etag p.etag)
     ∙ ap₂ (λ m ps. head_from (Some head.content_type) (Some head.size) (Some head.etag) m ps) (manifest_read count head range)
     (pieces_read count head range p.few)
 
-pub length_back : (count : ℕ) (head : StoredHead) (range : Option (List ℕ)) → count < 10 ^ 19 → size_in (map lowered (fields count head range)) ≡ Some count
+pub length_back : (count : ℕ) (head : StoredHead) (range : Option (List ℕ)) → count < 10 ^ 19 → answer_content_length (map lowered (fields count head range)) ≡ Some count
 length_back count head range small = ap (λ v. size_from (at_most_one v)) (length_given count head range) ∙ number_back count small
 
 -- the body that is expected
@@ -172,7 +172,7 @@ pub expected_back : (asks : Bool) (status count : ℕ) (head : StoredHead) (rang
     → expected asks status (map lowered (fields count head range)) ≡ (if is_bodiless asks status then Some 0 else Some count)
 expected_back asks status count head range small =
     let hs : List Pair = map lowered (fields count head range) in
-    ap (λ b. if b then None else (if is_bodiless asks status then Some 0 else size_in hs)) (none_has (codes "transfer-encoding") hs (no_coding count head range))
+    ap (λ b. if b then None else (if is_bodiless asks status then Some 0 else answer_content_length hs)) (none_has (codes "transfer-encoding") hs (no_coding count head range))
     ∙ ap (λ s. if is_bodiless asks status then Some 0 else s) (length_back count head range small)
 
 -- ---- the headers can be sent

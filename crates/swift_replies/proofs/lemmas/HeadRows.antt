@@ -18,7 +18,7 @@ use Rattle.swift_calls.specs.declared.calls.SwiftReply.TheVariants.{Head, Bytes}
 use Rattle.http_answers.specs.Fields.{at_most_one, needed, plain_number}
 use Rattle.swift_replies.specs.Fields.{head_in, size_behind, whole_size_in}
 use Rattle.http_answers.specs.Framing.{expected, is_bodiless}
-use Rattle.swift_replies.specs.Answers.{Said, asks_head, bytes_from, is_part, reply_of, SpellsAnswer}
+use Rattle.swift_replies.specs.Answers.{Said, asks_head, sized_bytes_reply, is_part, reply_of, SpellsAnswer}
 use Rattle.swift_replies.specs.AnswerText.{Sent, answer_text, bytes_by, head_by, head_text, is_head, is_spelled, phrase_of, range_text, sent_text, text_by, within_limit}
 use Rattle.swift_replies.proofs.lemmas.CutLemmas.{Lacks, after_at, weaker}
 use Rattle.text_forms.proofs.lemmas.Decimals.{decimal_digits}
@@ -77,8 +77,8 @@ whole_gives container name head body whole fine =
     let hs = map lowered (fields (length body) head None) in
     let same : length body ≡ head.size = eqb-true (length body) head.size whole in
     let small : length body < 10 ^ 19 = omega (arith, same, size_fits head fine) in
-    ap (λ size. bytes_from None (head_in size hs) body) (length_back (length body) head None small ∙ ap (λ size. Some size) same)
-    ∙ ap (λ h. bytes_from None h body) (head_back (length body) head None fine) ∙ ap (λ b. if b then Some (Bytes head body) else None) whole
+    ap (λ size. sized_bytes_reply None (head_in size hs) body) (length_back (length body) head None small ∙ ap (λ size. Some size) same)
+    ∙ ap (λ h. sized_bytes_reply None h body) (head_back (length body) head None fine) ∙ ap (λ b. if b then Some (Bytes head body) else None) whole
 
 -- ---- a range of it
 
@@ -138,7 +138,7 @@ part_gives container name range head body part fine =
     let size : whole_size_in hs ≡ Some head.size =
     ap (λ v. option_and_then size_behind (needed (at_most_one v))) (range_given (length body) head text)
     ∙ size_read range.0 (length body) head.size (omega (arith, within, small)) (omega (arith, within, small)) small in
-    ap (λ n. bytes_from (Some range) (head_in n hs) body) size ∙ ap (λ h. bytes_from (Some range) h body) (head_back (length body) head (Some text) fine)
+    ap (λ n. sized_bytes_reply (Some range) (head_in n hs) body) size ∙ ap (λ h. sized_bytes_reply (Some range) h body) (head_back (length body) head (Some text) fine)
     ∙ ap (λ b. if b then Some (Bytes head body) else None) part
 
 -- ---- the bytes of an object

@@ -14,7 +14,7 @@ use Rattle.swift_calls.specs.declared.calls.SwiftReply.{SwiftReply}
 use Rattle.swift_calls.specs.declared.calls.SwiftReply.TheVariants.{Containers, Names}
 use Rattle.http_answers.specs.Framing.{expected}
 use Rattle.swift_replies.specs.Answers.{SpellsAnswer, asks_head, container_name, name_item, reply_of}
-use Rattle.swift_replies.specs.AnswerText.{Sent, answer_text, container_value, head_text, is_item, is_spelled, item_value, length_field, list_sent, list_text, sent_text, status_line, text_by}
+use Rattle.swift_replies.specs.AnswerText.{Sent, answer_text, container_value, head_text, is_spelled_name_item, is_spelled, item_value, length_field, list_sent, list_text, sent_text, status_line, text_by}
 use Rattle.swift_replies.proofs.ListJsonLemmas.{container_back, container_read, item_back, item_read, list_back}
 use Rattle.swift_replies.proofs.lemmas.ReadBack.{lowered, said_by, written_spells}
 use Rattle.swift_replies.proofs.lemmas.ReadersRow.{header_length}
@@ -81,9 +81,9 @@ pub names_read_back : (container prefix marker : List ℕ) (limit : ℕ) (items 
     → length (answer_text (ListNames container prefix marker limit) (Names items)) < 2 ^ 63
     → SpellsAnswer (ListNames container prefix marker limit) (Names items) (answer_text (ListNames container prefix marker limit) (Names items))
 names_read_back container prefix marker limit items some =
-    passed (list_all is_item items) (list_sent text) (IsBack call (Names items)) some
+    passed (list_all is_spelled_name_item items) (list_sent text) (IsBack call (Names items)) some
     (λ all. list_spells call (Names items) text refl
-    (ap (option_map (λ v. Names v)) (list_back is_item item_value name_item item_read item_back items all)))
+    (ap (option_map (λ v. Names v)) (list_back is_spelled_name_item item_value name_item item_read item_back items all)))
   where
     call : SwiftRequest
     call = ListNames container prefix marker limit

@@ -11,11 +11,11 @@ use Rattle.swift_calls.specs.declared.account.ReadList.TheVariants.{Nobody, Ever
 use Rattle.swift_calls.specs.declared.calls.SwiftRequest.TheVariants.{HeadContainer}
 use Rattle.swift_calls.specs.declared.calls.SwiftReply.{SwiftReply}
 use Rattle.swift_calls.specs.declared.calls.SwiftReply.TheVariants.{Readers}
-use Rattle.swift_replies.specs.Fields.{before_limit, moment_in, readers_by}
+use Rattle.swift_replies.specs.Fields.{before_limit, moment_in, container_readers_by_value}
 use Rattle.http_answers.specs.Framing.{expected}
 use Rattle.http_answers.proofs.lemmas.NumberLemmas.{plain_decimal}
 use Rattle.swift_replies.specs.Answers.{SpellsAnswer, both, reply_of}
-use Rattle.swift_replies.specs.AnswerText.{Sent, created_fields, head_text, is_created, length_field, readers_fields, readers_sent, readers_text, status_line, text_by}
+use Rattle.swift_replies.specs.AnswerText.{Sent, created_fields, head_text, is_spelled_created, length_field, readers_fields, readers_sent, readers_text, status_line, text_by}
 use Rattle.swift_replies.proofs.lemmas.BareRows.{zero_text}
 use Rattle.swift_replies.proofs.lemmas.ReadBack.{lowered, said_by, written_spells}
 use Rattle.swift_replies.proofs.lemmas.ValueRows.{decimal_trimmed}
@@ -25,7 +25,7 @@ moment_back moment fine =
     let below : moment < 253402300800 = ltb-true moment moment_limit fine in
     ap (option_and_then before_limit) (plain_decimal moment (omega (arith, below))) ∙ ap (λ b. if b then Some moment else None) fine
 
-pub readers_back : (readers : ReadList) → readers_by (readers_text readers) ≡ Some readers
+pub readers_back : (readers : ReadList) → container_readers_by_value (readers_text readers) ≡ Some readers
 readers_back Nobody = refl
 readers_back Everybody = refl
 
@@ -42,14 +42,14 @@ readers_by_parts readers created = record { status = 204; headers = readers_fiel
 
 -- ---- the headers can be sent
 
-created_sendable : (created : Option ℕ) → is_created created ≡ true → are_headers (created_fields created) ≡ true
+created_sendable : (created : Option ℕ) → is_spelled_created created ≡ true → are_headers (created_fields created) ≡ true
 unfolding are_headers is_token_byte
 created_sendable None fine = refl
 created_sendable (Some moment) fine =
     let below : moment < 253402300800 = ltb-true moment moment_limit fine in
     ap (λ b. b && true) (decimal_trimmed moment (omega (arith, below)))
 
-sendable : (readers : ReadList) (created : Option ℕ) → is_created created ≡ true → are_headers (readers_fields readers created) ≡ true
+sendable : (readers : ReadList) (created : Option ℕ) → is_spelled_created created ≡ true → are_headers (readers_fields readers created) ≡ true
 unfolding are_headers is_token_byte
 sendable readers created fine =
     ap (λ v. are_headers ((codes "Content-Length", v) ∷ (codes "X-Container-Read", readers_text readers) ∷ created_fields created)) zero_text
@@ -61,7 +61,7 @@ pub header_length : (name value : List ℕ) → length (print_header (name, valu
 header_length name value =
     omega (arith, length-append (name ++ 58 ∷ 32 ∷ value) (13 ∷ 10 ∷ []), length-append name (58 ∷ 32 ∷ value), length-append name (58 ∷ 32 ∷ (value ++ 13 ∷ 10 ∷ [])), length-append value (13 ∷ 10 ∷ []))
 
-created_length : (created : Option ℕ) → is_created created ≡ true → length (print_headers (created_fields created)) ≤ 100
+created_length : (created : Option ℕ) → is_spelled_created created ≡ true → length (print_headers (created_fields created)) ≤ 100
 created_length None fine = omega arith
 created_length (Some moment) fine =
     let below : moment < 253402300800 = ltb-true moment moment_limit fine in
@@ -72,7 +72,7 @@ created_length (Some moment) fine =
       length-decimal-le 19 moment (omega arith) (omega (arith, below)) (omega (arith, below)),
     )
 
-short : (readers : ReadList) (created : Option ℕ) → is_created created ≡ true → length (head_text (readers_by_parts readers created)) ≤ 65536
+short : (readers : ReadList) (created : Option ℕ) → is_spelled_created created ≡ true → length (head_text (readers_by_parts readers created)) ≤ 65536
 short readers created fine =
     let front : List ℕ = print_header (length_field 0) in
     let second : List ℕ = print_header (codes "X-Container-Read", readers_text readers) in
@@ -99,7 +99,7 @@ no_body readers (Some moment) = refl
 abbrev reply : ReadList → Option ℕ → SwiftReply
 reply readers created = Readers readers created
 
-gives : (container : List ℕ) (readers : ReadList) (created : Option ℕ) → is_created created ≡ true
+gives : (container : List ℕ) (readers : ReadList) (created : Option ℕ) → is_spelled_created created ≡ true
     → reply_of (HeadContainer container) (said_by (readers_by_parts readers created)) ≡ Some (Readers readers created)
 gives container readers None fine = ap (λ v. both reply v (Some None)) (readers_back readers)
 gives container readers (Some moment) fine =
@@ -108,9 +108,9 @@ gives container readers (Some moment) fine =
 
 pub readers_reads_back : (container : List ℕ) (readers : ReadList) (created : Option ℕ) → is_some (readers_sent readers created) ≡ true
     → SpellsAnswer (HeadContainer container) (Readers readers created) (text_by (readers_sent readers created))
-readers_reads_back container readers created some = by_created (is_created created) refl some
+readers_reads_back container readers created some = by_created (is_spelled_created created) refl some
   where
-    by_created : (b : Bool) → is_created created ≡ b → is_some (if b then Some (readers_by_parts readers created) else None) ≡ true
+    by_created : (b : Bool) → is_spelled_created created ≡ b → is_some (if b then Some (readers_by_parts readers created) else None) ≡ true
         → SpellsAnswer (HeadContainer container) (Readers readers created) (text_by (if b then Some (readers_by_parts readers created) else None))
     by_created true fine some =
         written_spells (HeadContainer container) (Readers readers created) (readers_by_parts readers created) refl (sendable readers created fine)

@@ -15,7 +15,7 @@ use Rattle.swift_calls.specs.declared.calls.SwiftRequest.TheVariants.{PutObject,
 use Rattle.swift_calls.specs.declared.calls.SwiftReply.TheVariants.{Stored}
 use Rattle.text_forms.specs.Numbers.{number_of}
 use Rattle.text_forms.proofs.lemmas.Decimals.{decimal_digits, number_of_decimal}
-use Rattle.swift_replies.specs.Fields.{is_tag_byte, is_quoted, tag_in, tag_only}
+use Rattle.swift_replies.specs.Fields.{is_reply_etag_byte, is_quoted, tag_in, tag_only}
 use Rattle.http_answers.specs.Framing.{expected}
 use Rattle.swift_replies.specs.Answers.{SpellsAnswer, asks_head, reply_of}
 use Rattle.swift_replies.specs.AnswerText.{Sent, head_text, is_tag, sent_text, stored_by, stored_sent, text_by, within_limit, length_field, etag_field}
@@ -56,20 +56,20 @@ number_back n small = number_of_decimal 19 n (omega arith) small (omega (arith, 
 
 -- ---- ETags
 
-tag_visible : (b : ℕ) → is_tag_byte b ≡ true → is_visible b ≡ true
+tag_visible : (b : ℕ) → is_reply_etag_byte b ≡ true → is_visible b ≡ true
 tag_visible b tag = grind (arith, nat_tests)
 
 pub tag_trimmed : (etag : List ℕ) → is_tag etag ≡ true → is_trimmed_value etag ≡ true
 tag_trimmed etag fine =
-    trimmed etag (All-weaker (λ b. is_tag_byte b ≡ true) (λ b. is_visible b ≡ true) tag_visible etag (AllPass-from_list_all is_tag_byte etag fine))
+    trimmed etag (All-weaker (λ b. is_reply_etag_byte b ≡ true) (λ b. is_visible b ≡ true) tag_visible etag (AllPass-from_list_all is_reply_etag_byte etag fine))
 
-no_quote : (b : ℕ) → is_tag_byte b ≡ true → (b == 34) ≡ false
+no_quote : (b : ℕ) → is_reply_etag_byte b ≡ true → (b == 34) ≡ false
 no_quote b tag = grind (arith, nat_tests)
 
 not_quoted : (etag : List ℕ) → is_tag etag ≡ true → is_quoted etag ≡ false
 not_quoted [] fine = refl
 not_quoted (b ∷ bs) fine =
-    let first : (b == 34) ≡ false = no_quote b (and_parts (is_tag_byte b) _ fine).0 in
+    let first : (b == 34) ≡ false = no_quote b (and_parts (is_reply_etag_byte b) _ fine).0 in
     ap (λ v. nat_le 2 (length (b ∷ bs)) && (v && (slice_index (b ∷ bs) (length (b ∷ bs) - 1) == 34))) first ∙ and_no (nat_le 2 (length (b ∷ bs)))
   where
     and_no : (t : Bool) → (t && false) ≡ false

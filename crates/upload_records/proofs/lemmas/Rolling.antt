@@ -22,10 +22,10 @@ use Rattle.upload_records.specs.Native.{record_at, seal_by, seal_of, completed_f
 use Rattle.upload_records.specs.Consistent.{IsObject, IsListOf, IsStored, IsThere, IsConsistent}
 use Rattle.upload_records.specs.Laws.{file_put, Rolls, IsRolled, ListingStands, Unseals, MayStand, Stands}
 use Rattle.upload_records.proofs.Completed as completed
-use Rattle.upload_records.proofs.GatewayPut.{sealed_has}
 use Rattle.upload_records.proofs.Parts as parts
 use Rattle.upload_records.proofs.Rolls as rolls
 use Rattle.upload_records.proofs.lemmas.Objects.{put_leaves, delete_leaves}
+use Rattle.upload_records.proofs.lemmas.SealedTexts.{sealed_has}
 use Rattle.upload_records.proofs.lemmas.Settled.{unsealed_by}
 
 -- ---- what is sealed

@@ -30,10 +30,10 @@ use Rattle.slo_manifest.specs.Segments.{is_etag}
 use Rattle.swift_marks.specs.Number.{number_of}
 use Rattle.swift_marks.specs.Tag.{is_part_count, is_parts_suffix}
 use Rattle.swift_marks.specs.Tag as mark
-use Rattle.upload_texts.specs.Places.{array_of, listed_value, pair_value, is_part_number}
+use Rattle.upload_texts.specs.Places.{array_of, record_part_json, metadata_pair_json, part_number_fits_record_text}
 use Rattle.upload_texts.specs.Places as places
-use Rattle.upload_texts.specs.Records.{has_record_text, is_kept_content, is_kept_list, is_kept_part, record_text}
-use Rattle.upload_texts.specs.Sealed.{has_sealed_text, is_sealed_dated, is_sealed_list, is_sealed_part, is_sealed_place, part_value, sealed_text}
+use Rattle.upload_texts.specs.Records.{has_record_text, content_fits_record_text, list_fits_record_text, part_fits_record_text, record_text}
+use Rattle.upload_texts.specs.Sealed.{has_sealed_text, is_sealed_dated, is_sealed_list, part_fits_sealed_text, is_sealed_place, sealed_part_json, sealed_text}
 use Rattle.upload_texts.specs.declared.record.Record.TheVariants.{Done}
 use Rattle.upload_texts.specs.declared.sealed.Sealed.{Sealed}
 use Rattle.upload_texts.specs.declared.sealed.SealedPart.{SealedPart}
@@ -71,7 +71,7 @@ dated_short n e = let near = ltb-true n moment_limit e in length-decimal-le 12 n
 digit_short : (n : ℕ) → n < 10 → length (compact_text (number (unsigned n))) ≤ 1
 digit_short n near = length-decimal-le 1 n (omega arith) (omega (arith, near)) (omega (arith, near))
 
-part_number_short : (n : ℕ) → is_part_number n ≡ true → length (compact_text (number (unsigned n))) ≤ 4
+part_number_short : (n : ℕ) → part_number_fits_record_text n ≡ true → length (compact_text (number (unsigned n))) ≤ 4
 unfolding greatest_part
 part_number_short n e =
     let near = leb-true n greatest_part (and_parts (nat_le 1 n) (nat_le n greatest_part) e).1 in
@@ -109,34 +109,34 @@ etag_length etag h =
 
 -- ---- the parts of a list
 
-listed_short : (l : Listed) → is_kept_part l ≡ true → length (compact_text (listed_value l)) ≤ 201
+listed_short : (l : Listed) → part_fits_record_text l ≡ true → length (compact_text (record_part_json l)) ≤ 201
 listed_short l e =
-    let parts = and_parts (is_part_number l.number) (is_etag l.etag) e in
+    let parts = and_parts (part_number_fits_record_text l.number) (is_etag l.etag) e in
     let count = part_number_short l.number parts.0 in
     let etag = string_short l.etag 32 (part_etag_length l.etag parts.1) in
     let inner = length-append (quoted l.etag) (93 ∷ []) in
     let outer = length-append (decimal l.number) (44 ∷ (quoted l.etag ++ 93 ∷ [])) in
     omega (arith, count, etag, inner, outer)
 
-all_listed_short : (later : Bool) (list : List Listed) → list_all is_kept_part list ≡ true → length (items_text later (items_of (map listed_value list))) ≤ 202 * length list + 1
+all_listed_short : (later : Bool) (list : List Listed) → list_all part_fits_record_text list ≡ true → length (items_text later (items_of (map record_part_json list))) ≤ 202 * length list + 1
 all_listed_short later [] e = omega arith
 all_listed_short true (l ∷ list) e =
-    let parts = and_parts (is_kept_part l) (list_all is_kept_part list) e in
+    let parts = and_parts (part_fits_record_text l) (list_all part_fits_record_text list) e in
     let one = listed_short l parts.0 in
     let more = all_listed_short true list parts.1 in
-    let size = length-append (compact_text (listed_value l)) (items_text true (items_of (map listed_value list))) in
+    let size = length-append (compact_text (record_part_json l)) (items_text true (items_of (map record_part_json list))) in
     omega (arith, one, more, size)
 all_listed_short false (l ∷ list) e =
-    let parts = and_parts (is_kept_part l) (list_all is_kept_part list) e in
+    let parts = and_parts (part_fits_record_text l) (list_all part_fits_record_text list) e in
     let one = listed_short l parts.0 in
     let more = all_listed_short true list parts.1 in
-    let size = length-append (compact_text (listed_value l)) (items_text true (items_of (map listed_value list))) in
+    let size = length-append (compact_text (record_part_json l)) (items_text true (items_of (map record_part_json list))) in
     omega (arith, one, more, size)
 
-part_short : (p : SealedPart) → is_sealed_part p ≡ true → length (compact_text (part_value p)) ≤ 210
+part_short : (p : SealedPart) → part_fits_sealed_text p ≡ true → length (compact_text (sealed_part_json p)) ≤ 210
 part_short p e =
-    let parts = and_parts (is_part_number p.number && is_etag p.etag) (nat_le p.size most_body_bytes) e in
-    let front = and_parts (is_part_number p.number) (is_etag p.etag) parts.0 in
+    let parts = and_parts (part_number_fits_record_text p.number && is_etag p.etag) (nat_le p.size most_body_bytes) e in
+    let front = and_parts (part_number_fits_record_text p.number) (is_etag p.etag) parts.0 in
     let count = part_number_short p.number front.0 in
     let etag = string_short p.etag 32 (part_etag_length p.etag front.1) in
     let size = size_short p.size parts.1 in
@@ -145,31 +145,31 @@ part_short p e =
     let outer = length-append (decimal p.number) (44 ∷ (quoted p.etag ++ 44 ∷ (decimal p.size ++ 93 ∷ []))) in
     omega (arith, count, etag, size, last, inner, outer)
 
-all_parts_short : (later : Bool) (list : List SealedPart) → list_all is_sealed_part list ≡ true → length (items_text later (items_of (map part_value list))) ≤ 211 * length list + 1
+all_parts_short : (later : Bool) (list : List SealedPart) → list_all part_fits_sealed_text list ≡ true → length (items_text later (items_of (map sealed_part_json list))) ≤ 211 * length list + 1
 all_parts_short later [] e = omega arith
 all_parts_short true (p ∷ list) e =
-    let parts = and_parts (is_sealed_part p) (list_all is_sealed_part list) e in
+    let parts = and_parts (part_fits_sealed_text p) (list_all part_fits_sealed_text list) e in
     let one = part_short p parts.0 in
     let more = all_parts_short true list parts.1 in
-    let size = length-append (compact_text (part_value p)) (items_text true (items_of (map part_value list))) in
+    let size = length-append (compact_text (sealed_part_json p)) (items_text true (items_of (map sealed_part_json list))) in
     omega (arith, one, more, size)
 all_parts_short false (p ∷ list) e =
-    let parts = and_parts (is_sealed_part p) (list_all is_sealed_part list) e in
+    let parts = and_parts (part_fits_sealed_text p) (list_all part_fits_sealed_text list) e in
     let one = part_short p parts.0 in
     let more = all_parts_short true list parts.1 in
-    let size = length-append (compact_text (part_value p)) (items_text true (items_of (map part_value list))) in
+    let size = length-append (compact_text (sealed_part_json p)) (items_text true (items_of (map sealed_part_json list))) in
     omega (arith, one, more, size)
 
-list_short : (list : List Listed) → is_kept_list list ≡ true → length (compact_text (array_of listed_value list)) ≤ 202002
+list_short : (list : List Listed) → list_fits_record_text list ≡ true → length (compact_text (array_of record_part_json list)) ≤ 202002
 list_short list e =
-    let parts = and_parts (places.is_part_count (length list)) (list_all is_kept_part list) e in
+    let parts = and_parts (places.is_part_count (length list)) (list_all part_fits_record_text list) e in
     let few = few_parts (length list) parts.0 in
     let text = all_listed_short false list parts.1 in
     omega (arith, few, text)
 
-parts_short : (list : List SealedPart) → is_sealed_list list ≡ true → length (compact_text (array_of part_value list)) ≤ 211002
+parts_short : (list : List SealedPart) → is_sealed_list list ≡ true → length (compact_text (array_of sealed_part_json list)) ≤ 211002
 parts_short list e =
-    let parts = and_parts (places.is_part_count (length list)) (list_all is_sealed_part list) e in
+    let parts = and_parts (places.is_part_count (length list)) (list_all part_fits_sealed_text list) e in
     let few = few_parts (length list) parts.0 in
     let text = all_parts_short false list parts.1 in
     omega (arith, few, text)
@@ -180,7 +180,7 @@ parts_short list e =
 abbrev pair_size : Pair → ℕ
 pair_size pair = length pair.name + length pair.value
 
-pair_short : (pair : Pair) → length (compact_text (pair_value pair)) ≤ 6 * pair_size pair + 7
+pair_short : (pair : Pair) → length (compact_text (metadata_pair_json pair)) ≤ 6 * pair_size pair + 7
 pair_short pair =
     let name = quoted_short pair.name in
     let value = quoted_short pair.value in
@@ -188,19 +188,19 @@ pair_short pair =
     let outer = length-append (quoted pair.name) (44 ∷ (quoted pair.value ++ 93 ∷ [])) in
     omega (arith, name, value, inner, outer)
 
-pairs_short : (later : Bool) (pairs : List Pair) → length (items_text later (items_of (map pair_value pairs))) ≤ 6 * sum_by pair_size pairs + 8 * length pairs + 1
+pairs_short : (later : Bool) (pairs : List Pair) → length (items_text later (items_of (map metadata_pair_json pairs))) ≤ 6 * sum_by pair_size pairs + 8 * length pairs + 1
 pairs_short later [] = omega arith
 pairs_short true (pair ∷ pairs) =
     let one = pair_short pair in
     let more = pairs_short true pairs in
     let sum = sum_by-cons pair_size pair pairs in
-    let size = length-append (compact_text (pair_value pair)) (items_text true (items_of (map pair_value pairs))) in
+    let size = length-append (compact_text (metadata_pair_json pair)) (items_text true (items_of (map metadata_pair_json pairs))) in
     omega (arith, one, more, sum, size)
 pairs_short false (pair ∷ pairs) =
     let one = pair_short pair in
     let more = pairs_short true pairs in
     let sum = sum_by-cons pair_size pair pairs in
-    let size = length-append (compact_text (pair_value pair)) (items_text true (items_of (map pair_value pairs))) in
+    let size = length-append (compact_text (metadata_pair_json pair)) (items_text true (items_of (map metadata_pair_json pairs))) in
     omega (arith, one, more, sum, size)
 
 -- what counts of a name is the name without the `-` before it
@@ -220,7 +220,7 @@ sizes (pair ∷ pairs) =
     let bytes = sum_by-cons pair_bytes pair pairs in
     omega (arith, name, more, sum, bytes)
 
-meta_short : (meta : List Pair) → is_proper_meta meta ≡ true → length (compact_text (array_of pair_value meta)) ≤ 13194
+meta_short : (meta : List Pair) → is_proper_meta meta ≡ true → length (compact_text (array_of metadata_pair_json meta)) ≤ 13194
 unfolding is_proper_meta
 meta_short meta e =
     let outer = and_parts (nat_le (length meta) 64 && list_all is_proper_pair meta) (nat_le (sum_by pair_bytes meta) 2048) e in
@@ -259,7 +259,7 @@ abbrev done_state : ℕ → Members
 done_state version = member (codes "state") (string (codes "done")) (member (codes "v") (number (unsigned version)) no_members)
 
 abbrev done_list : List Listed → ℕ → Members
-done_list list version = member (codes "list") (array_of listed_value list) (done_state version)
+done_list list version = member (codes "list") (array_of record_part_json list) (done_state version)
 
 abbrev done_key : List ℕ → List Listed → ℕ → Members
 done_key key list version = member (codes "key") (string key) (done_list list version)
@@ -267,14 +267,14 @@ done_key key list version = member (codes "key") (string key) (done_list list ve
 abbrev done_etag : List ℕ → List ℕ → List Listed → ℕ → Members
 done_etag etag key list version = member (codes "etag") (string etag) (done_key key list version)
 
-etag_on : (key : List ℕ) (list : List Listed) (etag : List ℕ) (version : ℕ) → version < 10 → is_key key ≡ true → is_kept_list list ≡ true → mark.is_etag etag ≡ true
+etag_on : (key : List ℕ) (list : List Listed) (etag : List ℕ) (version : ℕ) → version < 10 → is_key key ≡ true → list_fits_record_text list ≡ true → mark.is_etag etag ≡ true
     → length (members_text true (done_etag etag key list version)) ≤ 208700
 etag_on key list etag version low keyed kept tagged =
     let keys = string_short key 1024 (key_length key keyed).1 in
     let etags = string_short etag 38 (etag_length etag tagged) in
     let v = member_short true (codes "v") (number (unsigned version)) no_members 1 1 (omega arith) (digit_short version low) (omega arith) in
     let s = member_short true (codes "state") (string (codes "done")) (member (codes "v") (number (unsigned version)) no_members) 26 48 (omega arith) (string_short (codes "done") 4 (omega arith)) v in
-    let l = member_short true (codes "list") (array_of listed_value list) (done_state version) 202002 120 (omega arith) (list_short list kept) s in
+    let l = member_short true (codes "list") (array_of record_part_json list) (done_state version) 202002 120 (omega arith) (list_short list kept) s in
     let k = member_short true (codes "key") (string key) (done_list list version) 6146 202168 (omega arith) keys l in
     let e = member_short true (codes "etag") (string etag) (done_key key list version) 230 208360 (omega arith) etags k in
     omega (arith, e)
@@ -284,13 +284,13 @@ pub done_short : (key : List ℕ) (list : List Listed) (etag : List ℕ) (starte
     → length (record_text (Done key list etag started moment)) ≤ 210000
 unfolding has_record_text record_text
 done_short key list etag started None has =
-    let listed = and_parts (is_kept_list list) _ (and_parts (is_key key) _ has).1 in
+    let listed = and_parts (list_fits_record_text list) _ (and_parts (is_key key) _ has).1 in
     let tagged = and_parts (mark.is_etag etag) _ listed.1 in
     let rest = etag_on key list etag 1 (omega arith) (and_parts (is_key key) _ has).0 listed.0 tagged.0 in
     let all = member_short false (codes "at") (number (unsigned started)) (done_etag etag key list 1) 12 208700 (omega arith) (dated_short started (and_parts (nat_lt started moment_limit) _ tagged.1).0) rest in
     omega (arith, all)
 done_short key list etag started (Some moment) has =
-    let listed = and_parts (is_kept_list list) _ (and_parts (is_key key) _ has).1 in
+    let listed = and_parts (list_fits_record_text list) _ (and_parts (is_key key) _ has).1 in
     let tagged = and_parts (mark.is_etag etag) _ listed.1 in
     let dates = and_parts (nat_lt started moment_limit) _ tagged.1 in
     let rest = etag_on key list etag 2 (omega arith) (and_parts (is_key key) _ has).0 listed.0 tagged.0 in
@@ -308,10 +308,10 @@ module _ (s : Sealed) where
   from_started = member (codes "started") (number (unsigned s.started)) from_type
 
   abbrev from_meta : Members
-  from_meta = member (codes "meta") (array_of pair_value s.meta) from_started
+  from_meta = member (codes "meta") (array_of metadata_pair_json s.meta) from_started
 
   abbrev from_list : Members
-  from_list = member (codes "list") (array_of part_value s.list) from_meta
+  from_list = member (codes "list") (array_of sealed_part_json s.list) from_meta
 
   abbrev from_key : Members
   from_key = member (codes "key") (string s.key) from_list
@@ -325,14 +325,14 @@ module _ (s : Sealed) where
   abbrev from_bucket : Members
   from_bucket = member (codes "bucket") (string s.bucket) from_etag
 
-  list_on : is_kept_content s.content_type s.meta ≡ true → is_sealed_list s.list ≡ true → nat_lt s.started moment_limit ≡ true → length (members_text true from_list) ≤ 226100
+  list_on : content_fits_record_text s.content_type s.meta ≡ true → is_sealed_list s.list ≡ true → nat_lt s.started moment_limit ≡ true → length (members_text true from_list) ≤ 226100
   list_on content listed started =
       let typed = and_parts (is_content_type s.content_type) _ content in
       let v = member_short true (codes "v") (number (unsigned 1)) no_members 1 1 (omega arith) (digit_short 1 (omega arith)) (omega arith) in
       let t = member_short true (codes "type") (string s.content_type) (member (codes "v") (number (unsigned 1)) no_members) 1538 48 (omega arith) (string_short s.content_type 256 (type_size s.content_type typed.0)) v in
       let a = member_short true (codes "started") (number (unsigned s.started)) from_type 12 1632 (omega arith) (dated_short s.started started) t in
-      let m = member_short true (codes "meta") (array_of pair_value s.meta) from_started 13194 1690 (omega arith) (meta_short s.meta (and_parts (is_proper_meta s.meta) (names_ascend s.meta) typed.1).0) a in
-      let l = member_short true (codes "list") (array_of part_value s.list) from_meta 211002 14930 (omega arith) (parts_short s.list listed) m in
+      let m = member_short true (codes "meta") (array_of metadata_pair_json s.meta) from_started 13194 1690 (omega arith) (meta_short s.meta (and_parts (is_proper_meta s.meta) (names_ascend s.meta) typed.1).0) a in
+      let l = member_short true (codes "list") (array_of sealed_part_json s.list) from_meta 211002 14930 (omega arith) (parts_short s.list listed) m in
       omega (arith, l)
 
   bucket_on : is_bucket s.bucket ≡ true → is_key s.key ≡ true → mark.is_etag s.etag ≡ true → length (members_text true from_list) ≤ 226100 → length (members_text true from_bucket) ≤ 233500
@@ -350,7 +350,7 @@ module _ (s : Sealed) where
   sealed_short has =
       let place = and_parts (is_sealed_place s) _ has in
       let of_bucket = and_parts (is_bucket s.bucket) (is_key s.key) place.0 in
-      let content = and_parts (is_kept_content s.content_type s.meta) _ (and_parts (nat_lt s.id (2 ^ 128)) _ place.1).1 in
+      let content = and_parts (content_fits_record_text s.content_type s.meta) _ (and_parts (nat_lt s.id (2 ^ 128)) _ place.1).1 in
       let listed = and_parts (is_sealed_list s.list) _ content.1 in
       let tagged = and_parts (mark.is_etag s.etag) (is_sealed_dated s) listed.1 in
       let dates = and_parts (nat_lt s.started moment_limit) (nat_lt s.moment moment_limit) tagged.1 in

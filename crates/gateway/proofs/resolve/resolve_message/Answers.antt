@@ -5,4 +5,4 @@ use Rattle.gateway.proofs.resolve.resolve_message.Goals as goal
 
 pub returns-clause-is : goal.returns-clause-is
 returns-clause-is c =
-    message_is _ c.args.service.now c.args.moment c.args.message.now c.understand-understood.ensures.caller (c.as_slice.ensures ∙ c.understand-understood.ensures.keeps.0) (c.path_of.ensures ∙ ap raw_path (c.as_slice-2.ensures ∙ c.understand-understood.ensures.keeps.1)) c.understand-understood.ensures.means c.end_of-end.ensures.is
+    message_is _ c.args.service.now c.args.moment c.args.message.now c.resolve_target_and_meaning-understood.ensures.caller (c.as_slice.ensures ∙ c.resolve_target_and_meaning-understood.ensures.keeps.0) (c.resolved_resource_path.ensures ∙ ap raw_path (c.as_slice-2.ensures ∙ c.resolve_target_and_meaning-understood.ensures.keeps.1)) c.resolve_target_and_meaning-understood.ensures.means c.end_of-end.ensures.is

@@ -9,7 +9,7 @@ use Rattle.gateway.proofs.serve.serve_connection.Goals as goal
 
 pub returns-in-Err-clause-serves : goal.returns-in-Err-clause-serves
 returns-in-Err-clause-serves g c =
-    serves_none c.end_unread.ensures.writes.serves.observable (λ told R. unread_at_once _ R _ _ _ (g.N.Line.model c.args.line.now).transcript (g.N.Line.model c.end_unread.new.line).transcript _ (c.end_unread.ensures.effect told.line))
+    serves_none c.end_connection_unread.ensures.writes.serves.observable (λ told R. unread_at_once _ R _ _ _ (g.N.Line.model c.args.line.now).transcript (g.N.Line.model c.end_connection_unread.new.line).transcript _ (c.end_connection_unread.ensures.effect told.line))
 
 pub requests-init : goal.requests-init
 requests-init g c = record {

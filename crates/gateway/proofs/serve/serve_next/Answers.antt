@@ -69,13 +69,13 @@ returns-in-Err-Failed-clause-serves g c =
 pub returns-in-Err-Memory-clause-serves : goal.returns-in-Err-Memory-clause-serves
 returns-in-Err-Memory-clause-serves g c =
     let step = c.in-Err-Memory.ensures in
-    let writes = c.end_unread.ensures.writes in
+    let writes = c.end_connection_unread.ensures.writes in
     let all : List ℕ = c.args.reader.now.bytes ++ (g.N.Line.model c.args.line.now).transcript.rest in
-    let left : List ℕ = c.next_request.new.self.bytes ++ (g.N.Line.model c.end_unread.new.line).transcript.rest in
+    let left : List ℕ = c.next_request.new.self.bytes ++ (g.N.Line.model c.end_connection_unread.new.line).transcript.rest in
     let before = (g.N.Line.model c.args.line.now).transcript in
     let after = (g.N.Line.model c.next_request.new.line).transcript in
     serves_none (λ t. writes.serves.observable (step.line.observable t)) (λ told R.
     let sent = rw c.in-Err-Memory.field-0-is at (step.sent c.requires.goes told.line) in
     let owed = subst (λ n. MaySendInterim (OwesInterim all) before.begun n before.sent after.sent) (sym (g.met.W.Swift.counted c.args.store.now)) sent in
-    next_unread c.args.service.now _ _ _ _ _ _ c.args.reader.now c.next_request.new.self all left after (g.N.Line.model c.end_unread.new.line).transcript _ (step.line.transcript told.line).begun owed
-    (c.end_unread.ensures.effect (step.line.observable told.line)))
+    next_unread c.args.service.now _ _ _ _ _ _ c.args.reader.now c.next_request.new.self all left after (g.N.Line.model c.end_connection_unread.new.line).transcript _ (step.line.transcript told.line).begun owed
+    (c.end_connection_unread.ensures.effect (step.line.observable told.line)))

@@ -22,6 +22,6 @@ returns c =
     c.in_ok-three.ensures ∙ ap (λ (app : App). with_subcommand app sign_app.top) two in
     let four : app_of c.in_ok-four.four ≡ with_subcommand (with_subcommand (with_subcommand (with_subcommand settings session_app.top) serve_app.top) sign_app.top) presign_app.top =
     c.in_ok-four.ensures ∙ ap (λ (app : App). with_subcommand app presign_app.top) three in
-    IfOk-weaker c.with_recover.result _ _
+    IfOk-weaker c.with_recover_description.result _ _
     (λ command adds. adds ∙ ap (λ (app : App). with_subcommand app recover_app.top) four)
-    c.with_recover.ensures
+    c.with_recover_description.ensures

@@ -1,8 +1,8 @@
-use Rattle.std.proofs.Common.{None, Some, sym, subst}
+use Rattle.std.proofs.Common.{None, Some, refl, sym, subst}
 use Rattle.gateway_cmd.specs.declared.status.RunOutcome.TheVariants.{Plain}
 use Rattle.gateway_cmd.specs.Report.{Fits}
 use Rattle.gateway_cmd.specs.Tasks.{task_of}
-use Rattle.gateway_cmd.proofs.Sessions.{as_region, run_session, session_fits}
+use Rattle.gateway_cmd.proofs.Sessions.{as_region, draws_apart, run_session, session_fits}
 use Rattle.gateway_cmd.proofs.attempt.perform_by_keys.Goals as goal
 
 pub returns-in-Session-clause-does : goal.returns-in-Session-clause-does
@@ -18,3 +18,15 @@ returns-in-Session-clause-fits g c = subst (λ command. Fits (task_of (Some comm
 
 pub returns-in-Serve-clause-fits : goal.returns-in-Serve-clause-fits
 returns-in-Serve-clause-fits g c = subst (λ command. Fits (task_of (Some command)) (Plain c.serve-in-Serve.result)) (sym c.in-Serve.is) (session_fits (as_region c.in-Serve.region c.in-Serve.least_part (Some c.in-Serve.connections)) c.serve-in-Serve.result c.serve-in-Serve.ensures.line.ends)
+
+pub returns-in_default-clause-idle : goal.returns-in_default-clause-idle
+returns-in_default-clause-idle g c = λ text is never. let left = c.perform_lent.ensures.idle text is never in (left.0, left.1, left.2, refl)
+
+pub returns-in_default-clause-apart : goal.returns-in_default-clause-apart
+returns-in_default-clause-apart g c = draws_apart _ _ _ _ _ c.perform_lent.ensures.apart refl
+
+pub returns-in_default-clause-on : goal.returns-in_default-clause-on
+returns-in_default-clause-on g c = c.perform_lent.ensures.on _
+
+pub returns-in_default-clause-does : goal.returns-in_default-clause-does
+returns-in_default-clause-does g c = λ text is. c.perform_lent.ensures.does text is _

@@ -17,7 +17,7 @@ pub returns-in-Recover-clause-fits : goal.returns-in-Recover-clause-fits
 returns-in-Recover-clause-fits g c = subst (λ command. Fits (task_of (Some command)) c.recover.result) (sym c.in-Recover.is) c.recover.ensures.fits
 
 pub returns-in-Recover-clause-does : goal.returns-in-Recover-clause-does
-returns-in-Recover-clause-does g c = λ text is. rw c.in-Recover.is (was_settled c.recover.ensures.settles.0 c.recover.ensures.settles.1 c.recover.ensures.settles.2)
+returns-in-Recover-clause-does g c = λ text is draws. rw c.in-Recover.is (was_settled c.recover.ensures.settles.0 c.recover.ensures.settles.1 c.recover.ensures.settles.2)
 
 pub returns-in_default-clause-admits : goal.returns-in_default-clause-admits
 returns-in_default-clause-admits g c = λ text is. idle_admits _ text _ (out_of_memory refl)
@@ -26,4 +26,4 @@ pub returns-in_default-clause-fits : goal.returns-in_default-clause-fits
 returns-in_default-clause-fits g c = idle_fits (task_of (Some c.args.command.now)) [] (Plain Memory) (out_of_memory refl)
 
 pub returns-in_default-clause-does : goal.returns-in_default-clause-does
-returns-in_default-clause-does g c = λ text is. does_none _ text _ _ _ _ _ (out_of_memory refl)
+returns-in_default-clause-does g c = λ text is draws. does_none _ text _ _ _ _ draws (out_of_memory refl)

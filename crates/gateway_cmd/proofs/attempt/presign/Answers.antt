@@ -1,5 +1,5 @@
 use Rattle.std.proofs.Common.{sym, ◌∙◌}
-use Rattle.gateway_cmd.proofs.Signers.{signer_is_key, url_first, url_line, url_sends}
+use Rattle.gateway_cmd.proofs.Signers.{signer_is_key, url_first, url_report_line, url_sends}
 use Rattle.gateway_cmd.proofs.attempt.presign.Goals as goal
 
 pub presign_first-requires-clause-key : goal.presign_first-requires-clause-key
@@ -7,7 +7,7 @@ presign_first-requires-clause-key g c =
     signer_is_key c.as_slice-id.result.now c.as_slice.result.now c.in-Some.secret.now c.args.keys.now c.requires.keys (c.as_slice-id.ensures ∙ sym c.as_slice.ensures) c.in-Some.ensures.value
 
 pub returns-in-Some-clause-line : goal.returns-in-Some-clause-line
-returns-in-Some-clause-line g c = url_line c.end_of_url.result c.presign_first.result c.end_of_url.ensures (g.met.W.Swift.counted c.args.store.now) c.presign_first.ensures.line
+returns-in-Some-clause-line g c = url_report_line c.outcome_of_presigning.result c.presign_first.result c.outcome_of_presigning.ensures (g.met.W.Swift.counted c.args.store.now) c.presign_first.ensures.line
 
 pub returns-in-Some-clause-effect : goal.returns-in-Some-clause-effect
 returns-in-Some-clause-effect g c = λ secret is observable.
@@ -16,4 +16,4 @@ returns-in-Some-clause-effect g c = λ secret is observable.
     let first = url_first old.waiting secret c.in-Some.secret.now c.args.id.now c.as_slice-id.result.now c.as_slice.result.now c.args.region.now c.as_slice-region.result.now c.args.keys.now c.now-moment.result c.args.expires c.presign_first.result
     c.in-Some.ensures.value c.as_slice.ensures is c.as_slice-id.ensures c.as_slice-region.ensures (c.presign_first.ensures.effect observable) in
     let sends = url_sends old new c.presign_first.result (g.met.W.Swift.counted c.args.store.now) (c.presign_first.ensures.sent observable) in
-    (c.now-moment.result, c.now-moment.ensures, c.presign_first.result, first, sends, c.end_of_url.ensures)
+    (c.now-moment.result, c.now-moment.ensures, c.presign_first.result, first, sends, c.outcome_of_presigning.ensures)

@@ -67,7 +67,7 @@ connections-preserved g c =
       faults = (let a = i.faults in let b = s.faults in omega arith);
       none_faulty = none_faulty_next (g.N.Line.model c.args.line.now) (g.N.Line.model c.connections.line) (g.N.Line.model c.serve_another.new.line) i.serves.on.line i.faults i.none_faulty s;
       counts = λ observable.
-          subst (λ left. Counts c.args.most left (g.N.Line.model c.args.line.now).transcript.begun (g.N.Line.model c.serve_another.new.line).transcript.begun) (sym c.one_less-left.ensures)
+          subst (λ left. Counts c.args.most left (g.N.Line.model c.args.line.now).transcript.begun (g.N.Line.model c.serve_another.new.line).transcript.begun) (sym c.session_limit_after_one-left.ensures)
           (counts_next c.args.most c.connections.left _ (g.N.Line.model c.connections.line).transcript.begun _ (c.is_session_limit_reached.ensures.some c.if-is_session_limit_reached.false) (i.counts observable) (s.begun (i.serves.on.line observable)));
       serves = serves_trans {old = begin} {middle = present} {new = next} i.serves c.in-None.ensures.serves (λ told all kept traces one. run_traces_more all c.args.service.now begin present next kept traces one);
     }

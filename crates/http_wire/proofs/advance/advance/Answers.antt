@@ -9,4 +9,4 @@ pub returns-in-Some-clause-found : goal.returns-in-Some-clause-found
 returns-in-Some-clause-found g c = rw c.deref-then-is_due.ensures.value at c.in-Some.ensures.found
 
 pub returns-then-branch-eq0-clause-found : goal.returns-then-branch-eq0-clause-found
-returns-then-branch-eq0-clause-found g c = rw c.deref-then-branch-eq0.ensures.value at c.found_at_end.ensures.found
+returns-then-branch-eq0-clause-found g c = rw c.deref-then-branch-eq0.ensures.value at c.head_found_at_end.ensures.found

@@ -8,4 +8,4 @@ pub returns-else-bytes-seen : goal.returns-else-bytes-seen
 returns-else-bytes-seen c = λ due none.
     still_none c.args.bytes.now c.args.seen none
     (ap (λ n. has_empty (drop n c.args.bytes.now)) (sym c.saturating_sub.ensures)
-    ∙ ap has_empty (sym (take_rest c.args.bytes.now c.saturating_sub.result)) ∙ sym c.has_empty.ensures ∙ due)
+    ∙ ap has_empty (sym (take_rest c.args.bytes.now c.saturating_sub.result)) ∙ sym c.has_empty_head_line.ensures ∙ due)

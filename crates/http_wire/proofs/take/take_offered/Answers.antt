@@ -7,4 +7,4 @@ pub returns-clause-sent : goal.returns-clause-sent
 returns-clause-sent g c = λ told.
     let offered = c.in_ok-offer.ensures in
     then_reads (is_owed c.args.message.now ≡ true) (g.C.Counted.called c.args.store.now) (g.N.Line.model c.args.line.now).transcript (g.N.Line.model c.offer.new.line).transcript
-    (g.N.Line.model c.take_body.new.line).transcript c.take_body.result (offered.sent told) (c.take_body.ensures.reads.sent (offered.writes.serves.observable told))
+    (g.N.Line.model c.take_request_body.new.line).transcript c.take_request_body.result (offered.sent told) (c.take_request_body.ensures.reads.sent (offered.writes.serves.observable told))

@@ -5,4 +5,4 @@ pub returns-in_err-reply-clause-asks : goal.returns-in_err-reply-clause-asks
 returns-in_err-reply-clause-asks g c = page_failed _ c.in_ok-request.ensures c.in_err-reply.ensures c.from_residual-in_err-reply.ensures.1
 
 pub returns-clause-asks : goal.returns-clause-asks
-returns-clause-asks g c = page_answered _ c.in_ok-request.ensures c.in_ok-reply.ensures c.read_page.ensures.comes
+returns-clause-asks g c = page_answered _ c.in_ok-request.ensures c.in_ok-reply.ensures c.read_names_page.ensures.comes

@@ -9,7 +9,7 @@ returns-then-is_onto_itself-clause-plans g c =
     needs_none _ (search rules) (λ tree found. copy_itself _ _ _ _ _ _ _ _ _ _ c.requires.acl found (sym c.is_onto_itself.ensures ∙ c.if-is_onto_itself.true))
 
 pub returns-then-len-le32-clause-plans : goal.returns-then-len-le32-clause-plans
-returns-then-len-le32-clause-plans g c = plans_wider 2 _ (as_few c.args.bucket c.args.from_bucket c.args.from_key 2 2 _ (lit≤ tt)) (c.copy_plain.ensures.plans c.args.acl c.args.list c.requires.acl (sym c.is_onto_itself.ensures ∙ c.if-is_onto_itself.false))
+returns-then-len-le32-clause-plans g c = plans_wider 2 _ (as_few c.args.bucket c.args.from_bucket c.args.from_key 2 2 _ (lit≤ tt)) (c.copy_plain_source.ensures.plans c.args.acl c.args.list c.requires.acl (sym c.is_onto_itself.ensures ∙ c.if-is_onto_itself.false))
 
 pub returns-else-len-le32-clause-plans : goal.returns-else-len-le32-clause-plans
-returns-else-len-le32-clause-plans g c = plans_of_parts (grind (arith, nat_tests, c.if-len-le32.false, c.len.ensures)) c.copy_listed.ensures.plans
+returns-else-len-le32-clause-plans g c = plans_of_parts (grind (arith, nat_tests, c.if-len-le32.false, c.len.ensures)) c.copy_source_of_parts.ensures.plans

@@ -10,6 +10,6 @@ put_object-requires-clause-etag g c = c.as_slice.ensures ∙ (source_body c.args
 
 pub returns-clause-plans : goal.returns-clause-plans
 returns-clause-plans g c = λ acl list from_bucket from_key same other.
-    subst (Plans _ _ _ _ _ _ _ _) (sym c.copied_end.ensures)
+    subst (Plans _ _ _ _ _ _ _ _) (sym c.end_copy_object_plan.ensures)
     (commits _ (lit≤ tt) c.put_object.ensures.changes (λ done. search rules) (λ tree read. (list, read.listed))
     (λ tree done new read is. becomes (copy_put _ _ _ _ _ _ _ _ _ list same read other (source_body c.args.head c.args.body c.requires.source).same _ c.content_of-content.ensures.content) is))

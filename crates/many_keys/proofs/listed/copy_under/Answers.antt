@@ -4,14 +4,14 @@ use Rattle.many_keys.proofs.listed.copy_under.Goals as goal
 pub returns-in_err-parts-clause-plans : goal.returns-in_err-parts-clause-plans
 returns-in_err-parts-clause-plans g c = λ acl list other onto. copy_in_vain c.args.cut.now c.as_slice.ensures c.in_err-parts.ensures.asks _ c.from_residual.ensures.1
 
-pub put_listed-end-requires : goal.put_listed-end-requires
-put_listed-end-requires g c =
+pub put_listed_copy-end-requires : goal.put_listed_copy-end-requires
+put_listed_copy-end-requires g c =
     record {
-      copy = is_copy c.args.replaced c.copy_as-sealed.ensures.copy c.requires.place c.copy_as-sealed.ensures.fits c.copy_as-sealed.ensures.content c.copy_as-sealed.ensures.ordered c.requires.head c.requires.of_parts
+      copy = is_copy c.args.replaced c.sealed_copy-sealed.ensures.copy c.requires.place c.sealed_copy-sealed.ensures.fits c.sealed_copy-sealed.ensures.content c.sealed_copy-sealed.ensures.ordered c.requires.head c.requires.of_parts
           (cut_is_well _ c.as_slice.ensures c.requires.cut c.in_ok-parts.ensures.listed) c.requires.moment;
     }
 
 pub returns-clause-plans : goal.returns-clause-plans
 returns-clause-plans g c = λ acl list other onto.
     copy_goes_on _ _ c.args.from_bucket.now c.args.from_key.now acl list c.args.replaced c.args.head c.args.label.now other onto
-    c.args.cut.now c.in_ok-parts.parts c.as_slice.ensures c.copy_segments.ensures.stays.settings c.in_ok-parts.ensures.asks c.copy_as-sealed.ensures.copy c.put_listed-end.ensures.plans
+    c.args.cut.now c.in_ok-parts.parts c.as_slice.ensures c.copy_source_segments.ensures.stays.settings c.in_ok-parts.ensures.asks c.sealed_copy-sealed.ensures.copy c.put_listed_copy-end.ensures.plans

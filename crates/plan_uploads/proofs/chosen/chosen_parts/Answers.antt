@@ -6,12 +6,12 @@ use Rattle.plan_uploads.proofs.chosen.chosen_parts.Goals as goal
 pub returns-in_default : goal.returns-in_default
 returns-in_default c = λ ascend.
     chosen_lost (by_number c.args.parts.now) c.args.list.now c.loop-listed.listed-index c.listed-item.result (omega arith) c.listed-item.is c.loop-listed.chosen (c.loop-listed.invariant ascend)
-    (sym (c.size_listed.ensures ascend) ∙ c.in_default.is)
+    (sym (c.size_of_chosen_part.ensures ascend) ∙ c.in_default.is)
 
 pub loop-listed-preserved : goal.loop-listed-preserved
 loop-listed-preserved c = λ ascend.
     chosen_more (by_number c.args.parts.now) c.args.list.now c.loop-listed.listed-index c.listed-item.result (omega arith) c.listed-item.is c.loop-listed.chosen c.push.new.self c.in-Some.size (c.loop-listed.invariant ascend)
-    (sym (c.size_listed.ensures ascend) ∙ c.in-Some.is) (c.in_ok-push.ensures.ok ∙ ap (λ p. c.loop-listed.chosen ++ p ∷ []) c.in_ok-sealed_part.ensures)
+    (sym (c.size_of_chosen_part.ensures ascend) ∙ c.in-Some.is) (c.in_ok-push.ensures.ok ∙ ap (λ p. c.loop-listed.chosen ++ p ∷ []) c.in_ok-chosen_part_with_size.ensures)
 
 pub returns : goal.returns
 returns c = λ ascend.

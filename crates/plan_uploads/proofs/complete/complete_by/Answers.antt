@@ -12,7 +12,7 @@ returns-in_default-clause-plans g c = λ text.
     refused_at_once (omega arith) _ InvalidPart (search rules)
     (λ tree sound has. invalid_part tree c.args.bucket.now c.args.key.now c.args.opened c.args.parts.now sound c.requires.place.named text has c.args.state.now.settings.now c.args.list.now c.args.label.now c.requires.ascends
     (listed_as c.args.parts.now c.as_slice.ensures c.in_ok-chosen.ensures None c.in_default.is))
-    c.refused.result c.refused.ensures
+    c.end_complete_upload_refused.result c.end_complete_upload_refused.ensures
 
 pub returns-clause-plans : goal.returns-clause-plans
 returns-clause-plans g c = λ text.

@@ -4,12 +4,12 @@ use Rattle.plan_uploads.proofs.CompletionCalls.{goes_on_sound, lacks_memory, ref
 use Rattle.plan_uploads.proofs.Completions.{may_complete, small_as, too_small}
 use Rattle.plan_uploads.proofs.complete.complete_chosen.Goals as goal
 
-pub returns-then-has_small-clause-plans : goal.returns-then-has_small-clause-plans
-returns-then-has_small-clause-plans g c = λ text parts lists.
+pub returns-then-has_small_chosen_part-clause-plans : goal.returns-then-has_small_chosen_part-clause-plans
+returns-then-has_small_chosen_part-clause-plans g c = λ text parts lists.
     refused_at_once (omega arith) _ EntityTooSmall (search rules)
     (λ tree sound has. too_small tree c.args.bucket.now c.args.key.now c.args.opened parts sound c.requires.place.named text has c.args.state.now.settings.now c.args.list.now c.args.label.now c.requires.ascends
-    c.args.chosen lists (small_as c.settings.ensures c.as_slice.ensures c.has_small.ensures true c.if-has_small.true))
-    c.refused.result c.refused.ensures
+    c.args.chosen lists (small_as c.settings.ensures c.as_slice.ensures c.has_small_chosen_part.ensures true c.if-has_small_chosen_part.true))
+    c.end_complete_upload_refused.result c.end_complete_upload_refused.ensures
 
 pub returns-in_err-sealed-clause-plans : goal.returns-in_err-sealed-clause-plans
 returns-in_err-sealed-clause-plans g c = λ text parts lists. lacks_memory _ _ c.from_residual.ensures.1
@@ -19,6 +19,6 @@ returns-clause-plans g c = λ text parts lists.
     let fits : c.args.opened.id < 2 ^ 128 = subst (λ s. s.id < 2 ^ 128) c.in_ok-sealed.ensures.sealed c.in_ok-sealed.ensures.fits in
     goes_on_sound {n = 4} (omega arith)
     (λ tree sound has. may_complete tree c.args.bucket.now c.args.key.now c.args.opened parts sound c.requires.place.named text has c.args.state.now.settings.now c.args.list.now c.args.label.now c.requires.ascends
-    c.args.chosen lists (small_as c.settings.ensures c.as_slice.ensures c.has_small.ensures false c.if-has_small.false)
+    c.args.chosen lists (small_as c.settings.ensures c.as_slice.ensures c.has_small_chosen_part.ensures false c.if-has_small_chosen_part.false)
     c.requires.place c.requires.list c.requires.moment fits)
     (seals_same text c.args.list.now c.args.label.now _ _ c.in_ok-sealed.ensures.sealed (c.complete_sealed-completing.ensures.plans text c.args.list.now c.args.label.now))

@@ -17,7 +17,7 @@ returns-then-not-rises-clause-plans g c = λ text.
     refused_at_once (omega arith) _ InvalidPartOrder (search rules)
     (λ tree sound has. order_refused tree c.args.bucket.now c.args.key.now text c.args.opened c.requires.place.named has c.args.state.now.settings.now c.args.list.now c.args.label.now
     (ap rises (sym c.as_slice.ensures) ∙ sym c.rises.ensures ∙ falls))
-    c.refused.result c.refused.ensures
+    c.end_complete_upload_refused.result c.end_complete_upload_refused.ensures
 
 pub returns-in_err-parts-clause-plans : goal.returns-in_err-parts-clause-plans
 returns-in_err-parts-clause-plans g c = λ text.

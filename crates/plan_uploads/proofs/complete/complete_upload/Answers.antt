@@ -9,34 +9,34 @@ use Rattle.plan_uploads.proofs.CompletionEnds.{asked_out_of_memory, ends_answere
 use Rattle.plan_uploads.proofs.FoundCompletion.{complete_lost, complete_missing, completed_again, named_alike}
 use Rattle.plan_uploads.proofs.complete.complete_upload.Goals as goal
 
-pub returns-in_err-find_completion-clause-plans : goal.returns-in_err-find_completion-clause-plans
-returns-in_err-find_completion-clause-plans g c =
-    ends_with_fault _ c.from_residual.ensures.1 (asked_in_vain (always 2) (omega arith) met_settled c.in_err-find_completion.ensures.asks _ refl)
+pub returns-in_err-find_upload_to_complete-clause-plans : goal.returns-in_err-find_upload_to_complete-clause-plans
+returns-in_err-find_upload_to_complete-clause-plans g c =
+    ends_with_fault _ c.from_residual.ensures.1 (asked_in_vain (always 2) (omega arith) met_settled c.in_err-find_upload_to_complete.ensures.asks _ refl)
 
-pub returns-in_err-again-in-Again-clause-plans : goal.returns-in_err-again-in-Again-clause-plans
-returns-in_err-again-in-Again-clause-plans g c =
-    ends_with_fault _ c.from_residual-in_err-again-in-Again.ensures.1 (asked_out_of_memory (omega arith) met_settled c.in_ok-find_completion.ensures.asks)
+pub returns-in_err-end_complete_upload_again-in-Again-clause-plans : goal.returns-in_err-end_complete_upload_again-in-Again-clause-plans
+returns-in_err-end_complete_upload_again-in-Again-clause-plans g c =
+    ends_with_fault _ c.from_residual-in_err-end_complete_upload_again-in-Again.ensures.1 (asked_out_of_memory (omega arith) met_settled c.in_ok-find_upload_to_complete.ensures.asks)
 
 pub returns-in-NoBucket-clause-plans : goal.returns-in-NoBucket-clause-plans
 returns-in-NoBucket-clause-plans g c =
-    ends_answered _ _ c.refused.ensures
-    (asked_reply (always 2) (omega arith) (λ tree has. has.settled) NoBucket c.in-NoBucket.is _ c.in_ok-find_completion.ensures.asks (search rules)
+    ends_answered _ _ c.end_complete_upload_refused.ensures
+    (asked_reply (always 2) (omega arith) (λ tree has. has.settled) NoBucket c.in-NoBucket.is _ c.in_ok-find_upload_to_complete.ensures.asks (search rules)
     (λ tree sound has missing. complete_missing _ _ _ _ _ _ _ missing))
 
 pub returns-in-NoUpload-clause-plans : goal.returns-in-NoUpload-clause-plans
 returns-in-NoUpload-clause-plans g c =
-    ends_answered _ _ c.refused-in-NoUpload.ensures
-    (asked_reply (always 2) (omega arith) (λ tree has. has.settled) NoUpload c.in-NoUpload.is _ c.in_ok-find_completion.ensures.asks (search rules)
+    ends_answered _ _ c.end_complete_upload_refused-in-NoUpload.ensures
+    (asked_reply (always 2) (omega arith) (λ tree has. has.settled) NoUpload c.in-NoUpload.is _ c.in_ok-find_upload_to_complete.ensures.asks (search rules)
     (λ tree sound has lacks. complete_lost _ _ _ _ _ _ tree c.requires.place.named (subst (λ l. LacksCompletion c.args.bucket.now c.args.key.now c.args.text.now l tree) c.as_slice.ensures lacks)))
 
-pub returns-in_ok-again-in-Again-clause-plans : goal.returns-in_ok-again-in-Again-clause-plans
-returns-in_ok-again-in-Again-clause-plans g c =
-    ends_answered _ _ c.in_ok-again-in-Again.ensures
-    (asked_reply (always 2) (omega arith) (λ tree has. has.settled) (Again c.in-Again.etag) c.in-Again.is _ c.in_ok-find_completion.ensures.asks (search rules)
+pub returns-in_ok-end_complete_upload_again-in-Again-clause-plans : goal.returns-in_ok-end_complete_upload_again-in-Again-clause-plans
+returns-in_ok-end_complete_upload_again-in-Again-clause-plans g c =
+    ends_answered _ _ c.in_ok-end_complete_upload_again-in-Again.ensures
+    (asked_reply (always 2) (omega arith) (λ tree has. has.settled) (Again c.in-Again.etag) c.in-Again.is _ c.in_ok-find_upload_to_complete.ensures.asks (search rules)
     (λ tree sound has completed. completed_again _ _ _ _ _ _ tree c.requires.place.named _ (subst (λ l. IsCompleted c.args.bucket.now c.args.key.now c.args.text.now l c.in-Again.etag tree) c.as_slice.ensures completed)))
 
 pub returns-in-Open-clause-plans : goal.returns-in-Open-clause-plans
 returns-in-Open-clause-plans g c =
-    goes_on_from met_settled c.find_completion.ensures.stays.settings c.in_ok-find_completion.ensures.asks (c.complete_open.ensures.plans c.args.text.now)
+    goes_on_from met_settled c.find_upload_to_complete.ensures.stays.settings c.in_ok-find_upload_to_complete.ensures.asks (c.complete_open.ensures.plans c.args.text.now)
     (λ any tells. after_told_of (Open c.in-Open.opened) c.in-Open.is tells)
     (λ x. let same = named_alike c.in-Open.is x.1 in let paged = ap pages same in omega (arith, same, paged))

@@ -14,7 +14,7 @@ returns-in_err-name-clause-beside g c = beside_none _ _ _ _ _ c.from_residual.en
 
 pub returns-clause-plans : goal.returns-clause-plans
 returns-clause-plans g c =
-    subst (Plans _ _ _ _ _ _ _ _) (sym c.started_end.ensures)
+    subst (Plans _ _ _ _ _ _ _ _) (sym c.end_create_upload_plan.ensures)
     (commits _ (lit≤ tt) c.put_record.ensures.changes (λ done. search rules) (λ tree may. may_open may)
     (λ tree done new may is. becomes (created _ _ _ _ _ may.listed _ _ _ _ _ c.args.id c.in_ok-name.ensures c.requires.acl (new_id may c.requires.place.named c.ranges.id.fits (it c.args.state.now.settings.now _ _ c.args.label.now _ may.listed).1)) is))
 

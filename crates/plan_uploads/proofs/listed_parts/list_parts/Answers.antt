@@ -38,12 +38,12 @@ returns-in_err-next-clause-asks g c =
 pub returns-in-None-clause-asks : goal.returns-in-None-clause-asks
 returns-in-None-clause-asks g c =
     parting_end c.args.bucket.now c.args.id c.args.marker c.pages.invariant.walked c.in_ok-next.ensures.asks c.requires.name c.args.max
-    (subst (IsEnough c.args.max c.next_parts.new.parts) (sym c.in-None.is) tt) c.cut_to.result c.cut_to.ensures.cut
+    (subst (IsEnough c.args.max c.next_parts.new.parts) (sym c.in-None.is) tt) c.first_listed_parts.result c.first_listed_parts.ensures.cut
 
 pub returns-then-len-max-clause-asks : goal.returns-then-len-max-clause-asks
 returns-then-len-max-clause-asks g c =
     parting_end c.args.bucket.now c.args.id c.args.marker c.pages.invariant.walked c.in_ok-next.ensures.asks c.requires.name c.args.max
-    (subst (IsEnough c.args.max c.next_parts.new.parts) (sym c.in-Some.is) (omega (arith, c.if-len-max.true, c.len.ensures))) c.cut_to-then-len-max.result c.cut_to-then-len-max.ensures.cut
+    (subst (IsEnough c.args.max c.next_parts.new.parts) (sym c.in-Some.is) (omega (arith, c.if-len-max.true, c.len.ensures))) c.first_listed_parts-then-len-max.result c.first_listed_parts-then-len-max.ensures.cut
 
 pub pages-preserved : goal.pages-preserved
 pages-preserved g c = record {

@@ -7,8 +7,8 @@ use Rattle.plan_uploads.proofs.listed_parts.next_parts.Goals as goal
 pub returns-in_err-prefix-clause-asks : goal.returns-in_err-prefix-clause-asks
 returns-in_err-prefix-clause-asks g c = not_asked _ _ _ c.from_residual.ensures.1
 
-pub next_under-requires-clause-prefix : goal.next_under-requires-clause-prefix
-next_under-requires-clause-prefix g c = subst IsMarker (sym c.in_ok-prefix.ensures) (prefix_is_marker c.args.id)
+pub next_parts_under_prefix-requires-clause-prefix : goal.next_parts_under_prefix-requires-clause-prefix
+next_parts_under_prefix-requires-clause-prefix g c = subst IsMarker (sym c.in_ok-prefix.ensures) (prefix_is_marker c.args.id)
 
 pub returns-clause-asks : goal.returns-clause-asks
-returns-clause-asks g c = c.next_under.ensures.asks c.args.id c.in_ok-prefix.ensures
+returns-clause-asks g c = c.next_parts_under_prefix.ensures.asks c.args.id c.in_ok-prefix.ensures

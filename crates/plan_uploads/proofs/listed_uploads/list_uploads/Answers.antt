@@ -11,4 +11,4 @@ pub returns-in_err-asked-clause-asks : goal.returns-in_err-asked-clause-asks
 returns-in_err-asked-clause-asks g c = not_asked _ _ _ c.from_residual.ensures.1
 
 pub returns-clause-asks : goal.returns-clause-asks
-returns-clause-asks g c = rw c.in_ok-asked.ensures at c.list_asked.ensures.asks
+returns-clause-asks g c = rw c.in_ok-asked.ensures at c.list_asked_uploads.ensures.asks

@@ -19,8 +19,8 @@ returns-in_err-next-clause-asks g c = counting_fault c.args.bucket.now c.pages.i
 pub pages-preserved : goal.pages-preserved
 pages-preserved g c = record {
   stays = record {
-    store = c.next_ids.ensures.stays.store ∙ c.pages.invariant.stays.store;
-    settings = c.next_ids.ensures.stays.settings ∙ c.pages.invariant.stays.settings;
+    store = c.next_record_ids.ensures.stays.store ∙ c.pages.invariant.stays.store;
+    settings = c.next_record_ids.ensures.stays.settings ∙ c.pages.invariant.stays.settings;
   };
   is_marker = subst (λ o. IfSome o IsMarker) c.in-Some.is c.in_ok-next.ensures.is_marker;
   walked = taking_more c.pages.invariant.walked c.in_ok-next.ensures.asks c.in-Some.next c.in-Some.is;

@@ -1,4 +1,4 @@
 use Rattle.plan_uploads.proofs.part.part_into.Goals as goal
 
 pub returns-clause-plans : goal.returns-clause-plans
-returns-clause-plans g c = λ key text. rw c.into_bytes.ensures at c.put_bytes.ensures.plans key text
+returns-clause-plans g c = λ key text. rw c.into_bytes.ensures at c.plan_upload_part_bytes.ensures.plans key text

@@ -7,8 +7,8 @@ use Rattle.plan_uploads.specs.Interpret.{part_tag}
 use Rattle.plan_uploads.proofs.PartCalls.{part_fits, part_has_text}
 use Rattle.plan_uploads.proofs.parts.part_request.Goals as goal
 
-pub part_type-requires : goal.part_type-requires
-part_type-requires c = part_has_text c.args.etag.now c.args.body c.args.moment c.args.id c.requires.etag c.requires.moment c.ranges.id.fits
+pub part_tag_text-requires : goal.part_tag_text-requires
+part_tag_text-requires c = part_has_text c.args.etag.now c.args.body c.args.moment c.args.id c.requires.etag c.requires.moment c.ranges.id.fits
 
 pub returns-clause-fits : goal.returns-clause-fits
 returns-clause-fits c =

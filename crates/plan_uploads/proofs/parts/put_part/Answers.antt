@@ -28,4 +28,4 @@ returns-clause-changes g c =
       below = c.requires.moment;
       fits = c.ranges.id.fits;
     })) c.in_ok-reply.ensures.calls _
-    (c.stored_in.ensures.due ∙ ap (λ etag. stored_due etag c.in_ok-reply.reply) c.requires.etag) c.stored_in.ensures.own
+    (c.interpret_put_with_etag.ensures.due ∙ ap (λ etag. stored_due etag c.in_ok-reply.reply) c.requires.etag) c.interpret_put_with_etag.ensures.own

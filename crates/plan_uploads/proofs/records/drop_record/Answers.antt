@@ -28,6 +28,6 @@ returns-in_err-reply-clause-drops g c =
 pub returns-clause-drops : goal.returns-clause-drops
 returns-clause-drops g c =
     to_this (sent (drops _ _ c.args.bucket.now c.args.id (c.in_ok-container.ensures ∙ ap uploads_name c.as_slice.ensures) (c.in_ok-name.ensures ∙ c.id_digits.ensures) c.requires
-    c.law_upload_dropped.ensures) c.in_ok-reply.ensures.calls _ c.gone_in.ensures.due c.gone_in.ensures.own)
+    c.law_upload_dropped.ensures) c.in_ok-reply.ensures.calls _ c.interpret_file_delete.ensures.due c.interpret_file_delete.ensures.own)
     (λ met. clearable _ _ c.args.bucket.now c.args.id (c.in_ok-container.ensures ∙ ap uploads_name c.as_slice.ensures) (c.in_ok-name.ensures ∙ c.id_digits.ensures) c.requires
     c.law_upload_abandoned.ensures c.in_ok-reply.ensures.calls met)

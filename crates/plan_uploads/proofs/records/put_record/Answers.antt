@@ -30,4 +30,4 @@ returns-clause-changes g c =
       is = c.requires.name;
       fits = c.ranges.id.fits;
     })) c.in_ok-reply.ensures.calls _
-    (c.stored_in.ensures.due ∙ ap (λ etag. stored_due etag c.in_ok-reply.reply) (c.body_etag-etag.ensures ∙ ap body_etag c.as_slice.ensures)) c.stored_in.ensures.own
+    (c.interpret_put_with_etag.ensures.due ∙ ap (λ etag. stored_due etag c.in_ok-reply.reply) (c.body_etag-etag.ensures ∙ ap body_etag c.as_slice.ensures)) c.interpret_put_with_etag.ensures.own

@@ -31,4 +31,4 @@ returns-clause-seals g c =
       reads = c.in_ok-text.ensures.reads_back;
       short = subst (λ text. length text ≤ most_sealed_text) (sym c.in_ok-text.ensures.text) (sealed_short c.args.sealed.now c.requires);
     }) c.in_ok-reply.ensures.calls _
-    (c.stored_in.ensures.due ∙ ap (λ etag. stored_due etag c.in_ok-reply.reply) (c.body_etag-etag.ensures ∙ ap body_etag c.as_slice.ensures)) c.stored_in.ensures.own
+    (c.interpret_put_with_etag.ensures.due ∙ ap (λ etag. stored_due etag c.in_ok-reply.reply) (c.body_etag-etag.ensures ∙ ap body_etag c.as_slice.ensures)) c.interpret_put_with_etag.ensures.own

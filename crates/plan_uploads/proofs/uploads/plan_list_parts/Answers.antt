@@ -23,6 +23,6 @@ returns-in-NoUpload-clause-plans g c = λ label.
 
 pub returns-in-Open-clause-plans : goal.returns-in-Open-clause-plans
 returns-in-Open-clause-plans g c = λ label.
-    goes_on_from met_settled c.find_upload.ensures.stays.settings c.in_ok-find_upload.ensures.asks (c.parts_within.ensures.plans c.args.text.now label)
+    goes_on_from met_settled c.find_upload.ensures.stays.settings c.in_ok-find_upload.ensures.asks (c.plan_list_parts_within.ensures.plans c.args.text.now label)
     (λ any tells. after_told_of (Open c.in-Open.id) c.in-Open.is tells)
     (λ x. let same = ap pages (named_same c.in-Open.is x.1) in omega (arith, same))

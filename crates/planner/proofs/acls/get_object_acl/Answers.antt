@@ -13,5 +13,5 @@ returns-in_default-clause-plans g c = λ label.
 
 pub returns-clause-plans : goal.returns-clause-plans
 returns-clause-plans g c = λ label.
-    goes_on (lit≤ tt) (Some c.in-Some.list) c.in-Some.is c.head_bucket.ensures.stays.settings c.in_ok-list.ensures.asks (c.acl_within.ensures.plans label)
+    goes_on (lit≤ tt) (Some c.in-Some.list) c.in-Some.is c.head_bucket.ensures.stays.settings c.in_ok-list.ensures.asks (c.plan_object_acl_within.ensures.plans label)
     (λ tree any told. told)

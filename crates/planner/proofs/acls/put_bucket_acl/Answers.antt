@@ -7,5 +7,5 @@ use Rattle.planner.proofs.acls.put_bucket_acl.Goals as goal
 
 pub returns-clause-plans : goal.returns-clause-plans
 returns-clause-plans g c = λ label.
-    subst (Plans _ _ _ _ _ _ _ _) (sym c.set_end.ensures)
-    (commits _ (lit≤ tt) c.set_acl.ensures.changes set_is_own (λ tree any. tt) (λ _ told new any does. set _ _ _ _ _ told new does))
+    subst (Plans _ _ _ _ _ _ _ _) (sym c.end_put_bucket_acl_plan.ensures)
+    (commits _ (lit≤ tt) c.post_bucket_container.ensures.changes set_is_own (λ tree any. tt) (λ _ told new any does. set _ _ _ _ _ told new does))

@@ -7,5 +7,5 @@ use Rattle.planner.proofs.buckets.delete_bucket.Goals as goal
 
 pub returns-clause-plans : goal.returns-clause-plans
 returns-clause-plans g c = λ label.
-    subst (Plans _ _ _ _ _ _ _ _) (sym c.dropped_end.ensures)
-    (commits _ (lit≤ tt) c.drop_bucket.ensures.changes dropped_is_own (λ tree any. tt) (λ _ told new any does. dropped _ _ _ _ told new does))
+    subst (Plans _ _ _ _ _ _ _ _) (sym c.end_delete_bucket_plan.ensures)
+    (commits _ (lit≤ tt) c.delete_bucket_container.ensures.changes dropped_is_own (λ tree any. tt) (λ _ told new any does. dropped _ _ _ _ told new does))

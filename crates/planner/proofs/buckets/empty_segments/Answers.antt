@@ -9,4 +9,4 @@ pub returns-in_err-purge-clause-plans : goal.returns-in_err-purge-clause-plans
 returns-in_err-purge-clause-plans g c = not_emptied_segments c.args.bucket c.requires.name c.requires.segments c.new-all.ensures c.in_err-purge.ensures.asks _ c.from_residual.ensures.1
 
 pub returns-clause-plans : goal.returns-clause-plans
-returns-clause-plans g c = emptied_segments c.args.bucket c.requires.name c.purge.ensures.stays.settings c.requires.segments c.new-all.ensures c.in_ok-purge.ensures.asks c.make_bare.ensures.plans
+returns-clause-plans g c = emptied_segments c.args.bucket c.requires.name c.purge.ensures.stays.settings c.requires.segments c.new-all.ensures c.in_ok-purge.ensures.asks c.plan_create_bare_bucket.ensures.plans

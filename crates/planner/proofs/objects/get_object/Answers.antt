@@ -11,4 +11,4 @@ pub returns-in_default-clause-plans : goal.returns-in_default-clause-plans
 returns-in_default-clause-plans g c = answers (lit≤ tt) None c.in_default.is _ c.in_ok-list.ensures.asks (search rules) (λ tree any told. get_missing _ _ _ _ _ _ _ told)
 
 pub returns-clause-plans : goal.returns-clause-plans
-returns-clause-plans g c = goes_on (lit≤ tt) (Some c.in-Some.list) c.in-Some.is c.head_bucket.ensures.stays.settings c.in_ok-list.ensures.asks c.get_within.ensures.plans (λ tree any told. told)
+returns-clause-plans g c = goes_on (lit≤ tt) (Some c.in-Some.list) c.in-Some.is c.head_bucket.ensures.stays.settings c.in_ok-list.ensures.asks c.plan_get_object_within.ensures.plans (λ tree any told. told)

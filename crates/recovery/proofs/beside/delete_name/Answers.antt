@@ -16,4 +16,4 @@ returns-in_err-reply-clause-asks g c = λ bucket prefix under.
 
 pub returns-clause-asks : goal.returns-clause-asks
 returns-clause-asks g c = λ bucket prefix under.
-    quieted (deletes_name c.in_ok-container.ensures c.in_ok-name.ensures bucket prefix under) c.in_ok-reply.ensures _ (inr c.gone_in.ensures.due) c.gone_in.ensures.own
+    quieted (deletes_name c.in_ok-container.ensures c.in_ok-name.ensures bucket prefix under) c.in_ok-reply.ensures _ (inr c.interpret_file_delete.ensures.due) c.interpret_file_delete.ensures.own

@@ -10,4 +10,4 @@ pub returns-in_err-reply-clause-asks : goal.returns-in_err-reply-clause-asks
 returns-in_err-reply-clause-asks g c = asked_in_vain (head_reads c.in_ok-copy.ensures c.requires) c.in_err-reply.ensures _ c.from_residual-in_err-reply.ensures.1
 
 pub returns-clause-asks : goal.returns-clause-asks
-returns-clause-asks g c = asked (head_reads c.in_ok-copy.ensures c.requires) c.in_ok-reply.ensures _ (inr c.bucket_in.ensures.due) c.bucket_in.ensures.own
+returns-clause-asks g c = asked (head_reads c.in_ok-copy.ensures c.requires) c.in_ok-reply.ensures _ (inr c.interpret_bucket_head.ensures.due) c.interpret_bucket_head.ensures.own

@@ -3,7 +3,7 @@ use Rattle.std.specs.List.{list_all}
 use Rattle.std.proofs.lemmas.List.{length-map}
 use Rattle.swift_calls.specs.Limits.{IsMarker}
 use Rattle.swift_calls.specs.declared.heads.NameItem.{NameItem}
-use Rattle.list_pages.specs.Listing.{is_name_with, name_in}
+use Rattle.list_pages.specs.Listing.{is_listed_name_with_prefix, name_in}
 use Rattle.recovery.specs.Keys.{TellsKeys}
 use Rattle.recovery.proofs.lemmas.Ask.{asks_told}
 use Rattle.recovery.proofs.KeyAsks.{asks_rolled}
@@ -23,7 +23,7 @@ returns-then-not-branch-clause-asks g c = asks_told (λ tree has. has) false
 pub returns-clause-is_marker : goal.returns-clause-is_marker
 returns-clause-is_marker g c = λ e. subst IsMarker (sym (c.in_ok-push_page.ensures.last (ap Ok c.if-not-branch.false)))
     (last_is_marker c.args.prefix.now c.args.roll.now.last (map name_in c.as_slice.result.now) c.requires.marker
-    (ap (λ p. list_all (is_name_with c.args.prefix.now) (map name_in p)) c.as_slice.ensures ∙ c.in_ok-page.ensures.page.named))
+    (ap (λ p. list_all (is_listed_name_with_prefix c.args.prefix.now) (map name_in p)) c.as_slice.ensures ∙ c.in_ok-page.ensures.page.named))
 
 pub returns-clause-asks : goal.returns-clause-asks
 returns-clause-asks g c = asks_told (λ tree has. has) (nat_eq c.len.result 1000)

@@ -14,8 +14,8 @@ returns-in_err-next-clause-asks g c = walked_fault c.pages.invariant.walked c.in
 pub pages-preserved : goal.pages-preserved
 pages-preserved g c = record {
   stays = record {
-    store = c.next_page.ensures.stays.store ∙ c.pages.invariant.stays.store;
-    settings = c.next_page.ensures.stays.settings ∙ c.pages.invariant.stays.settings;
+    store = c.add_container_names_page.ensures.stays.store ∙ c.pages.invariant.stays.store;
+    settings = c.add_container_names_page.ensures.stays.settings ∙ c.pages.invariant.stays.settings;
   };
   walked = walked_more c.pages.invariant.walked c.in_ok-next.ensures.asks c.in-Some.next c.in-Some.is;
 }

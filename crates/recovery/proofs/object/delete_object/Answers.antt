@@ -7,4 +7,4 @@ pub returns-in_err-reply-clause-changes : goal.returns-in_err-reply-clause-chang
 returns-in_err-reply-clause-changes g c = sent_in_vain (deletes refl refl c.requires.name) c.in_err-reply.ensures _ c.from_residual.ensures.1
 
 pub returns-clause-changes : goal.returns-clause-changes
-returns-clause-changes g c = sent (deletes refl refl c.requires.name) c.in_ok-reply.ensures _ c.gone_in.ensures.due c.gone_in.ensures.own
+returns-clause-changes g c = sent (deletes refl refl c.requires.name) c.in_ok-reply.ensures _ c.interpret_file_delete.ensures.due c.interpret_file_delete.ensures.own

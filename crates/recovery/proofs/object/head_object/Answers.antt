@@ -12,4 +12,4 @@ pub returns-in_err-reply-clause-asks : goal.returns-in_err-reply-clause-asks
 returns-in_err-reply-clause-asks g c = asked_in_vain (head_reads c.in_ok-container.ensures c.in_ok-name.ensures c.requires.name) c.in_err-reply.ensures _ c.from_residual-in_err-reply.ensures.1
 
 pub returns-clause-asks : goal.returns-clause-asks
-returns-clause-asks g c = asked (head_reads c.in_ok-container.ensures c.in_ok-name.ensures c.requires.name) c.in_ok-reply.ensures _ c.head_in.ensures.due c.head_in.ensures.own
+returns-clause-asks g c = asked (head_reads c.in_ok-container.ensures c.in_ok-name.ensures c.requires.name) c.in_ok-reply.ensures _ c.interpret_object_head.ensures.due c.interpret_object_head.ensures.own

@@ -28,4 +28,4 @@ returns-clause-changes g c =
       ascend = c.in_ok-request.ensures.ordered;
       below = c.requires.moment;
     })) c.in_ok-reply.ensures _
-    (c.stored_in.ensures.due ∙ ap (λ etag. stored_due etag c.in_ok-reply.reply) c.requires.etag) c.stored_in.ensures.own
+    (c.interpret_put_with_etag.ensures.due ∙ ap (λ etag. stored_due etag c.in_ok-reply.reply) c.requires.etag) c.interpret_put_with_etag.ensures.own

@@ -6,9 +6,9 @@ use Rattle.recovery.proofs.sealed.object_request.Goals as goal
 
 pub returns-clause-request : goal.returns-clause-request
 returns-clause-request c =
-    c.put_of.ensures ∙ (λ i. put_by (c.in_ok-container.ensures i) (c.in_ok-name.ensures i) (c.in_ok-content_type.ensures i) (c.in_ok-meta.ensures.pieces i) (c.in_ok-segments.ensures i))
+    c.put_by_segments.ensures ∙ (λ i. put_by (c.in_ok-container.ensures i) (c.in_ok-name.ensures i) (c.in_ok-content_type.ensures i) (c.in_ok-meta.ensures.pieces i) (c.in_ok-segments.ensures i))
 
 pub returns-clause-fits : goal.returns-clause-fits
 returns-clause-fits c =
-    subst Fit (sym (c.put_of.ensures ∙ (λ i. put_by (c.in_ok-container.ensures i) (c.in_ok-name.ensures i) (c.in_ok-content_type.ensures i) (c.in_ok-meta.ensures.pieces i) (c.in_ok-segments.ensures i))))
+    subst Fit (sym (c.put_by_segments.ensures ∙ (λ i. put_by (c.in_ok-container.ensures i) (c.in_ok-name.ensures i) (c.in_ok-content_type.ensures i) (c.in_ok-meta.ensures.pieces i) (c.in_ok-segments.ensures i))))
     (object_fits c.args.sealed.now c.requires)

@@ -13,7 +13,7 @@ pub returns-in_err-reply-clause-asks : goal.returns-in_err-reply-clause-asks
 returns-in_err-reply-clause-asks g c = quiet_in_vain (gets_sealed c.in_ok-container.ensures c.in_ok-name.ensures) c.in_err-reply.ensures _ c.from_residual-in_err-reply.ensures.1
 
 pub returns-clause-asks : goal.returns-clause-asks
-returns-clause-asks g c = quieted (gets_sealed c.in_ok-container.ensures c.in_ok-name.ensures) c.in_ok-reply.ensures _ c.sealed_in.ensures.due c.sealed_in.ensures.own
+returns-clause-asks g c = quieted (gets_sealed c.in_ok-container.ensures c.in_ok-name.ensures) c.in_ok-reply.ensures _ c.interpret_sealed_get.ensures.due c.interpret_sealed_get.ensures.own
 
 pub returns-clause-none : goal.returns-clause-none
-returns-clause-none g c = got_none c.in_ok-container.ensures c.in_ok-name.ensures c.in_ok-reply.ensures c.sealed_in.ensures.due
+returns-clause-none g c = got_none c.in_ok-container.ensures c.in_ok-name.ensures c.in_ok-reply.ensures c.interpret_sealed_get.ensures.due

@@ -7,7 +7,7 @@ pub returns-in_err-reply-clause-asks : goal.returns-in_err-reply-clause-asks
 returns-in_err-reply-clause-asks g c = quiet_in_vain (puts_gateway c.in_ok-gateway_container.ensures) c.in_err-reply.ensures _ c.from_residual-in_err-reply.ensures.1
 
 pub returns-clause-asks : goal.returns-clause-asks
-returns-clause-asks g c = quieted (puts_gateway c.in_ok-gateway_container.ensures) c.in_ok-reply.ensures _ (inr c.placed_in.ensures.due) c.placed_in.ensures.own
+returns-clause-asks g c = quieted (puts_gateway c.in_ok-gateway_container.ensures) c.in_ok-reply.ensures _ (inr c.interpret_container_put.ensures.due) c.interpret_container_put.ensures.own
 
 pub returns-clause-there : goal.returns-clause-there
 returns-clause-there g c = λ observable is. gateway_put_there c.in_ok-gateway_container.ensures c.in_ok-reply.ensures observable

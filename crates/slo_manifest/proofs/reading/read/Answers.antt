@@ -23,8 +23,8 @@ returns-clause-answer c =
     let found = entries_of_list c.args.form c.args.bytes.now _ values c.in_ok-value.ensures (sym c.in-Some.ensures) in
     let counted = length-map values entry in
     let few : length (map entry values) ≤ 1000 = omega (arith, counted, c.in-Some.entries.now.ok.0, c.if-len-gt-MOST_SEGMENTS.false, c.len.ensures) in
-    let P : List Value → Type 0 = λ items. ReadsEntries (map entry items) c.read_entries.result in
-    reads_from c.args.form c.args.bytes.now (map entry values) c.read_entries.result found few (subst P c.deref.ensures.value c.read_entries.ensures.answer)
+    let P : List Value → Type 0 = λ items. ReadsEntries (map entry items) c.read_manifest_entries.result in
+    reads_from c.args.form c.args.bytes.now (map entry values) c.read_manifest_entries.result found few (subst P c.deref.ensures.value c.read_manifest_entries.ensures.answer)
 
 pub returns-clause-listed : goal.returns-clause-listed
-returns-clause-listed c = manifest_listed c.args.form c.args.bytes.now c.read_entries.result (returns-clause-answer c) c.read_entries.ensures.listed
+returns-clause-listed c = manifest_listed c.args.form c.args.bytes.now c.read_manifest_entries.result (returns-clause-answer c) c.read_manifest_entries.ensures.listed

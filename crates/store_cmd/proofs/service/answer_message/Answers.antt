@@ -22,7 +22,7 @@ returns-in-Ok-clause-answers g c = λ told on observable.
           (subst (λ (b : List ℕ). Served shelf.observable c.args.setup.now.place c.args.message shelf.account shelf'.account b c.serve.new.out (Ok tt)) c.new-text.ensures c.in-Ok.ensures.served))
           c.in-Ok.ensures.keeps.faults,
       subst (λ (e : Option Ended). Sends before.begun 0 c.as_slice.result.now e before.sent c.send_piece.result after.sent)
-          (c.after.ensures.value ∙ ap (λ l. if l then Some Closed else None) c.closes-last.ensures) (c.send_piece.ensures.effect observable),
+          (c.ended_after_answer.ensures.value ∙ ap (λ l. if l then Some Closed else None) c.closes-last.ensures) (c.send_piece.ensures.effect observable),
     )
 
 pub returns-in-Err-Failed-clause-answers : goal.returns-in-Err-Failed-clause-answers

@@ -2,8 +2,8 @@ use Rattle.std.proofs.Common.{rules}
 use Rattle.swift_replies.proofs.AnswerLemmas.{shows_within, reads_reply, reads_none, reads_no_body}
 use Rattle.swift_replies.proofs.answers.read_answer_with_head.Goals as goal
 
-pub body_by-requires : goal.body_by-requires
-body_by-requires c = shows_within _ _ c.requires
+pub reply_body_by_size-requires : goal.reply_body_by_size-requires
+reply_body_by_size-requires c = shows_within _ _ c.requires
 
 pub returns-in_default : goal.returns-in_default
 returns-in_default c = reads_no_body c.args.call.now c.args.bytes.now c.args.found.now c.requires (search rules)

@@ -1,13 +1,13 @@
 use Rattle.std.proofs.Common.{◌∙◌}
 use Rattle.upload_texts.specs.Places.{listed_in}
-use Rattle.upload_texts.specs.Records.{is_kept_part}
+use Rattle.upload_texts.specs.Records.{part_fits_record_text}
 use Rattle.upload_texts.proofs.Lists.{each_more, each_read}
 use Rattle.upload_texts.proofs.reading.listed_in.Goals as goal
 
 pub loop-value-preserved : goal.loop-value-preserved
 loop-value-preserved c = λ all.
     c.in_ok-push.ensures.ok
-    ∙ each_more is_kept_part listed_in c.args.values.now c.loop-value.value-index c.value-item.result c.loop-value.list c.in_ok-one_listed.field-0 c.loop-value.invariant c.loop-value-test.true c.value-item.is c.in_ok-one_listed.ensures all
+    ∙ each_more part_fits_record_text listed_in c.args.values.now c.loop-value.value-index c.value-item.result c.loop-value.list c.in_ok-record_part_in_json.field-0 c.loop-value.invariant c.loop-value-test.true c.value-item.is c.in_ok-record_part_in_json.ensures all
 
 pub returns : goal.returns
-returns c = each_read is_kept_part listed_in c.args.values.now c.loop-value.list c.loop-value.value-index c.loop-value-test.false c.loop-value.invariant
+returns c = each_read part_fits_record_text listed_in c.args.values.now c.loop-value.list c.loop-value.value-index c.loop-value-test.false c.loop-value.invariant

@@ -44,7 +44,7 @@ returns-in-Ok-clause-effect g c observable =
     let stays = all_stay came c.self.inside.partial.items more (c.args.self.now.bytes ++ rest) none all in
     let new : Pending = record { bytes = came ++ c.self.inside.partial.items; place = c.self.inside.given; ended = true } in
     gives_headless c.in-Ok.found came more (c.args.self.now.bytes ++ rest) ((came ++ c.self.inside.partial.items) ++ more) c.advance.new.headers c.self.inside.given c.args.self.now c.headless.result new
-    c.headless.ensures.none c.headless.ensures.is c.in-Ok.ensures.found (c.in-Ok.ensures.at_end observable) all stays goes place place
+    c.headless.ensures c.in-Ok.ensures.found (c.in-Ok.ensures.at_end observable) all stays goes place place
 
 pub returns-in_ok-taken-in-Ok-Head-clause-sent : goal.returns-in_ok-taken-in-Ok-Head-clause-sent
 returns-in_ok-taken-in-Ok-Head-clause-sent g c = λ goes observable.
@@ -94,11 +94,11 @@ returns-in-Ok-clause-sent g c = λ goes observable.
     let more = (g.N.Line.model c.advance.new.line).transcript.rest in
     let none = c.self.invariant.1 c.if-self.false in
     let all = all_left c.self.inside.pending.items c.self.inside.partial.items c.args.self.now.bytes rest came more none (ap (λ p. p.bytes) c.self.view_is) (c.in-Ok.ensures.kept observable) in
-    let empty = headless_has_none c.in-Ok.found came more c.advance.new.headers c.headless.ensures.none c.in-Ok.ensures.found (c.in-Ok.ensures.at_end observable) in
+    let empty = headless_has_none c.in-Ok.found came more c.advance.new.headers _ c.headless.result c.headless.ensures c.in-Ok.ensures.found (c.in-Ok.ensures.at_end observable) in
     none_sent came more (c.args.self.now.bytes ++ rest) (g.N.Line.model c.args.line.now).transcript.begun (g.C.Counted.called c.args.store.now) (g.N.Line.model c.args.line.now).transcript.sent (g.N.Line.model c.advance.new.line).transcript.sent all empty (c.in-Ok.ensures.reads.sent observable)
 
 pub returns-in-Ok-clause-falls : goal.returns-in-Ok-clause-falls
-returns-in-Ok-clause-falls g c = headless_falls c.in-Ok.found c.self.inside.given c.headless.result _ c.headless.ensures.is
+returns-in-Ok-clause-falls g c = headless_falls c.in-Ok.found c.self.inside.given c.headless.result _ c.headless.ensures
 
 pub returns-in-Ok-clause-ends : goal.returns-in-Ok-clause-ends
-returns-in-Ok-clause-ends g c = headless_ends c.in-Ok.found c.self.inside.given c.headless.result c.headless.ensures.is
+returns-in-Ok-clause-ends g c = headless_ends c.in-Ok.found c.self.inside.given c.headless.result c.headless.ensures

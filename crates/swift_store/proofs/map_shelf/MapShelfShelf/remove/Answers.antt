@@ -3,5 +3,5 @@ use Rattle.swift_store.proofs.map_shelf.MapShelfShelf.remove.Goals as goal
 
 pub invariant_of-self : goal.invariant_of-self
 invariant_of-self c = record {
-  made = made_less c.args.container.now c.args.self.now.folders c.args.self.now.made c.args.name.now c.drop_object.new.folders c.drop_object.ensures;
+  made = made_less c.args.container.now c.args.self.now.folders c.args.self.now.made c.args.name.now c.drop_object_in_map_shelf.new.folders c.drop_object_in_map_shelf.ensures;
 }

@@ -10,12 +10,12 @@ returns-then-not-has_text c =
     sealed_refused c.args.bytes.now (view c.args.value.now) c.requires.parsed c.in_ok-found.found c.in_ok-found.ensures
     (λ has. let never : true ≡ false = sym has ∙ sym c.has_text.ensures ∙ c.if-not-has_text.true in cc) c.requires.known
 
-pub returns-then-not-is_same : goal.returns-then-not-is_same
-returns-then-not-is_same c =
+pub returns-then-not-is_same_record_text : goal.returns-then-not-is_same_record_text
+returns-then-not-is_same_record_text c =
     sealed_refused c.args.bytes.now (view c.args.value.now) c.requires.parsed c.in_ok-found.found c.in_ok-found.ensures
-    (λ has. ap (λ t. bytes_eq t c.args.bytes.now) (sym c.in_ok-text.ensures.text ∙ sym c.as_slice.ensures) ∙ sym c.is_same.ensures ∙ c.if-not-is_same.true) c.requires.known
+    (λ has. ap (λ t. bytes_eq t c.args.bytes.now) (sym c.in_ok-text.ensures.text ∙ sym c.as_slice.ensures) ∙ sym c.is_same_record_text.ensures ∙ c.if-not-is_same_record_text.true) c.requires.known
 
 pub returns : goal.returns
 returns c =
-    let same = (bytes_eq-Decides c.as_slice.result.now c.args.bytes.now).0 (sym c.is_same.ensures ∙ c.if-not-is_same.false) in
+    let same = (bytes_eq-Decides c.as_slice.result.now c.args.bytes.now).0 (sym c.is_same_record_text.ensures ∙ c.if-not-is_same_record_text.false) in
     subst (λ (t : List ℕ). read_sealed t ≡ Some c.in_ok-found.found) (sym c.as_slice.ensures ∙ same) c.in_ok-text.ensures.reads_back

@@ -1,0 +1,29 @@
+use Rattle.std.proofs.Common.{sym, subst}
+use Rattle.swift_calls.specs.Limits.{IsObjectName}
+use Rattle.swift_calls.specs.Step.{IsContainerName}
+use Rattle.recovery.proofs.lemmas.Names.{container_name, object_name}
+use Rattle.recovery.proofs.lemmas.One.{not_asked, asked_of, asked_of_in_vain}
+use Rattle.many_keys.proofs.CutCalls.{cut_reads}
+use Rattle.many_keys.proofs.cut.get_pieces_to_copy.Goals as goal
+
+pub returns-in_err-container-clause-asks : goal.returns-in_err-container-clause-asks
+returns-in_err-container-clause-asks g c = not_asked _ _ _ c.from_residual.ensures.1
+
+pub returns-in_err-name-clause-asks : goal.returns-in_err-name-clause-asks
+returns-in_err-name-clause-asks g c = not_asked _ _ _ c.from_residual-in_err-name.ensures.1
+
+pub call-requires : goal.call-requires
+call-requires g c = (
+  subst IsContainerName (sym c.in_ok-container.ensures) (container_name c.args.bucket.now c.requires.place.named),
+  subst IsObjectName (sym c.in_ok-name.ensures) (object_name c.args.key.now c.requires.place.keyed),
+)
+
+pub returns-in_err-reply-clause-asks : goal.returns-in_err-reply-clause-asks
+returns-in_err-reply-clause-asks g c =
+    asked_of_in_vain (cut_reads c.law_listing_found.ensures c.law_object_listed.ensures c.in_ok-container.ensures c.in_ok-name.ensures c.requires.place.named c.requires.of_parts c.requires.filled)
+    c.in_err-reply.ensures.calls _ c.from_residual-in_err-reply.ensures.1
+
+pub returns-clause-asks : goal.returns-clause-asks
+returns-clause-asks g c =
+    asked_of (cut_reads c.law_listing_found.ensures c.law_object_listed.ensures c.in_ok-container.ensures c.in_ok-name.ensures c.requires.place.named c.requires.of_parts c.requires.filled)
+    c.in_ok-reply.ensures.calls _ c.pieces_to_copy_in_reply.ensures.due c.pieces_to_copy_in_reply.ensures.own

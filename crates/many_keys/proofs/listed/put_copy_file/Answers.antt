@@ -1,0 +1,14 @@
+use Rattle.recovery.proofs.lemmas.One.{not_sent, sent_in_vain, sent}
+use Rattle.many_keys.proofs.PutsFile.{puts_copy}
+use Rattle.many_keys.proofs.listed.put_copy_file.Goals as goal
+
+pub returns-in_err-request-clause-changes : goal.returns-in_err-request-clause-changes
+returns-in_err-request-clause-changes g c = λ from_bucket from_key replaced. not_sent _ _ c.from_residual.ensures.1
+
+pub returns-in_err-reply-clause-changes : goal.returns-in_err-reply-clause-changes
+returns-in_err-reply-clause-changes g c = λ from_bucket from_key replaced.
+    sent_in_vain (puts_copy from_bucket from_key replaced c.args.sealed.now c.requires.copy c.in_ok-request.ensures.request) c.in_err-reply.ensures.calls _ c.from_residual-in_err-reply.ensures.1
+
+pub returns-clause-changes : goal.returns-clause-changes
+returns-clause-changes g c = λ from_bucket from_key replaced.
+    sent (puts_copy from_bucket from_key replaced c.args.sealed.now c.requires.copy c.in_ok-request.ensures.request) c.in_ok-reply.ensures.calls _ c.interpret_put_without_etag.ensures.due c.interpret_put_without_etag.ensures.own

@@ -1,0 +1,14 @@
+use Rattle.std.proofs.Common.{sym, subst, lit≤, rules}
+use Rattle.recovery.specs.Plan.{Plans}
+use Rattle.recovery.proofs.lemmas.Ends.{commits, out_of_memory}
+use Rattle.many_keys.proofs.PutsFile.{copy_steps}
+use Rattle.many_keys.proofs.listed.put_listed_copy.Goals as goal
+
+pub returns-clause-plans : goal.returns-clause-plans
+returns-clause-plans g c = λ acl list from_bucket from_key replaced label same other dated.
+    subst (Plans _ _ _ _ _ _ _ _) (sym c.end_copy_object_plan.ensures)
+    (commits _ (lit≤ tt) (c.put_copy_file.ensures.changes from_bucket from_key replaced) (λ done. search rules) (λ tree may. may.copy)
+    (copy_steps _ acl list from_bucket from_key replaced label c.args.sealed.now _ same other dated c.in_ok-etag.ensures))
+
+pub returns-in_err-etag-clause-plans : goal.returns-in_err-etag-clause-plans
+returns-in_err-etag-clause-plans g c = λ acl list from_bucket from_key replaced label same other dated. out_of_memory _ _ c.from_residual.ensures.1

@@ -1,0 +1,10 @@
+use Rattle.std.specs.Prelude.{take}
+use Rattle.recovery.specs.Lent.{Stays}
+use Rattle.many_keys.proofs.Copying.{Copying}
+use Rattle.many_keys.proofs.segments.copy_source_segments.Given as goal
+
+abbrev pub invariant-loop-piece : goal.invariant-loop-piece
+invariant-loop-piece g l = record {
+  stays : Stays l.initial.state l.state;
+  copying : Copying (g.W.Swift.history l.initial.state.store.now) (g.W.Swift.history l.state.store.now) l.bucket l.id l.from_bucket l.from_key l.head l.moment (take l.piece-index l.cut) l.at l.list;
+}

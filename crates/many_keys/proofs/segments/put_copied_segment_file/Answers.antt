@@ -1,0 +1,42 @@
+use Rattle.std.proofs.Common.{refl, ap, ◌∙◌, inr}
+use Rattle.recovery.specs.Interpret.{stored_due}
+use Rattle.recovery.proofs.lemmas.One.{not_asked}
+use Rattle.recovery.proofs.lemmas.Quiet.{quiet_in_vain, quieted}
+use Rattle.many_keys.specs.CopiedLists.{told_due}
+use Rattle.many_keys.proofs.PieceCalls.{puts_segment}
+use Rattle.many_keys.proofs.segments.put_copied_segment_file.Goals as goal
+
+pub returns-in_err-request-clause-asks : goal.returns-in_err-request-clause-asks
+returns-in_err-request-clause-asks g c = not_asked _ _ _ c.from_residual.ensures.1
+
+pub returns-in_err-reply-clause-asks : goal.returns-in_err-reply-clause-asks
+returns-in_err-reply-clause-asks g c =
+    quiet_in_vain
+    (puts_segment {told = c.args.part} c.law_orphan_put.ensures (record {
+      same = c.in_ok-request.ensures.request;
+      is = c.requires.named;
+      counted = c.requires.number;
+      sized = c.requires.sized;
+      below = c.requires.moment;
+      fits = c.ranges.id.fits;
+      numbered = refl;
+      etag = c.requires.same;
+      size = c.requires.size;
+    }))
+    c.in_err-reply.ensures.calls _ c.from_residual-in_err-reply.ensures.1
+
+pub returns-clause-asks : goal.returns-clause-asks
+returns-clause-asks g c =
+    quieted
+    (puts_segment {told = c.args.part} c.law_orphan_put.ensures (record {
+      same = c.in_ok-request.ensures.request;
+      is = c.requires.named;
+      counted = c.requires.number;
+      sized = c.requires.sized;
+      below = c.requires.moment;
+      fits = c.ranges.id.fits;
+      numbered = refl;
+      etag = c.requires.same;
+      size = c.requires.size;
+    }))
+    c.in_ok-reply.ensures.calls _ (inr (c.copied_segment_in_reply.ensures.due ∙ ap (λ e. told_due c.args.part (stored_due e c.in_ok-reply.reply)) c.requires.etag)) c.copied_segment_in_reply.ensures.own

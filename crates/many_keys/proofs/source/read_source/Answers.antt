@@ -1,9 +1,0 @@
-use Rattle.many_keys.proofs.Sources.{asks_body, asks_no_body}
-use Rattle.many_keys.proofs.source.read_source.Goals as goal
-
-pub returns-in_err-told-clause-asks : goal.returns-in_err-told-clause-asks
-returns-in_err-told-clause-asks g c =
-    asks_no_body c.law_object_proper.ensures c.args.bucket c.args.key c.requires.place.named c.args.head.now c.requires.plain _ c.as_slice.ensures _ _ _ _ c.in_err-told.ensures.asks c.from_residual.ensures.1
-
-pub returns-clause-asks : goal.returns-clause-asks
-returns-clause-asks g c = asks_body c.law_object_proper.ensures c.args.bucket c.args.key c.requires.place.named c.args.head.now c.requires.plain _ c.as_slice.ensures _ _ _ _ c.in_ok-told.ensures.asks c.body_of.ensures.due

@@ -1,0 +1,30 @@
+use Rattle.std.proofs.Common.{sym, subst, arith}
+use Rattle.swift_calls.specs.Limits.{IsMarker}
+use Rattle.swift_calls.specs.Step.{IsContainerName}
+use Rattle.recovery.specs.Plan.{Plans}
+use Rattle.plan_uploads.specs.Plans.{LeavesBeside}
+use Rattle.plan_uploads.proofs.Behind.{clears_behind, clears_fault, drop_fails, gone_then, purged_at}
+use Rattle.recovery.proofs.lemmas.SideNames.{prefix_is_marker, segments_fits}
+use Rattle.plan_uploads.proofs.abort.plan_abort_and_purge_upload.Goals as goal
+
+pub returns-in_err-drop_record-clause-plans : goal.returns-in_err-drop_record-clause-plans
+returns-in_err-drop_record-clause-plans g c = λ key text label. drop_fails c.requires.name (omega arith) c.in_err-drop_record.ensures.drops _ c.from_residual.ensures.1
+
+pub returns-in_err-drop_record-clause-beside : goal.returns-in_err-drop_record-clause-beside
+returns-in_err-drop_record-clause-beside g c = λ key text label. clears_fault _ _ c.from_residual.ensures.1
+
+pub purge-requires-clause-named : goal.purge-requires-clause-named
+purge-requires-clause-named g c = subst IsContainerName (sym c.requires.folder) (segments_fits c.args.bucket.now c.requires.name)
+
+pub purge-requires-clause-prefix : goal.purge-requires-clause-prefix
+purge-requires-clause-prefix g c = subst IsMarker (sym c.requires.prefix) (prefix_is_marker c.args.id)
+
+pub returns-clause-plans : goal.returns-clause-plans
+returns-clause-plans g c = λ key text label.
+    subst (Plans _ _ _ _ _ _ _ _) (sym c.end_abort_upload_plan.ensures)
+    (gone_then c.requires.name c.in_ok-drop_record.ensures.drops (purged_at c.requires.folder c.requires.prefix c.purge.ensures.asks) key text _ label)
+
+pub returns-clause-beside : goal.returns-clause-beside
+returns-clause-beside g c = λ key text label.
+    subst (LeavesBeside _ _ _ _ _) (sym c.end_abort_upload_plan.ensures)
+    (clears_behind c.requires.name c.in_ok-drop_record.ensures.drops (purged_at c.requires.folder c.requires.prefix c.purge.ensures.asks) key text label)

@@ -1,6 +1,0 @@
-use Rattle.std.proofs.Common.{◌-◌}
-use Rattle.plan_uploads.proofs.PartsListed.{SmallFrom}
-use Rattle.plan_uploads.proofs.chosen.has_small.Given as goal
-
-abbrev pub invariant-loop-i : goal.invariant-loop-i
-invariant-loop-i l = SmallFrom l.least l.parts (l.i - 1)

@@ -1,0 +1,11 @@
+use Rattle.std.proofs.Common.{sym, subst}
+use Rattle.recovery.specs.Plan.{Answered}
+use Rattle.plan_uploads.proofs.Answering.{answered_alike, answered_as, answered_with}
+use Rattle.plan_uploads.proofs.operation.answer_upload_operation.Goals as goal
+
+pub returns-in-CompleteUpload-clause-answered : goal.returns-in-CompleteUpload-clause-answered
+returns-in-CompleteUpload-clause-answered g c = rw c.in-CompleteUpload.is
+    (answered_alike c.completed.ensures.known c.completed.ensures.reply (answered_as (λ met. tt) c.complete_upload.ensures.unsure c.complete_upload.ensures.plans))
+
+pub returns-in_default-clause-answered : goal.returns-in_default-clause-answered
+returns-in_default-clause-answered g c = subst (Answered _ _ _ _ _ _ _) (sym c.reply_of.ensures) (answered_with c.plan.ensures.beside c.plan.ensures.plans)

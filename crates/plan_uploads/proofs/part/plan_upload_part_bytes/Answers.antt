@@ -1,0 +1,14 @@
+use Rattle.std.proofs.Common.{sym, subst, ◌∙◌, lit≤, rules}
+use Rattle.recovery.specs.Plan.{Plans}
+use Rattle.recovery.proofs.lemmas.Ends.{out_of_memory, commits, becomes}
+use Rattle.plan_uploads.proofs.Steps.{has_open, part_stored}
+use Rattle.plan_uploads.proofs.part.plan_upload_part_bytes.Goals as goal
+
+pub returns-in_err-text-clause-plans : goal.returns-in_err-text-clause-plans
+returns-in_err-text-clause-plans g c = λ key text. out_of_memory _ _ c.from_residual.ensures.1
+
+pub returns-clause-plans : goal.returns-clause-plans
+returns-clause-plans g c = λ key text.
+    subst (Plans _ _ _ _ _ _ _ _) (sym c.end_upload_part_plan.ensures)
+    (commits _ (lit≤ tt) c.put_part.ensures.changes (λ done. search rules) (λ tree found. has_open found)
+    (λ tree done new found is. becomes (part_stored _ _ _ _ _ tree c.requires.name c.args.id found _ _ _ (c.in_ok-text.ensures ∙ c.requires.etag)) is))

@@ -1,0 +1,29 @@
+use Rattle.std.specs.Prelude.{Ok}
+use Rattle.std.proofs.Common.{rules, ap}
+use Rattle.s3_names.specs.Id.{id_digits}
+use Rattle.swift_calls.specs.History.{present}
+use Rattle.recovery.specs.Answers.{named_by, pages}
+use Rattle.recovery.specs.Calls.{by_account}
+use Rattle.recovery.proofs.lemmas.Ends.{as_wide, met_within}
+use Rattle.recovery.specs.Listing.{TellsOf}
+use Rattle.plan_uploads.specs.Plans.{parts_told}
+use Rattle.plan_uploads.specs.Records.{TellsParts}
+use Rattle.plan_uploads.proofs.Asking.{asked_in_vain, asked_end}
+use Rattle.plan_uploads.proofs.Steps.{parts_are_own, parts_listed}
+use Rattle.plan_uploads.proofs.uploads.plan_list_parts_within.Goals as goal
+
+pub returns-in_err-listed-clause-plans : goal.returns-in_err-listed-clause-plans
+returns-in_err-listed-clause-plans g c = λ text label.
+    let most = by_account (pages (named_by (present (g.W.Swift.history c.args.state.now.store.now)) c.args.bucket (id_digits c.args.id))) in
+    asked_in_vain most (as_wide most) {Q = TellsOf (TellsParts c.args.bucket c.args.id c.args.marker c.args.max)} (met_within (λ tree found. found.there)) c.in_err-listed.ensures.asks _ c.from_residual.ensures.1
+
+pub returns-clause-plans : goal.returns-clause-plans
+returns-clause-plans g c = λ text label.
+    let most = by_account (pages (named_by (present (g.W.Swift.history c.args.state.now.store.now)) c.args.bucket (id_digits c.args.id))) in
+    asked_end most (as_wide most) (λ tree has. record { settled = has.settled; is = has.is.there }) _ c.in_ok-listed.ensures.asks
+    (rw c.end_list_parts_plan.ensures (parts_are_own c.args.bucket c.args.key c.args.id c.args.marker c.args.max c.in_ok-listed.listed c.in_ok-listed.ensures.dated)) (search rules)
+    (λ tree sound has told. record {
+      reply = parts_told c.args.bucket c.args.key c.args.id c.args.marker c.args.max c.in_ok-listed.listed;
+      is = ap Ok c.end_list_parts_plan.ensures;
+      step = parts_listed _ _ _ _ _ tree c.requires.name c.args.id has.is c.ranges.id.fits c.args.marker c.args.max c.in_ok-listed.listed told;
+    })

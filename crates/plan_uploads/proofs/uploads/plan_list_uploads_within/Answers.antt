@@ -1,0 +1,26 @@
+use Rattle.std.specs.Prelude.{◌+◌, Ok}
+use Rattle.std.proofs.Common.{refl, rules, ap}
+use Rattle.swift_calls.specs.History.{present}
+use Rattle.recovery.specs.Answers.{pages, records_of}
+use Rattle.recovery.specs.Calls.{by_account}
+use Rattle.recovery.proofs.lemmas.Ends.{as_wide, calls_in_vain, calls_end}
+use Rattle.plan_uploads.specs.Plans.{uploads_told}
+use Rattle.plan_uploads.proofs.Finding.{met_there}
+use Rattle.plan_uploads.proofs.Steps.{uploads_are_own, uploads_listed}
+use Rattle.plan_uploads.proofs.uploads.plan_list_uploads_within.Goals as goal
+
+pub returns-in_err-listed-clause-plans : goal.returns-in_err-listed-clause-plans
+returns-in_err-listed-clause-plans g c = λ acl label.
+    let most = by_account (pages (records_of (present (g.W.Swift.history c.args.state.now.store.now)) c.args.bucket) + records_of (present (g.W.Swift.history c.args.state.now.store.now)) c.args.bucket) in
+    calls_in_vain most (as_wide most) (met_there _ acl c.requires.name) c.in_err-listed.ensures.asks _ c.from_residual.ensures.1
+
+pub returns-clause-plans : goal.returns-clause-plans
+returns-clause-plans g c = λ acl label.
+    let most = by_account (pages (records_of (present (g.W.Swift.history c.args.state.now.store.now)) c.args.bucket) + records_of (present (g.W.Swift.history c.args.state.now.store.now)) c.args.bucket) in
+    calls_end most (as_wide most) (met_there _ acl c.requires.name) c.in_ok-listed.listed refl _ c.in_ok-listed.ensures.asks
+    (rw c.end_list_uploads_plan.ensures (uploads_are_own c.args.bucket c.args.prefix c.args.key_marker c.args.id_marker c.args.max c.in_ok-listed.listed c.in_ok-listed.ensures.dated)) (search rules)
+    (λ tree there told. (
+      uploads_told c.args.bucket c.args.prefix c.args.key_marker c.args.id_marker c.args.max c.in_ok-listed.listed,
+      ap Ok c.end_list_uploads_plan.ensures,
+      uploads_listed _ _ _ _ acl there c.args.prefix c.args.key_marker c.args.id_marker c.args.max c.in_ok-listed.listed told,
+    ))

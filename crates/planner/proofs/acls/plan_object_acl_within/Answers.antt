@@ -1,0 +1,17 @@
+use Rattle.std.specs.Prelude.{None, Some}
+use Rattle.std.proofs.Common.{lit≤, rules}
+use Rattle.recovery.proofs.lemmas.Ends.{told_nothing, answers}
+use Rattle.planner.proofs.BucketSteps.{object_acl_none, object_acl_told}
+use Rattle.planner.proofs.acls.plan_object_acl_within.Goals as goal
+
+pub returns-in_err-head_object-clause-plans : goal.returns-in_err-head_object-clause-plans
+returns-in_err-head_object-clause-plans g c = λ label. told_nothing (lit≤ tt) c.in_err-head_object.ensures.asks _ c.from_residual.ensures.1
+
+pub returns-clause-plans : goal.returns-clause-plans
+returns-clause-plans g c = λ label.
+    answers (lit≤ tt) (Some c.in-Some.field-0) c.in-Some.is _ c.in_ok-head_object.ensures.asks (search rules)
+    (λ tree there object. object_acl_told _ _ _ _ _ there _ _ object)
+
+pub returns-in_default-clause-plans : goal.returns-in_default-clause-plans
+returns-in_default-clause-plans g c = λ label.
+    answers (lit≤ tt) None c.in_default.is _ c.in_ok-head_object.ensures.asks (search rules) (λ tree there none. object_acl_none _ _ _ _ _ there _ none)

@@ -1,9 +1,0 @@
-use Rattle.std.proofs.Common.{arith}
-use Rattle.planner.proofs.MakeBucket.{made_segments, not_made}
-use Rattle.planner.proofs.buckets.make_segments.Goals as goal
-
-pub returns-in_err-make_beside-clause-plans : goal.returns-in_err-make_beside-clause-plans
-returns-in_err-make_beside-clause-plans g c = not_made (omega arith) c.in_err-make_beside.ensures.asks _ c.from_residual.ensures.1
-
-pub returns-clause-plans : goal.returns-clause-plans
-returns-clause-plans g c = made_segments c.args.bucket c.requires.name c.make_beside.ensures.stays.settings c.requires.segments c.in_ok-make_beside.ensures.asks c.empty_uploads.ensures.plans

@@ -1,0 +1,14 @@
+use Rattle.std.proofs.Common.{sym, subst, lit≤, rules}
+use Rattle.recovery.specs.Plan.{Plans}
+use Rattle.recovery.proofs.lemmas.Ends.{out_of_memory, commits, becomes}
+use Rattle.planner.proofs.CreateBucket.{steps_made}
+use Rattle.planner.proofs.buckets.plan_create_bare_bucket.Goals as goal
+
+pub returns-clause-plans : goal.returns-clause-plans
+returns-clause-plans g c =
+    subst (Plans _ _ _ _ _ _ _ _) (sym c.end_create_bucket_plan.ensures)
+    (commits _ (lit≤ tt) c.put_bucket_container.ensures.changes (λ done. search rules) (λ tree may. may)
+    (λ tree done new may is. becomes (steps_made _ _ _ _ _ _ c.in_ok-name.ensures may.lacks) is))
+
+pub returns-in_err-name-clause-plans : goal.returns-in_err-name-clause-plans
+returns-in_err-name-clause-plans g c = out_of_memory _ _ c.from_residual.ensures.1

@@ -1,0 +1,26 @@
+use Rattle.std.specs.Prelude.{Ok}
+use Rattle.std.specs.FinMap.{len}
+use Rattle.std.proofs.Common.{refl, rules, sym, ap, subst, ◌∙◌}
+use Rattle.swift_calls.specs.Account.{files}
+use Rattle.swift_calls.specs.History.{present}
+use Rattle.recovery.specs.Answers.{pages}
+use Rattle.recovery.specs.Calls.{by_account}
+use Rattle.recovery.specs.Plan.{IsOwnReply}
+use Rattle.recovery.proofs.lemmas.Ends.{as_wide, met_settled, needs_none, calls_in_vain, calls_end}
+use Rattle.planner.proofs.Listings.{items_are_own, list_refused, list_told}
+use Rattle.planner.proofs.listing.plan_list_objects_within.Goals as goal
+
+pub returns-then-not-may_read-clause-plans : goal.returns-then-not-may_read-clause-plans
+returns-then-not-may_read-clause-plans g c = needs_none _ (search rules) (λ tree there. list_refused _ _ _ _ _ _ there (sym c.may_read.ensures ∙ c.if-not-may_read.true))
+
+pub returns-in_err-listed-clause-plans : goal.returns-in_err-listed-clause-plans
+returns-in_err-listed-clause-plans g c =
+    let most = by_account (pages (len (files (present (g.W.Swift.history c.args.state.now.store.now)) c.args.bucket))) in
+    calls_in_vain most (as_wide most) met_settled c.in_err-listed.ensures.asks _ c.from_residual.ensures.1
+
+pub returns-clause-plans : goal.returns-clause-plans
+returns-clause-plans g c =
+    let most = by_account (pages (len (files (present (g.W.Swift.history c.args.state.now.store.now)) c.args.bucket))) in
+    calls_end most (as_wide most) met_settled c.in_ok-listed.listed refl _ c.in_ok-listed.ensures.asks
+    (subst IsOwnReply (sym c.end_list_objects_plan.ensures) (items_are_own _ _ _ c.in_ok-listed.ensures.dated)) (search rules)
+    (λ tree there told. (_, ap Ok c.end_list_objects_plan.ensures, list_told _ _ _ _ _ _ there (sym c.may_read.ensures ∙ c.if-not-may_read.false) _ told))

@@ -1,0 +1,15 @@
+use Rattle.std.proofs.Common.{sym, subst, ◌∙◌, lit≤, rules}
+use Rattle.recovery.specs.Plan.{Plans}
+use Rattle.recovery.proofs.lemmas.Ends.{out_of_memory, commits, becomes}
+use Rattle.planner.proofs.Steps.{put_stored}
+use Rattle.planner.proofs.objects.plan_put_object_bytes.Goals as goal
+
+pub returns-in_err-text-clause-plans : goal.returns-in_err-text-clause-plans
+returns-in_err-text-clause-plans g c = out_of_memory _ _ c.from_residual.ensures.1
+
+pub returns-clause-plans : goal.returns-clause-plans
+returns-clause-plans g c =
+    subst (Plans _ _ _ _ _ _ _ _) (sym c.end_put_object_plan.ensures)
+    (commits _ (lit≤ tt) c.put_object.ensures.changes (λ done. search rules) (λ tree there. (c.args.list, there))
+    (λ tree done new there is. becomes (put_stored c.args.state.now.settings.now _ c.args.bucket c.args.key c.args.label.now _ there c.args.acl c.args.content_type c.args.meta.now c.args.body _
+    c.requires.acl (c.in_ok-text.ensures ∙ c.requires.etag)) is))

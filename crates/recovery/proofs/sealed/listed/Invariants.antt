@@ -1,7 +1,0 @@
-use Rattle.std.proofs.Common.{◌≡◌, map, take}
-use Rattle.upload_records.specs.Native.{listed_of}
-use Rattle.recovery.proofs.sealed.listed.Given as goal
-
--- the parts so far
-abbrev pub invariant-loop-part : goal.invariant-loop-part
-invariant-loop-part l = l.list ≡ map listed_of (take l.part-index l.parts)

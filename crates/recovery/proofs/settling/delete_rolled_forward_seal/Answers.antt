@@ -1,0 +1,27 @@
+use Rattle.std.proofs.Common.{inr}
+use Rattle.recovery.proofs.RollCalls.{delete_keeps, deleted, deletes_sealed}
+use Rattle.recovery.proofs.lemmas.One.{not_asked}
+use Rattle.recovery.proofs.lemmas.Quiet.{quiet_in_vain, quieted}
+use Rattle.recovery.proofs.settling.delete_rolled_forward_seal.Goals as goal
+
+pub returns-in_err-container-clause-asks : goal.returns-in_err-container-clause-asks
+returns-in_err-container-clause-asks g c = not_asked _ _ _ c.from_residual.ensures.1
+
+pub returns-in_err-name-clause-asks : goal.returns-in_err-name-clause-asks
+returns-in_err-name-clause-asks g c = not_asked _ _ _ c.from_residual-in_err-name.ensures.1
+
+pub returns-in_err-reply-clause-asks : goal.returns-in_err-reply-clause-asks
+returns-in_err-reply-clause-asks g c =
+    quiet_in_vain (deletes_sealed c.args.sealed.now c.in_ok-container.ensures c.in_ok-name.ensures) c.in_err-reply.ensures _ c.from_residual-in_err-reply.ensures.1
+
+pub returns-clause-asks : goal.returns-clause-asks
+returns-clause-asks g c = quieted (deletes_sealed c.args.sealed.now c.in_ok-container.ensures c.in_ok-name.ensures) c.in_ok-reply.ensures _ (inr c.interpret_file_delete.ensures.due) c.interpret_file_delete.ensures.own
+
+pub returns-in_err-reply-clause-keeps : goal.returns-in_err-reply-clause-keeps
+returns-in_err-reply-clause-keeps g c = delete_keeps c.in_ok-container.ensures c.in_ok-name.ensures c.in_err-reply.ensures
+
+pub returns-clause-keeps : goal.returns-clause-keeps
+returns-clause-keeps g c = delete_keeps c.in_ok-container.ensures c.in_ok-name.ensures c.in_ok-reply.ensures
+
+pub returns-clause-done : goal.returns-clause-done
+returns-clause-done g c = λ observable has is. deleted c.in_ok-container.ensures c.in_ok-name.ensures c.in_ok-reply.ensures observable has

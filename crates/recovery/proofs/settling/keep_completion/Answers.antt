@@ -1,9 +1,0 @@
-use Rattle.std.proofs.Common.{lit≤}
-use Rattle.recovery.proofs.lemmas.Quiet.{asks_failed, asks_then}
-use Rattle.recovery.proofs.settling.keep_completion.Goals as goal
-
-pub returns-in_err-put_sealed_record-clause-asks : goal.returns-in_err-put_sealed_record-clause-asks
-returns-in_err-put_sealed_record-clause-asks g c = asks_failed (lit≤ tt) c.in_err-put_sealed_record.ensures.asks _ c.from_residual.ensures.1
-
-pub returns-clause-asks : goal.returns-clause-asks
-returns-clause-asks g c = asks_then (lit≤ tt) c.in_ok-put_sealed_record.ensures.asks c.delete_sealed.ensures.asks (λ old new sound same given left. left) (λ old new last done sound given left clear. clear)

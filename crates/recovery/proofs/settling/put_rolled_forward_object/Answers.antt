@@ -1,0 +1,20 @@
+use Rattle.std.proofs.Common.{inr}
+use Rattle.recovery.proofs.RollCalls.{object_keeps, puts_object}
+use Rattle.recovery.proofs.lemmas.One.{not_asked}
+use Rattle.recovery.proofs.lemmas.Quiet.{quiet_in_vain, quieted}
+use Rattle.recovery.proofs.settling.put_rolled_forward_object.Goals as goal
+
+pub returns-in_err-request-clause-asks : goal.returns-in_err-request-clause-asks
+returns-in_err-request-clause-asks g c = not_asked _ _ _ c.from_residual.ensures.1
+
+pub returns-in_err-reply-clause-asks : goal.returns-in_err-reply-clause-asks
+returns-in_err-reply-clause-asks g c = quiet_in_vain (puts_object c.in_ok-request.ensures.request c.requires) c.in_err-reply.ensures _ c.from_residual-in_err-reply.ensures.1
+
+pub returns-in_err-reply-clause-keeps : goal.returns-in_err-reply-clause-keeps
+returns-in_err-reply-clause-keeps g c = object_keeps c.args.sealed.now c.in_ok-request.ensures.request c.requires c.in_err-reply.ensures
+
+pub returns-clause-asks : goal.returns-clause-asks
+returns-clause-asks g c = quieted (puts_object c.in_ok-request.ensures.request c.requires) c.in_ok-reply.ensures _ (inr c.interpret_put_without_etag.ensures.due) c.interpret_put_without_etag.ensures.own
+
+pub returns-clause-keeps : goal.returns-clause-keeps
+returns-clause-keeps g c = object_keeps c.args.sealed.now c.in_ok-request.ensures.request c.requires c.in_ok-reply.ensures

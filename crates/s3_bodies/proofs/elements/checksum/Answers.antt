@@ -1,7 +1,0 @@
-use Rattle.xml_forms.proofs.lemmas.Readers.{spaced_reads}
-use Rattle.s3_bodies.specs.Completion.{Checksum}
-use Rattle.s3_bodies.proofs.Checksums.{checksum_opens}
-use Rattle.s3_bodies.proofs.elements.checksum.Goals as goal
-
-pub returns : goal.returns
-returns c = spaced_reads Checksum checksum_opens c.args.bytes.now _ _ c.skip_space.ensures.1 _ c.checksum_element.ensures

@@ -1,0 +1,11 @@
+use Rattle.std.proofs.lemmas.Result.{err_from_is_err_and}
+use Rattle.xml_forms.proofs.lemmas.Elements.{exactly_begins, exactly_stops}
+use Rattle.s3_bodies.specs.declared.key_text.Piece.TheVariants.{Byte}
+use Rattle.s3_bodies.proofs.key_text.delete_xml_named_entity.Goals as goal
+
+pub returns-in_err-rest : goal.returns-in_err-rest
+returns-in_err-rest c = let p = err_from_is_err_and c.from_residual.result c.from_residual.ensures.1 in
+    rw (p.1, p.2) (exactly_stops (Byte c.args.byte) c.args.name.now c.args.bytes.now _ c.in_err-rest.ensures)
+
+pub returns : goal.returns
+returns c = exactly_begins (Byte c.args.byte) c.args.name.now c.args.bytes.now _ c.in_ok-rest.ensures

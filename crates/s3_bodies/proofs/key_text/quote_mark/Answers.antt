@@ -1,8 +1,0 @@
-use Rattle.std.proofs.Common.{codes}
-use Rattle.xml_forms.specs.Forms.{Exactly}
-use Rattle.s3_bodies.specs.declared.key_text.Piece.TheVariants.{Byte}
-use Rattle.s3_bodies.proofs.Pieces.{nearer_piece}
-use Rattle.s3_bodies.proofs.key_text.quote_mark.Goals as goal
-
-pub returns : goal.returns
-returns c = nearer_piece (Exactly (Byte 34) (codes "quot;")) (Exactly (Byte 39) (codes "apos;")) c.args.bytes.now _ _ _ c.nearer.ensures c.named.ensures c.named-2.ensures

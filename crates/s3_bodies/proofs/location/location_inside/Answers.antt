@@ -1,5 +1,0 @@
-use Rattle.s3_bodies.proofs.Locations.{inside_reads}
-use Rattle.s3_bodies.proofs.location.location_inside.Goals as goal
-
-pub returns : goal.returns
-returns c = inside_reads c.args.bytes.now _ _ c.skip_space-rest.ensures.1 _ _ _ c.nearer.ensures c.no_constraint.ensures c.constraint.ensures

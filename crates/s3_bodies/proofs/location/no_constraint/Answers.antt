@@ -1,9 +1,0 @@
-use Rattle.std.proofs.Common.{[]}
-use Rattle.std.proofs.lemmas.Result.{err_from_is_err_and}
-use Rattle.xml_forms.proofs.lemmas.Elements.{exactly_stops}
-use Rattle.s3_bodies.specs.Location.{location_end}
-use Rattle.s3_bodies.proofs.location.no_constraint.Goals as goal
-
-pub returns-in_err-rest : goal.returns-in_err-rest
-returns-in_err-rest c = let p = err_from_is_err_and c.from_residual.result c.from_residual.ensures.1 in
-    rw (p.1, p.2) (exactly_stops [] location_end c.args.bytes.now _ c.in_err-rest.ensures)

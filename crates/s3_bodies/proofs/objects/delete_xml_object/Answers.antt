@@ -1,0 +1,10 @@
+use Rattle.std.proofs.lemmas.Result.{err_from_is_err_and}
+use Rattle.s3_bodies.proofs.ObjectLemmas.{object_breaks, object_reads}
+use Rattle.s3_bodies.proofs.objects.delete_xml_object.Goals as goal
+
+pub returns-in_err-rest : goal.returns-in_err-rest
+returns-in_err-rest c = let p = err_from_is_err_and c.from_residual.result c.from_residual.ensures.1 in
+    rw (p.1, p.2) (object_breaks c.args.bytes.now _ c.in_err-rest.ensures)
+
+pub returns : goal.returns
+returns c = object_reads c.args.bytes.now _ c.in_ok-rest.ensures _ c.delete_xml_object_inside.ensures

@@ -1,5 +1,0 @@
-use Rattle.s3_bodies.proofs.RootEnds.{word_reads}
-use Rattle.s3_bodies.proofs.objects.start.Goals as goal
-
-pub returns : goal.returns
-returns c = word_reads c.args.tag.now c.requires c.args.bytes.now _ _ c.skip_space.ensures.1 _ c.word.ensures

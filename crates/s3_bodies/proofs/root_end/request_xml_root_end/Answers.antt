@@ -1,0 +1,5 @@
+use Rattle.s3_bodies.proofs.RootEnds.{word_reads}
+use Rattle.s3_bodies.proofs.root_end.request_xml_root_end.Goals as goal
+
+pub returns : goal.returns
+returns c = word_reads c.args.end.now c.requires c.args.bytes.now _ _ c.skip_space.ensures.1 _ c.read_word_form.ensures

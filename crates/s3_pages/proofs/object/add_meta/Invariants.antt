@@ -1,6 +1,0 @@
-use Rattle.std.proofs.Common.{◌≡◌, ◌++◌, take, map}
-use Rattle.s3_pages.specs.Pages.{meta_header}
-use Rattle.s3_pages.proofs.object.add_meta.Given as goal
-
-abbrev pub invariant-loop-pair : goal.invariant-loop-pair
-invariant-loop-pair l = l.headers ≡ l.initial.headers ++ map meta_header (take l.pair-index l.pairs)

@@ -1,6 +1,0 @@
-use Rattle.std.proofs.Common.{◌≡◌, ◌+◌, sum, take}
-use Rattle.slo_manifest.proofs.covering.place.Given as goal
-
--- the bytes of the segments passed over, and those that are left
-abbrev pub invariant-loop-index : goal.invariant-loop-index
-invariant-loop-index l = sum (take l.index l.sizes) + l.left ≡ l.at

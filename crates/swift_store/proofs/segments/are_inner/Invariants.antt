@@ -1,7 +1,0 @@
-use Rattle.swift_calls.specs.Account.{find_object}
-use Rattle.swift_store.specs.Listed.{is_inner}
-use Rattle.swift_store.proofs.Passing.{Passing}
-use Rattle.swift_store.proofs.segments.are_inner.Given as goal
-
-abbrev pub invariant-loop-segment : goal.invariant-loop-segment
-invariant-loop-segment g l = Passing (λ account. is_inner (find_object account)) l.segments l.segment-index (g.S.Shelf.model l.initial.shelf) (g.S.Shelf.model l.shelf)

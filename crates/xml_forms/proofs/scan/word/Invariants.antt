@@ -1,5 +1,0 @@
-use Rattle.std.proofs.Common.{◌≡◌, ◌≤◌, length, take}
-use Rattle.xml_forms.proofs.scan.word.Given as goal
-
-abbrev pub invariant-bytes : goal.invariant-bytes
-invariant-bytes l = (l.i ≤ length l.bytes) × (take l.i l.bytes ≡ take l.i l.word)
