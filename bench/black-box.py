@@ -700,6 +700,17 @@ def a_slow_client_is_heard(check):
             check("and the other", ["abc", None], other.replies(2))
 
 
+@group(line="side by side", first=True)
+def an_unknown_expectation_delays_nobody(check):
+    put = request("PUT", "/photos/k", [("Expect", "x")], b"abcdefg", close=True)
+    with Store(account=account()) as store, Gate(store.text, S3GATE_IDLE=str(IDLE)) as gate:
+        with gate.client(put[:-7]) as slow, gate.client(request(*GET, owner=False, close=True)) as other:
+            check("another client is served while such a body is awaited", ["abc", None], other.replies(2))
+            check("at once", True, other.took() < IDLE * 0.5)
+            slow.send(put[-7:])
+            check("and then the body", [200, None], slow.replies(2))
+
+
 @group(line="in turn", first=True)
 def a_slow_head_is_heard(check):
     asked = request(*GET, owner=False, close=True)

@@ -1,3 +1,4 @@
+#!/usr/bin/env python3
 """A link to one object of s3gate for a time: made with a key, used without one.
 
     examples/clients/presigned.py http://127.0.0.1:8080 photos k [SECONDS]

@@ -84,8 +84,8 @@ fn heard(said: Said, line: &[u8]) -> Said {
     let name = &line[..colon];
     let value = trimmed(&line[colon + 1..]);
     if name.eq_ignore_ascii_case(b"expect") {
-        said.asks = true;
-        said.strange = said.strange || !value.eq_ignore_ascii_case(b"100-continue");
+        // Any other expectation is passed over, as who reads the line does.
+        said.asks = said.asks || value.eq_ignore_ascii_case(b"100-continue");
     } else if name.eq_ignore_ascii_case(b"transfer-encoding") {
         said.strange = true;
     } else if name.eq_ignore_ascii_case(b"content-length") {

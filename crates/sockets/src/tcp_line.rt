@@ -27,8 +27,7 @@ const INTERIM: &[u8] = b"HTTP/1.1 1";
 /// Requests are read ahead, head and body, and of a reply what a client doesn't take at once is kept and sent while others are
 /// served. All that together has a bound. Past it the request that began first is given before it is there whole, and a write
 /// waits until its client has taken it. A request whose end the line doesn't know is given at once too, and its connection
-/// doesn't give way but ends: one with a transfer coding, another expectation than `100-continue`, a head over 16,384 bytes, or a
-/// body over 16,777,216.
+/// doesn't give way but ends: one with a transfer coding, a head over 16,384 bytes, or a body over 16,777,216.
 ///
 /// A client that expects `100 Continue` is sent that by the line, once its head is there and its body isn't. The same bytes, written
 /// later, are then passed over.
