@@ -31,6 +31,8 @@ use Rattle.upload_records.specs.Consistent.{AreSealedParts}
 use Rattle.upload_records.specs.Laws.{UnusedIsAbandoned}
 use Rattle.upload_records.specs.Layout.{segments_name}
 use Rattle.upload_records.specs.Native.{listed_of, object_at, s3_state, sealed_bytes}
+use Rattle.upload_calls.specs.Records.{InBucket, TellsFree}
+use Rattle.upload_calls.proofs.lemmas.Free.{unused}
 use Rattle.recovery.specs.Answers.{listed_by, records_of, segments_of}
 use Rattle.recovery.specs.Calls.{Bound, always, by_account, Asks, Given, GivenOf, HasObject, Met, TellsBucket}
 use Rattle.recovery.specs.Listing.{TellsOf}
@@ -41,8 +43,6 @@ use Rattle.recovery.specs.declared.state.Known.TheVariants.{Settled}
 use Rattle.recovery.proofs.lemmas.Ask.{asks_told}
 use Rattle.recovery.proofs.lemmas.Ends.{IsWider, calls_in_vain, goes_on_from, met_within}
 use Rattle.recovery.proofs.lemmas.Quiet.{asks_same_state}
-use Rattle.plan_uploads.specs.Records.{InBucket, TellsFree}
-use Rattle.plan_uploads.proofs.lemmas.Free.{unused}
 use Rattle.many_keys.specs.Copies.{IsFoundSource, IsProperHead, content_of}
 use Rattle.many_keys.specs.CopiedLists.{AreOfCut, CopiesFirst, IsCopy, IsUnnamed, MayCopy, MayFill, MayPut, TellsCut, pieces_ascend_from, sealed_copy, is_cut, piece_in}
 use Rattle.many_keys.specs.declared.cut.Piece.{Piece}

@@ -1,3 +1,4 @@
+pub mod CopiedPart
 pub mod CopyPlans
 pub mod CopySteps
 pub mod Copying

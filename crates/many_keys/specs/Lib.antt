@@ -1,3 +1,4 @@
 pub mod CopiedLists
+pub mod CopiedPart
 pub mod Copies
 pub mod Deletions

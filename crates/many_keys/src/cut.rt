@@ -10,12 +10,12 @@ ghost use Rattle.recovery.specs.declared.fault.PlanFault.TheVariants as fault;
 ghost use Rattle.many_keys.specs.CopiedLists.{TellsCut, pieces_ascend_from, cut_by, cut_due, cut_of, is_cut, is_piece_to_copy, number_at, piece_of, size_of_cut};
 
 use gate_base::{Bytes, Copying, List, Memory};
-use plan_uploads::digits_in;
 use recovery::{PlanFault, Settled};
 use s3_machine::{GREATEST_PART_NUMBER, MOST_BODY_BYTES, MOST_PARTS, ObjectHead};
 use slo_manifest::Segment;
 use std::alloc::Global;
 use swift_calls::{Swift, SwiftReply, SwiftRequest};
+use upload_calls::digits_in;
 use upload_records::{law_listing_found, law_object_listed};
 
 /// A segment of an object: the number at the end of its name, and its size in bytes.

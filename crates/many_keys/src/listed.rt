@@ -26,13 +26,13 @@ use crate::cut::{Piece, get_pieces_to_copy};
 use crate::segments::copy_source_segments;
 use crate::source::content_of;
 use gate_base::{Bytes, Copying, List, Memory, drop};
-use plan_uploads::free_id;
 use recovery::{PlanFault, Settled, interpret_put_without_etag, object_request};
 use s3_machine::{Label, ObjectHead, Replaced, Reply};
 use s3_names::Acl;
 use std::alloc::Global;
 use swift_calls::{Swift, SwiftRequest};
 use swift_marks::{Tag, pack};
+use upload_calls::free_id;
 use upload_records::law_unused_is_abandoned;
 use upload_texts::{Sealed, SealedPart};
 

@@ -8,10 +8,10 @@ ghost use Rattle.recovery.specs.Calls.{Any, Given};
 ghost use Rattle.recovery.specs.Lent.{Stays};
 ghost use Rattle.recovery.specs.Plan.{Plans, Answered};
 
+use crate::copied_part::plan_upload_part_copy;
 use crate::copies::copy_object;
 use crate::deletions::delete_objects;
 use gate_base::{Bytes, List, drop};
-use plan_uploads::plan_upload_part_copy;
 use recovery::{PlanFault, Settled, reply_of, taken_text};
 use s3_machine::{Label, Op, Reply};
 use std::alloc::Global;

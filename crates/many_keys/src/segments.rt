@@ -15,11 +15,11 @@ ghost use Rattle.many_keys.specs.CopiedLists.{AreOfCut, CopiesFirst, CopiesPiece
 
 use crate::cut::Piece;
 use gate_base::{Bytes, Copying, List, drop};
-use plan_uploads::part_request;
 use recovery::{PlanFault, Settled, get_object, interpret_put_with_etag};
 use s3_machine::{ObjectHead, body_etag};
 use std::alloc::Global;
 use swift_calls::{Swift, SwiftReply};
+use upload_calls::part_request;
 use upload_records::law_orphan_put;
 use upload_texts::SealedPart;
 

@@ -25,6 +25,9 @@ use Rattle.swift_calls.specs.History.{History, budget, present, Extends, FaultFr
 use Rattle.upload_records.specs.Layout.{segments_name, segments_prefix}
 use Rattle.upload_records.specs.Native.{s3_state}
 use Rattle.upload_records.specs.Consistent.{IsConsistent}
+use Rattle.upload_calls.specs.Found.{IsOpenUpload}
+use Rattle.upload_calls.specs.Records.{HasOpen, MayClear, drops_upload}
+use Rattle.upload_calls.proofs.lemmas.Opened.{has_open}
 use Rattle.recovery.specs.declared.fault.PlanFault.{PlanFault}
 use Rattle.recovery.specs.declared.fault.PlanFault.TheVariants.{Failed, Memory, Inconsistent}
 use Rattle.recovery.specs.declared.state.Known.TheVariants.{Settled}
@@ -37,10 +40,9 @@ use Rattle.recovery.proofs.lemmas.Agree.{failed_behind, passes_once, passes_rest
 use Rattle.recovery.proofs.lemmas.Ends.{commits, met_within}
 use Rattle.recovery.proofs.lemmas.Faults.{err_is}
 use Rattle.recovery.proofs.lemmas.Idle.{goes_trans}
-use Rattle.plan_uploads.specs.Plans.{IsOpenUpload, LeavesBeside, gone_behind}
-use Rattle.plan_uploads.specs.Records.{HasOpen, MayClear, drops_upload}
+use Rattle.plan_uploads.specs.Plans.{LeavesBeside, gone_behind}
 use Rattle.plan_uploads.proofs.Beside.{met_next}
-use Rattle.plan_uploads.proofs.Steps.{aborted, has_open}
+use Rattle.plan_uploads.proofs.Steps.{aborted}
 
 -- ---- names under a prefix
 

@@ -15,8 +15,8 @@ use Rattle.list_pages.proofs.lemmas.Sorted.{both}
 use Rattle.s3_machine.specs.State.{Part}
 use Rattle.s3_machine.specs.Uploads.{cut, part_item}
 use Rattle.s3_machine.specs.declared.items.PartItem.{PartItem}
+use Rattle.upload_calls.specs.Records.{items_above}
 use Rattle.plan_uploads.specs.Completing.{Ascend, by_number, row_of_part}
-use Rattle.plan_uploads.specs.Records.{items_above}
 
 abbrev items_of : List (ℕ × Part) → List PartItem
 items_of es = map part_item es

@@ -16,6 +16,7 @@ use Rattle.swift_calls.specs.History.{History, present}
 use Rattle.upload_texts.specs.declared.sealed.Sealed.{Sealed}
 use Rattle.upload_records.specs.Consistent.{IsConsistent}
 use Rattle.upload_records.specs.Native.{s3_state}
+use Rattle.upload_calls.proofs.lemmas.Asking.{asked_in_vain, asked_reply}
 use Rattle.recovery.specs.declared.fault.PlanFault.{PlanFault}
 use Rattle.recovery.specs.declared.fault.PlanFault.TheVariants.{Memory}
 use Rattle.recovery.specs.declared.state.Known.{Known}
@@ -27,7 +28,6 @@ use Rattle.recovery.proofs.lemmas.Faults.{err_is}
 use Rattle.recovery.proofs.lemmas.Idle.{grows_none, none_made}
 use Rattle.plan_uploads.specs.declared.complete.Completing.{Completing}
 use Rattle.plan_uploads.specs.Completing.{MayComplete, answered_by, end_in, known_in}
-use Rattle.plan_uploads.proofs.Asking.{asked_in_vain, asked_reply}
 
 -- without a call it is known that the account is consistent
 abbrev Sound : SwiftAccount → Unit {0} → Type 0

@@ -21,9 +21,9 @@ use Rattle.s3_machine.proofs.lemmas.StepLemmas.{in_found, step_completed, steps,
 use Rattle.swift_calls.specs.Account.{SwiftAccount, SwiftObject, files}
 use Rattle.upload_records.specs.Layout.{segments_name, uploads_name}
 use Rattle.upload_records.specs.Native.{bucket_from, kept_by, parts_of, s3_state, upload_by}
+use Rattle.upload_calls.proofs.lemmas.Finding.{bucket_there, kept_is, upload_is}
 use Rattle.plan_uploads.specs.declared.completed.Opened.{Opened}
 use Rattle.plan_uploads.specs.Completing.{IsOpenAs}
-use Rattle.plan_uploads.proofs.Finding.{bucket_there, kept_is, upload_is}
 
 -- the upload as it was created, with the parts that stand beside its bucket
 abbrev pub upload_as : SwiftAccount → List ℕ → List ℕ → List ℕ → Opened → Upload

@@ -19,6 +19,9 @@ use Rattle.swift_calls.specs.Account.{SwiftAccount, files}
 use Rattle.swift_calls.specs.History.{History, present}
 use Rattle.upload_records.specs.Layout.{segments_name, uploads_name}
 use Rattle.upload_records.specs.Native.{bucket_from, kept_by, record_of, s3_state, upload_by}
+use Rattle.upload_calls.specs.Records.{InBucket, MayOpen, TellsFree, opens_upload}
+use Rattle.upload_calls.proofs.lemmas.Free.{unused}
+use Rattle.upload_calls.proofs.lemmas.Finding.{bucket_there, in_bucket_of, kept_is, there_of, upload_is}
 use Rattle.recovery.specs.declared.fault.PlanFault.{PlanFault}
 use Rattle.recovery.specs.declared.fault.PlanFault.TheVariants.{Failed, Memory, Inconsistent}
 use Rattle.recovery.specs.Answers.{IsFirstFree, SaysBeside, opens_in, upload_at}
@@ -26,12 +29,9 @@ use Rattle.recovery.specs.Calls.{Bound, always, Asks, Becomes, Changes, Commits,
 use Rattle.recovery.specs.Listing.{TellsOf}
 use Rattle.recovery.specs.Plan.{reply_of}
 use Rattle.recovery.proofs.lemmas.Ends.{met_within}
-use Rattle.plan_uploads.specs.Plans.{LeavesBeside, MayStart}
 use Rattle.recovery.proofs.lemmas.Ask.{asks_told}
-use Rattle.plan_uploads.specs.Records.{InBucket, MayOpen, TellsFree, opens_upload}
+use Rattle.plan_uploads.specs.Plans.{LeavesBeside, MayStart}
 use Rattle.plan_uploads.proofs.Beside.{opens_nothing}
-use Rattle.plan_uploads.proofs.lemmas.Free.{unused}
-use Rattle.plan_uploads.proofs.Finding.{bucket_there, in_bucket_of, kept_is, there_of, upload_is}
 
 -- ---- an upload that may be opened
 

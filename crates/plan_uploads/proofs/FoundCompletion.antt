@@ -24,6 +24,9 @@ use Rattle.upload_texts.specs.declared.record.Record.TheVariants.{Open, Done}
 use Rattle.upload_records.specs.Layout.{segments_name, uploads_name}
 use Rattle.upload_records.specs.Native.{IsSettled, bucket_from, kept_by, record_at, s3_state}
 use Rattle.upload_records.specs.Consistent.{IsConsistent, IsThere}
+use Rattle.upload_calls.specs.Found.{LacksUpload}
+use Rattle.upload_calls.specs.Records.{ReadsId}
+use Rattle.upload_calls.proofs.lemmas.Finding.{bucket_there, kept_is, no_record, no_upload}
 use Rattle.recovery.specs.Answers.{named_by}
 use Rattle.recovery.specs.Calls.{LacksBucket}
 use Rattle.recovery.specs.Listing.{TellsOf}
@@ -31,9 +34,6 @@ use Rattle.plan_uploads.specs.declared.completed.Opened.{Opened}
 use Rattle.plan_uploads.specs.declared.completed.ToComplete.{ToComplete}
 use Rattle.plan_uploads.specs.declared.completed.ToComplete.TheVariants as found
 use Rattle.plan_uploads.specs.Completing.{IsCompleted, IsOpenAs, LacksCompletion, TellsToComplete, to_complete_by}
-use Rattle.plan_uploads.specs.Plans.{LacksUpload}
-use Rattle.plan_uploads.specs.Records.{ReadsId}
-use Rattle.plan_uploads.proofs.Finding.{bucket_there, kept_is, no_record, no_upload}
 
 key_is : {under key c d : List ℕ} {m n : List Pair} {s t : ℕ} → Some (Open under c m s) ≡ Some (Open key d n t) → under ≡ key
 key_is e = cc

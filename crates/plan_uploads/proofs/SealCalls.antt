@@ -34,8 +34,8 @@ use Rattle.recovery.proofs.lemmas.Faults.{err_is}
 use Rattle.recovery.proofs.lemmas.Idle.{grows_none, none_made, stays}
 use Rattle.recovery.proofs.lemmas.Markers.{folder_is_marker, text_is_marker}
 use Rattle.recovery.proofs.lemmas.One.{Effect, fault_cause, found, grows_one, lost_last, spent_last, stays_so}
-use Rattle.plan_uploads.specs.Completing.{MaySeal, Seals, finishes, most_sealed_text, put_sealed_text}
 use Rattle.recovery.proofs.lemmas.SideNames.{file_name}
+use Rattle.plan_uploads.specs.Completing.{MaySeal, Seals, finishes, most_sealed_text, put_sealed_text}
 
 -- ---- the place of what is sealed
 

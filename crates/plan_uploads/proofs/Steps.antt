@@ -1,9 +1,9 @@
 -- The steps of the operations on uploads, from what the calls told.
 use Rattle.std.specs.Prelude.{◌≡◌, ◌<◌, ◌^◌, ℕ, Bool, true, false, List, Option, Some, None}
-use Rattle.std.specs.Option.{option_map, unwrap_or}
+use Rattle.std.specs.Option.{unwrap_or}
 use Rattle.std.specs.FinMap.{get}
 use Rattle.std.specs.List.{All}
-use Rattle.std.proofs.Common.{refl, sym, ap, subst, ◌∙◌}
+use Rattle.std.proofs.Common.{sym, ap, subst, ◌∙◌}
 use Rattle.gate_base.specs.Maps.{adjust}
 use Rattle.gate_base.specs.declared.page.Pair.{Pair}
 use Rattle.s3_names.specs.declared.acl.Acl.{Acl}
@@ -24,25 +24,15 @@ use Rattle.s3_machine.specs.declared.operation.Reply.TheVariants as reply
 use Rattle.s3_machine.proofs.lemmas.StepLemmas.{steps, in_missing, in_found, step_part, step_parts, step_aborted, step_started, start_with_another_acl}
 use Rattle.swift_calls.specs.Account.{SwiftAccount, files}
 use Rattle.upload_records.specs.Layout.{segments_name, uploads_name}
-use Rattle.upload_records.specs.Consistent.{IsOpen}
-use Rattle.upload_records.specs.Native.{bucket_from, parts_of, record_at, s3_state}
-use Rattle.recovery.specs.Calls.{LacksBucket, TellsBucket, acl_of_bucket}
+use Rattle.upload_records.specs.Native.{bucket_from, parts_of, s3_state}
+use Rattle.upload_calls.specs.Found.{IsOpenUpload, LacksUpload}
+use Rattle.upload_calls.specs.Records.{TellsParts, TellsUploads, opens_upload, uploads_in}
+use Rattle.upload_calls.specs.Records as records
+use Rattle.upload_calls.proofs.lemmas.Finding.{bucket_there, has_upload, no_upload}
+use Rattle.upload_calls.proofs.lemmas.Opened.{bucket_by}
+use Rattle.recovery.specs.Calls.{LacksBucket, TellsBucket}
 use Rattle.recovery.specs.Plan.{IsOwnReply}
-use Rattle.plan_uploads.specs.Plans.{IsOpenUpload, LacksUpload, parts_told, uploads_told}
-use Rattle.plan_uploads.specs.Records.{HasOpen, TellsParts, TellsUploads, opens_upload, uploads_in}
-use Rattle.plan_uploads.specs.Records as records
-use Rattle.plan_uploads.proofs.Finding.{bucket_there, has_upload, no_upload}
-
-none_of : (o : Option Bucket) → option_map acl_of_bucket o ≡ None → o ≡ None
-none_of None e = refl
-none_of (Some b) e = cc
-
-pub lacks_of : (bucket : List ℕ) (state : State) → TellsBucket bucket state None → LacksBucket bucket state
-lacks_of bucket state told = none_of (get state bucket) told
-
-pub bucket_by : (o : Option Bucket) (acl : Acl) → option_map acl_of_bucket o ≡ Some acl → (b : Bucket) × (o ≡ Some b) × (b.acl ≡ acl)
-bucket_by None acl e = cc
-bucket_by (Some b) acl e = (b, refl, cc)
+use Rattle.plan_uploads.specs.Plans.{parts_told, uploads_told}
 
 -- ---- the bucket is missing
 
@@ -141,12 +131,3 @@ parts_are_own bucket key id marker max told dated = record { showable = dated; n
 
 pub uploads_are_own : (bucket prefix key_marker id_marker : List ℕ) (max : ℕ) (told : List UploadItem × Bool) → All IsShownUpload told.0 → IsOwnReply (uploads_told bucket prefix key_marker id_marker max told)
 uploads_are_own bucket prefix key_marker id_marker max told dated = record { showable = dated; no_memory = λ e. cc; no_failure = λ e. cc; no_inconsistency = λ e. cc }
-
--- ---- what the calls ask
-
--- a call on an upload that is open
-pub has_open : {bucket key text : List ℕ} {id : ℕ} {tree : SwiftAccount} → IsOpenUpload bucket key text id tree → HasOpen bucket id tree
-has_open {bucket = bucket} {key = key} {tree = tree} found = record {
-  there = found.there;
-  opens = subst IsOpen (sym (ap (record_at (files tree (uploads_name bucket))) (sym found.is) ∙ found.reads)) tt;
-}

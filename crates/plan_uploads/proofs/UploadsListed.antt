@@ -26,6 +26,11 @@ use Rattle.upload_records.specs.Consistent.{IsConsistent, IsThere}
 use Rattle.upload_records.proofs.lemmas.Plain.{get_plain}
 use Rattle.upload_records.proofs.lemmas.Settled.{unsealed_of, s3_state_unsealed}
 use Rattle.list_pages.proofs.lemmas.PickedEntries.{entries_picked}
+use Rattle.upload_calls.specs.Listing.{id_due, ids_in, TellsIds}
+use Rattle.upload_calls.specs.Records.{InBucket, TellsUploads, uploads_in}
+use Rattle.upload_calls.proofs.lemmas.PartWalk.{cut_none}
+use Rattle.upload_calls.proofs.lemmas.RecordIds.{rows_within}
+use Rattle.upload_calls.proofs.lemmas.Taking.{met_after, same_after}
 use Rattle.recovery.specs.declared.fault.PlanFault.{PlanFault}
 use Rattle.recovery.specs.declared.fault.PlanFault.TheVariants.{Failed, Memory, Inconsistent}
 use Rattle.recovery.specs.Answers.{pages, records_of}
@@ -38,11 +43,7 @@ use Rattle.recovery.proofs.lemmas.Idle.{goes_trans, grows_none, none_made}
 use Rattle.recovery.proofs.lemmas.Markers.{IsEntry, entries_are}
 use Rattle.recovery.proofs.lemmas.Walk.{Idles, idles_trans, cause_after, keeps_after}
 use Rattle.plan_uploads.specs.declared.listed_uploads.AskedUploads.{AskedUploads}
-use Rattle.plan_uploads.specs.Listing.{id_due, ids_in, row_due, row_of_record, AllShown, TellsIds, TellsListed, TellsRows}
-use Rattle.plan_uploads.specs.Records.{InBucket, TellsUploads, uploads_in}
-use Rattle.plan_uploads.proofs.PartWalk.{cut_none}
-use Rattle.plan_uploads.proofs.RecordIds.{rows_within}
-use Rattle.plan_uploads.proofs.Taking.{met_after, same_after}
+use Rattle.plan_uploads.specs.Listing.{row_due, row_of_record, AllShown, TellsListed, TellsRows}
 
 -- ---- one record
 

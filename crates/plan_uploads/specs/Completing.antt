@@ -30,6 +30,7 @@ use Rattle.upload_texts.specs.declared.sealed.SealedPart.{SealedPart}
 use Rattle.upload_records.specs.Layout.{gateway_name, sealed_name, segments_name, uploads_name}
 use Rattle.upload_records.specs.Native.{IsSettled, finished_from, kept_by, parts_of, record_at, s3_state}
 use Rattle.upload_records.specs.Consistent.{IsThere, SealedIn}
+use Rattle.upload_calls.specs.Records.{items_above}
 use Rattle.recovery.specs.Answers.{may_be_sealed}
 use Rattle.recovery.specs.Calls.{always, Becomes, GivenOf, Grows, LacksBucket, Met, Writes}
 use Rattle.recovery.specs.Fault.{CausesFault}
@@ -39,7 +40,6 @@ use Rattle.recovery.specs.declared.fault.PlanFault.{PlanFault}
 use Rattle.recovery.specs.declared.fault.PlanFault.TheVariants.{Failed, Memory, Inconsistent}
 use Rattle.recovery.specs.declared.state.Known.{Known}
 use Rattle.recovery.specs.declared.state.Known.TheVariants as known
-use Rattle.plan_uploads.specs.Records.{items_above}
 use Rattle.plan_uploads.specs.declared.completed.Opened.{Opened}
 use Rattle.plan_uploads.specs.declared.completed.ToComplete.{ToComplete}
 use Rattle.plan_uploads.specs.declared.completed.ToComplete.TheVariants as found

@@ -6,20 +6,20 @@ ghost use Rattle.s3_machine.specs.declared.operation.Label.{Label};
 ghost use Rattle.s3_machine.specs.declared.operation.Op.TheVariants.{AbortUpload};
 ghost use Rattle.swift_calls.specs.History.{present};
 ghost use Rattle.upload_records.specs.Layout.{segments_name, segments_prefix};
+ghost use Rattle.upload_calls.specs.Found.{IsOpenUpload};
 ghost use Rattle.recovery.specs.Answers.{clears, named_by, pages};
 ghost use Rattle.recovery.specs.Calls.{by_account, Any, Given, GivenOf};
 ghost use Rattle.recovery.specs.Lent.{Stays};
 ghost use Rattle.recovery.specs.declared.state.Known.TheVariants as known;
 ghost use Rattle.recovery.specs.Plan.{Plans};
-ghost use Rattle.plan_uploads.specs.Plans.{IsOpenUpload, LeavesBeside, gone_behind};
+ghost use Rattle.plan_uploads.specs.Plans.{LeavesBeside, gone_behind};
 
-use crate::found::{Found, find_upload};
-use crate::records::drop_record;
 use gate_base::Bytes;
 use recovery::{PlanFault, Settled, purge};
 use s3_machine::{Code, Reply};
 use std::alloc::Global;
 use swift_calls::Swift;
+use upload_calls::{Found, drop_record, find_upload};
 use upload_records::{segments_container, segments_prefix};
 
 /// AbortUpload: HEAD of the bucket's container, GET of the upload's record, DELETE of the record, which commits, and then the

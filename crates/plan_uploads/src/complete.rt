@@ -17,13 +17,13 @@ ghost use Rattle.plan_uploads.specs.Completing.{Ascend, HasParts, IsOpenAs, Leav
 
 use crate::chosen::{chosen_parts, has_small_chosen_part};
 use crate::completed::{Opened, ToComplete, find_upload_to_complete};
-use crate::listed_parts::list_parts;
 use crate::seal::seal_and_finish;
 use gate_base::{Bytes, Copying, List, Memory, drop};
 use recovery::{Known, PlanFault, Settled};
 use s3_machine::{Code, Label, Listed, MOST_ITEMS, PartItem, Reply, rises, upload_etag};
 use std::alloc::Global;
 use swift_calls::Swift;
+use upload_calls::list_parts;
 use upload_texts::{Sealed, SealedPart};
 
 /// How a completion ended: what it is answered, and whether one may be sealed then.

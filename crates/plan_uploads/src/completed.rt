@@ -3,20 +3,19 @@ ghost use Rattle.std.specs.Prelude.{◌≡◌, true};
 ghost use Rattle.s3_names.specs.Bucket.{is_bucket};
 ghost use Rattle.s3_names.specs.Id.{id_digits};
 ghost use Rattle.upload_records.specs.Native.{IsSettled};
+ghost use Rattle.upload_calls.specs.Records.{InBucket};
 ghost use Rattle.recovery.specs.Calls.{always, Asks, GivenOf};
 ghost use Rattle.recovery.specs.Lent.{Stays};
 ghost use Rattle.recovery.specs.Listing.{TellsOf};
 ghost use Rattle.plan_uploads.specs.Completing.{TellsToComplete, done_by, opened_by, to_complete_by};
-ghost use Rattle.plan_uploads.specs.Records.{InBucket};
 
-use crate::ids::read_upload_id_to_find;
-use crate::records::get_record;
 use gate_base::Bytes;
 use recovery::{PlanFault, Settled, head_bucket};
 use s3_machine::{Listed, same_list};
 use s3_names::Meta;
 use std::alloc::Global;
 use swift_calls::Swift;
+use upload_calls::{get_record, read_upload_id_to_find};
 use upload_texts::Record;
 
 /// An upload that is open, as it was created: its id, what its object is to be put with, and when it was started, in seconds

@@ -13,14 +13,13 @@ ghost use Rattle.recovery.specs.declared.state.Known.TheVariants as known;
 ghost use Rattle.recovery.specs.Plan.{ended, Plans};
 ghost use Rattle.plan_uploads.specs.Plans.{LeavesBeside, MayStart};
 
-use crate::ids::free_id;
-use crate::records::put_record;
 use gate_base::{Bytes, Copying};
 use recovery::{PlanFault, Settled, head_bucket};
 use s3_machine::{Code, Label, Reply, is_other_acl};
 use s3_names::{Acl, Meta};
 use std::alloc::Global;
 use swift_calls::Swift;
+use upload_calls::{free_id, put_record};
 
 /// CreateUpload: HEAD of the bucket's container, the search of an id that is free, then PUT of the upload's record, which
 /// commits. Over an observable consistent account at most two calls for each record and each segment of the bucket, and four

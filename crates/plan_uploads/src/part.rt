@@ -7,19 +7,18 @@ ghost use Rattle.s3_machine.specs.Limits.{most_body_bytes};
 ghost use Rattle.s3_machine.specs.Uploads.{IsPartNumber};
 ghost use Rattle.s3_machine.specs.declared.operation.Op.TheVariants.{UploadPart};
 ghost use Rattle.s3_machine.specs.declared.operation.Reply.TheVariants.{Stored};
+ghost use Rattle.upload_calls.specs.Found.{IsOpenUpload};
 ghost use Rattle.recovery.specs.Calls.{always, Any, Given, GivenOf};
 ghost use Rattle.recovery.specs.Lent.{Stays};
 ghost use Rattle.recovery.specs.declared.state.Known.TheVariants as known;
 ghost use Rattle.recovery.specs.Plan.{ended, Plans};
-ghost use Rattle.plan_uploads.specs.Plans.{IsOpenUpload};
 
-use crate::found::{Found, find_upload};
-use crate::parts::put_part;
 use gate_base::Bytes;
 use recovery::{PlanFault, Settled};
 use s3_machine::{Body, Code, Label, Reply};
 use std::alloc::Global;
 use swift_calls::Swift;
+use upload_calls::{Found, find_upload, put_part};
 
 /// UploadPart: HEAD of the bucket's container, GET of the upload's record, then PUT of the part's file, which commits. At most
 /// three calls. The reply is made before the PUT, so that no memory is needed after it. The faults are those of the calls.

@@ -8,21 +8,21 @@ ghost use Rattle.s3_machine.specs.Step.{IsProperUploads};
 ghost use Rattle.s3_machine.specs.declared.operation.Label.{Label};
 ghost use Rattle.s3_machine.specs.declared.operation.Op.TheVariants.{ListParts, ListUploads};
 ghost use Rattle.swift_calls.specs.History.{present};
+ghost use Rattle.upload_calls.specs.Found.{IsOpenUpload};
 ghost use Rattle.recovery.specs.Answers.{named_by, pages, records_of};
 ghost use Rattle.recovery.specs.Calls.{by_account, Any, Given, GivenOf, TellsBucket};
 ghost use Rattle.recovery.specs.Lent.{Stays};
 ghost use Rattle.recovery.specs.declared.state.Known.TheVariants as known;
 ghost use Rattle.recovery.specs.Plan.{Plans};
-ghost use Rattle.plan_uploads.specs.Plans.{IsOpenUpload, parts_told, uploads_told};
+ghost use Rattle.plan_uploads.specs.Plans.{parts_told, uploads_told};
 
-use crate::found::{Found, find_upload};
-use crate::listed_parts::list_parts;
 use crate::listed_uploads::list_uploads;
 use gate_base::{Bytes, List};
 use recovery::{PlanFault, Settled, head_bucket};
 use s3_machine::{Code, PartItem, Reply, UploadItem};
 use std::alloc::Global;
 use swift_calls::Swift;
+use upload_calls::{Found, find_upload, list_parts};
 
 /// ListParts: HEAD of the bucket's container, GET of the upload's record, then the names of its segments page by page. None of
 /// the calls commits. Over an observable consistent account at most two calls more than there are pages of the upload's

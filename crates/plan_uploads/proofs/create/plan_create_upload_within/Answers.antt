@@ -1,9 +1,9 @@
 use Rattle.std.proofs.Common.{sym, ◌∙◌, arith, rules}
+use Rattle.upload_calls.proofs.lemmas.Asking.{asked_in_vain}
+use Rattle.upload_calls.proofs.lemmas.Finding.{met_there}
 use Rattle.recovery.proofs.lemmas.Ends.{needs_none, goes_on_from}
-use Rattle.plan_uploads.proofs.Asking.{asked_in_vain}
 use Rattle.plan_uploads.proofs.Beside.{opens_none, opens_on, opens_still}
 use Rattle.plan_uploads.proofs.Creating.{asks_start, start_after}
-use Rattle.plan_uploads.proofs.Finding.{met_there}
 use Rattle.plan_uploads.proofs.Steps.{create_other}
 use Rattle.plan_uploads.proofs.create.plan_create_upload_within.Goals as goal
 

@@ -1,7 +1,8 @@
 use Rattle.std.proofs.Common.{sym, subst, ◌∙◌, lit≤, rules}
+use Rattle.upload_calls.proofs.lemmas.Opened.{has_open}
 use Rattle.recovery.specs.Plan.{Plans}
 use Rattle.recovery.proofs.lemmas.Ends.{out_of_memory, commits, becomes}
-use Rattle.plan_uploads.proofs.Steps.{has_open, part_stored}
+use Rattle.plan_uploads.proofs.Steps.{part_stored}
 use Rattle.plan_uploads.proofs.part.plan_upload_part_bytes.Goals as goal
 
 pub returns-in_err-text-clause-plans : goal.returns-in_err-text-clause-plans

@@ -1,0 +1,18 @@
+use Rattle.std.specs.Prelude.{None, Some}
+use Rattle.std.proofs.Common.{lit≤, rules}
+use Rattle.recovery.proofs.lemmas.Ends.{told_nothing, answers, goes_on}
+use Rattle.many_keys.proofs.CopiedPart.{copy_of_no_bucket}
+use Rattle.many_keys.proofs.copied_part.plan_part_copy_into_upload.Goals as goal
+
+pub returns-in_err-head_bucket-clause-plans : goal.returns-in_err-head_bucket-clause-plans
+returns-in_err-head_bucket-clause-plans g c = λ key text. told_nothing (lit≤ tt) c.in_err-head_bucket.ensures.asks _ c.from_residual.ensures.1
+
+pub returns-in_default-clause-plans : goal.returns-in_default-clause-plans
+returns-in_default-clause-plans g c = λ key text.
+    answers (lit≤ tt) None c.in_default.is _ c.in_ok-head_bucket.ensures.asks (search rules)
+    (λ tree opened none. copy_of_no_bucket _ _ _ _ _ _ _ _ _ tree c.requires.name c.args.id opened none)
+
+pub returns-clause-plans : goal.returns-clause-plans
+returns-clause-plans g c = λ key text.
+    goes_on (lit≤ tt) (Some c.in-Some.field-0) c.in-Some.is c.head_bucket.ensures.stays.settings c.in_ok-head_bucket.ensures.asks (c.plan_part_copy_from_bucket.ensures.plans key text)
+    (λ tree opened there. record { opened = opened; from = (c.in-Some.field-0, there) })

@@ -1,0 +1,15 @@
+use Rattle.std.proofs.Common.{sym, subst, ◌∙◌, lit≤}
+use Rattle.upload_calls.proofs.lemmas.Opened.{has_open}
+use Rattle.recovery.specs.Plan.{Plans}
+use Rattle.recovery.proofs.lemmas.Ends.{out_of_memory, commits, becomes}
+use Rattle.many_keys.proofs.CopiedPart.{copied_is_own, copy_stored}
+use Rattle.many_keys.proofs.copied_part.plan_part_copy_with_etag.Goals as goal
+
+pub returns-in_err-text-clause-plans : goal.returns-in_err-text-clause-plans
+returns-in_err-text-clause-plans g c = λ key text from_bucket from_key range. out_of_memory _ _ c.from_residual.ensures.1
+
+pub returns-clause-plans : goal.returns-clause-plans
+returns-clause-plans g c = λ key text from_bucket from_key range.
+    subst (Plans _ _ _ _ _ _ _ _) (sym c.end_upload_part_copy_plan.ensures)
+    (commits _ (lit≤ tt) c.put_part.ensures.changes (λ done. copied_is_own _ _ c.requires.moment) (λ tree may. has_open may.opened)
+    (λ tree done new may is. becomes (copy_stored _ _ _ _ _ _ _ _ _ tree c.requires.name c.args.id _ _ (c.in_ok-text.ensures ∙ c.requires.etag) may) is))

@@ -1,0 +1,36 @@
+-- What the calls of a part's copy told before the last one: of the upload that the part is put into, and of the object that its
+-- bytes are of. Source: this profile.
+use Rattle.std.specs.Prelude.{◌≡◌, ℕ, nat_lt, true, false, List, length, Option, Some}
+use Rattle.std.specs.FinMap.{get}
+use Rattle.s3_machine.specs.Copies.{copied_span, has_last}
+use Rattle.s3_machine.specs.Limits.{most_body_bytes}
+use Rattle.s3_machine.specs.Reading.{taken}
+use Rattle.s3_machine.specs.State.{Object, State}
+use Rattle.s3_machine.specs.declared.operation.ObjectHead.{ObjectHead}
+use Rattle.swift_calls.specs.Account.{SwiftAccount}
+use Rattle.upload_records.specs.Native.{object_at, s3_state}
+use Rattle.upload_calls.specs.Found.{IsOpenUpload}
+use Rattle.recovery.specs.Calls.{HasBucket, TellsObject}
+
+-- the upload is open, and the bucket of the source is there
+pub record MayCopyFrom (bucket key text : List ℕ) (id : ℕ) (from_bucket : List ℕ) (tree : SwiftAccount) : Type 0 where
+  pub opened : IsOpenUpload bucket key text id tree
+  pub from : HasBucket from_bucket (s3_state tree)
+
+-- the upload is open, and the source has this head
+pub record MayCopyOf (bucket key text : List ℕ) (id : ℕ) (from_bucket from_key : List ℕ) (head : ObjectHead) (tree : SwiftAccount) : Type 0 where
+  pub opened : IsOpenUpload bucket key text id tree
+  pub source : TellsObject from_bucket from_key (s3_state tree) (Some head)
+
+-- these bytes are those of a source that may be copied: it has the last byte of the range, and a body may have as many
+pub record AreCopied (from_bucket from_key : List ℕ) (range : Option (ℕ × ℕ)) (body : List ℕ) (state : State) : Type 0 where
+  pub object : Object
+  pub there : object_at (get state from_bucket) from_key ≡ Some object
+  pub ends : has_last range (length object.bytes) ≡ true
+  pub sized : nat_lt most_body_bytes (copied_span range (length object.bytes)).length ≡ false
+  pub are : body ≡ taken (copied_span range (length object.bytes)) object.bytes
+
+-- the upload is open, and these are the bytes of the part
+pub record MayPutCopy (bucket key text : List ℕ) (id : ℕ) (from_bucket from_key : List ℕ) (range : Option (ℕ × ℕ)) (body : List ℕ) (tree : SwiftAccount) : Type 0 where
+  pub opened : IsOpenUpload bucket key text id tree
+  pub bytes : AreCopied from_bucket from_key range body (s3_state tree)

@@ -1,5 +1,0 @@
-use Rattle.std.proofs.Common.{◌∙◌}
-use Rattle.plan_uploads.proofs.copied_part.plan_put_part_copy.Goals as goal
-
-pub returns-clause-plans : goal.returns-clause-plans
-returns-clause-plans g c = λ key text from_bucket from_key range. rw (c.into_bytes.ensures ∙ c.new-body.ensures) at c.plan_part_copy_with_etag.ensures.plans key text from_bucket from_key range

@@ -1,0 +1,11 @@
+use Rattle.std.proofs.Common.{sym, subst}
+use Rattle.upload_calls.specs.Found.{TellsUpload}
+use Rattle.upload_calls.proofs.lemmas.Finding.{tells_found}
+use Rattle.upload_calls.proofs.found.find_upload_by_id.Goals as goal
+use Rattle.recovery.proofs.lemmas.Ask.{asks_told}
+
+pub returns-clause-asks : goal.returns-clause-asks
+returns-clause-asks g c =
+    asks_told (λ tree has. has) c.found_in.result
+    (λ tree sound has told. subst (TellsUpload c.args.bucket.now c.args.key.now _ tree) (sym c.found_in.ensures) (tells_found _ _ c.args.id tree has.settled has.is _ told))
+    c.in_ok-record.ensures.asks

@@ -1,0 +1,31 @@
+use Rattle.std.proofs.Common.{ap, ◌∙◌}
+use Rattle.upload_calls.proofs.PartCalls.{puts}
+use Rattle.upload_calls.proofs.parts.put_part.Goals as goal
+use Rattle.recovery.specs.Interpret.{stored_due}
+use Rattle.recovery.proofs.lemmas.One.{not_sent, sent_in_vain, sent}
+
+pub returns-in_err-request-clause-changes : goal.returns-in_err-request-clause-changes
+returns-in_err-request-clause-changes g c = not_sent _ _ c.from_residual.ensures.1
+
+pub returns-in_err-reply-clause-changes : goal.returns-in_err-reply-clause-changes
+returns-in_err-reply-clause-changes g c =
+    sent_in_vain (puts c.law_part_put.ensures (record {
+      same = c.in_ok-request.ensures.request;
+      is = c.requires.name;
+      counted = c.requires.number;
+      sized = c.requires.sized;
+      below = c.requires.moment;
+      fits = c.ranges.id.fits;
+    })) c.in_err-reply.ensures.calls _ c.from_residual-in_err-reply.ensures.1
+
+pub returns-clause-changes : goal.returns-clause-changes
+returns-clause-changes g c =
+    sent (puts c.law_part_put.ensures (record {
+      same = c.in_ok-request.ensures.request;
+      is = c.requires.name;
+      counted = c.requires.number;
+      sized = c.requires.sized;
+      below = c.requires.moment;
+      fits = c.ranges.id.fits;
+    })) c.in_ok-reply.ensures.calls _
+    (c.interpret_put_with_etag.ensures.due ∙ ap (λ etag. stored_due etag c.in_ok-reply.reply) c.requires.etag) c.interpret_put_with_etag.ensures.own
