@@ -6,6 +6,7 @@ ghost use Rattle.gate_base.specs.MemLine.{is_open_of};
 
 use crate::machine::service_of_run;
 use crate::running::empty_store_for_run;
+use account_calls::Known;
 use case_text::{
     Given, LARGE, Told, clock_of_run, line_of_one_connection, numbers_of_text,
     tell_statuses_of_pieces, tell_value,
@@ -13,7 +14,6 @@ use case_text::{
 use case_verbs::opens_connection;
 use gate_base::{List, ListClock, ListDraws, MemLine};
 use gateway::{Ended, Service, serve_connection};
-use recovery::Known;
 use std::alloc::Global;
 use swift_calls::MemSwift;
 

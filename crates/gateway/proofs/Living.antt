@@ -11,7 +11,7 @@ use Rattle.s3_machine.specs.State.{State}
 use Rattle.swift_calls.specs.History.{History}
 use Rattle.upload_records.specs.Native.{s3_state}
 use Rattle.upload_records.specs.Consistent.{IsConsistent}
-use Rattle.recovery.specs.Answers.{parts_of, steps_of, StepsThrough, IsStage, before_step, part_way, after_step, Passes}
+use Rattle.account_calls.specs.Answers.{parts_of, steps_of, StepsThrough, IsStage, before_step, part_way, after_step, Passes}
 use Rattle.gateway.specs.Exchange.{Asked, Span, IsPiece}
 use Rattle.gateway.specs.Stands.{Follows, AllPass, SpanPasses}
 use Rattle.gateway.specs.Life.{CountedAt, IsWholeOrNone, Counted, After, Work, Promises, answers_all, keeps_state, Worked, Lives, AfterLives, OneRun, ManyRuns, SentIsCounted, pieces_of}

@@ -6,9 +6,9 @@ use Rattle.gate_base.specs.Transcript.{Transcript}
 use Rattle.s3_machine.specs.declared.operation.Settings.{Settings}
 use Rattle.swift_calls.specs.History.{History, Extends}
 use Rattle.upload_records.specs.Consistent.{IsConsistent}
-use Rattle.recovery.specs.declared.state.Known.{Known}
-use Rattle.recovery.specs.Calls.{GoesOn, Met}
-use Rattle.recovery.specs.Settling.{IsKnown}
+use Rattle.account_calls.specs.declared.state.Known.{Known}
+use Rattle.account_calls.specs.Calls.{GoesOn, Met}
+use Rattle.account_calls.specs.Known.{IsKnown}
 use Rattle.http_wire.specs.Reading.{Pending}
 use Rattle.gateway.specs.declared.ended.Ended.{Ended}
 use Rattle.gateway.specs.declared.service.Service.{Service}

@@ -12,17 +12,18 @@ use Rattle.s3_machine.specs.Shown.{IsShowable}
 use Rattle.swift_calls.specs.Account.{SwiftAccount}
 use Rattle.swift_calls.specs.History.{History, present}
 use Rattle.upload_records.specs.Native.{IsSettled}
-use Rattle.recovery.specs.declared.state.Known.{Known}
-use Rattle.recovery.specs.declared.state.Known.TheVariants as known
+use Rattle.account_calls.specs.declared.state.Known.{Known}
+use Rattle.account_calls.specs.declared.state.Known.TheVariants as known
+use Rattle.account_calls.specs.Answers.{most_calls, most_settling}
+use Rattle.account_calls.specs.Calls.{Bound, always, by_account, amount, IsWithin, GoesOn, Met, Keeps, Any}
+use Rattle.account_calls.specs.Fault.{CausesFault}
+use Rattle.account_calls.specs.Stutters.{Stutters, LastFailed}
+use Rattle.account_calls.specs.Known.{IsKnown, Knows}
+use Rattle.account_calls.proofs.lemmas.Idle.{none_made, goes_none, goes_trans}
+use Rattle.account_calls.specs.Plan.{reply_of, Answered}
 use Rattle.recovery.specs.declared.state.SettleFault.{SettleFault}
 use Rattle.recovery.specs.declared.state.SettleFault.TheVariants.{Failed, Memory, Inconsistent}
-use Rattle.recovery.specs.Answers.{most_calls, most_settling}
-use Rattle.recovery.specs.Calls.{Bound, always, by_account, amount, IsWithin, GoesOn, Met, Keeps, Any}
-use Rattle.recovery.specs.Fault.{CausesFault}
-use Rattle.recovery.specs.Stutters.{Stutters, LastFailed}
-use Rattle.recovery.specs.Settling.{IsKnown, Knows, settle_fault, as_plan, SettlesIt, Settles}
-use Rattle.recovery.proofs.lemmas.Idle.{none_made, goes_none, goes_trans}
-use Rattle.recovery.specs.Plan.{reply_of, Answered}
+use Rattle.recovery.specs.Settling.{settle_fault, as_plan, SettlesIt, Settles}
 use Rattle.gateway.specs.Exchange.{SettledBy, IsFault, unsettled, answered, Operated}
 use Rattle.gateway.proofs.lemmas.Map.{settled_by_agree}
 

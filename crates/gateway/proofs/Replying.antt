@@ -10,13 +10,13 @@ use Rattle.s3_machine.specs.declared.operation.Op.{Op}
 use Rattle.s3_machine.specs.declared.operation.Reply.{Reply}
 use Rattle.s3_machine.specs.declared.operation.Reply.TheVariants as answer
 use Rattle.swift_calls.specs.History.{History}
-use Rattle.recovery.specs.declared.state.Known.{Known}
-use Rattle.recovery.specs.declared.state.Known.TheVariants as known
-use Rattle.recovery.specs.Answers.{is_old_if_out_of_memory, OldIf, memory, beside_of}
-use Rattle.recovery.specs.Calls.{Met}
-use Rattle.recovery.specs.Settling.{IsKnown, Knows}
-use Rattle.recovery.proofs.lemmas.Agree.{passes_still, beside_memory}
-use Rattle.recovery.proofs.lemmas.Idle.{none_made}
+use Rattle.account_calls.specs.declared.state.Known.{Known}
+use Rattle.account_calls.specs.declared.state.Known.TheVariants as known
+use Rattle.account_calls.specs.Answers.{is_old_if_out_of_memory, OldIf, memory, beside_of}
+use Rattle.account_calls.specs.Calls.{Met}
+use Rattle.account_calls.specs.Known.{IsKnown, Knows}
+use Rattle.account_calls.proofs.lemmas.Agree.{passes_still, beside_memory}
+use Rattle.account_calls.proofs.lemmas.Idle.{none_made}
 use Rattle.s3_requests.specs.declared.meant.Meant.{Meant}
 use Rattle.s3_requests.specs.declared.meant.Meant.TheVariants as meant
 use Rattle.gateway.specs.ResolvedRequest.{Understands}

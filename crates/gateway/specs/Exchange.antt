@@ -15,12 +15,12 @@ use Rattle.s3_machine.specs.Shown.{IsShowable}
 use Rattle.swift_calls.specs.History.{History, budget, present}
 use Rattle.upload_records.specs.Native.{IsSettled}
 use Rattle.upload_records.specs.Consistent.{IsConsistent}
-use Rattle.recovery.specs.declared.state.Known.{Known}
-use Rattle.recovery.specs.declared.state.Known.TheVariants as known
-use Rattle.recovery.specs.Answers.{Answers, SaysBeside, beside_of, most_calls, most_settling, steps_of, may_leave_unsure}
-use Rattle.recovery.specs.Calls.{GoesOn, Met, amount}
-use Rattle.recovery.specs.Settling.{IsKnown}
-use Rattle.recovery.specs.Stutters.{Stutters, LastFailed}
+use Rattle.account_calls.specs.declared.state.Known.{Known}
+use Rattle.account_calls.specs.declared.state.Known.TheVariants as known
+use Rattle.account_calls.specs.Answers.{Answers, SaysBeside, beside_of, most_calls, most_settling, steps_of, may_leave_unsure}
+use Rattle.account_calls.specs.Calls.{GoesOn, Met, amount}
+use Rattle.account_calls.specs.Known.{IsKnown}
+use Rattle.account_calls.specs.Stutters.{Stutters, LastFailed}
 use Rattle.http_wire.specs.FirstMessage.{is_head}
 use Rattle.http_wire.specs.Print.{memory_reply}
 use Rattle.gateway.specs.declared.ended.Ended.{Ended}

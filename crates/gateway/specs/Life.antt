@@ -14,8 +14,8 @@ use Rattle.swift_calls.specs.Account.{SwiftAccount}
 use Rattle.swift_calls.specs.History.{History}
 use Rattle.upload_records.specs.Native.{s3_state}
 use Rattle.upload_records.specs.Consistent.{IsConsistent}
-use Rattle.recovery.specs.Answers.{parts_of, steps_of, IsStage}
-use Rattle.recovery.specs.Stutters.{Stutters}
+use Rattle.account_calls.specs.Answers.{parts_of, steps_of, IsStage}
+use Rattle.account_calls.specs.Stutters.{Stutters}
 use Rattle.gateway.specs.declared.ended.Ended.{Ended}
 use Rattle.s3_requests.specs.declared.meant.Meant.TheVariants as meant
 use Rattle.gateway.specs.Request.{Request}

@@ -4,11 +4,11 @@ use Rattle.std.specs.Prelude.{◌≡◌, ◌≤◌, ◌⊎◌, ℕ, ◌+◌, Lis
 use Rattle.s3_machine.specs.declared.operation.Settings.{Settings}
 use Rattle.swift_calls.specs.History.{History, present}
 use Rattle.upload_records.specs.Consistent.{IsConsistent}
-use Rattle.recovery.specs.declared.state.Known.{Known}
-use Rattle.recovery.specs.Answers.{Passes, most_calls, most_settling}
-use Rattle.recovery.specs.Calls.{Met, amount}
-use Rattle.recovery.specs.Settling.{IsKnown}
-use Rattle.recovery.specs.Stutters.{Stutters}
+use Rattle.account_calls.specs.declared.state.Known.{Known}
+use Rattle.account_calls.specs.Answers.{Passes, most_calls, most_settling}
+use Rattle.account_calls.specs.Calls.{Met, amount}
+use Rattle.account_calls.specs.Known.{IsKnown}
+use Rattle.account_calls.specs.Stutters.{Stutters}
 use Rattle.gateway.specs.Exchange.{Asked, Span}
 
 -- the first span begins at p, each begins where the one before it ended, and the last ends at q

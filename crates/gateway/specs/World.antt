@@ -5,9 +5,9 @@ use Rattle.gate_base.specs.Told.{SourceModel}
 use Rattle.http_wire.specs.Reading.{Pending}
 use Rattle.s3_machine.specs.declared.operation.Settings.{Settings}
 use Rattle.swift_calls.specs.History.{History}
-use Rattle.recovery.specs.declared.state.Known.{Known}
-use Rattle.recovery.specs.Calls.{GoesOn, Met}
-use Rattle.recovery.specs.Settling.{IsKnown, Knows}
+use Rattle.account_calls.specs.declared.state.Known.{Known}
+use Rattle.account_calls.specs.Calls.{GoesOn, Met}
+use Rattle.account_calls.specs.Known.{IsKnown, Knows}
 use Rattle.gateway.specs.Exchange.{ReplyRelation, store_cursor, RepliesBy, Where}
 use Rattle.gateway.specs.Connection.{Progress, ConnectionCursor, progress, cursor}
 use Rattle.gateway.specs.Stands.{Stands}

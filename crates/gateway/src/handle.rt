@@ -1,6 +1,6 @@
 ghost use Rattle.std.specs.Prelude.{IsTrue};
 ghost use Rattle.gate_base.specs.Line.{OnlyWrites};
-ghost use Rattle.recovery.specs.Settling.{Knows};
+ghost use Rattle.account_calls.specs.Known.{Knows};
 ghost use Rattle.gateway.specs.Request.{asks_of, end_of};
 ghost use Rattle.gateway.specs.Handled.{HandledOnce, EndsWith, NotFailedIfServed, is_failed_reply};
 ghost use Rattle.gateway.specs.World.{world, progress_of, ServesOver};
@@ -11,8 +11,8 @@ use crate::reply::reply_to;
 use crate::resolve::resolve;
 use crate::write::{Written, write_reply};
 use crate::{Ended, Service};
+use account_calls::Known;
 use gate_base::{Clock, Draws, Line, drop};
-use recovery::Known;
 use std::alloc::Global;
 use swift_calls::Swift;
 

@@ -1,7 +1,7 @@
 ghost use Rattle.std.specs.Prelude.{◌≡◌, ◌<◌, false, List, IsTrue, None};
 ghost use Rattle.gate_base.specs.Line.{LineServes, OnlyWrites};
 ghost use Rattle.http_wire.specs.Reading.{weight};
-ghost use Rattle.recovery.specs.Settling.{Knows};
+ghost use Rattle.account_calls.specs.Known.{Knows};
 ghost use Rattle.gateway.specs.Exchange.{Span};
 ghost use Rattle.gateway.specs.Connection.{is_failed_end, ConnectionTrace};
 ghost use Rattle.gateway.specs.Request.{asks_of, end_of};
@@ -13,9 +13,9 @@ use crate::handle::{Handled, handle_request};
 use crate::received::Received;
 use crate::write::{Written, write_memory_reply};
 use crate::{Ended, Service};
+use account_calls::Known;
 use gate_base::{Clock, Draws, Line};
 use http_wire::{Got, ReadFault, Reader};
-use recovery::Known;
 use std::alloc::Global;
 use swift_calls::Swift;
 

@@ -4,14 +4,14 @@ use Rattle.std.proofs.Common.{refl, sym, ap, subst, ◌∙◌, inl, inr, arith}
 use Rattle.gate_base.specs.Causes.{RisesIf}
 use Rattle.sigv4.specs.Keys.{keys_of, are_keys}
 use Rattle.swift_calls.specs.History.{History, present}
+use Rattle.account_calls.specs.Answers.{most_settling}
+use Rattle.account_calls.specs.Calls.{Bound, always, by_account, IsWithin, Met, Any, Keeps}
+use Rattle.account_calls.specs.Fault.{CausesFault}
+use Rattle.account_calls.specs.Stutters.{Stutters}
+use Rattle.account_calls.proofs.lemmas.Idle.{goes_none, none_made}
 use Rattle.recovery.specs.declared.state.SettleFault.{SettleFault}
 use Rattle.recovery.specs.declared.state.SettleFault.TheVariants as settling
-use Rattle.recovery.specs.Answers.{most_settling}
-use Rattle.recovery.specs.Calls.{Bound, always, by_account, IsWithin, Met, Any, Keeps}
-use Rattle.recovery.specs.Fault.{CausesFault}
 use Rattle.recovery.specs.Settling.{Settles, SettlesIt, as_plan}
-use Rattle.recovery.specs.Stutters.{Stutters}
-use Rattle.recovery.proofs.lemmas.Idle.{goes_none, none_made}
 use Rattle.gateway_cmd.specs.declared.status.RunOutcome.{RunOutcome}
 use Rattle.gateway_cmd.specs.declared.status.RunOutcome.TheVariants.{Plain}
 use Rattle.gateway_cmd.specs.declared.status.Status.TheVariants.{Memory}

@@ -11,10 +11,10 @@ use Rattle.upload_records.specs.Consistent.{IsConsistent}
 use Rattle.sigv4.specs.Keys.{keys_of, are_keys, secret_of}
 use Rattle.sigv4.specs.declared.keys.AccessKey.{AccessKey}
 use Rattle.sign_cmd.specs.Signing.{SignsOn}
-use Rattle.recovery.specs.declared.state.Known.{Known}
-use Rattle.recovery.specs.declared.state.Known.TheVariants.{Settled, Unsure}
-use Rattle.recovery.specs.Calls.{GoesOn, Met, Any}
-use Rattle.recovery.specs.Settling.{IsKnown}
+use Rattle.account_calls.specs.declared.state.Known.{Known}
+use Rattle.account_calls.specs.declared.state.Known.TheVariants.{Settled, Unsure}
+use Rattle.account_calls.specs.Calls.{GoesOn, Met, Any}
+use Rattle.account_calls.specs.Known.{IsKnown}
 use Rattle.gateway.specs.declared.ended.Ended.{Ended as Close}
 use Rattle.gateway.specs.declared.service.Service.{Service}
 use Rattle.gateway.specs.Connection.{ConnectionTrace, is_failed_end, cursor, progress}

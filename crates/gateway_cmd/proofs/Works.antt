@@ -2,11 +2,11 @@
 use Rattle.std.specs.Prelude.{◌≡◌, ℕ, List}
 use Rattle.std.proofs.Common.{refl, sym, subst}
 use Rattle.swift_calls.specs.History.{History}
-use Rattle.recovery.specs.declared.state.Known.{Known}
-use Rattle.recovery.specs.declared.state.Known.TheVariants.{Unsure}
-use Rattle.recovery.specs.Calls.{Met, Any}
-use Rattle.recovery.specs.Settling.{IsKnown}
-use Rattle.recovery.proofs.lemmas.Idle.{none_made}
+use Rattle.account_calls.specs.declared.state.Known.{Known}
+use Rattle.account_calls.specs.declared.state.Known.TheVariants.{Unsure}
+use Rattle.account_calls.specs.Calls.{Met, Any}
+use Rattle.account_calls.specs.Known.{IsKnown}
+use Rattle.account_calls.proofs.lemmas.Idle.{none_made}
 use Rattle.gateway.specs.Life.{upkeep, answering, Promises, answers_all, keeps_state}
 use Rattle.gateway.specs.World.{World}
 use Rattle.gateway_cmd.specs.declared.status.RunOutcome.{RunOutcome}

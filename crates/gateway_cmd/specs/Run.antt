@@ -1,7 +1,7 @@
 -- A whole run: the connections of the line, in order, none skipped. Source: this profile.
 use Rattle.std.specs.Prelude.{◌≡◌, ℕ, ◌+◌, ◌-◌, Bool, true, false, List, [], ◌∷◌, ◌++◌, slice_set, if◌then◌else◌}
 use Rattle.s3_machine.specs.declared.operation.Settings.{Settings}
-use Rattle.recovery.specs.declared.state.Known.{Known}
+use Rattle.account_calls.specs.declared.state.Known.{Known}
 use Rattle.gateway.specs.declared.service.Service.{Service}
 use Rattle.swift_calls.specs.History.{History}
 use Rattle.gateway.specs.declared.ended.Ended.{Ended}

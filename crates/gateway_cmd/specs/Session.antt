@@ -7,13 +7,13 @@ use Rattle.gate_base.specs.Told.{SourceModel, ClockNow}
 use Rattle.gate_base.specs.Transcript.{Transcript}
 use Rattle.swift_calls.specs.History.{History, present}
 use Rattle.upload_records.specs.Native.{IsSettled}
-use Rattle.recovery.specs.Answers.{most_settling}
-use Rattle.recovery.specs.Calls.{Any, Grows, Met}
-use Rattle.recovery.specs.declared.state.Known.{Known}
-use Rattle.recovery.specs.declared.state.Known.TheVariants.{Unsure}
+use Rattle.account_calls.specs.Answers.{most_settling}
+use Rattle.account_calls.specs.Calls.{Any, Grows, Met}
+use Rattle.account_calls.specs.declared.state.Known.{Known}
+use Rattle.account_calls.specs.declared.state.Known.TheVariants.{Unsure}
+use Rattle.account_calls.specs.Stutters.{Stutters}
 use Rattle.recovery.specs.declared.state.SettleFault.{SettleFault}
 use Rattle.recovery.specs.Settling.{Settles}
-use Rattle.recovery.specs.Stutters.{Stutters}
 use Rattle.sigv4.specs.Keys.{keys_of, are_keys, secret_of}
 use Rattle.sigv4.specs.declared.keys.AccessKey.{AccessKey}
 use Rattle.sign_cmd.specs.Signing.{AnswersFirst, SendsFirst, SignsOn}

@@ -1,8 +1,8 @@
 //! A run but for its report: the words, and then the command that they name.
 ghost use Rattle.std.specs.Prelude.{◌≡◌, ◌≤◌, ℕ, true, false, IsTrue, List, Some, None};
 ghost use Rattle.gate_base.specs.Told.{ClockNow, SourceModel};
-ghost use Rattle.recovery.specs.declared.state.Known.{Known as what_is_known};
-ghost use Rattle.recovery.specs.declared.state.Known.TheVariants.{Unsure};
+ghost use Rattle.account_calls.specs.declared.state.Known.{Known as what_is_known};
+ghost use Rattle.account_calls.specs.declared.state.Known.TheVariants.{Unsure};
 ghost use Rattle.sigv4.specs.Keys.{keys_of, are_keys, secret_of};
 ghost use Rattle.sign_cmd.specs.Signing.{AnswersFirst, SendsFirst, SignsOn};
 ghost use Rattle.sign_cmd.specs.declared.first.Signing.{Signing};
@@ -21,11 +21,11 @@ use crate::keys::read_keys;
 use crate::recover::recover;
 use crate::session::session;
 use crate::status::{RunOutcome, Status, Told};
+use account_calls::{Known, taken_text};
 use gate_base::{Bytes, Clock, Draws, Line, drop};
 use gateway::Service;
 use gateway_cli::{Command, WordsFault, read_words};
 use presign_cmd::{Presigning, presign_first};
-use recovery::{Known, taken_text};
 use s3_machine::Settings;
 use sign_cmd::{Signing, sign_first};
 use sigv4::Keys;

@@ -2,9 +2,9 @@ ghost use Rattle.std.specs.Prelude.{◌≡◌, ◌⊎◌, ◌==◌, ◌<◌, ℕ
 ghost use Rattle.gate_base.specs.Causes.{Rose};
 ghost use Rattle.gate_base.specs.Told.{ClockNow};
 ghost use Rattle.swift_calls.specs.History.{budget, FaultFree};
-ghost use Rattle.recovery.specs.declared.state.Known.TheVariants.{Unsure};
+ghost use Rattle.account_calls.specs.declared.state.Known.TheVariants.{Unsure};
+ghost use Rattle.account_calls.specs.Calls.{Any, Met};
 ghost use Rattle.recovery.specs.declared.state.SettleFault.{SettleFault as unsettled};
-ghost use Rattle.recovery.specs.Calls.{Any, Met};
 ghost use Rattle.recovery.specs.Settling.{Settles};
 ghost use Rattle.sigv4.specs.Keys.{keys_of, are_keys, secret_of};
 ghost use Rattle.sign_cmd.specs.Signing.{AnswersFirst, SendsFirst, SignsOn};

@@ -1,7 +1,7 @@
 //! The command `recover`: a completion that is sealed on the store is taken to its end.
 ghost use Rattle.std.specs.Prelude.{◌≡◌, Result as result_of};
+ghost use Rattle.account_calls.specs.Calls.{GoesOn};
 ghost use Rattle.recovery.specs.declared.state.SettleFault.{SettleFault as why};
-ghost use Rattle.recovery.specs.Calls.{GoesOn};
 ghost use Rattle.recovery.specs.Settling.{Settles};
 ghost use Rattle.gateway_cmd.specs.Report.{Fits, recovered};
 ghost use Rattle.gateway_cmd.specs.Tasks.{to_recover};

@@ -1,14 +1,14 @@
 //! The commands `session` and `serve`: the connections of the line, in turn.
 ghost use Rattle.std.specs.Prelude.{◌≡◌, ◌≢◌, ◌-◌, true, false, Some, option_map};
-ghost use Rattle.recovery.specs.Settling.{Knows};
+ghost use Rattle.account_calls.specs.Known.{Knows};
 ghost use Rattle.gateway.specs.World.{world, ServesOver};
 ghost use Rattle.gateway_cmd.specs.Run.{RunTraces};
 ghost use Rattle.gateway_cmd.specs.Session.{LineServesAll, LineServesNext, NextCursor};
 
 use crate::status::Status;
+use account_calls::Known;
 use gate_base::{Clock, Draws, Line};
 use gateway::{Service, serve_connection};
-use recovery::Known;
 use std::alloc::Global;
 use swift_calls::Swift;
 

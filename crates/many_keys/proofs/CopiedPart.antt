@@ -32,15 +32,15 @@ use Rattle.swift_calls.specs.Bodies.{ranged}
 use Rattle.swift_calls.specs.History.{History}
 use Rattle.upload_records.specs.Layout.{segments_name, uploads_name}
 use Rattle.upload_records.specs.Native.{bucket_from, object_at, s3_state}
+use Rattle.account_calls.specs.Calls.{always, GivenOf, HasObject, LacksBucket, TellsBucket, TellsBytes, TellsObject, bytes_in}
+use Rattle.account_calls.specs.Plan.{IsOwnReply, Plans}
+use Rattle.account_calls.specs.declared.fault.PlanFault.{PlanFault}
+use Rattle.account_calls.specs.declared.state.Known.{Known}
+use Rattle.account_calls.proofs.lemmas.Ends.{met_within}
 use Rattle.upload_calls.specs.Found.{IsOpenUpload, LacksUpload}
 use Rattle.upload_calls.specs.Records as records
 use Rattle.upload_calls.proofs.lemmas.Finding.{bucket_there, has_upload, no_upload}
 use Rattle.upload_calls.proofs.lemmas.Opened.{bucket_by, lacks_of}
-use Rattle.recovery.specs.Calls.{always, GivenOf, HasObject, LacksBucket, TellsBucket, TellsBytes, TellsObject, bytes_in}
-use Rattle.recovery.specs.Plan.{IsOwnReply, Plans}
-use Rattle.recovery.specs.declared.fault.PlanFault.{PlanFault}
-use Rattle.recovery.specs.declared.state.Known.{Known}
-use Rattle.recovery.proofs.lemmas.Ends.{met_within}
 use Rattle.many_keys.specs.CopiedPart.{MayCopyFrom, MayCopyOf, MayPutCopy}
 
 -- ---- the bytes of a copy

@@ -31,18 +31,18 @@ use Rattle.upload_records.specs.Consistent.{AreSealedParts}
 use Rattle.upload_records.specs.Laws.{UnusedIsAbandoned}
 use Rattle.upload_records.specs.Layout.{segments_name}
 use Rattle.upload_records.specs.Native.{listed_of, object_at, s3_state, sealed_bytes}
+use Rattle.account_calls.specs.Answers.{listed_by, records_of, segments_of}
+use Rattle.account_calls.specs.Calls.{Bound, always, by_account, Asks, Given, GivenOf, HasObject, Met, TellsBucket}
+use Rattle.account_calls.specs.Listing.{TellsOf}
+use Rattle.account_calls.specs.Plan.{Plans}
+use Rattle.account_calls.specs.declared.fault.PlanFault.{PlanFault}
+use Rattle.account_calls.specs.declared.fault.PlanFault.TheVariants as fault
+use Rattle.account_calls.specs.declared.state.Known.TheVariants.{Settled}
+use Rattle.account_calls.proofs.lemmas.Ask.{asks_told}
+use Rattle.account_calls.proofs.lemmas.Ends.{IsWider, calls_in_vain, goes_on_from, met_within}
+use Rattle.account_calls.proofs.lemmas.Quiet.{asks_same_state}
 use Rattle.upload_calls.specs.Records.{InBucket, TellsFree}
 use Rattle.upload_calls.proofs.lemmas.Free.{unused}
-use Rattle.recovery.specs.Answers.{listed_by, records_of, segments_of}
-use Rattle.recovery.specs.Calls.{Bound, always, by_account, Asks, Given, GivenOf, HasObject, Met, TellsBucket}
-use Rattle.recovery.specs.Listing.{TellsOf}
-use Rattle.recovery.specs.Plan.{Plans}
-use Rattle.recovery.specs.declared.fault.PlanFault.{PlanFault}
-use Rattle.recovery.specs.declared.fault.PlanFault.TheVariants as fault
-use Rattle.recovery.specs.declared.state.Known.TheVariants.{Settled}
-use Rattle.recovery.proofs.lemmas.Ask.{asks_told}
-use Rattle.recovery.proofs.lemmas.Ends.{IsWider, calls_in_vain, goes_on_from, met_within}
-use Rattle.recovery.proofs.lemmas.Quiet.{asks_same_state}
 use Rattle.many_keys.specs.Copies.{IsFoundSource, IsProperHead, content_of}
 use Rattle.many_keys.specs.CopiedLists.{AreOfCut, CopiesFirst, IsCopy, IsUnnamed, MayCopy, MayFill, MayPut, TellsCut, pieces_ascend_from, sealed_copy, is_cut, piece_in}
 use Rattle.many_keys.specs.declared.cut.Piece.{Piece}

@@ -22,11 +22,11 @@ use Rattle.s3_machine.proofs.lemmas.StepLemmas.{HasSource, copy_onto_itself, cop
 use Rattle.swift_calls.specs.Account.{SwiftAccount}
 use Rattle.swift_calls.specs.History.{History, present}
 use Rattle.upload_records.specs.Native.{object_at, s3_state}
-use Rattle.recovery.specs.Answers.{copy_calls, is_of_parts, listed_by, records_of, segments_of}
-use Rattle.recovery.specs.Calls.{acl_of_bucket, always, by_account, Given, puts_object, TellsBucket, TellsObject}
-use Rattle.recovery.specs.declared.fault.PlanFault.{PlanFault}
-use Rattle.recovery.specs.declared.state.Known.TheVariants.{Settled}
-use Rattle.recovery.specs.Plan.{Plans}
+use Rattle.account_calls.specs.Answers.{copy_calls, is_of_parts, listed_by, records_of, segments_of}
+use Rattle.account_calls.specs.Calls.{acl_of_bucket, always, by_account, Given, puts_object, TellsBucket, TellsObject}
+use Rattle.account_calls.specs.declared.fault.PlanFault.{PlanFault}
+use Rattle.account_calls.specs.declared.state.Known.TheVariants.{Settled}
+use Rattle.account_calls.specs.Plan.{Plans}
 use Rattle.many_keys.specs.Copies.{IsFoundBucket, IsFoundSource, IsReadSource, content_of}
 use Rattle.many_keys.proofs.Sources.{object_by_head, object_read}
 

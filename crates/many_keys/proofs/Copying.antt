@@ -25,11 +25,11 @@ use Rattle.upload_texts.specs.declared.sealed.SealedPart.{SealedPart}
 use Rattle.upload_records.specs.Consistent.{AreSealedParts, IsSealedPart}
 use Rattle.upload_records.specs.Layout.{segment_name, segments_name}
 use Rattle.upload_records.specs.Native.{object_at, part_at, part_bytes, part_of, s3_state, sealed_bytes}
-use Rattle.recovery.specs.Calls.{always, Asks, Given, GivenOf, HasObject, Tells, TellsObject}
-use Rattle.recovery.specs.declared.fault.PlanFault.{PlanFault}
-use Rattle.recovery.specs.declared.fault.PlanFault.TheVariants as fault
-use Rattle.recovery.proofs.lemmas.Idle.{grows_none, none_made}
-use Rattle.recovery.proofs.lemmas.Quiet.{asks_failed, asks_left, asks_no_memory, asks_same_state, asks_then, asks_under}
+use Rattle.account_calls.specs.Calls.{always, Asks, Given, GivenOf, HasObject, Tells, TellsObject}
+use Rattle.account_calls.specs.declared.fault.PlanFault.{PlanFault}
+use Rattle.account_calls.specs.declared.fault.PlanFault.TheVariants as fault
+use Rattle.account_calls.proofs.lemmas.Idle.{grows_none, none_made}
+use Rattle.account_calls.proofs.lemmas.Quiet.{asks_failed, asks_left, asks_no_memory, asks_same_state, asks_then, asks_under}
 use Rattle.many_keys.specs.CopiedLists.{AreDated, AreOfCut, CopiesFirst, CopiesPiece, modified_in, IsUnnamed, MayCopy, PutsSegment, TellsPiece, pieces_ascend_from, is_cut, is_piece_to_copy, piece_in, size_of_cut}
 use Rattle.many_keys.specs.declared.cut.Piece.{Piece}
 use Rattle.many_keys.proofs.CutCalls.{segment_number}

@@ -26,11 +26,11 @@ use Rattle.upload_records.specs.Consistent.{AreParts, IsConsistent}
 use Rattle.upload_records.specs.Laws.{ListingFound, ListsParts, ObjectListed}
 use Rattle.upload_records.specs.Layout.{five_digits, segment_name, segments_name}
 use Rattle.upload_records.specs.Native.{object_at, s3_state}
+use Rattle.account_calls.specs.Answers.{listed_in}
+use Rattle.account_calls.specs.Calls.{Given, HasObject}
+use Rattle.account_calls.proofs.lemmas.One.{IsReadingOf}
 use Rattle.upload_calls.specs.Listing.{digits_in}
 use Rattle.upload_calls.proofs.lemmas.Digits.{digits_read}
-use Rattle.recovery.specs.Answers.{listed_in}
-use Rattle.recovery.specs.Calls.{Given, HasObject}
-use Rattle.recovery.proofs.lemmas.One.{IsReadingOf}
 use Rattle.many_keys.specs.CopiedLists.{TellsCut, pieces_ascend_from, cut_by, cut_due, cut_of, is_cut, is_piece_to_copy, number_at, piece_of, size_of_cut}
 use Rattle.many_keys.specs.declared.cut.Piece.{Piece}
 

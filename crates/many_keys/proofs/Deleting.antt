@@ -20,17 +20,17 @@ use Rattle.s3_machine.specs.Step.{Outcome, S3Step, deletes, drop_object, drop_ob
 use Rattle.s3_machine.proofs.lemmas.StepLemmas.{delete_all_without_bucket, in_found, step_deleted, step_gone}
 use Rattle.swift_calls.specs.History.{Extends, History, present}
 use Rattle.upload_records.specs.Native.{IsSettled, s3_state}
-use Rattle.recovery.specs.Answers.{after_step, before_step, beside_of, is_many, IsStage, machine, memory, nothing_beside, part_way, steps_of, StepsThrough, unavailable}
-use Rattle.recovery.specs.Calls.{acl_of_bucket, always, Any, Becomes, Changes, Commits, drops_object, Given, Grows, HasBucket, Met, TellsBucket, Writes}
-use Rattle.recovery.specs.declared.fault.PlanFault.{PlanFault}
-use Rattle.recovery.specs.declared.fault.PlanFault.TheVariants.{Failed, Memory, Inconsistent}
-use Rattle.recovery.specs.declared.state.Known.TheVariants.{Settled}
-use Rattle.recovery.specs.Fault.{CausesFault}
-use Rattle.recovery.specs.Plan.{ended, EndsPlan, IsOwnReply, Plans}
-use Rattle.recovery.specs.Stutters.{LastFailed, Stutters}
-use Rattle.recovery.proofs.lemmas.Agree.{failed_behind, passes_agree, passes_rest, passes_still}
-use Rattle.recovery.proofs.lemmas.Faults.{err_is}
-use Rattle.recovery.proofs.lemmas.Idle.{goes_trans, grows_none, none_made}
+use Rattle.account_calls.specs.Answers.{after_step, before_step, beside_of, is_many, IsStage, machine, memory, nothing_beside, part_way, steps_of, StepsThrough, unavailable}
+use Rattle.account_calls.specs.Calls.{acl_of_bucket, always, Any, Becomes, Changes, Commits, drops_object, Given, Grows, HasBucket, Met, TellsBucket, Writes}
+use Rattle.account_calls.specs.declared.fault.PlanFault.{PlanFault}
+use Rattle.account_calls.specs.declared.fault.PlanFault.TheVariants.{Failed, Memory, Inconsistent}
+use Rattle.account_calls.specs.declared.state.Known.TheVariants.{Settled}
+use Rattle.account_calls.specs.Fault.{CausesFault}
+use Rattle.account_calls.specs.Plan.{ended, EndsPlan, IsOwnReply, Plans}
+use Rattle.account_calls.specs.Stutters.{LastFailed, Stutters}
+use Rattle.account_calls.proofs.lemmas.Agree.{failed_behind, passes_agree, passes_rest, passes_still}
+use Rattle.account_calls.proofs.lemmas.Faults.{err_is}
+use Rattle.account_calls.proofs.lemmas.Idle.{goes_trans, grows_none, none_made}
 use Rattle.many_keys.specs.Deletions.{Deletes, DeletesBy, DeletesFirst}
 use Rattle.many_keys.proofs.Stages.{part_done, part_passes, passes_whole, through_none}
 

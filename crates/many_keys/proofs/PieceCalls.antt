@@ -31,16 +31,16 @@ use Rattle.upload_records.specs.Layout.{segment_name, segments_name}
 use Rattle.upload_records.specs.Native.{SameGateway, object_at, part_by, part_bytes, s3_state}
 use Rattle.upload_records.proofs.lemmas.Beside.{segments_there}
 use Rattle.upload_records.proofs.lemmas.Settled.{settled_same}
+use Rattle.account_calls.specs.Calls.{always, Asks, Bound, Given, GivenOf, HasObject, Keeps, Tells, TellsBytes, bytes_in}
+use Rattle.account_calls.specs.Interpret.{stored_due}
+use Rattle.account_calls.specs.declared.fault.PlanFault.{PlanFault}
+use Rattle.account_calls.specs.declared.fault.PlanFault.TheVariants as fault
+use Rattle.account_calls.specs.declared.fault.PlanFault.TheVariants.{Inconsistent}
+use Rattle.account_calls.proofs.lemmas.Causes.{due_cause}
+use Rattle.account_calls.proofs.lemmas.Etags.{etag_agrees, part_etag}
+use Rattle.account_calls.proofs.lemmas.Quiet.{IsQuietOf, asks_failed}
+use Rattle.account_calls.proofs.lemmas.SideNames.{file_name, segment_fits}
 use Rattle.upload_calls.specs.Interpret.{part_tag, put_part_of}
-use Rattle.recovery.specs.Calls.{always, Asks, Bound, Given, GivenOf, HasObject, Keeps, Tells, TellsBytes, bytes_in}
-use Rattle.recovery.specs.Interpret.{stored_due}
-use Rattle.recovery.specs.declared.fault.PlanFault.{PlanFault}
-use Rattle.recovery.specs.declared.fault.PlanFault.TheVariants as fault
-use Rattle.recovery.specs.declared.fault.PlanFault.TheVariants.{Inconsistent}
-use Rattle.recovery.proofs.lemmas.Causes.{due_cause}
-use Rattle.recovery.proofs.lemmas.Etags.{etag_agrees, part_etag}
-use Rattle.recovery.proofs.lemmas.Quiet.{IsQuietOf, asks_failed}
-use Rattle.recovery.proofs.lemmas.SideNames.{file_name, segment_fits}
 use Rattle.many_keys.specs.CopiedLists.{IsUnnamed, modified_in, PutsSegment, TellsPiece, sized_due, told_due}
 use Rattle.many_keys.proofs.CutCalls.{object_of_head}
 use Rattle.many_keys.proofs.SideFiles.{part_has_text, same_put}

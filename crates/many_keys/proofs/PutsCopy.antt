@@ -19,11 +19,11 @@ use Rattle.upload_records.specs.Consistent.{IsStored}
 use Rattle.upload_records.specs.Layout.{segments_name}
 use Rattle.upload_records.specs.Native.{completed_file, content_by, filled_parts, listing_of, sealed_tag}
 use Rattle.s3_names.specs.Id.{id_digits}
-use Rattle.recovery.specs.Rolls.{put_by, put_object_of, sealed_listing}
-use Rattle.recovery.proofs.lemmas.SealStands.{ListsFew, lists_few, object_fits, object_stored, pack_fits, sum_of}
-use Rattle.recovery.proofs.lemmas.Fits.{typed}
-use Rattle.recovery.proofs.lemmas.Names.{container_name, object_name}
-use Rattle.recovery.proofs.lemmas.SideNames.{file_name}
+use Rattle.account_calls.specs.Sealed.{put_by, put_object_of, sealed_listing}
+use Rattle.account_calls.proofs.lemmas.SealStands.{ListsFew, lists_few, object_fits, object_stored, pack_fits, sum_of}
+use Rattle.account_calls.proofs.lemmas.Fits.{typed}
+use Rattle.account_calls.proofs.lemmas.Names.{container_name, object_name}
+use Rattle.account_calls.proofs.lemmas.SideNames.{file_name}
 use Rattle.many_keys.specs.CopiedLists.{IsCopy}
 
 -- ---- what has a text

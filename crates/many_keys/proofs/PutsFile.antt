@@ -30,11 +30,11 @@ use Rattle.upload_records.specs.Native.{IsSettled, completed_file, record_at, s3
 use Rattle.upload_records.proofs.lemmas.Objects.{file_puts}
 use Rattle.upload_records.proofs.lemmas.Rolling.{completed_stands, listing_stands}
 use Rattle.upload_records.proofs.lemmas.Settled.{same_off, settled_same, unsealed_of}
-use Rattle.recovery.specs.Rolls.{kept_due, put_object_of, sealed_listing}
-use Rattle.recovery.proofs.lemmas.Fits.{has_a_pack}
-use Rattle.recovery.proofs.lemmas.ListPut.{by_stays, put_step}
-use Rattle.recovery.proofs.lemmas.One.{Effect, IsWritingOf}
-use Rattle.recovery.proofs.lemmas.SealStands.{all_counted, takes_parts}
+use Rattle.account_calls.specs.Sealed.{kept_due, put_object_of, sealed_listing}
+use Rattle.account_calls.proofs.lemmas.Fits.{has_a_pack}
+use Rattle.account_calls.proofs.lemmas.ListPut.{by_stays, put_step}
+use Rattle.account_calls.proofs.lemmas.One.{Effect, IsWritingOf}
+use Rattle.account_calls.proofs.lemmas.SealStands.{all_counted, takes_parts}
 use Rattle.many_keys.specs.CopiedLists.{CopiesObject, HasCopy, IsCopy, MayPut}
 use Rattle.many_keys.proofs.CopySteps.{of_source}
 use Rattle.many_keys.proofs.PutsCopy.{copy_few, copy_stored, tag_has_text}

@@ -21,9 +21,9 @@ use Rattle.upload_records.specs.Native.{IsSettled, SameGateway, s3_state}
 use Rattle.upload_records.proofs.lemmas.Beside.{same_beside}
 use Rattle.upload_records.proofs.lemmas.Buckets.{s3_state_there}
 use Rattle.upload_records.proofs.lemmas.Settled.{OffSame, unsealed_of}
+use Rattle.account_calls.specs.Calls.{TellsBucket, acl_of_bucket}
+use Rattle.account_calls.proofs.lemmas.Etags.{etag_is_etag}
 use Rattle.upload_calls.specs.Interpret.{part_tag}
-use Rattle.recovery.specs.Calls.{TellsBucket, acl_of_bucket}
-use Rattle.recovery.proofs.lemmas.Etags.{etag_is_etag}
 
 -- ---- what is there
 

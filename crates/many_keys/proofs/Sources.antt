@@ -19,11 +19,11 @@ use Rattle.swift_marks.specs.Tag.{is_etag}
 use Rattle.upload_records.specs.Consistent.{IsConsistent}
 use Rattle.upload_records.specs.Laws.{IsProperStored, ObjectProper}
 use Rattle.upload_records.specs.Native.{IsSettled, object_at, s3_state}
-use Rattle.recovery.specs.Calls.{always, Asks, Given, Grows, HasObject, Met, Tells, TellsBytes, TellsObject, bytes_in}
-use Rattle.recovery.specs.declared.fault.PlanFault.{PlanFault}
-use Rattle.recovery.specs.declared.fault.PlanFault.TheVariants.{Failed, Memory, Inconsistent}
-use Rattle.recovery.proofs.lemmas.Ends.{met_within}
-use Rattle.recovery.proofs.lemmas.Faults.{err_is}
+use Rattle.account_calls.specs.Calls.{always, Asks, Given, Grows, HasObject, Met, Tells, TellsBytes, TellsObject, bytes_in}
+use Rattle.account_calls.specs.declared.fault.PlanFault.{PlanFault}
+use Rattle.account_calls.specs.declared.fault.PlanFault.TheVariants.{Failed, Memory, Inconsistent}
+use Rattle.account_calls.proofs.lemmas.Ends.{met_within}
+use Rattle.account_calls.proofs.lemmas.Faults.{err_is}
 use Rattle.many_keys.specs.Copies.{IsProperHead, body_due, is_head_to_copy, is_body_to_copy, proper_due}
 
 -- ---- the head

@@ -12,9 +12,9 @@ use Rattle.s3_machine.specs.Step.{S3Step}
 use Rattle.swift_calls.specs.History.{History}
 use Rattle.upload_records.specs.Native.{s3_state}
 use Rattle.upload_records.specs.Consistent.{IsConsistent}
-use Rattle.recovery.specs.Calls.{Commits}
-use Rattle.recovery.specs.Answers.{parts_of, steps_of, StepsThrough, IsStage, part_way, after_step, Passes}
-use Rattle.recovery.proofs.lemmas.Agree.{passes_rest}
+use Rattle.account_calls.specs.Calls.{Commits}
+use Rattle.account_calls.specs.Answers.{parts_of, steps_of, StepsThrough, IsStage, part_way, after_step, Passes}
+use Rattle.account_calls.proofs.lemmas.Agree.{passes_rest}
 
 through_more : (settings : Settings) (label : Label) (old middle new : State) (ops : List Op) (op : Op) (reply : Reply) → StepsThrough settings label old ops middle → S3Step settings middle op label reply new
     → StepsThrough settings label old (ops ++ op ∷ []) new

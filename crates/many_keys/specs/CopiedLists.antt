@@ -30,11 +30,11 @@ use Rattle.upload_records.specs.Layout.{segment_name, segments_name}
 use Rattle.upload_records.specs.Native.{IsSettled, listed_of, object_at, part_at, part_bytes, part_of, s3_state, sealed_bytes, sealed_object}
 use Rattle.upload_records.specs.Consistent.{AreSealedParts, IsThere}
 use Rattle.upload_records.specs.Laws.{IsAbandoned}
+use Rattle.account_calls.specs.Answers.{listed_by}
+use Rattle.account_calls.specs.Calls.{TellsBucket, TellsObject}
+use Rattle.account_calls.specs.declared.fault.PlanFault.{PlanFault}
+use Rattle.account_calls.specs.declared.fault.PlanFault.TheVariants.{Inconsistent}
 use Rattle.upload_calls.specs.Listing.{digits_in}
-use Rattle.recovery.specs.Answers.{listed_by}
-use Rattle.recovery.specs.Calls.{TellsBucket, TellsObject}
-use Rattle.recovery.specs.declared.fault.PlanFault.{PlanFault}
-use Rattle.recovery.specs.declared.fault.PlanFault.TheVariants.{Inconsistent}
 use Rattle.many_keys.specs.Copies.{IsFoundSource, content_of}
 use Rattle.many_keys.specs.declared.cut.Piece.{Piece}
 

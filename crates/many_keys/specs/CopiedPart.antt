@@ -9,8 +9,8 @@ use Rattle.s3_machine.specs.State.{Object, State}
 use Rattle.s3_machine.specs.declared.operation.ObjectHead.{ObjectHead}
 use Rattle.swift_calls.specs.Account.{SwiftAccount}
 use Rattle.upload_records.specs.Native.{object_at, s3_state}
+use Rattle.account_calls.specs.Calls.{HasBucket, TellsObject}
 use Rattle.upload_calls.specs.Found.{IsOpenUpload}
-use Rattle.recovery.specs.Calls.{HasBucket, TellsObject}
 
 -- the upload is open, and the bucket of the source is there
 pub record MayCopyFrom (bucket key text : List ℕ) (id : ℕ) (from_bucket : List ℕ) (tree : SwiftAccount) : Type 0 where

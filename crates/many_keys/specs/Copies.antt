@@ -9,9 +9,9 @@ use Rattle.s3_machine.specs.ETag.{body_etag}
 use Rattle.s3_machine.specs.Limits.{is_content_type, is_proper_meta, most_body_bytes}
 use Rattle.s3_machine.specs.State.{State}
 use Rattle.swift_marks.specs.Tag.{is_etag}
-use Rattle.recovery.specs.Calls.{HasBucket, TellsBucket, TellsBytes, TellsObject}
-use Rattle.recovery.specs.declared.fault.PlanFault.{PlanFault}
-use Rattle.recovery.specs.declared.fault.PlanFault.TheVariants.{Inconsistent}
+use Rattle.account_calls.specs.Calls.{HasBucket, TellsBucket, TellsBytes, TellsObject}
+use Rattle.account_calls.specs.declared.fault.PlanFault.{PlanFault}
+use Rattle.account_calls.specs.declared.fault.PlanFault.TheVariants.{Inconsistent}
 
 -- ---- the head of a source
 

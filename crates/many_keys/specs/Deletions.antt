@@ -5,12 +5,12 @@ use Rattle.s3_machine.specs.declared.operation.Op.TheVariants.{DeleteObject, Del
 use Rattle.s3_machine.specs.declared.operation.Settings.{Settings}
 use Rattle.swift_calls.specs.History.{History, present}
 use Rattle.upload_records.specs.Native.{IsSettled, s3_state}
-use Rattle.recovery.specs.Answers.{Passes, StepsThrough}
-use Rattle.recovery.specs.Calls.{always, Given, Grows, HasBucket, Met}
-use Rattle.recovery.specs.Fault.{CausesFault}
-use Rattle.recovery.specs.Stutters.{LastFailed}
-use Rattle.recovery.specs.declared.fault.PlanFault.{PlanFault}
-use Rattle.recovery.specs.declared.fault.PlanFault.TheVariants.{Failed, Memory, Inconsistent}
+use Rattle.account_calls.specs.Answers.{Passes, StepsThrough}
+use Rattle.account_calls.specs.Calls.{always, Given, Grows, HasBucket, Met}
+use Rattle.account_calls.specs.Fault.{CausesFault}
+use Rattle.account_calls.specs.Stutters.{LastFailed}
+use Rattle.account_calls.specs.declared.fault.PlanFault.{PlanFault}
+use Rattle.account_calls.specs.declared.fault.PlanFault.TheVariants.{Failed, Memory, Inconsistent}
 
 -- by q the first n of the keys are deleted, one after another. At each number from p on the account is consistent, and its state
 -- is the one after the first of them, of which there never are fewer later

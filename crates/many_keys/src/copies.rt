@@ -7,17 +7,17 @@ ghost use Rattle.s3_machine.specs.Step.{IsPlace, IsProperReplaced, is_other_acl}
 ghost use Rattle.s3_machine.specs.declared.operation.Op.TheVariants.{CopyObject};
 ghost use Rattle.s3_machine.specs.declared.operation.Reply.TheVariants.{Copied};
 ghost use Rattle.swift_calls.specs.History.{present};
-ghost use Rattle.recovery.specs.Answers.{copy_calls};
-ghost use Rattle.recovery.specs.Calls.{always, by_account, Any, Given, TellsBucket};
-ghost use Rattle.recovery.specs.Lent.{Stays};
-ghost use Rattle.recovery.specs.Plan.{ended, Plans};
-ghost use Rattle.recovery.specs.declared.state.Known.TheVariants as known;
+ghost use Rattle.account_calls.specs.Answers.{copy_calls};
+ghost use Rattle.account_calls.specs.Calls.{always, by_account, Any, Given, TellsBucket};
+ghost use Rattle.account_calls.specs.Lent.{Stays};
+ghost use Rattle.account_calls.specs.Plan.{ended, Plans};
+ghost use Rattle.account_calls.specs.declared.state.Known.TheVariants as known;
 ghost use Rattle.many_keys.specs.Copies.{IsFoundBucket, IsFoundSource, IsProperHead, IsReadSource, is_body_to_copy};
 
 use crate::listed::copy_source_of_parts;
 use crate::source::{content_of, get_source_to_copy, head_source};
+use account_calls::{PlanFault, Settled, head_bucket, put_object};
 use gate_base::Bytes;
-use recovery::{PlanFault, Settled, head_bucket, put_object};
 use s3_machine::{Code, Label, ObjectHead, Replaced, Reply, is_onto_itself, is_other_acl};
 use s3_names::Acl;
 use std::alloc::Global;

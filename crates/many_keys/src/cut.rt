@@ -2,15 +2,15 @@
 ghost use Rattle.std.specs.Prelude.{◌≡◌, ◌≢◌, ◌<◌, ◌==◌, true, length, IfOk, Err};
 ghost use Rattle.std.specs.List.{list_all};
 ghost use Rattle.s3_machine.specs.Step.{IsPlace};
-ghost use Rattle.recovery.specs.Calls.{always, Asks, Given, HasObject};
-ghost use Rattle.recovery.specs.Interpret.{Gives};
-ghost use Rattle.recovery.specs.Lent.{Stays};
-ghost use Rattle.recovery.specs.Listing.{TellsOf};
-ghost use Rattle.recovery.specs.declared.fault.PlanFault.TheVariants as fault;
+ghost use Rattle.account_calls.specs.Calls.{always, Asks, Given, HasObject};
+ghost use Rattle.account_calls.specs.Interpret.{Gives};
+ghost use Rattle.account_calls.specs.Lent.{Stays};
+ghost use Rattle.account_calls.specs.Listing.{TellsOf};
+ghost use Rattle.account_calls.specs.declared.fault.PlanFault.TheVariants as fault;
 ghost use Rattle.many_keys.specs.CopiedLists.{TellsCut, pieces_ascend_from, cut_by, cut_due, cut_of, is_cut, is_piece_to_copy, number_at, piece_of, size_of_cut};
 
+use account_calls::{PlanFault, Settled};
 use gate_base::{Bytes, Copying, List, Memory};
-use recovery::{PlanFault, Settled};
 use s3_machine::{GREATEST_PART_NUMBER, MOST_BODY_BYTES, MOST_PARTS, ObjectHead};
 use slo_manifest::Segment;
 use std::alloc::Global;

@@ -5,14 +5,14 @@ ghost use Rattle.s3_names.specs.Bucket.{is_bucket};
 ghost use Rattle.s3_names.specs.Key.{is_key};
 ghost use Rattle.s3_machine.specs.declared.operation.Label.{Label};
 ghost use Rattle.s3_machine.specs.declared.operation.Op.TheVariants.{DeleteObjects};
-ghost use Rattle.recovery.specs.Calls.{always, Any, Becomes, Changes, Given, drops_object};
-ghost use Rattle.recovery.specs.declared.state.Known.TheVariants as known;
-ghost use Rattle.recovery.specs.Lent.{Stays};
-ghost use Rattle.recovery.specs.Plan.{Plans};
+ghost use Rattle.account_calls.specs.Calls.{always, Any, Becomes, Changes, Given, drops_object};
+ghost use Rattle.account_calls.specs.declared.state.Known.TheVariants as known;
+ghost use Rattle.account_calls.specs.Lent.{Stays};
+ghost use Rattle.account_calls.specs.Plan.{Plans};
 ghost use Rattle.many_keys.specs.Deletions.{Deletes};
 
+use account_calls::{PlanFault, Settled, delete_object, head_bucket};
 use gate_base::{Bytes, Copying, List};
-use recovery::{PlanFault, Settled, delete_object, head_bucket};
 use s3_machine::{Code, Reply};
 use swift_calls::Swift;
 
@@ -60,7 +60,7 @@ fn delete_keys<W: Swift>(
     Ok(())
 }
 
-/// Deletes the object of a key ([`recovery::delete_object`]). Bucket and key are copied for the call.
+/// Deletes the object of a key ([`account_calls::delete_object`]). Bucket and key are copied for the call.
 fn delete_key<W: Swift>(
     state: &mut Settled<'_, W>,
     bucket: &Bytes,

@@ -2,17 +2,17 @@
 ghost use Rattle.std.specs.Prelude.{◌≡◌, true};
 ghost use Rattle.s3_machine.specs.Step.{IsProper};
 ghost use Rattle.swift_calls.specs.History.{present};
-ghost use Rattle.recovery.specs.Answers.{is_many, most_calls};
-ghost use Rattle.recovery.specs.declared.state.Known.TheVariants as known;
-ghost use Rattle.recovery.specs.Calls.{Any, Given};
-ghost use Rattle.recovery.specs.Lent.{Stays};
-ghost use Rattle.recovery.specs.Plan.{Plans, Answered};
+ghost use Rattle.account_calls.specs.Answers.{is_many, most_calls};
+ghost use Rattle.account_calls.specs.declared.state.Known.TheVariants as known;
+ghost use Rattle.account_calls.specs.Calls.{Any, Given};
+ghost use Rattle.account_calls.specs.Lent.{Stays};
+ghost use Rattle.account_calls.specs.Plan.{Plans, Answered};
 
 use crate::copied_part::plan_upload_part_copy;
 use crate::copies::copy_object;
 use crate::deletions::delete_objects;
+use account_calls::{PlanFault, Settled, reply_of, taken_text};
 use gate_base::{Bytes, List, drop};
-use recovery::{PlanFault, Settled, reply_of, taken_text};
 use s3_machine::{Label, Op, Reply};
 use std::alloc::Global;
 use std::mem::replace;

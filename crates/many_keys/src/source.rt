@@ -2,14 +2,14 @@
 ghost use Rattle.std.specs.Prelude.{◌≡◌, ◌≤◌, true, length, None, Some, IfOk, IfSome};
 ghost use Rattle.s3_machine.specs.Step.{IsPlace, IsProperReplaced};
 ghost use Rattle.upload_records.specs.Native.{IsSettled};
-ghost use Rattle.recovery.specs.Calls.{always, Asks, Given, Tells, TellsBytes, TellsObject};
-ghost use Rattle.recovery.specs.Interpret.{IsShownHead};
-ghost use Rattle.recovery.specs.Lent.{Stays};
+ghost use Rattle.account_calls.specs.Calls.{always, Asks, Given, Tells, TellsBytes, TellsObject};
+ghost use Rattle.account_calls.specs.Interpret.{IsShownHead};
+ghost use Rattle.account_calls.specs.Lent.{Stays};
 ghost use Rattle.s3_machine.specs.Limits.{is_content_type, is_proper_meta};
 ghost use Rattle.many_keys.specs.Copies.{IsProperHead, body_due, content_of, is_head_to_copy, is_body_to_copy, proper_due};
 
+use account_calls::{PlanFault, Settled, get_object, head_object};
 use gate_base::Bytes;
-use recovery::{PlanFault, Settled, get_object, head_object};
 use s3_machine::{Body, MOST_BODY_BYTES, ObjectHead, Replaced, is_content_type, is_proper_meta};
 use s3_names::Meta;
 use std::alloc::Global;
@@ -17,7 +17,7 @@ use swift_calls::Swift;
 use swift_marks::is_etag;
 use upload_records::law_object_proper;
 
-/// The head of an object that is to be copied ([`recovery::head_object`]), by one call. A head with which no object can be put is
+/// The head of an object that is to be copied ([`account_calls::head_object`]), by one call. A head with which no object can be put is
 /// Inconsistent; the other faults are those of the call.
 pub(crate) fn head_source<W: Swift>(
     alloc: Global,
@@ -62,7 +62,7 @@ fn is_head_to_copy(head: &ObjectHead) -> bool
         && is_etag(head.etag.as_slice())
 }
 
-/// The bytes of an object with this head, which was put in one piece ([`recovery::get_object`]), by one call. They are hashed:
+/// The bytes of an object with this head, which was put in one piece ([`account_calls::get_object`]), by one call. They are hashed:
 /// bytes of another size or with another ETag than the head has are Inconsistent, and so is an object that is gone. The other
 /// faults are those of the call.
 pub(crate) fn get_source_to_copy<W: Swift>(

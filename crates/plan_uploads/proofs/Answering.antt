@@ -7,13 +7,13 @@ use Rattle.s3_machine.specs.declared.operation.Op.{Op}
 use Rattle.s3_machine.specs.declared.operation.Reply.{Reply}
 use Rattle.swift_calls.specs.History.{History}
 use Rattle.upload_records.specs.Native.{IsSettled}
-use Rattle.recovery.specs.declared.fault.PlanFault.{PlanFault}
-use Rattle.recovery.specs.declared.state.Known.{Known}
-use Rattle.recovery.specs.declared.state.Known.TheVariants.{Settled, Unsure}
-use Rattle.recovery.specs.Answers.{SaysBeside, beside_of, ends_by_commit, may_leave_unsure}
-use Rattle.recovery.specs.Calls.{Any, Bound, always, by_account, Given, IsWithin, Met}
-use Rattle.recovery.specs.Plan.{Answered, Plans, reply_of}
-use Rattle.recovery.proofs.lemmas.Replies.{rose_of, steady_of, consistent_of, showable_of}
+use Rattle.account_calls.specs.declared.fault.PlanFault.{PlanFault}
+use Rattle.account_calls.specs.declared.state.Known.{Known}
+use Rattle.account_calls.specs.declared.state.Known.TheVariants.{Settled, Unsure}
+use Rattle.account_calls.specs.Answers.{SaysBeside, beside_of, ends_by_commit, may_leave_unsure}
+use Rattle.account_calls.specs.Calls.{Any, Bound, always, by_account, Given, IsWithin, Met}
+use Rattle.account_calls.specs.Plan.{Answered, Plans, reply_of}
+use Rattle.account_calls.proofs.lemmas.Replies.{rose_of, steady_of, consistent_of, showable_of}
 use Rattle.plan_uploads.specs.Plans.{LeavesBeside}
 
 met_any : {h : History} → Met IsSettled h → Met (Given Any) h

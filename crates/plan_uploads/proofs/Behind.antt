@@ -25,21 +25,21 @@ use Rattle.swift_calls.specs.History.{History, budget, present, Extends, FaultFr
 use Rattle.upload_records.specs.Layout.{segments_name, segments_prefix}
 use Rattle.upload_records.specs.Native.{s3_state}
 use Rattle.upload_records.specs.Consistent.{IsConsistent}
+use Rattle.account_calls.specs.declared.fault.PlanFault.{PlanFault}
+use Rattle.account_calls.specs.declared.fault.PlanFault.TheVariants.{Failed, Memory, Inconsistent}
+use Rattle.account_calls.specs.declared.state.Known.TheVariants.{Settled}
+use Rattle.account_calls.specs.Answers.{ClearsOrFails, IsNamedBy, clears, ends_by_commit, machine, memory, named_by, pages, steps_of}
+use Rattle.account_calls.specs.Calls.{Bound, always, by_account, Asks, Becomes, ChangesTo, Commits, GivenOf, GoesOn, Keeps, Met}
+use Rattle.account_calls.specs.Plan.{CausesEnd, EndsPlan, IsOwnReply, Plans, reply_of}
+use Rattle.account_calls.specs.Purging.{MayPurge, TellsAllGone, names_under, purge_calls, under}
+use Rattle.account_calls.specs.Stutters.{Stutters, LastFailed}
+use Rattle.account_calls.proofs.lemmas.Agree.{failed_behind, passes_once, passes_rest, quiet_agree}
+use Rattle.account_calls.proofs.lemmas.Ends.{commits, met_within}
+use Rattle.account_calls.proofs.lemmas.Faults.{err_is}
+use Rattle.account_calls.proofs.lemmas.Idle.{goes_trans}
 use Rattle.upload_calls.specs.Found.{IsOpenUpload}
 use Rattle.upload_calls.specs.Records.{HasOpen, MayClear, drops_upload}
 use Rattle.upload_calls.proofs.lemmas.Opened.{has_open}
-use Rattle.recovery.specs.declared.fault.PlanFault.{PlanFault}
-use Rattle.recovery.specs.declared.fault.PlanFault.TheVariants.{Failed, Memory, Inconsistent}
-use Rattle.recovery.specs.declared.state.Known.TheVariants.{Settled}
-use Rattle.recovery.specs.Answers.{ClearsOrFails, IsNamedBy, clears, ends_by_commit, machine, memory, named_by, pages, steps_of}
-use Rattle.recovery.specs.Calls.{Bound, always, by_account, Asks, Becomes, ChangesTo, Commits, GivenOf, GoesOn, Keeps, Met}
-use Rattle.recovery.specs.Plan.{CausesEnd, EndsPlan, IsOwnReply, Plans, reply_of}
-use Rattle.recovery.specs.Purging.{MayPurge, TellsAllGone, names_under, purge_calls, under}
-use Rattle.recovery.specs.Stutters.{Stutters, LastFailed}
-use Rattle.recovery.proofs.lemmas.Agree.{failed_behind, passes_once, passes_rest, quiet_agree}
-use Rattle.recovery.proofs.lemmas.Ends.{commits, met_within}
-use Rattle.recovery.proofs.lemmas.Faults.{err_is}
-use Rattle.recovery.proofs.lemmas.Idle.{goes_trans}
 use Rattle.plan_uploads.specs.Plans.{LeavesBeside, gone_behind}
 use Rattle.plan_uploads.proofs.Beside.{met_next}
 use Rattle.plan_uploads.proofs.Steps.{aborted}

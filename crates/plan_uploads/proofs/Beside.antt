@@ -8,15 +8,15 @@ use Rattle.s3_machine.specs.declared.operation.Reply.{Reply}
 use Rattle.swift_calls.specs.Account.{SwiftAccount}
 use Rattle.swift_calls.specs.History.{History, present}
 use Rattle.upload_records.specs.Native.{s3_state}
-use Rattle.recovery.specs.declared.fault.PlanFault.{PlanFault}
-use Rattle.recovery.specs.declared.fault.PlanFault.TheVariants.{Failed, Memory, Inconsistent}
-use Rattle.recovery.specs.Answers.{Beside, IsFirstFree, SaysBeside, opens_in, upload_at}
-use Rattle.recovery.specs.Calls.{Bound, Asks, GivenOf, GoesOn, Keeps, Met}
-use Rattle.recovery.specs.Plan.{reply_of}
-use Rattle.recovery.specs.Stutters.{Stutters}
-use Rattle.recovery.proofs.lemmas.Agree.{beside_memory}
-use Rattle.recovery.proofs.lemmas.Faults.{err_is}
-use Rattle.recovery.proofs.lemmas.Idle.{none_made}
+use Rattle.account_calls.specs.declared.fault.PlanFault.{PlanFault}
+use Rattle.account_calls.specs.declared.fault.PlanFault.TheVariants.{Failed, Memory, Inconsistent}
+use Rattle.account_calls.specs.Answers.{Beside, IsFirstFree, SaysBeside, opens_in, upload_at}
+use Rattle.account_calls.specs.Calls.{Bound, Asks, GivenOf, GoesOn, Keeps, Met}
+use Rattle.account_calls.specs.Plan.{reply_of}
+use Rattle.account_calls.specs.Stutters.{Stutters}
+use Rattle.account_calls.proofs.lemmas.Agree.{beside_memory}
+use Rattle.account_calls.proofs.lemmas.Faults.{err_is}
+use Rattle.account_calls.proofs.lemmas.Idle.{none_made}
 use Rattle.plan_uploads.specs.Plans.{LeavesBeside}
 
 -- no call was made, and memory ran out

@@ -16,16 +16,16 @@ use Rattle.swift_calls.specs.History.{History, present}
 use Rattle.upload_texts.specs.declared.sealed.Sealed.{Sealed}
 use Rattle.upload_records.specs.Consistent.{IsConsistent}
 use Rattle.upload_records.specs.Native.{s3_state}
+use Rattle.account_calls.specs.declared.fault.PlanFault.{PlanFault}
+use Rattle.account_calls.specs.declared.fault.PlanFault.TheVariants.{Memory}
+use Rattle.account_calls.specs.declared.state.Known.{Known}
+use Rattle.account_calls.specs.Calls.{Asks, Bound, GivenOf, Met, always}
+use Rattle.account_calls.specs.Listing.{TellsOf}
+use Rattle.account_calls.specs.Plan.{IsOwnReply, Plans}
+use Rattle.account_calls.proofs.lemmas.Ends.{IsBoth, IsWider, goes_on_from, out_of_memory}
+use Rattle.account_calls.proofs.lemmas.Faults.{err_is}
+use Rattle.account_calls.proofs.lemmas.Idle.{grows_none, none_made}
 use Rattle.upload_calls.proofs.lemmas.Asking.{asked_in_vain, asked_reply}
-use Rattle.recovery.specs.declared.fault.PlanFault.{PlanFault}
-use Rattle.recovery.specs.declared.fault.PlanFault.TheVariants.{Memory}
-use Rattle.recovery.specs.declared.state.Known.{Known}
-use Rattle.recovery.specs.Calls.{Asks, Bound, GivenOf, Met, always}
-use Rattle.recovery.specs.Listing.{TellsOf}
-use Rattle.recovery.specs.Plan.{IsOwnReply, Plans}
-use Rattle.recovery.proofs.lemmas.Ends.{IsBoth, IsWider, goes_on_from, out_of_memory}
-use Rattle.recovery.proofs.lemmas.Faults.{err_is}
-use Rattle.recovery.proofs.lemmas.Idle.{grows_none, none_made}
 use Rattle.plan_uploads.specs.declared.complete.Completing.{Completing}
 use Rattle.plan_uploads.specs.Completing.{MayComplete, answered_by, end_in, known_in}
 

@@ -35,8 +35,8 @@ use Rattle.upload_texts.specs.declared.sealed.SealedPart.{SealedPart}
 use Rattle.upload_records.specs.Layout.{segments_name, uploads_name}
 use Rattle.upload_records.specs.Native.{listed_of, part_at, parts_of, record_at, record_of, s3_state}
 use Rattle.upload_records.specs.Consistent.{Agrees, IsConsistent, SealedIn}
+use Rattle.account_calls.specs.Listing.{TellsOf}
 use Rattle.upload_calls.specs.Records.{TellsParts, items_above}
-use Rattle.recovery.specs.Listing.{TellsOf}
 use Rattle.plan_uploads.specs.declared.completed.Opened.{Opened}
 use Rattle.plan_uploads.specs.Completing.{Ascend, HasParts, IsOpenAs, MayComplete, by_number, completion_of, finishes, has_small_chosen_part, listed_parts}
 use Rattle.plan_uploads.proofs.ByNumber.{all_listed, found_by_number, items_ascend}

@@ -19,17 +19,17 @@ use Rattle.swift_calls.specs.Account.{SwiftAccount, files}
 use Rattle.swift_calls.specs.History.{History, present}
 use Rattle.upload_records.specs.Layout.{segments_name, uploads_name}
 use Rattle.upload_records.specs.Native.{bucket_from, kept_by, record_of, s3_state, upload_by}
+use Rattle.account_calls.specs.declared.fault.PlanFault.{PlanFault}
+use Rattle.account_calls.specs.declared.fault.PlanFault.TheVariants.{Failed, Memory, Inconsistent}
+use Rattle.account_calls.specs.Answers.{IsFirstFree, SaysBeside, opens_in, upload_at}
+use Rattle.account_calls.specs.Calls.{Bound, always, Asks, Becomes, Changes, Commits, Given, GivenOf, TellsBucket, Writes}
+use Rattle.account_calls.specs.Listing.{TellsOf}
+use Rattle.account_calls.specs.Plan.{reply_of}
+use Rattle.account_calls.proofs.lemmas.Ends.{met_within}
+use Rattle.account_calls.proofs.lemmas.Ask.{asks_told}
 use Rattle.upload_calls.specs.Records.{InBucket, MayOpen, TellsFree, opens_upload}
 use Rattle.upload_calls.proofs.lemmas.Free.{unused}
 use Rattle.upload_calls.proofs.lemmas.Finding.{bucket_there, in_bucket_of, kept_is, there_of, upload_is}
-use Rattle.recovery.specs.declared.fault.PlanFault.{PlanFault}
-use Rattle.recovery.specs.declared.fault.PlanFault.TheVariants.{Failed, Memory, Inconsistent}
-use Rattle.recovery.specs.Answers.{IsFirstFree, SaysBeside, opens_in, upload_at}
-use Rattle.recovery.specs.Calls.{Bound, always, Asks, Becomes, Changes, Commits, Given, GivenOf, TellsBucket, Writes}
-use Rattle.recovery.specs.Listing.{TellsOf}
-use Rattle.recovery.specs.Plan.{reply_of}
-use Rattle.recovery.proofs.lemmas.Ends.{met_within}
-use Rattle.recovery.proofs.lemmas.Ask.{asks_told}
 use Rattle.plan_uploads.specs.Plans.{LeavesBeside, MayStart}
 use Rattle.plan_uploads.proofs.Beside.{opens_nothing}
 

@@ -15,19 +15,19 @@ use Rattle.swift_calls.specs.Account.{SwiftAccount}
 use Rattle.swift_calls.specs.History.{History, present}
 use Rattle.upload_texts.specs.declared.sealed.Sealed.{Sealed}
 use Rattle.upload_records.specs.Native.{IsSettled, s3_state}
-use Rattle.recovery.specs.Answers.{ends_by_commit, machine, memory, steps_of, unavailable}
-use Rattle.recovery.specs.Calls.{always, Asks, Becomes, Commits, CommitsUntold, GivenOf, Keeps, Met, Writes}
-use Rattle.recovery.specs.Fault.{CausesFault}
-use Rattle.recovery.specs.Plan.{CausesEnd, EndsPlan, IsOwnReply, Plans, reply_of}
+use Rattle.account_calls.specs.Answers.{ends_by_commit, machine, memory, steps_of, unavailable}
+use Rattle.account_calls.specs.Calls.{always, Asks, Becomes, Commits, CommitsUntold, GivenOf, Keeps, Met, Writes}
+use Rattle.account_calls.specs.Fault.{CausesFault}
+use Rattle.account_calls.specs.Plan.{CausesEnd, EndsPlan, IsOwnReply, Plans, reply_of}
+use Rattle.account_calls.specs.Known.{IsKnown}
+use Rattle.account_calls.specs.Stutters.{LastFailed, Stutters}
+use Rattle.account_calls.specs.declared.fault.PlanFault.{PlanFault}
+use Rattle.account_calls.specs.declared.fault.PlanFault.TheVariants.{Failed, Memory, Inconsistent}
+use Rattle.account_calls.specs.declared.state.Known.TheVariants.{Settled, Unsure}
+use Rattle.account_calls.proofs.lemmas.Agree.{last_within, passes_once, passes_rest, passes_still}
+use Rattle.account_calls.proofs.lemmas.Ends.{met_within}
+use Rattle.account_calls.proofs.lemmas.Idle.{goes_trans}
 use Rattle.recovery.specs.Rolls.{IsSealed, Leaves, LeavesClear}
-use Rattle.recovery.specs.Settling.{IsKnown}
-use Rattle.recovery.specs.Stutters.{LastFailed, Stutters}
-use Rattle.recovery.specs.declared.fault.PlanFault.{PlanFault}
-use Rattle.recovery.specs.declared.fault.PlanFault.TheVariants.{Failed, Memory, Inconsistent}
-use Rattle.recovery.specs.declared.state.Known.TheVariants.{Settled, Unsure}
-use Rattle.recovery.proofs.lemmas.Agree.{last_within, passes_once, passes_rest, passes_still}
-use Rattle.recovery.proofs.lemmas.Ends.{met_within}
-use Rattle.recovery.proofs.lemmas.Idle.{goes_trans}
 use Rattle.plan_uploads.specs.Completing.{CompletesBy, MaySeal, Seals, end_complete_upload_sealed, finishes}
 use Rattle.plan_uploads.specs.declared.complete.Completing.{Completing}
 use Rattle.plan_uploads.proofs.Behind.{commits_agree}

@@ -24,12 +24,12 @@ use Rattle.upload_texts.specs.declared.record.Record.TheVariants.{Open, Done}
 use Rattle.upload_records.specs.Layout.{segments_name, uploads_name}
 use Rattle.upload_records.specs.Native.{IsSettled, bucket_from, kept_by, record_at, s3_state}
 use Rattle.upload_records.specs.Consistent.{IsConsistent, IsThere}
+use Rattle.account_calls.specs.Answers.{named_by}
+use Rattle.account_calls.specs.Calls.{LacksBucket}
+use Rattle.account_calls.specs.Listing.{TellsOf}
 use Rattle.upload_calls.specs.Found.{LacksUpload}
 use Rattle.upload_calls.specs.Records.{ReadsId}
 use Rattle.upload_calls.proofs.lemmas.Finding.{bucket_there, kept_is, no_record, no_upload}
-use Rattle.recovery.specs.Answers.{named_by}
-use Rattle.recovery.specs.Calls.{LacksBucket}
-use Rattle.recovery.specs.Listing.{TellsOf}
 use Rattle.plan_uploads.specs.declared.completed.Opened.{Opened}
 use Rattle.plan_uploads.specs.declared.completed.ToComplete.{ToComplete}
 use Rattle.plan_uploads.specs.declared.completed.ToComplete.TheVariants as found

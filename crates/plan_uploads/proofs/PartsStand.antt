@@ -25,7 +25,7 @@ use Rattle.upload_records.specs.Layout.{segment_name, segments_name}
 use Rattle.upload_records.specs.Native.{part_at, part_by, part_bytes, part_of, parts_of, sealed_bytes}
 use Rattle.upload_records.specs.Consistent.{AreSealedParts, IsConsistent, IsSegment, IsThere, is_part}
 use Rattle.upload_records.specs.Laws as laws
-use Rattle.recovery.proofs.lemmas.Etags.{part_etag}
+use Rattle.account_calls.proofs.lemmas.Etags.{part_etag}
 use Rattle.plan_uploads.proofs.ChosenParts.{Chooses, Names, Row, part_in, sealed_in}
 
 -- a part of a number stands in a file

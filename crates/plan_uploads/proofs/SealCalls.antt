@@ -22,19 +22,19 @@ use Rattle.upload_records.specs.Native.{seal_of, s3_state}
 use Rattle.upload_records.specs.Consistent.{IsConsistent, IsStored}
 use Rattle.upload_records.specs.Laws.{CompletionSealed, SealsCompletion, file_put}
 use Rattle.upload_records.proofs.lemmas.Settled.{unsealed_of}
-use Rattle.recovery.specs.Calls.{always, Becomes, Commits, GivenOf, Met, Writes}
-use Rattle.recovery.specs.Fault.{plan_fault}
-use Rattle.recovery.specs.Interpret.{stored_due}
+use Rattle.account_calls.specs.Calls.{always, Becomes, Commits, GivenOf, Met, Writes}
+use Rattle.account_calls.specs.Fault.{plan_fault}
+use Rattle.account_calls.specs.Interpret.{stored_due}
+use Rattle.account_calls.specs.declared.fault.PlanFault.{PlanFault}
+use Rattle.account_calls.specs.declared.fault.PlanFault.TheVariants.{Failed, Memory, Inconsistent}
+use Rattle.account_calls.proofs.lemmas.Causes.{due_cause}
+use Rattle.account_calls.proofs.lemmas.Etags.{etag_agrees}
+use Rattle.account_calls.proofs.lemmas.Faults.{err_is}
+use Rattle.account_calls.proofs.lemmas.Idle.{grows_none, none_made, stays}
+use Rattle.account_calls.proofs.lemmas.Markers.{folder_is_marker, text_is_marker}
+use Rattle.account_calls.proofs.lemmas.One.{Effect, fault_cause, found, grows_one, lost_last, spent_last, stays_so}
+use Rattle.account_calls.proofs.lemmas.SideNames.{file_name}
 use Rattle.recovery.specs.Rolls.{HasGateway, IsSealed, KeepsGateway}
-use Rattle.recovery.specs.declared.fault.PlanFault.{PlanFault}
-use Rattle.recovery.specs.declared.fault.PlanFault.TheVariants.{Failed, Memory, Inconsistent}
-use Rattle.recovery.proofs.lemmas.Causes.{due_cause}
-use Rattle.recovery.proofs.lemmas.Etags.{etag_agrees}
-use Rattle.recovery.proofs.lemmas.Faults.{err_is}
-use Rattle.recovery.proofs.lemmas.Idle.{grows_none, none_made, stays}
-use Rattle.recovery.proofs.lemmas.Markers.{folder_is_marker, text_is_marker}
-use Rattle.recovery.proofs.lemmas.One.{Effect, fault_cause, found, grows_one, lost_last, spent_last, stays_so}
-use Rattle.recovery.proofs.lemmas.SideNames.{file_name}
 use Rattle.plan_uploads.specs.Completing.{MaySeal, Seals, finishes, most_sealed_text, put_sealed_text}
 
 -- ---- the place of what is sealed

@@ -7,7 +7,7 @@ use Rattle.s3_machine.specs.ETag.{body_etag}
 use Rattle.s3_machine.specs.Uploads.{digest_in, upload_etag}
 use Rattle.swift_marks.specs.Tag as mark
 use Rattle.swift_marks.proofs.lemmas.FieldLaws.{etag_of_parts}
-use Rattle.recovery.proofs.lemmas.Etags.{etag_digits, etag_length}
+use Rattle.account_calls.proofs.lemmas.Etags.{etag_digits, etag_length}
 
 pub completion_etag : (etags : List (List ℕ)) → 1 ≤ length etags → length etags ≤ 10000 → mark.is_etag (upload_etag etags) ≡ true
 unfolding upload_etag body_etag

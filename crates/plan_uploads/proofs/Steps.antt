@@ -25,13 +25,13 @@ use Rattle.s3_machine.proofs.lemmas.StepLemmas.{steps, in_missing, in_found, ste
 use Rattle.swift_calls.specs.Account.{SwiftAccount, files}
 use Rattle.upload_records.specs.Layout.{segments_name, uploads_name}
 use Rattle.upload_records.specs.Native.{bucket_from, parts_of, s3_state}
+use Rattle.account_calls.specs.Calls.{LacksBucket, TellsBucket}
+use Rattle.account_calls.specs.Plan.{IsOwnReply}
 use Rattle.upload_calls.specs.Found.{IsOpenUpload, LacksUpload}
 use Rattle.upload_calls.specs.Records.{TellsParts, TellsUploads, opens_upload, uploads_in}
 use Rattle.upload_calls.specs.Records as records
 use Rattle.upload_calls.proofs.lemmas.Finding.{bucket_there, has_upload, no_upload}
 use Rattle.upload_calls.proofs.lemmas.Opened.{bucket_by}
-use Rattle.recovery.specs.Calls.{LacksBucket, TellsBucket}
-use Rattle.recovery.specs.Plan.{IsOwnReply}
 use Rattle.plan_uploads.specs.Plans.{parts_told, uploads_told}
 
 -- ---- the bucket is missing

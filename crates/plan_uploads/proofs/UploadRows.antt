@@ -28,16 +28,16 @@ use Rattle.upload_texts.specs.declared.record.Record.TheVariants.{Open}
 use Rattle.upload_texts.proofs.lemmas.Back.{record_has_one}
 use Rattle.upload_records.specs.Layout.{uploads_name}
 use Rattle.upload_records.specs.Native.{record_of, record_at, IsSettled}
+use Rattle.account_calls.specs.declared.fault.PlanFault.{PlanFault}
+use Rattle.account_calls.specs.declared.fault.PlanFault.TheVariants as plan
+use Rattle.account_calls.specs.Calls.{always, Asks, GivenOf, GoesOn, Met}
+use Rattle.account_calls.specs.Listing.{TellsOf}
+use Rattle.account_calls.proofs.lemmas.Ask.{asks_out_of_memory, asks_told}
+use Rattle.account_calls.proofs.lemmas.Faults.{err_is}
+use Rattle.account_calls.proofs.lemmas.Idle.{goes_none, goes_trans}
+use Rattle.account_calls.proofs.lemmas.Walk.{Idles, idles_none, idles_trans, cause_after, keeps_after}
 use Rattle.upload_calls.specs.Records.{InBucket, TellsRecord}
 use Rattle.upload_calls.proofs.lemmas.Taking.{met_after, same_after}
-use Rattle.recovery.specs.declared.fault.PlanFault.{PlanFault}
-use Rattle.recovery.specs.declared.fault.PlanFault.TheVariants as plan
-use Rattle.recovery.specs.Calls.{always, Asks, GivenOf, GoesOn, Met}
-use Rattle.recovery.specs.Listing.{TellsOf}
-use Rattle.recovery.proofs.lemmas.Ask.{asks_out_of_memory, asks_told}
-use Rattle.recovery.proofs.lemmas.Faults.{err_is}
-use Rattle.recovery.proofs.lemmas.Idle.{goes_none, goes_trans}
-use Rattle.recovery.proofs.lemmas.Walk.{Idles, idles_none, idles_trans, cause_after, keeps_after}
 use Rattle.plan_uploads.specs.declared.listed_uploads.AskedUploads.{AskedUploads}
 use Rattle.plan_uploads.specs.Listing.{added, added_if, row_due, row_of_record, AddsRow, AllShown, TellsRow, TellsRows}
 

@@ -26,22 +26,22 @@ use Rattle.upload_records.specs.Consistent.{IsConsistent, IsThere}
 use Rattle.upload_records.proofs.lemmas.Plain.{get_plain}
 use Rattle.upload_records.proofs.lemmas.Settled.{unsealed_of, s3_state_unsealed}
 use Rattle.list_pages.proofs.lemmas.PickedEntries.{entries_picked}
+use Rattle.account_calls.specs.declared.fault.PlanFault.{PlanFault}
+use Rattle.account_calls.specs.declared.fault.PlanFault.TheVariants.{Failed, Memory, Inconsistent}
+use Rattle.account_calls.specs.Answers.{pages, records_of}
+use Rattle.account_calls.specs.Calls.{Bound, always, by_account, Asks, GivenOf, Keeps, Met, Tells}
+use Rattle.account_calls.specs.Fault.{CausesFault}
+use Rattle.account_calls.specs.FilePages.{item_at, rows_after}
+use Rattle.account_calls.specs.Listing.{TellsOf}
+use Rattle.account_calls.proofs.lemmas.Faults.{err_is}
+use Rattle.account_calls.proofs.lemmas.Idle.{goes_trans, grows_none, none_made}
+use Rattle.account_calls.proofs.lemmas.Markers.{IsEntry, entries_are}
+use Rattle.account_calls.proofs.lemmas.Walk.{Idles, idles_trans, cause_after, keeps_after}
 use Rattle.upload_calls.specs.Listing.{id_due, ids_in, TellsIds}
 use Rattle.upload_calls.specs.Records.{InBucket, TellsUploads, uploads_in}
 use Rattle.upload_calls.proofs.lemmas.PartWalk.{cut_none}
 use Rattle.upload_calls.proofs.lemmas.RecordIds.{rows_within}
 use Rattle.upload_calls.proofs.lemmas.Taking.{met_after, same_after}
-use Rattle.recovery.specs.declared.fault.PlanFault.{PlanFault}
-use Rattle.recovery.specs.declared.fault.PlanFault.TheVariants.{Failed, Memory, Inconsistent}
-use Rattle.recovery.specs.Answers.{pages, records_of}
-use Rattle.recovery.specs.Calls.{Bound, always, by_account, Asks, GivenOf, Keeps, Met, Tells}
-use Rattle.recovery.specs.Fault.{CausesFault}
-use Rattle.recovery.specs.FilePages.{item_at, rows_after}
-use Rattle.recovery.specs.Listing.{TellsOf}
-use Rattle.recovery.proofs.lemmas.Faults.{err_is}
-use Rattle.recovery.proofs.lemmas.Idle.{goes_trans, grows_none, none_made}
-use Rattle.recovery.proofs.lemmas.Markers.{IsEntry, entries_are}
-use Rattle.recovery.proofs.lemmas.Walk.{Idles, idles_trans, cause_after, keeps_after}
 use Rattle.plan_uploads.specs.declared.listed_uploads.AskedUploads.{AskedUploads}
 use Rattle.plan_uploads.specs.Listing.{row_due, row_of_record, AllShown, TellsListed, TellsRows}
 

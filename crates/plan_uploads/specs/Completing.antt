@@ -30,16 +30,16 @@ use Rattle.upload_texts.specs.declared.sealed.SealedPart.{SealedPart}
 use Rattle.upload_records.specs.Layout.{gateway_name, sealed_name, segments_name, uploads_name}
 use Rattle.upload_records.specs.Native.{IsSettled, finished_from, kept_by, parts_of, record_at, s3_state}
 use Rattle.upload_records.specs.Consistent.{IsThere, SealedIn}
+use Rattle.account_calls.specs.Answers.{may_be_sealed}
+use Rattle.account_calls.specs.Calls.{always, Becomes, GivenOf, Grows, LacksBucket, Met, Writes}
+use Rattle.account_calls.specs.Fault.{CausesFault}
+use Rattle.account_calls.specs.Plan.{reply_of}
+use Rattle.account_calls.specs.declared.fault.PlanFault.{PlanFault}
+use Rattle.account_calls.specs.declared.fault.PlanFault.TheVariants.{Failed, Memory, Inconsistent}
+use Rattle.account_calls.specs.declared.state.Known.{Known}
+use Rattle.account_calls.specs.declared.state.Known.TheVariants as known
 use Rattle.upload_calls.specs.Records.{items_above}
-use Rattle.recovery.specs.Answers.{may_be_sealed}
-use Rattle.recovery.specs.Calls.{always, Becomes, GivenOf, Grows, LacksBucket, Met, Writes}
-use Rattle.recovery.specs.Fault.{CausesFault}
-use Rattle.recovery.specs.Plan.{reply_of}
 use Rattle.recovery.specs.Rolls.{IsSealed, KeepsGateway}
-use Rattle.recovery.specs.declared.fault.PlanFault.{PlanFault}
-use Rattle.recovery.specs.declared.fault.PlanFault.TheVariants.{Failed, Memory, Inconsistent}
-use Rattle.recovery.specs.declared.state.Known.{Known}
-use Rattle.recovery.specs.declared.state.Known.TheVariants as known
 use Rattle.plan_uploads.specs.declared.completed.Opened.{Opened}
 use Rattle.plan_uploads.specs.declared.completed.ToComplete.{ToComplete}
 use Rattle.plan_uploads.specs.declared.completed.ToComplete.TheVariants as found

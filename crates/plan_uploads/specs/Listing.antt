@@ -15,9 +15,9 @@ use Rattle.upload_texts.specs.declared.record.Record.{Record}
 use Rattle.upload_texts.specs.declared.record.Record.TheVariants.{Open, Done}
 use Rattle.upload_records.specs.Layout.{uploads_name}
 use Rattle.upload_records.specs.Native.{record_at}
+use Rattle.account_calls.specs.declared.fault.PlanFault.{PlanFault}
+use Rattle.account_calls.specs.declared.fault.PlanFault.TheVariants.{Failed, Memory, Inconsistent}
 use Rattle.upload_calls.specs.Listing.{ids_in}
-use Rattle.recovery.specs.declared.fault.PlanFault.{PlanFault}
-use Rattle.recovery.specs.declared.fault.PlanFault.TheVariants.{Failed, Memory, Inconsistent}
 use Rattle.plan_uploads.specs.declared.listed_uploads.AskedUploads.{AskedUploads}
 
 -- the row of an open upload, where it is listed, at its place

@@ -12,11 +12,11 @@ use Rattle.swift_calls.specs.Account.{SwiftAccount}
 use Rattle.swift_calls.specs.History.{History}
 use Rattle.upload_records.specs.Native.{IsSettled, s3_state}
 use Rattle.upload_records.specs.Consistent.{IsThere}
-use Rattle.recovery.specs.declared.fault.PlanFault.{PlanFault}
-use Rattle.recovery.specs.declared.fault.PlanFault.TheVariants.{Failed, Memory, Inconsistent}
-use Rattle.recovery.specs.Answers.{Beside, IsFirstFree, SaysBeside}
-use Rattle.recovery.specs.Calls.{Met, TellsBucket}
-use Rattle.recovery.specs.Plan.{reply_of}
+use Rattle.account_calls.specs.declared.fault.PlanFault.{PlanFault}
+use Rattle.account_calls.specs.declared.fault.PlanFault.TheVariants.{Failed, Memory, Inconsistent}
+use Rattle.account_calls.specs.Answers.{Beside, IsFirstFree, SaysBeside}
+use Rattle.account_calls.specs.Calls.{Met, TellsBucket}
+use Rattle.account_calls.specs.Plan.{reply_of}
 
 -- ---- an upload that is created
 

@@ -3,14 +3,14 @@ ghost use Rattle.std.specs.Prelude.{◌≡◌, true};
 ghost use Rattle.s3_names.specs.Bucket.{is_bucket};
 ghost use Rattle.s3_names.specs.Id.{id_digits};
 ghost use Rattle.upload_records.specs.Native.{IsSettled};
+ghost use Rattle.account_calls.specs.Calls.{always, Asks, GivenOf};
+ghost use Rattle.account_calls.specs.Lent.{Stays};
+ghost use Rattle.account_calls.specs.Listing.{TellsOf};
 ghost use Rattle.upload_calls.specs.Records.{InBucket};
-ghost use Rattle.recovery.specs.Calls.{always, Asks, GivenOf};
-ghost use Rattle.recovery.specs.Lent.{Stays};
-ghost use Rattle.recovery.specs.Listing.{TellsOf};
 ghost use Rattle.plan_uploads.specs.Completing.{TellsToComplete, done_by, opened_by, to_complete_by};
 
+use account_calls::{PlanFault, Settled, head_bucket};
 use gate_base::Bytes;
-use recovery::{PlanFault, Settled, head_bucket};
 use s3_machine::{Listed, same_list};
 use s3_names::Meta;
 use std::alloc::Global;

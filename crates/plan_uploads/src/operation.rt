@@ -2,11 +2,11 @@
 ghost use Rattle.std.specs.Prelude.{◌≡◌, true};
 ghost use Rattle.s3_machine.specs.Step.{IsProper};
 ghost use Rattle.swift_calls.specs.History.{present};
-ghost use Rattle.recovery.specs.Answers.{beside_of, is_upload, most_calls};
-ghost use Rattle.recovery.specs.declared.state.Known.TheVariants as known;
-ghost use Rattle.recovery.specs.Calls.{Any, Given};
-ghost use Rattle.recovery.specs.Lent.{Stays};
-ghost use Rattle.recovery.specs.Plan.{reply_of, Plans, Answered};
+ghost use Rattle.account_calls.specs.Answers.{beside_of, is_upload, most_calls};
+ghost use Rattle.account_calls.specs.declared.state.Known.TheVariants as known;
+ghost use Rattle.account_calls.specs.Calls.{Any, Given};
+ghost use Rattle.account_calls.specs.Lent.{Stays};
+ghost use Rattle.account_calls.specs.Plan.{reply_of, Plans, Answered};
 ghost use Rattle.plan_uploads.specs.Completing.{end_in, known_in};
 ghost use Rattle.plan_uploads.specs.Plans.{LeavesBeside};
 
@@ -15,8 +15,8 @@ use crate::complete::{Completing, complete_upload};
 use crate::create::create_upload;
 use crate::part::upload_part;
 use crate::uploads::{plan_list_parts, plan_list_uploads};
+use account_calls::{Known, PlanFault, Settled, reply_of, taken_text};
 use gate_base::{Bytes, drop};
-use recovery::{Known, PlanFault, Settled, reply_of, taken_text};
 use s3_machine::{Body, Label, Op, Reply};
 use s3_names::Meta;
 use std::alloc::Global;

@@ -5,14 +5,15 @@ ghost use Rattle.s3_machine.specs.declared.operation.Listed.{Listed};
 ghost use Rattle.s3_machine.specs.declared.operation.Op.TheVariants.{CompleteUpload};
 ghost use Rattle.swift_calls.specs.Step.{Fit};
 ghost use Rattle.upload_texts.specs.Sealed.{has_sealed_text};
-ghost use Rattle.recovery.specs.Calls.{always, GivenOf};
-ghost use Rattle.recovery.specs.Lent.{Stays};
-ghost use Rattle.recovery.specs.Plan.{Plans};
+ghost use Rattle.account_calls.specs.Calls.{always, GivenOf};
+ghost use Rattle.account_calls.specs.Lent.{Stays};
+ghost use Rattle.account_calls.specs.Plan.{Plans};
 ghost use Rattle.plan_uploads.specs.Completing.{CompletesBy, LeavesUnsureOnly, Seals, end_complete_upload_sealed, most_sealed_text, put_sealed_text};
 
 use crate::complete::Completing;
+use account_calls::{Known, PlanFault, Settled, interpret_put_with_etag};
 use gate_base::{Bytes, List, Memory, drop};
-use recovery::{Known, PlanFault, Settled, interpret_put_with_etag};
+use recovery::roll_forward_held;
 use s3_machine::{Reply, body_etag};
 use std::alloc::Global;
 use swift_calls::{Swift, SwiftRequest};
@@ -80,7 +81,7 @@ pub(crate) fn seal_and_finish<W: Swift>(
     ensures unsure { LeavesUnsureOnly (Ok result) }
 {
     match seal(alloc, state, sealed) {
-        Ok(()) => end_complete_upload_sealed(state.roll_forward(alloc, sealed), reply),
+        Ok(()) => end_complete_upload_sealed(roll_forward_held(alloc, state, sealed), reply),
         Err(fault) => {
             drop(reply);
             Completing {

@@ -33,10 +33,10 @@ use Rattle.s3_machine.proofs.lemmas.StepLemmas.{
 }
 use Rattle.upload_records.specs.Native.{object_at}
 use Rattle.s3_machine.specs.declared.items.BucketItem.{BucketItem}
-use Rattle.recovery.specs.Listing.{TellsBuckets}
-use Rattle.recovery.specs.Calls.{TellsBucket, TellsObject, DropsBucket, SetsAcl}
-use Rattle.recovery.specs.declared.bucket.Dropped.{Dropped}
-use Rattle.recovery.specs.declared.bucket.Dropped.TheVariants.{Gone, Full, Missing}
+use Rattle.account_calls.specs.Listing.{TellsBuckets}
+use Rattle.account_calls.specs.Calls.{TellsBucket, TellsObject, DropsBucket, SetsAcl}
+use Rattle.account_calls.specs.declared.bucket.Dropped.{Dropped}
+use Rattle.account_calls.specs.declared.bucket.Dropped.TheVariants.{Gone, Full, Missing}
 use Rattle.planner.specs.Buckets.{dropped_reply, set_reply}
 use Rattle.planner.proofs.CreateBucket.{missing_of}
 use Rattle.planner.proofs.Steps.{bucket_by, no_object, object_by_head}

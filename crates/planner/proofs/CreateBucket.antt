@@ -12,7 +12,7 @@ use Rattle.s3_machine.specs.declared.operation.Reply.TheVariants.{Refused, Made}
 use Rattle.s3_machine.specs.State.{Bucket, State}
 use Rattle.s3_machine.specs.Step.{S3Step}
 use Rattle.s3_machine.proofs.lemmas.StepLemmas.{step_made, step_owned}
-use Rattle.recovery.specs.Calls.{LacksBucket, TellsBucket, acl_of_bucket, makes_bucket}
+use Rattle.account_calls.specs.Calls.{LacksBucket, TellsBucket, acl_of_bucket, makes_bucket}
 
 none_of : (o : Option Bucket) → option_map acl_of_bucket o ≡ None → o ≡ None
 none_of None e = refl

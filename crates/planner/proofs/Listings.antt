@@ -24,14 +24,14 @@ use Rattle.swift_calls.specs.History.{History, present}
 use Rattle.upload_records.specs.Native.{IsSettled, s3_state}
 use Rattle.list_pages.specs.Rolling.{first_rows}
 use Rattle.list_pages.specs.Rolls.{rows_of, wanted}
-use Rattle.recovery.specs.Calls.{always, by_account, Asks, GivenOf, Tells, TellsBucket}
-use Rattle.recovery.specs.Keys.{objects_in, TellsListing}
-use Rattle.recovery.specs.declared.fault.PlanFault.{PlanFault}
-use Rattle.recovery.specs.declared.state.Known.{Known}
+use Rattle.account_calls.specs.Calls.{always, by_account, Asks, GivenOf, Tells, TellsBucket}
+use Rattle.account_calls.specs.Keys.{objects_in, TellsListing}
+use Rattle.account_calls.specs.declared.fault.PlanFault.{PlanFault}
+use Rattle.account_calls.specs.declared.state.Known.{Known}
+use Rattle.account_calls.specs.Plan.{IsOwnReply, Plans}
+use Rattle.account_calls.proofs.lemmas.Ends.{met_settled, after_told, goes_on_from}
 use Rattle.planner.specs.Listing.{objects_reply}
-use Rattle.recovery.specs.Plan.{IsOwnReply, Plans}
 use Rattle.planner.proofs.CreateBucket.{missing_of}
-use Rattle.recovery.proofs.lemmas.Ends.{met_settled, after_told, goes_on_from}
 use Rattle.planner.proofs.Steps.{bucket_by}
 
 -- ---- the steps

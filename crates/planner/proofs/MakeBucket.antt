@@ -21,15 +21,15 @@ use Rattle.upload_records.specs.Layout.{uploads_name, segments_name}
 use Rattle.upload_records.specs.Native.{IsSettled, s3_state}
 use Rattle.upload_records.specs.Consistent.{IsBeside}
 use Rattle.upload_records.proofs.lemmas.SideCalls.{sides_apart}
-use Rattle.recovery.specs.declared.fault.PlanFault.{PlanFault}
-use Rattle.recovery.specs.declared.state.Known.TheVariants.{Settled}
-use Rattle.recovery.specs.Answers.{pages, most_calls}
-use Rattle.recovery.specs.Calls.{Bound, always, by_account, Any, Met, Given, GivenOf, Asks, LacksBucket, Tells, TellsBucket}
-use Rattle.recovery.specs.Plan.{Plans}
-use Rattle.recovery.specs.Purging.{is_beside_none, under, MakesContainer, MayMake, MayPurge, Purges, TellsAllGone, purge_calls}
-use Rattle.recovery.proofs.lemmas.Ends.{IsWider, calls_in_vain, goes_on_from, met_settled}
-use Rattle.recovery.proofs.lemmas.Quiet.{asks_same_state, asks_untold}
-use Rattle.recovery.proofs.lemmas.Removal.{all_after_none}
+use Rattle.account_calls.specs.declared.fault.PlanFault.{PlanFault}
+use Rattle.account_calls.specs.declared.state.Known.TheVariants.{Settled}
+use Rattle.account_calls.specs.Answers.{pages, most_calls}
+use Rattle.account_calls.specs.Calls.{Bound, always, by_account, Any, Met, Given, GivenOf, Asks, LacksBucket, Tells, TellsBucket}
+use Rattle.account_calls.specs.Plan.{Plans}
+use Rattle.account_calls.specs.Purging.{is_beside_none, under, MakesContainer, MayMake, MayPurge, Purges, TellsAllGone, purge_calls}
+use Rattle.account_calls.proofs.lemmas.Ends.{IsWider, calls_in_vain, goes_on_from, met_settled}
+use Rattle.account_calls.proofs.lemmas.Quiet.{asks_same_state, asks_untold}
+use Rattle.account_calls.proofs.lemmas.Removal.{all_after_none}
 use Rattle.planner.specs.Buckets.{emptying, HasUploads, HasSides, HasBareUploads}
 use Rattle.planner.proofs.CreateBucket.{missing_of}
 

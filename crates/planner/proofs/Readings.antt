@@ -29,11 +29,11 @@ use Rattle.s3_machine.proofs.lemmas.Reading.{IsWithin, Fits, judged_fits}
 use Rattle.s3_machine.proofs.lemmas.StepLemmas.{get_without_bucket, head_without_bucket, get_denied, head_denied, get_without_key, head_without_key, step_read, step_headed}
 use Rattle.swift_calls.specs.Bodies.{ranged}
 use Rattle.upload_records.specs.Native.{object_at}
-use Rattle.recovery.specs.Calls.{TellsBucket, TellsObject, TellsBytes, HasObject, bytes_in}
-use Rattle.recovery.specs.Interpret.{IsShownHead}
-use Rattle.recovery.specs.declared.fault.PlanFault.TheVariants.{Inconsistent}
+use Rattle.account_calls.specs.Calls.{TellsBucket, TellsObject, TellsBytes, HasObject, bytes_in}
+use Rattle.account_calls.specs.Interpret.{IsShownHead}
+use Rattle.account_calls.specs.declared.fault.PlanFault.TheVariants.{Inconsistent}
+use Rattle.account_calls.specs.Plan.{IsOwnReply}
 use Rattle.planner.specs.Objects.{TellsReadable, headed_reply, part_end, range_of}
-use Rattle.recovery.specs.Plan.{IsOwnReply}
 use Rattle.planner.proofs.CreateBucket.{missing_of}
 use Rattle.planner.proofs.Steps.{bucket_by, no_object, object_by_head}
 

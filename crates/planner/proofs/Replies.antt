@@ -5,10 +5,10 @@ use Rattle.s3_machine.specs.declared.operation.Reply.TheVariants.{Refused, Made,
 use Rattle.std.specs.List.{All}
 use Rattle.s3_machine.specs.declared.items.BucketItem.{BucketItem}
 use Rattle.s3_machine.specs.Shown.{IsShownBucket}
-use Rattle.recovery.specs.declared.bucket.Dropped.{Dropped}
-use Rattle.recovery.specs.declared.bucket.Dropped.TheVariants.{Gone, Full, Missing}
+use Rattle.account_calls.specs.declared.bucket.Dropped.{Dropped}
+use Rattle.account_calls.specs.declared.bucket.Dropped.TheVariants.{Gone, Full, Missing}
+use Rattle.account_calls.specs.Plan.{IsOwnReply}
 use Rattle.planner.specs.Buckets.{dropped_reply, set_reply}
-use Rattle.recovery.specs.Plan.{IsOwnReply}
 
 -- the replies of CreateBucket that are its own
 pub owned_is_own : IsOwnReply (Refused BucketAlreadyOwnedByYou)

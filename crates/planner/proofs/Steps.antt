@@ -15,7 +15,7 @@ use Rattle.s3_machine.specs.declared.operation.Reply.TheVariants as reply
 use Rattle.s3_machine.specs.State.{Object, Bucket, State}
 use Rattle.s3_machine.specs.Step.{S3Step, is_other_acl, head_of}
 use Rattle.s3_machine.proofs.lemmas.StepLemmas.{put_without_bucket, delete_without_bucket, put_with_another_acl, step_stored, step_gone}
-use Rattle.recovery.specs.Calls.{TellsBucket, acl_of_bucket, puts_object, drops_object}
+use Rattle.account_calls.specs.Calls.{TellsBucket, acl_of_bucket, puts_object, drops_object}
 use Rattle.planner.proofs.CreateBucket.{missing_of}
 
 -- a bucket that is there, with the list that it has

@@ -4,14 +4,14 @@ use Rattle.std.specs.Prelude.{ℕ, ◌+◌, Bool, true, false, List, []}
 use Rattle.s3_machine.specs.declared.code.Code.TheVariants.{BucketNotEmpty, NoSuchBucket}
 use Rattle.s3_machine.specs.declared.operation.Reply.{Reply}
 use Rattle.s3_machine.specs.declared.operation.Reply.TheVariants as reply
-use Rattle.recovery.specs.declared.bucket.Dropped.{Dropped}
-use Rattle.recovery.specs.declared.bucket.Dropped.TheVariants.{Gone, Full, Missing}
+use Rattle.account_calls.specs.declared.bucket.Dropped.{Dropped}
+use Rattle.account_calls.specs.declared.bucket.Dropped.TheVariants.{Gone, Full, Missing}
 use Rattle.swift_calls.specs.Account.{SwiftAccount}
 use Rattle.upload_records.specs.Layout.{uploads_name, segments_name}
 use Rattle.upload_records.specs.Native.{s3_state}
 use Rattle.upload_records.specs.Consistent.{IsBareContainer, IsThere}
-use Rattle.recovery.specs.Calls.{LacksBucket}
-use Rattle.recovery.specs.Purging.{purge_calls}
+use Rattle.account_calls.specs.Calls.{LacksBucket}
+use Rattle.account_calls.specs.Purging.{purge_calls}
 
 -- the reply to DeleteBucket
 abbrev pub dropped_reply : Dropped → Reply

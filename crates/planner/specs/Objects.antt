@@ -11,9 +11,9 @@ use Rattle.s3_machine.specs.declared.reading.Span.{Span}
 use Rattle.s3_machine.specs.Reading.{judged}
 use Rattle.s3_machine.specs.State.{State}
 use Rattle.s3_machine.specs.Step.{may_read, read_by}
-use Rattle.recovery.specs.declared.fault.PlanFault.{PlanFault}
-use Rattle.recovery.specs.declared.fault.PlanFault.TheVariants.{Inconsistent}
-use Rattle.recovery.specs.Calls.{TellsBucket, TellsObject}
+use Rattle.account_calls.specs.declared.fault.PlanFault.{PlanFault}
+use Rattle.account_calls.specs.declared.fault.PlanFault.TheVariants.{Inconsistent}
+use Rattle.account_calls.specs.Calls.{TellsBucket, TellsObject}
 
 -- the object is there, in a bucket that one who asks may read
 pub record TellsReadable (bucket key : List ℕ) (caller : Caller) (acl : Acl) (head : ObjectHead) (state : State) : Type 0 where

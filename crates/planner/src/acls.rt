@@ -4,14 +4,14 @@ ghost use Rattle.s3_names.specs.Bucket.{is_bucket};
 ghost use Rattle.s3_machine.specs.Step.{IsPlace};
 ghost use Rattle.s3_machine.specs.declared.operation.Label.{Label};
 ghost use Rattle.s3_machine.specs.declared.operation.Op.TheVariants.{GetBucketAcl, GetObjectAcl, PutBucketAcl};
-ghost use Rattle.recovery.specs.Calls.{always, Any, Given, TellsBucket};
-ghost use Rattle.recovery.specs.Lent.{Stays};
-ghost use Rattle.recovery.specs.declared.state.Known.TheVariants as known;
+ghost use Rattle.account_calls.specs.Calls.{always, Any, Given, TellsBucket};
+ghost use Rattle.account_calls.specs.Lent.{Stays};
+ghost use Rattle.account_calls.specs.declared.state.Known.TheVariants as known;
+ghost use Rattle.account_calls.specs.Plan.{Plans, ended};
 ghost use Rattle.planner.specs.Buckets.{set_reply};
-ghost use Rattle.recovery.specs.Plan.{Plans, ended};
 
+use account_calls::{PlanFault, Settled, head_bucket, post_bucket_container};
 use gate_base::Bytes;
-use recovery::{PlanFault, Settled, head_bucket, post_bucket_container};
 use s3_machine::{Code, Reply};
 use s3_names::Acl;
 use std::alloc::Global;
@@ -96,7 +96,7 @@ fn plan_object_acl_within<W: Swift>(
         state.old.settings.now (Given (λ s. TellsBucket bucket.now s (Some list)))
         (GetObjectAcl bucket.now key.now) label known.Settled result }
 {
-    let Some(_) = recovery::head_object(alloc, state, bucket, key)? else {
+    let Some(_) = account_calls::head_object(alloc, state, bucket, key)? else {
         return Ok(Reply::Refused(Code::NoSuchKey));
     };
     Ok(Reply::AclOf(list))

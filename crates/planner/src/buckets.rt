@@ -6,20 +6,20 @@ ghost use Rattle.s3_machine.specs.declared.operation.Label.{Label};
 ghost use Rattle.s3_machine.specs.declared.operation.Op.TheVariants.{CreateBucket, DeleteBucket, GetLocation, HeadBucket, ListBuckets};
 ghost use Rattle.s3_machine.specs.declared.operation.Reply.TheVariants.{Made};
 ghost use Rattle.swift_calls.specs.History.{present};
-ghost use Rattle.recovery.specs.Answers.{most_calls};
-ghost use Rattle.recovery.specs.Calls.{always, by_account, Any, Given, GivenOf, LacksBucket};
-ghost use Rattle.recovery.specs.Lent.{Stays};
-ghost use Rattle.recovery.specs.declared.state.Known.TheVariants as known;
-ghost use Rattle.recovery.specs.Purging.{MayMake, purge_calls};
+ghost use Rattle.account_calls.specs.Answers.{most_calls};
+ghost use Rattle.account_calls.specs.Calls.{always, by_account, Any, Given, GivenOf, LacksBucket};
+ghost use Rattle.account_calls.specs.Lent.{Stays};
+ghost use Rattle.account_calls.specs.declared.state.Known.TheVariants as known;
+ghost use Rattle.account_calls.specs.Purging.{MayMake, purge_calls};
 ghost use Rattle.upload_records.specs.Layout.{segments_name, uploads_name};
+ghost use Rattle.account_calls.specs.Plan.{Plans, ended};
 ghost use Rattle.planner.specs.Buckets.{dropped_reply, emptying, HasBareUploads, HasSides, HasUploads};
-ghost use Rattle.recovery.specs.Plan.{Plans, ended};
 
-use gate_base::{Bytes, Copying};
-use recovery::{
+use account_calls::{
     Dropped, PlanFault, Settled, delete_bucket_container, head_bucket, purge, put_bucket_container,
     put_container_beside,
 };
+use gate_base::{Bytes, Copying};
 use s3_machine::{Code, Label, Reply, may_read};
 use s3_names::Acl;
 use std::alloc::Global;
@@ -181,7 +181,7 @@ pub(crate) fn list_buckets<W: Swift>(
         (W.history state.old.store.now) (W.history state.new.store.now) state.old.settings.now
         (Given Any) ListBuckets label known.Settled result }
 {
-    Ok(Reply::Buckets(recovery::list_buckets(alloc, state)?))
+    Ok(Reply::Buckets(account_calls::list_buckets(alloc, state)?))
 }
 
 /// DeleteBucket: DELETE of the container, which commits. At most one call. The faults are those of the call.

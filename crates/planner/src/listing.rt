@@ -6,15 +6,15 @@ ghost use Rattle.s3_machine.specs.Step.{IsProperAsked};
 ghost use Rattle.s3_machine.specs.declared.operation.Op.TheVariants.{ListObjects};
 ghost use Rattle.swift_calls.specs.Account.{files};
 ghost use Rattle.swift_calls.specs.History.{present};
-ghost use Rattle.recovery.specs.Answers.{pages};
-ghost use Rattle.recovery.specs.Calls.{by_account, Any, Given, TellsBucket};
-ghost use Rattle.recovery.specs.Lent.{Stays};
-ghost use Rattle.recovery.specs.declared.state.Known.TheVariants as known;
-ghost use Rattle.recovery.specs.Plan.{Plans};
+ghost use Rattle.account_calls.specs.Answers.{pages};
+ghost use Rattle.account_calls.specs.Calls.{by_account, Any, Given, TellsBucket};
+ghost use Rattle.account_calls.specs.Lent.{Stays};
+ghost use Rattle.account_calls.specs.declared.state.Known.TheVariants as known;
+ghost use Rattle.account_calls.specs.Plan.{Plans};
 ghost use Rattle.planner.specs.Listing.{objects_reply};
 
+use account_calls::{PlanFault, Settled, head_bucket};
 use gate_base::{Bytes, List};
-use recovery::{PlanFault, Settled, head_bucket};
 use s3_machine::{Asked, Code, Item, Label, Reply, may_read};
 use s3_names::Acl;
 use std::alloc::Global;
@@ -65,7 +65,7 @@ fn plan_list_objects_within<W: Swift>(
     if !may_read(label.caller, list) {
         return Ok(Reply::Refused(Code::AccessDenied));
     }
-    let listed = recovery::list_objects(alloc, state, &bucket, &asked)?;
+    let listed = account_calls::list_objects(alloc, state, &bucket, &asked)?;
     Ok(end_list_objects_plan(bucket, asked, listed))
 }
 

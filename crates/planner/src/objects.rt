@@ -11,16 +11,16 @@ ghost use Rattle.swift_calls.specs.Limits.{IsRange};
 ghost use Rattle.s3_machine.specs.declared.operation.Label.{Label};
 ghost use Rattle.s3_machine.specs.declared.operation.Op.TheVariants.{PutObject, GetObject, HeadObject, DeleteObject};
 ghost use Rattle.s3_machine.specs.declared.operation.Reply.TheVariants.{Gone, Stored};
-ghost use Rattle.recovery.specs.Calls.{always, Any, Given, TellsBucket};
-ghost use Rattle.recovery.specs.Interpret.{IsShownHead};
-ghost use Rattle.recovery.specs.Lent.{Stays};
-ghost use Rattle.recovery.specs.declared.fault.PlanFault.TheVariants.{Failed};
-ghost use Rattle.recovery.specs.declared.state.Known.TheVariants as known;
-ghost use Rattle.recovery.specs.Plan.{ended, Plans, IsOwnReply};
+ghost use Rattle.account_calls.specs.Calls.{always, Any, Given, TellsBucket};
+ghost use Rattle.account_calls.specs.Interpret.{IsShownHead};
+ghost use Rattle.account_calls.specs.Lent.{Stays};
+ghost use Rattle.account_calls.specs.declared.fault.PlanFault.TheVariants.{Failed};
+ghost use Rattle.account_calls.specs.declared.state.Known.TheVariants as known;
+ghost use Rattle.account_calls.specs.Plan.{ended, Plans, IsOwnReply};
 ghost use Rattle.planner.specs.Objects.{TellsReadable, headed_reply, part_end, range_of};
 
+use account_calls::{PlanFault, Settled, head_bucket};
 use gate_base::Bytes;
-use recovery::{PlanFault, Settled, head_bucket};
 use s3_machine::{
     Body, Code, Conditions, Judged, Label, ObjectHead, Range, Reply, Span, is_other_acl, judge,
     may_read,
@@ -133,7 +133,7 @@ fn plan_put_object_bytes<W: Swift>(
 {
     let text = Bytes::from_slice(alloc, etag)?;
     end_put_object_plan(
-        recovery::put_object(
+        account_calls::put_object(
             alloc,
             state,
             bucket,
@@ -202,7 +202,7 @@ fn plan_get_object_within<W: Swift>(
     if !may_read(label.caller, list) {
         return Ok(Reply::Refused(Code::AccessDenied));
     }
-    let Some(head) = recovery::head_object(alloc, state, &bucket, &key)? else {
+    let Some(head) = account_calls::head_object(alloc, state, &bucket, &key)? else {
         return Ok(Reply::Refused(Code::NoSuchKey));
     };
     plan_get_readable_object(alloc, state, bucket, key, range, conditions, head)
@@ -258,7 +258,7 @@ fn plan_get_object_span<W: Swift>(
         (GetObject bucket key range conditions.now) label known.Settled result }
 {
     let asked = range_of(span, partial);
-    let told = recovery::get_object(
+    let told = account_calls::get_object(
         alloc,
         state,
         bucket,
@@ -354,7 +354,7 @@ fn plan_head_object_within<W: Swift>(
     if !may_read(label.caller, list) {
         return Ok(Reply::Refused(Code::AccessDenied));
     }
-    let Some(head) = recovery::head_object(alloc, state, bucket, key)? else {
+    let Some(head) = account_calls::head_object(alloc, state, bucket, key)? else {
         return Ok(Reply::Refused(Code::NoSuchKey));
     };
     Ok(end_head_object_plan(alloc, range, conditions, head))
@@ -417,7 +417,7 @@ fn plan_delete_object_within<W: Swift>(
         state.old.settings.now (Given (λ s. TellsBucket bucket s (Some list)))
         (DeleteObject bucket key) label known.Settled result }
 {
-    end_delete_object_plan(recovery::delete_object(state, bucket, key))
+    end_delete_object_plan(account_calls::delete_object(state, bucket, key))
 }
 
 /// The end of DeleteObject after its last call.

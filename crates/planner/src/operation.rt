@@ -2,18 +2,18 @@
 ghost use Rattle.std.specs.Prelude.{◌≡◌, false};
 ghost use Rattle.s3_machine.specs.Step.{IsProper};
 ghost use Rattle.swift_calls.specs.History.{present};
-ghost use Rattle.recovery.specs.Answers.{is_upload, most_calls};
-ghost use Rattle.recovery.specs.declared.state.Known.TheVariants as known;
-ghost use Rattle.recovery.specs.Calls.{Any, Given};
-ghost use Rattle.recovery.specs.Lent.{Stays};
-ghost use Rattle.recovery.specs.Plan.{Plans, Answered};
+ghost use Rattle.account_calls.specs.Answers.{is_upload, most_calls};
+ghost use Rattle.account_calls.specs.declared.state.Known.TheVariants as known;
+ghost use Rattle.account_calls.specs.Calls.{Any, Given};
+ghost use Rattle.account_calls.specs.Lent.{Stays};
+ghost use Rattle.account_calls.specs.Plan.{Plans, Answered};
 
 use crate::acls::{get_bucket_acl, get_object_acl, put_bucket_acl};
 use crate::buckets::{create_bucket, delete_bucket, get_location, list_buckets, plan_head_bucket};
 use crate::listing::list_objects;
 use crate::objects::{delete_object, get_object, head_object, put_object};
+use account_calls::{PlanFault, Settled, reply_of, taken_text};
 use gate_base::{Bytes, drop};
-use recovery::{PlanFault, Settled, reply_of, taken_text};
 use s3_machine::{Asked, Body, Label, Op, Reply};
 use std::alloc::Global;
 use std::mem::replace;

@@ -27,16 +27,17 @@ use Rattle.upload_records.proofs.lemmas.Rolling as rolls
 use Rattle.upload_records.proofs.lemmas.Rolling.{TellsNone, TellsSeal, sealed_told}
 use Rattle.upload_records.proofs.lemmas.Settled.{same_off, seal_same, settled_same, unsealed_by}
 use Rattle.upload_records.proofs.lemmas.SideCalls.{delete_settled, none_sealed}
-use Rattle.recovery.specs.declared.fault.PlanFault.{PlanFault}
-use Rattle.recovery.specs.declared.fault.PlanFault.TheVariants as fault
-use Rattle.recovery.specs.Interpret.{Gives, gone_due, known, stored_due}
-use Rattle.recovery.specs.Rolls.{HasGateway, HasObject, HasRecord, IsSealed, KeepsGateway, Leaves, LeavesClear, TellsSealed, kept_due, put_object_of, put_record_of, sealed_by, sealed_due, sealed_listing}
-use Rattle.recovery.proofs.lemmas.SealStands.{limits, may_stand, object_stored, record_short, takes_list}
-use Rattle.recovery.proofs.lemmas.Etags.{etag_agrees}
-use Rattle.recovery.proofs.lemmas.ListPut.{by_stays, put_stays, put_step}
-use Rattle.recovery.proofs.lemmas.One.{found, stays_so}
-use Rattle.recovery.proofs.lemmas.Quiet.{IsQuietOf, QuietEffect}
-use Rattle.recovery.proofs.lemmas.SideNames.{file_name, id_fits}
+use Rattle.account_calls.specs.declared.fault.PlanFault.{PlanFault}
+use Rattle.account_calls.specs.declared.fault.PlanFault.TheVariants as fault
+use Rattle.account_calls.specs.Interpret.{Gives, gone_due, known, stored_due}
+use Rattle.account_calls.specs.Sealed.{kept_due, put_object_of, put_record_of, sealed_listing}
+use Rattle.account_calls.proofs.lemmas.SealStands.{limits, may_stand, object_stored, record_short, takes_list}
+use Rattle.account_calls.proofs.lemmas.Etags.{etag_agrees}
+use Rattle.account_calls.proofs.lemmas.ListPut.{by_stays, put_stays, put_step}
+use Rattle.account_calls.proofs.lemmas.One.{found, stays_so}
+use Rattle.account_calls.proofs.lemmas.Quiet.{IsQuietOf, QuietEffect}
+use Rattle.account_calls.proofs.lemmas.SideNames.{file_name, id_fits}
+use Rattle.recovery.specs.Rolls.{HasGateway, HasObject, HasRecord, IsSealed, KeepsGateway, Leaves, LeavesClear, TellsSealed, sealed_by, sealed_due}
 
 -- ---- the GET of what is sealed
 

@@ -11,16 +11,16 @@ use Rattle.swift_calls.specs.declared.calls.SwiftRequest.TheVariants.{PutContain
 use Rattle.upload_records.specs.Layout.{gateway_name, sealed_name}
 use Rattle.upload_records.specs.Native.{IsSettled}
 use Rattle.upload_records.proofs.lemmas.SideCalls.{gateway_made, gateway_settled, gateway_there}
-use Rattle.recovery.specs.declared.fault.PlanFault.{PlanFault}
-use Rattle.recovery.specs.declared.fault.PlanFault.TheVariants as plan
+use Rattle.account_calls.specs.declared.fault.PlanFault.{PlanFault}
+use Rattle.account_calls.specs.declared.fault.PlanFault.TheVariants as plan
+use Rattle.account_calls.specs.Calls.{always, Any, Asks}
+use Rattle.account_calls.specs.Purging.{placed_due}
+use Rattle.account_calls.proofs.lemmas.Markers.{folder_is_marker, text_is_marker}
+use Rattle.account_calls.proofs.lemmas.Quiet.{IsQuietOf, asks_left, asks_untold}
+use Rattle.account_calls.proofs.lemmas.Sides.{placed}
 use Rattle.recovery.specs.declared.state.SettleFault.{SettleFault}
-use Rattle.recovery.specs.Calls.{always, Any, Asks}
-use Rattle.recovery.specs.Purging.{placed_due}
 use Rattle.recovery.specs.Rolls.{HasGateway, Leaves}
 use Rattle.recovery.specs.Settling.{settle_fault, IsNamedFault, Settles, SettlesIt}
-use Rattle.recovery.proofs.lemmas.Markers.{folder_is_marker, text_is_marker}
-use Rattle.recovery.proofs.lemmas.Quiet.{IsQuietOf, asks_left, asks_untold}
-use Rattle.recovery.proofs.lemmas.Sides.{placed}
 
 -- ---- the names
 

@@ -1,13 +1,2 @@
-pub mod Answers
-pub mod Calls
-pub mod Fault
-pub mod FilePages
-pub mod Interpret
-pub mod Keys
-pub mod Lent
-pub mod Listing
-pub mod Plan
-pub mod Purging
 pub mod Rolls
 pub mod Settling
-pub mod Stutters

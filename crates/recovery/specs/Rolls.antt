@@ -1,25 +1,19 @@
 -- A completion that is sealed, and the calls that finish it: how far it is, and what each call leaves. Source: Object Storage API
 -- v1, "Static large objects", and this profile.
-use Rattle.std.specs.Prelude.{◌≡◌, ℕ, Bool, true, false, IsTrue, List, [], ◌∷◌, codes, Option, None, Some, Result, Ok, Err}
+use Rattle.std.specs.Prelude.{◌≡◌, ℕ, Bool, true, false, IsTrue, List, Option, None, Some, Result, Ok, Err}
 use Rattle.s3_names.specs.Id.{id_digits}
-use Rattle.slo_manifest.specs.declared.Segment.{Segment}
 use Rattle.swift_calls.specs.Account.{SwiftObject, SwiftAccount, files, find_object}
 use Rattle.swift_calls.specs.History.{History, present}
 use Rattle.swift_calls.specs.declared.calls.SwiftReply.{SwiftReply}
-use Rattle.swift_calls.specs.declared.calls.SwiftReply.TheVariants.{NotFound, Bytes, Stored}
-use Rattle.swift_calls.specs.declared.calls.SwiftRequest.{SwiftRequest}
-use Rattle.swift_calls.specs.declared.calls.SwiftRequest.TheVariants.{PutManifest, PutObject}
-use Rattle.swift_marks.specs.Pack.{pack_of}
-use Rattle.swift_marks.specs.Tag.{tag_text}
-use Rattle.upload_texts.specs.Records.{record_text}
+use Rattle.swift_calls.specs.declared.calls.SwiftReply.TheVariants.{NotFound, Bytes}
 use Rattle.upload_texts.specs.Sealed.{read_sealed}
 use Rattle.upload_texts.specs.declared.sealed.Sealed.{Sealed}
 use Rattle.upload_records.specs.Consistent.{IsThere}
 use Rattle.upload_records.specs.Layout.{uploads_name, segments_name, gateway_name}
-use Rattle.upload_records.specs.Native.{object_of, record_at, seal_of, sealed_object, sealed_record, sealed_tag, filled_parts, listing_of, IsSettled}
-use Rattle.recovery.specs.declared.fault.PlanFault.{PlanFault}
-use Rattle.recovery.specs.declared.fault.PlanFault.TheVariants.{Inconsistent}
-use Rattle.recovery.specs.Interpret.{known}
+use Rattle.upload_records.specs.Native.{object_of, record_at, seal_of, sealed_object, sealed_record, IsSettled}
+use Rattle.account_calls.specs.declared.fault.PlanFault.{PlanFault}
+use Rattle.account_calls.specs.declared.fault.PlanFault.TheVariants.{Inconsistent}
+use Rattle.account_calls.specs.Interpret.{known}
 
 -- ---- how far a sealed completion is
 
@@ -72,27 +66,3 @@ abbrev pub sealed_due : SwiftReply → Result (Option Sealed) PlanFault
 sealed_due (Bytes head body) = sealed_by head.manifest body
 sealed_due NotFound = Ok None
 sealed_due _ = Err Inconsistent
-
--- PUT of a file, whatever ETag the store has of it
-abbrev pub kept_due : SwiftReply → Result (Unit {0}) PlanFault
-kept_due (Stored etag) = Ok tt
-kept_due _ = Err Inconsistent
-
--- ---- what is put
-
--- the PUT of an object that lists these segments, or has no byte where there are none
-abbrev pub put_by : List ℕ → List ℕ → List ℕ → List (List ℕ) → List Segment → SwiftRequest
-put_by bucket key content_type meta [] = PutObject bucket key content_type meta []
-put_by bucket key content_type meta (first ∷ rest) = PutManifest bucket key content_type meta (first ∷ rest)
-
--- the segments of the object of a sealed completion
-abbrev pub sealed_listing : Sealed → List Segment
-sealed_listing s = listing_of (segments_name s.bucket) (id_digits s.id) (filled_parts s.list)
-
--- the PUT of its object
-abbrev pub put_object_of : Sealed → SwiftRequest
-put_object_of s = put_by s.bucket s.key (tag_text (sealed_tag s)) (pack_of s.meta) (sealed_listing s)
-
--- the PUT of its record
-abbrev pub put_record_of : Sealed → SwiftRequest
-put_record_of s = PutObject (uploads_name s.bucket) (id_digits s.id) (codes "application/json") [] (record_text (sealed_record s))

@@ -1,25 +1,15 @@
--- What is known of a store between two operations, and how it is settled. Source: this profile.
+-- How a store is settled, and what its fault names. Source: this profile.
 use Rattle.std.specs.Prelude.{◌≡◌, ◌⊎◌, IsTrue, Result, Ok, Err}
 use Rattle.swift_calls.specs.Account.{SwiftAccount}
 use Rattle.swift_calls.specs.History.{History, present}
 use Rattle.upload_records.specs.Layout.{gateway_name, sealed_name}
 use Rattle.upload_records.specs.Native.{IsSettled}
-use Rattle.recovery.specs.declared.fault.PlanFault.{PlanFault}
-use Rattle.recovery.specs.declared.fault.PlanFault.TheVariants as plan
-use Rattle.recovery.specs.declared.state.Known.{Known}
-use Rattle.recovery.specs.declared.state.Known.TheVariants.{Settled}
+use Rattle.account_calls.specs.declared.fault.PlanFault.{PlanFault}
+use Rattle.account_calls.specs.declared.fault.PlanFault.TheVariants as plan
+use Rattle.account_calls.specs.Answers.{most_settling}
+use Rattle.account_calls.specs.Calls.{Any, Asks}
 use Rattle.recovery.specs.declared.state.SettleFault.{SettleFault}
 use Rattle.recovery.specs.declared.state.SettleFault.TheVariants.{Failed, Memory, Inconsistent}
-use Rattle.recovery.specs.Answers.{most_settling}
-use Rattle.recovery.specs.Calls.{Any, Asks}
-
--- what is known of an account is so
-abbrev pub IsKnown : Known → SwiftAccount → Type 0
-IsKnown known tree = known ≡ Settled → IsSettled tree
-
--- and of a store, where it is observable
-abbrev pub Knows : Known → History → Type 0
-Knows known h = IsTrue h.observable → IsKnown known (present h)
 
 -- the fault of a plan whose store could not be settled; what it names is dropped
 abbrev pub settle_fault : SettleFault → PlanFault

@@ -1,33 +1,9 @@
-//! What stands between a planner and the store: each call as what it means for the S3 state, and what the calls
-//! of a whole operation may amount to.
+//! How a store is settled: a completion that is sealed on it is finished.
 #![tactic(auto)]
 
-mod beside;
-mod bucket;
-mod fault;
-mod file_pages;
-mod interpret;
-mod keys;
-mod laws;
-mod listing;
-mod object;
-mod plans;
 mod sealed;
 mod settling;
 mod state;
 
-pub use beside::{purge, put_container_beside};
-pub use bucket::{
-    Dropped, delete_bucket_container, head_bucket, post_bucket_container, put_bucket_container,
-};
-pub use fault::PlanFault;
-pub use file_pages::{next_marker, settled_file_page};
-pub use interpret::{interpret_file_delete, interpret_put_with_etag};
-pub use keys::list_objects;
-pub use laws::{law_answered_fault_free, law_never_unavailable};
-pub use listing::list_buckets;
-pub use object::{delete_object, get_object, head_object, put_object};
-pub use plans::{is_many, is_upload, reply_of, taken_text};
-pub use sealed::{interpret_put_without_etag, object_request};
-pub use settling::roll_forward;
-pub use state::{Known, SettleFault, Settled, Unsure};
+pub use settling::roll_forward_held;
+pub use state::{SettleFault, Unsure};

@@ -1,25 +1,22 @@
-//! What is read and put of a completion that is sealed.
-ghost use Rattle.std.specs.Prelude.{◌≡◌, ◌≢◌, ◌∷◌, ◌++◌, [], map, Some, true, Err, IfOk, IfSome, OnOk};
-ghost use Rattle.std.specs.List.{list_all};
+//! What is read of a completion that is sealed, and its record.
+ghost use Rattle.std.specs.Prelude.{◌≡◌, ◌≢◌, map, Some, true, Err, IfOk, IfSome};
 ghost use Rattle.s3_names.specs.Id.{id_digits};
 ghost use Rattle.swift_calls.specs.Step.{Fit};
-ghost use Rattle.swift_marks.specs.Tag.{tag_text};
 ghost use Rattle.upload_texts.specs.Records.{read_record, record_text};
-ghost use Rattle.upload_texts.specs.Sealed.{has_sealed_text, part_fits_sealed_text, read_sealed};
-ghost use Rattle.upload_records.specs.Native.{filled_parts, listed_of, listing_of, part_segment, sealed_record, sealed_tag};
-ghost use Rattle.recovery.specs.Interpret.{Gives, known};
-ghost use Rattle.recovery.specs.Rolls.{kept_due, put_by, put_object_of, put_record_of, sealed_due, sealed_listing};
-ghost use Rattle.recovery.specs.declared.fault.PlanFault.TheVariants as fault;
+ghost use Rattle.upload_texts.specs.Sealed.{has_sealed_text, read_sealed};
+ghost use Rattle.upload_records.specs.Native.{listed_of, sealed_record};
+ghost use Rattle.account_calls.specs.Interpret.{Gives, known};
+ghost use Rattle.account_calls.specs.Sealed.{put_record_of};
+ghost use Rattle.account_calls.specs.declared.fault.PlanFault.TheVariants as fault;
+ghost use Rattle.recovery.specs.Rolls.{sealed_due};
 
-use crate::PlanFault;
+use account_calls::PlanFault;
 use gate_base::{Bytes, Copying, List, Memory};
 use s3_machine::Listed;
 use s3_names::id_digits;
-use slo_manifest::Segment;
 use std::alloc::Global;
 use swift_calls::{SwiftReply, SwiftRequest};
-use swift_marks::{Tag, pack};
-use upload_records::{segment_name, segments_container, uploads_container};
+use upload_records::uploads_container;
 use upload_texts::{Record, RecordFault, Sealed, SealedPart};
 
 /// The answer to GET of the file of what is sealed, which may be there no more. A file that lists segments is none.
@@ -52,140 +49,6 @@ fn read_sealed(alloc: Global, text: &[u8]) -> Result<Option<Sealed>, PlanFault>
     }
 }
 
-/// The answer to PUT of a file, whatever ETag the store has of it.
-pub fn interpret_put_without_etag(reply: &SwiftReply) -> Result<(), PlanFault>
-    ensures due { result ≡ kept_due reply.now }
-    ensures own { result ≢ Err fault.Failed }
-{
-    match reply {
-        SwiftReply::Stored { .. } => Ok(()),
-        _ => Err(PlanFault::Inconsistent),
-    }
-}
-
-/// The PUT of the object of a sealed completion: a static large object of its parts that aren't empty, or an object without a
-/// byte where all are.
-pub fn object_request(alloc: Global, sealed: &Sealed) -> Result<SwiftRequest, Memory>
-    requires { has_sealed_text sealed.now ≡ true }
-    ensures request { IfOk result (λ request. request ≡ put_object_of sealed.now) }
-    ensures fits { IfOk result Fit }
-{
-    let content_type = sealed_object_tag(alloc, sealed)?;
-    let meta = pack(alloc, &sealed.meta)?;
-    let container = sealed.bucket.copy()?;
-    let name = sealed.key.copy()?;
-    let segments = sealed_listing(alloc, sealed)?;
-    Ok(put_by_segments(alloc, container, name, content_type, meta, segments))
-}
-
-fn put_by_segments(
-    alloc: Global,
-    container: Bytes,
-    name: Bytes,
-    content_type: Bytes,
-    meta: List<Bytes>,
-    segments: List<Segment>,
-) -> SwiftRequest
-    ensures { result ≡ put_by container name content_type meta segments }
-{
-    if segments.is_empty() {
-        return SwiftRequest::PutObject {
-            container,
-            name,
-            content_type,
-            meta,
-            body: Bytes::new(alloc),
-        };
-    }
-    SwiftRequest::PutManifest {
-        container,
-        name,
-        content_type,
-        meta,
-        segments,
-    }
-}
-
-/// The tag of a completed object, as its file has it.
-fn sealed_object_tag(alloc: Global, sealed: &Sealed) -> Result<Bytes, Memory>
-    requires { has_sealed_text sealed.now ≡ true }
-    ensures { IfOk result (λ text. text ≡ tag_text (sealed_tag sealed.now)) }
-{
-    let content_type = sealed.content_type.copy()?;
-    let etag = sealed.etag.copy()?;
-    let tag = Tag {
-        content_type,
-        etag,
-        moment: sealed.moment,
-        id: Some(sealed.id),
-    };
-    tag.write(alloc)
-}
-
-/// The segments that a completed object lists.
-fn sealed_listing(alloc: Global, sealed: &Sealed) -> Result<List<Segment>, Memory>
-    requires { has_sealed_text sealed.now ≡ true }
-    ensures { IfOk result (λ segments. segments ≡ sealed_listing sealed.now) }
-{
-    let folder = segments_container(alloc, sealed.bucket.as_slice())?;
-    sealed_listing_segments(alloc, &folder, sealed.id, sealed.list.as_slice())
-}
-
-#[tactic(auto, using(crate::proofs::Segments::part_there, crate::proofs::Segments::segments_more, crate::proofs::Segments::segments_all))]
-fn sealed_listing_segments(
-    alloc: Global,
-    folder: &Bytes,
-    id: u128,
-    parts: &[SealedPart],
-) -> Result<List<Segment>, Memory>
-    requires { list_all part_fits_sealed_text parts.now ≡ true }
-    ensures { IfOk result
-        (λ segments. segments ≡ listing_of folder.now (id_digits id) (filled_parts parts.now)) }
-{
-    let mut segments = List::new(alloc);
-    for part in parts {
-        add_sealed_listing_segment(alloc, &mut segments, folder, id, part)?;
-    }
-    Ok(segments)
-}
-
-/// Adds the segment of a part that isn't empty.
-fn add_sealed_listing_segment(
-    alloc: Global,
-    segments: &mut List<Segment>,
-    folder: &Bytes,
-    id: u128,
-    part: &SealedPart,
-) -> Result<(), Memory>
-    requires { part_fits_sealed_text part.now ≡ true }
-    ensures { OnOk result (segments.new ≡ segments.old
-        ++ map (part_segment folder.now (id_digits id)) (filled_parts (part.now ∷ []))) }
-{
-    if part.size == 0 {
-        return Ok(());
-    }
-    let segment = sealed_listing_segment(alloc, folder, id, part)?;
-    segments.push(segment)?;
-    Ok(())
-}
-
-fn sealed_listing_segment(
-    alloc: Global,
-    folder: &Bytes,
-    id: u128,
-    part: &SealedPart,
-) -> Result<Segment, Memory>
-    requires { part_fits_sealed_text part.now ≡ true }
-    ensures { IfOk result (λ segment. segment ≡ part_segment folder.now (id_digits id) part.now) }
-{
-    Ok(Segment {
-        container: folder.copy()?,
-        name: segment_name(alloc, id, part.number)?,
-        etag: part.etag.copy()?,
-        size: part.size,
-    })
-}
-
 /// The text of the record of a completed upload, with the moment of its completion.
 pub(crate) fn rolled_forward_record_text(alloc: Global, sealed: &Sealed) -> Result<Bytes, Memory>
     requires { has_sealed_text sealed.now ≡ true }
@@ -206,7 +69,7 @@ pub(crate) fn rolled_forward_record_text(alloc: Global, sealed: &Sealed) -> Resu
 }
 
 /// The parts as a record lists them.
-#[tactic(auto, using(crate::proofs::Segments::listed_more))]
+#[tactic(auto, using(account_calls::proofs::lemmas::Segments::listed_more))]
 fn rolled_forward_record_parts(alloc: Global, parts: &[SealedPart]) -> Result<List<Listed>, Memory>
     ensures { IfOk result (λ list. list ≡ map listed_of parts.now) }
 {

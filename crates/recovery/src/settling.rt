@@ -3,17 +3,17 @@ ghost use Rattle.std.specs.Prelude.{◌≡◌, true, IfOk, IfSome, IsTrue, None,
 ghost use Rattle.swift_calls.specs.History.{present};
 ghost use Rattle.upload_texts.specs.Sealed.{has_sealed_text};
 ghost use Rattle.upload_records.specs.Native.{IsSettled};
-ghost use Rattle.recovery.specs.Calls.{always, Any, Asks};
+ghost use Rattle.account_calls.specs.Calls.{always, Any, Asks};
+ghost use Rattle.account_calls.specs.Lent.{Stays};
 ghost use Rattle.recovery.specs.Rolls.{HasGateway, HasObject, HasRecord, IsSealed, KeepsGateway, Leaves, LeavesClear, TellsSealed};
 
-use crate::PlanFault;
-use crate::beside::interpret_container_put;
-use crate::interpret::{interpret_file_delete, interpret_put_with_etag};
 use crate::sealed::{
-    interpret_put_without_etag, interpret_sealed_get, object_request,
-    rolled_forward_record_request, rolled_forward_record_text,
+    interpret_sealed_get, rolled_forward_record_request, rolled_forward_record_text,
 };
-use crate::state::ask;
+use account_calls::{
+    PlanFault, Settled, ask, interpret_container_put, interpret_file_delete,
+    interpret_put_with_etag, interpret_put_without_etag, object_request,
+};
 use s3_machine::body_etag;
 use std::alloc::Global;
 use swift_calls::{ReadList, Swift, SwiftRequest};
@@ -90,7 +90,7 @@ fn get_sealed<W: Swift>(alloc: Global, store: &mut W) -> Result<Option<Sealed>, 
 /// Memory where memory ran out; Inconsistent never over an observable consistent account on which this completion is sealed.
 /// After Ok over an observable store that has the gateway's own container none is sealed, also where the account isn't
 /// consistent; after a fault it may be sealed still. The container stays.
-pub fn roll_forward<W: Swift>(
+fn roll_forward<W: Swift>(
     alloc: Global,
     store: &mut W,
     sealed: &Sealed,
@@ -103,6 +103,24 @@ pub fn roll_forward<W: Swift>(
 {
     put_rolled_forward_object(alloc, store, sealed)?;
     finish_roll_forward(alloc, store, sealed)
+}
+
+/// Finishes a sealed completion, as [`roll_forward`] does, for a plan that sealed it. After a fault it may be sealed still, so
+/// that the store isn't known to be settled.
+pub fn roll_forward_held<W: Swift>(
+    alloc: Global,
+    state: &mut Settled<'_, W>,
+    sealed: &Sealed,
+) -> Result<(), PlanFault>
+    requires { has_sealed_text sealed.now ≡ true }
+    ensures stays { Stays state.old state.new }
+    ensures asks { Asks (always 3) (W.history state.old.store.now) (W.history state.new.store.now)
+        (IsSealed sealed.now) (Leaves IsSettled) result }
+    ensures keeps { KeepsGateway (W.history state.old.store.now) (W.history state.new.store.now) }
+    ensures done { LeavesClear tt (W.history state.old.store.now) (W.history state.new.store.now)
+        result }
+{
+    roll_forward(alloc, state.store, sealed)
 }
 
 /// Puts the object of a sealed completion (Object Storage API v1, "Static large objects" and "Create or replace object").

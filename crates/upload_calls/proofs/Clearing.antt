@@ -15,10 +15,10 @@ use Rattle.swift_calls.specs.declared.calls.SwiftReply.{SwiftReply}
 use Rattle.upload_records.specs.Layout.{segments_name, uploads_name}
 use Rattle.upload_records.specs.Laws.{UploadAbandoned}
 use Rattle.upload_records.proofs.lemmas.Sides.{segments_uploads}
+use Rattle.account_calls.specs.Calls.{GivenOf, Met}
+use Rattle.account_calls.proofs.lemmas.One.{found}
 use Rattle.upload_calls.specs.Records.{HasOpen, MayClear}
 use Rattle.upload_calls.proofs.DropCalls.{purgeable}
-use Rattle.recovery.specs.Calls.{GivenOf, Met}
-use Rattle.recovery.proofs.lemmas.One.{found}
 
 -- the files of another container stay
 side_left : (o : Option SwiftObject) (folder file : List ℕ) (tree : SwiftAccount) (name : List ℕ) → eq_by_cmp name_cmp name folder ≡ false → files (delete_object o folder file tree).tree name ≡ files tree name

@@ -25,13 +25,13 @@ use Rattle.upload_records.specs.Consistent.{IsConsistent, IsThere}
 use Rattle.upload_records.specs.Laws.{IsAbandoned, UploadAbandoned, UploadDropped}
 use Rattle.upload_records.proofs.lemmas.Beside.{segments_there}
 use Rattle.upload_records.proofs.lemmas.Settled.{settled_same, unsealed_of}
+use Rattle.account_calls.specs.Calls.{Becomes, Bound, Changes, ChangesTo, GivenOf, Met}
+use Rattle.account_calls.specs.Interpret.{gone_due}
+use Rattle.account_calls.specs.declared.fault.PlanFault.{PlanFault}
+use Rattle.account_calls.specs.Purging.{AllBehind, MayPurge, is_abandoned}
+use Rattle.account_calls.proofs.lemmas.One.{Effect, IsWritingOf, found}
 use Rattle.upload_calls.specs.Records.{HasOpen, drops_upload}
 use Rattle.upload_calls.proofs.SideFiles.{same_delete}
-use Rattle.recovery.specs.Calls.{Becomes, Bound, Changes, ChangesTo, GivenOf, Met}
-use Rattle.recovery.specs.Interpret.{gone_due}
-use Rattle.recovery.specs.declared.fault.PlanFault.{PlanFault}
-use Rattle.recovery.specs.Purging.{AllBehind, MayPurge, is_abandoned}
-use Rattle.recovery.proofs.lemmas.One.{Effect, IsWritingOf, found}
 
 -- ---- what is there stays there
 

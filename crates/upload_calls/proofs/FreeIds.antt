@@ -11,8 +11,8 @@ use Rattle.s3_names.proofs.lemmas.Ids.{id_reads_back, length-id_digits}
 use Rattle.s3_machine.specs.Uploads.{id_value}
 use Rattle.swift_calls.specs.Account.{SwiftObject, SwiftAccount, files}
 use Rattle.upload_records.specs.Layout.{segments_name, uploads_name}
+use Rattle.account_calls.specs.Answers.{IsNamedBy, IsTaken, id_at, records_of, segments_of}
 use Rattle.upload_calls.proofs.Members.{passes}
-use Rattle.recovery.specs.Answers.{IsNamedBy, IsTaken, id_at, records_of, segments_of}
 
 -- ---- things at distances
 

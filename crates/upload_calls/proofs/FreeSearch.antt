@@ -6,14 +6,14 @@ use Rattle.std.proofs.lemmas.Bool.{cases_lt}
 use Rattle.s3_names.specs.Id.{id_digits}
 use Rattle.swift_calls.specs.Account.{SwiftAccount}
 use Rattle.swift_calls.specs.History.{History, present}
+use Rattle.account_calls.specs.Answers.{IsFirstFree, IsTaken, id_at, records_of, segments_of}
+use Rattle.account_calls.specs.declared.fault.PlanFault.{PlanFault}
+use Rattle.account_calls.specs.declared.fault.PlanFault.TheVariants as fault
+use Rattle.account_calls.specs.Listing.{TellsOf}
+use Rattle.account_calls.specs.Calls.{always, by_account, Asks, GivenOf, Met}
 use Rattle.upload_calls.specs.Records.{InBucket, TellsFree, TellsTaken}
 use Rattle.upload_calls.proofs.FreeIds.{tries_few}
 use Rattle.upload_calls.proofs.Told.{Told, told_none, told_more, told_end, told_fault, told_out_of_memory}
-use Rattle.recovery.specs.Answers.{IsFirstFree, IsTaken, id_at, records_of, segments_of}
-use Rattle.recovery.specs.declared.fault.PlanFault.{PlanFault}
-use Rattle.recovery.specs.declared.fault.PlanFault.TheVariants as fault
-use Rattle.recovery.specs.Listing.{TellsOf}
-use Rattle.recovery.specs.Calls.{always, by_account, Asks, GivenOf, Met}
 
 -- the first ids from the draw on are taken
 abbrev pub AllTaken : List ℕ → ℕ → ℕ → SwiftAccount → Type 0

@@ -8,7 +8,7 @@ use Rattle.std.proofs.Common.{refl, sym, ap, ◌∙◌, inl, inr}
 use Rattle.std.proofs.lemmas.Bool.{or_cases}
 use Rattle.gate_base.specs.Maps.{Names, name_cmp}
 use Rattle.gate_base.proofs.lemmas.Maps.{by_name, same_key}
-use Rattle.recovery.proofs.lemmas.Markers.{IsEntry, entries_are}
+use Rattle.account_calls.proofs.lemmas.Markers.{IsEntry, entries_are}
 
 or_first : (a b : Bool) → a ≡ true → (a || b) ≡ true
 or_first true b e = refl

@@ -17,15 +17,15 @@ use Rattle.upload_records.specs.Consistent.{IsConsistent, IsStored}
 use Rattle.upload_records.specs.Laws.{ChangesBy, IsOpenText, UploadOpened, file_put}
 use Rattle.upload_records.proofs.lemmas.Beside.{records_there}
 use Rattle.upload_records.proofs.lemmas.Settled.{settled_same, unsealed_of}
+use Rattle.account_calls.specs.Calls.{Becomes}
+use Rattle.account_calls.specs.Interpret.{stored_due}
+use Rattle.account_calls.specs.declared.fault.PlanFault.TheVariants.{Inconsistent}
+use Rattle.account_calls.proofs.lemmas.Etags.{etag_agrees}
+use Rattle.account_calls.proofs.lemmas.One.{Effect, IsWritingOf}
+use Rattle.account_calls.proofs.lemmas.SideNames.{file_name, id_fits, uploads_fits}
 use Rattle.upload_calls.specs.Interpret.{most_open_text, put_record_of, record_type}
 use Rattle.upload_calls.specs.Records.{MayOpen, opens_upload}
 use Rattle.upload_calls.proofs.SideFiles.{same_put}
-use Rattle.recovery.specs.Calls.{Becomes}
-use Rattle.recovery.specs.Interpret.{stored_due}
-use Rattle.recovery.specs.declared.fault.PlanFault.TheVariants.{Inconsistent}
-use Rattle.recovery.proofs.lemmas.Etags.{etag_agrees}
-use Rattle.recovery.proofs.lemmas.One.{Effect, IsWritingOf}
-use Rattle.recovery.proofs.lemmas.SideNames.{file_name, id_fits, uploads_fits}
 
 -- the PUT of a record is one that a store takes
 pub open_fits : (bucket : List ℕ) (id : ℕ) (text : List ℕ) → is_bucket bucket ≡ true → length text ≤ most_open_text → Fit (put_record_of bucket id text)

@@ -21,15 +21,15 @@ use Rattle.upload_records.specs.Consistent.{IsConsistent, IsPart, IsStored}
 use Rattle.upload_records.specs.Laws.{ChangesBy, PartPut, file_put}
 use Rattle.upload_records.proofs.lemmas.Beside.{segments_there}
 use Rattle.upload_records.proofs.lemmas.Settled.{settled_same, unsealed_of}
+use Rattle.account_calls.specs.Calls.{Becomes}
+use Rattle.account_calls.specs.Interpret.{stored_due}
+use Rattle.account_calls.specs.declared.fault.PlanFault.TheVariants.{Inconsistent}
+use Rattle.account_calls.proofs.lemmas.Etags.{etag_agrees, etag_is_etag}
+use Rattle.account_calls.proofs.lemmas.One.{Effect, IsWritingOf}
+use Rattle.account_calls.proofs.lemmas.SideNames.{file_name, segment_fits, segments_fits}
 use Rattle.upload_calls.specs.Interpret.{part_tag, put_part_of}
 use Rattle.upload_calls.specs.Records.{HasOpen, puts_part}
 use Rattle.upload_calls.proofs.SideFiles.{same_put}
-use Rattle.recovery.specs.Calls.{Becomes}
-use Rattle.recovery.specs.Interpret.{stored_due}
-use Rattle.recovery.specs.declared.fault.PlanFault.TheVariants.{Inconsistent}
-use Rattle.recovery.proofs.lemmas.Etags.{etag_agrees, etag_is_etag}
-use Rattle.recovery.proofs.lemmas.One.{Effect, IsWritingOf}
-use Rattle.recovery.proofs.lemmas.SideNames.{file_name, segment_fits, segments_fits}
 
 -- the tag of a part has a text
 pub part_has_text : (etag body : List ℕ) (moment id : ℕ) → etag ≡ body_etag body → moment < moment_limit → id < 2 ^ 128 → has_text (part_tag etag moment id) ≡ true

@@ -30,11 +30,11 @@ use Rattle.upload_records.specs.Laws.{part_in}
 use Rattle.list_pages.proofs.lemmas.Pages.{parts}
 use Rattle.list_pages.proofs.lemmas.Rising.{begins_cut}
 use Rattle.list_pages.proofs.lemmas.Sorted.{both, sorted_filter}
+use Rattle.account_calls.specs.FilePages.{item_at, items_after}
+use Rattle.account_calls.proofs.lemmas.Markers.{IsEntry, entries_are}
 use Rattle.upload_calls.specs.Listing.{number_in, part_due, part_from}
 use Rattle.upload_calls.specs.Records.{items_above}
 use Rattle.upload_calls.proofs.Digits.{name_is, number_read, segments_order}
-use Rattle.recovery.specs.FilePages.{item_at, items_after}
-use Rattle.recovery.proofs.lemmas.Markers.{IsEntry, entries_are}
 
 abbrev parts_due : List ℕ → List NameItem → List PartItem
 parts_due prefix items = filter_map (part_due prefix) items

@@ -14,11 +14,11 @@ use Rattle.upload_texts.specs.declared.record.Record.{Record}
 use Rattle.upload_records.specs.Layout.{uploads_name}
 use Rattle.upload_records.specs.Native.{record_of}
 use Rattle.upload_records.specs.Consistent.{IsConsistent, IsRecord, IsThere}
+use Rattle.account_calls.specs.Calls.{GivenOf}
+use Rattle.account_calls.specs.Interpret.{known}
+use Rattle.account_calls.proofs.lemmas.One.{IsReadingOf}
 use Rattle.upload_calls.specs.Interpret.{record_due}
 use Rattle.upload_calls.specs.Records.{InBucket, TellsRecord}
-use Rattle.recovery.specs.Calls.{GivenOf}
-use Rattle.recovery.specs.Interpret.{known}
-use Rattle.recovery.proofs.lemmas.One.{IsReadingOf}
 
 -- the record that a file is
 record_file : (name : List ℕ) (file : SwiftObject) (kept : IsRecord name file) → record_of file ≡ Some kept.is

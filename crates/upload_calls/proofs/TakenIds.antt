@@ -17,13 +17,13 @@ use Rattle.swift_calls.specs.declared.heads.NameItem.{NameItem}
 use Rattle.list_pages.proofs.lemmas.Rising.{begins_cut}
 use Rattle.upload_records.specs.Layout.{segments_name, segments_prefix, uploads_name}
 use Rattle.upload_records.proofs.lemmas.Beside.{segments_there}
+use Rattle.account_calls.specs.Answers.{IsNamedBy}
+use Rattle.account_calls.specs.Calls.{GivenOf}
+use Rattle.account_calls.proofs.lemmas.One.{IsReadingOf}
 use Rattle.upload_calls.specs.Interpret.{any_due, there_due}
 use Rattle.upload_calls.specs.Records.{InBucket, TellsTaken}
 use Rattle.upload_calls.specs.Taken.{TellsRecorded, TellsSegmented}
 use Rattle.upload_calls.proofs.Members.{found, passes}
-use Rattle.recovery.specs.Answers.{IsNamedBy}
-use Rattle.recovery.specs.Calls.{GivenOf}
-use Rattle.recovery.proofs.lemmas.One.{IsReadingOf}
 
 -- ---- the record
 

@@ -16,8 +16,8 @@ use Rattle.swift_calls.specs.declared.heads.NameItem.{NameItem}
 use Rattle.list_pages.specs.Listing.{is_listed_name_with_prefix, name_in}
 use Rattle.list_pages.proofs.lemmas.Sorted.{sorted_filter}
 use Rattle.list_pages.proofs.lemmas.Turning.{page_turned}
-use Rattle.recovery.proofs.lemmas.Names.{object_name}
-use Rattle.recovery.specs.FilePages.{item_at, rows_after, items_after, next_after}
+use Rattle.account_calls.proofs.lemmas.Names.{object_name}
+use Rattle.account_calls.specs.FilePages.{item_at, rows_after, items_after, next_after}
 
 -- ---- the last name of a page
 

@@ -8,9 +8,9 @@ use Rattle.upload_texts.specs.declared.record.Record.TheVariants.{Open, Done}
 use Rattle.upload_records.specs.Layout.{uploads_name}
 use Rattle.upload_records.specs.Native.{IsSettled, record_at, s3_state}
 use Rattle.upload_records.specs.Consistent.{IsThere}
+use Rattle.account_calls.specs.Calls.{LacksBucket}
 use Rattle.upload_calls.specs.declared.found.Found.{Found}
 use Rattle.upload_calls.specs.declared.found.Found.TheVariants as found
-use Rattle.recovery.specs.Calls.{LacksBucket}
 
 -- it is open in the bucket, under the key and under the id that a text writes
 pub record IsOpenUpload (bucket key text : List ℕ) (id : ℕ) (tree : SwiftAccount) : Type 0 where

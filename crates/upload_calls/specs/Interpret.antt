@@ -12,9 +12,9 @@ use Rattle.swift_marks.specs.Tag.{tag_text}
 use Rattle.upload_texts.specs.Records.{read_record}
 use Rattle.upload_texts.specs.declared.record.Record.{Record}
 use Rattle.upload_records.specs.Layout.{segment_name, segments_name, uploads_name}
-use Rattle.recovery.specs.Interpret.{known}
-use Rattle.recovery.specs.declared.fault.PlanFault.{PlanFault}
-use Rattle.recovery.specs.declared.fault.PlanFault.TheVariants.{Inconsistent}
+use Rattle.account_calls.specs.Interpret.{known}
+use Rattle.account_calls.specs.declared.fault.PlanFault.{PlanFault}
+use Rattle.account_calls.specs.declared.fault.PlanFault.TheVariants.{Inconsistent}
 
 -- GET of a record's file: what its bytes read as
 abbrev pub record_due : SwiftReply → Result (Option Record) PlanFault

@@ -12,9 +12,9 @@ use Rattle.swift_marks.specs.Tag.{read_stamp}
 use Rattle.swift_marks.specs.declared.tag.Stamp.{Stamp}
 use Rattle.list_pages.specs.declared.page.TheConstants.{MOST_NAMES}
 use Rattle.upload_records.specs.Layout.{uploads_name}
-use Rattle.recovery.specs.FilePages.{items_after, rows_after}
-use Rattle.recovery.specs.declared.fault.PlanFault.{PlanFault}
-use Rattle.recovery.specs.declared.fault.PlanFault.TheVariants.{Failed, Memory, Inconsistent}
+use Rattle.account_calls.specs.FilePages.{items_after, rows_after}
+use Rattle.account_calls.specs.declared.fault.PlanFault.{PlanFault}
+use Rattle.account_calls.specs.declared.fault.PlanFault.TheVariants.{Failed, Memory, Inconsistent}
 
 -- ---- the part of an item
 

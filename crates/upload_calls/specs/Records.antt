@@ -16,8 +16,8 @@ use Rattle.upload_records.specs.Layout.{segments_name, segments_prefix, uploads_
 use Rattle.upload_records.specs.Native.{parts_of, record_at}
 use Rattle.upload_records.specs.Consistent.{IsOpen, IsThere}
 use Rattle.upload_records.specs.Laws.{IsUnused}
-use Rattle.recovery.specs.Answers.{IsFirstFree, IsTaken}
-use Rattle.recovery.specs.Purging.{MayPurge}
+use Rattle.account_calls.specs.Answers.{IsFirstFree, IsTaken}
+use Rattle.account_calls.specs.Purging.{MayPurge}
 
 -- ---- the text of an id
 

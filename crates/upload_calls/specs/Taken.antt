@@ -4,7 +4,7 @@ use Rattle.std.specs.FinMap.{get}
 use Rattle.s3_names.specs.Id.{id_digits}
 use Rattle.swift_calls.specs.Account.{SwiftAccount, files}
 use Rattle.upload_records.specs.Layout.{segments_name, uploads_name}
-use Rattle.recovery.specs.Answers.{IsNamedBy}
+use Rattle.account_calls.specs.Answers.{IsNamedBy}
 
 -- whether the record is there
 abbrev pub TellsRecorded : List ℕ → ℕ → SwiftAccount → Bool → Type 0

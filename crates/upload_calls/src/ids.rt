@@ -2,17 +2,17 @@
 ghost use Rattle.std.specs.Prelude.{◌≡◌, ◌≢◌, ◌+◌, ◌*◌, true, Err};
 ghost use Rattle.s3_names.specs.Bucket.{is_bucket};
 ghost use Rattle.swift_calls.specs.History.{present};
+ghost use Rattle.account_calls.specs.Answers.{records_of, segments_of};
+ghost use Rattle.account_calls.specs.Calls.{always, by_account, Asks, GivenOf};
+ghost use Rattle.account_calls.specs.Lent.{Stays};
+ghost use Rattle.account_calls.specs.Listing.{TellsOf};
+ghost use Rattle.account_calls.specs.declared.fault.PlanFault.TheVariants as fault;
 ghost use Rattle.upload_calls.specs.Interpret.{any_due, there_due};
 ghost use Rattle.upload_calls.specs.Records.{InBucket, ReadsId, TellsFree, TellsTaken};
 ghost use Rattle.upload_calls.specs.Taken.{TellsRecorded, TellsSegmented};
-ghost use Rattle.recovery.specs.Answers.{records_of, segments_of};
-ghost use Rattle.recovery.specs.Calls.{always, by_account, Asks, GivenOf};
-ghost use Rattle.recovery.specs.Lent.{Stays};
-ghost use Rattle.recovery.specs.Listing.{TellsOf};
-ghost use Rattle.recovery.specs.declared.fault.PlanFault.TheVariants as fault;
 
+use account_calls::{PlanFault, Settled};
 use gate_base::Bytes;
-use recovery::{PlanFault, Settled};
 use s3_names::{id_digits, read_id_digits};
 use std::alloc::Global;
 use swift_calls::{Swift, SwiftReply, SwiftRequest};

@@ -7,13 +7,13 @@ ghost use Rattle.s3_machine.specs.Limits.{most_body_bytes};
 ghost use Rattle.s3_machine.specs.Uploads.{IsPartNumber};
 ghost use Rattle.swift_calls.specs.Step.{Fit};
 ghost use Rattle.swift_marks.specs.Tag.{has_text, tag_text};
+ghost use Rattle.account_calls.specs.Calls.{always, Becomes, Changes, GivenOf};
+ghost use Rattle.account_calls.specs.Lent.{Stays};
 ghost use Rattle.upload_calls.specs.Interpret.{part_tag, put_part_of};
 ghost use Rattle.upload_calls.specs.Records.{HasOpen, puts_part};
-ghost use Rattle.recovery.specs.Calls.{always, Becomes, Changes, GivenOf};
-ghost use Rattle.recovery.specs.Lent.{Stays};
 
+use account_calls::{PlanFault, Settled, interpret_put_with_etag};
 use gate_base::{Bytes, List, Memory};
-use recovery::{PlanFault, Settled, interpret_put_with_etag};
 use std::alloc::Global;
 use swift_calls::{Swift, SwiftRequest};
 use swift_marks::Tag;

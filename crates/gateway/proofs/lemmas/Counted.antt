@@ -8,8 +8,8 @@ use Rattle.s3_machine.specs.declared.operation.Reply.{Reply}
 use Rattle.s3_machine.specs.declared.operation.Reply.TheVariants.{Refused, Memory}
 use Rattle.s3_machine.specs.declared.operation.Settings.{Settings}
 use Rattle.swift_calls.specs.History.{History}
-use Rattle.recovery.specs.Answers.{steps_of, AnswersBy, machine, unavailable, memory}
-use Rattle.recovery.specs.Stutters.{LastFailed}
+use Rattle.account_calls.specs.Answers.{steps_of, AnswersBy, machine, unavailable, memory}
+use Rattle.account_calls.specs.Stutters.{LastFailed}
 use Rattle.s3_requests.specs.declared.meant.Meant.TheVariants as meant
 use Rattle.gateway.specs.Request.{Request}
 use Rattle.gateway.specs.Exchange.{StoreCursor, Span, Performs, unsettled, answered, Replies, refused, performed}

@@ -15,12 +15,12 @@ use Rattle.swift_calls.specs.History.{History, Extends}
 use Rattle.swift_calls.proofs.lemmas.Histories.{extends_before}
 use Rattle.upload_records.specs.Native.{IsSettled}
 use Rattle.upload_records.specs.Consistent.{IsConsistent}
-use Rattle.recovery.specs.declared.state.Known.{Known}
-use Rattle.recovery.specs.Answers.{beside_of, most_calls, most_settling}
-use Rattle.recovery.specs.Calls.{amount}
-use Rattle.recovery.specs.Stutters.{LastFailed}
-use Rattle.recovery.specs.Settling.{IsKnown}
-use Rattle.recovery.proofs.lemmas.Agree.{quiet_agree, last_failed_agree, answers_agree, beside_agree}
+use Rattle.account_calls.specs.declared.state.Known.{Known}
+use Rattle.account_calls.specs.Answers.{beside_of, most_calls, most_settling}
+use Rattle.account_calls.specs.Calls.{amount}
+use Rattle.account_calls.specs.Stutters.{LastFailed}
+use Rattle.account_calls.specs.Known.{IsKnown}
+use Rattle.account_calls.proofs.lemmas.Agree.{quiet_agree, last_failed_agree, answers_agree, beside_agree}
 use Rattle.gateway.specs.declared.ended.Ended.{Ended}
 use Rattle.gateway.specs.declared.service.Service.{Service}
 use Rattle.s3_requests.specs.Proper.{IsProperCode}

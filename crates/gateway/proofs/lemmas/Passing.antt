@@ -11,10 +11,10 @@ use Rattle.swift_calls.specs.History.{History, Extends}
 use Rattle.swift_calls.proofs.lemmas.Histories.{extends_before}
 use Rattle.upload_records.specs.Native.{s3_state}
 use Rattle.upload_records.specs.Consistent.{IsConsistent}
-use Rattle.recovery.specs.Answers.{Passes, most_calls, most_settling}
-use Rattle.recovery.specs.Calls.{amount}
-use Rattle.recovery.specs.Stutters.{Stutters}
-use Rattle.recovery.proofs.lemmas.Agree.{quiet_agree, passes_agree, passes_still}
+use Rattle.account_calls.specs.Answers.{Passes, most_calls, most_settling}
+use Rattle.account_calls.specs.Calls.{amount}
+use Rattle.account_calls.specs.Stutters.{Stutters}
+use Rattle.account_calls.proofs.lemmas.Agree.{quiet_agree, passes_agree, passes_still}
 use Rattle.gateway.specs.declared.ended.Ended.{Ended}
 use Rattle.gateway.specs.declared.service.Service.{Service}
 use Rattle.gateway.specs.Request.{Request}

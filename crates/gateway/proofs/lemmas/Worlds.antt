@@ -4,10 +4,10 @@ use Rattle.gate_base.specs.Line.{LineModel}
 use Rattle.gate_base.specs.Told.{SourceModel}
 use Rattle.s3_machine.specs.declared.operation.Settings.{Settings}
 use Rattle.swift_calls.specs.History.{History, Extends}
-use Rattle.recovery.specs.declared.state.Known.{Known}
-use Rattle.recovery.specs.Calls.{Met}
-use Rattle.recovery.specs.Settling.{IsKnown}
-use Rattle.recovery.proofs.lemmas.Idle.{goes_none, goes_trans}
+use Rattle.account_calls.specs.declared.state.Known.{Known}
+use Rattle.account_calls.specs.Calls.{Met}
+use Rattle.account_calls.specs.Known.{IsKnown}
+use Rattle.account_calls.proofs.lemmas.Idle.{goes_none, goes_trans}
 use Rattle.gateway.specs.Exchange.{ReplyRelation, RepliesBy, Where}
 use Rattle.gateway.specs.World.{World, world, IsObservable, Continues, ServesOver}
 use Rattle.gateway.proofs.Replying.{stands_still}

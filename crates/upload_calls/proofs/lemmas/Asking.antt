@@ -12,19 +12,19 @@ use Rattle.swift_calls.specs.Account.{SwiftAccount}
 use Rattle.swift_calls.specs.History.{History, present}
 use Rattle.upload_records.specs.Native.{s3_state}
 use Rattle.upload_records.specs.Consistent.{IsConsistent}
-use Rattle.recovery.specs.declared.fault.PlanFault.{PlanFault}
-use Rattle.recovery.specs.declared.fault.PlanFault.TheVariants.{Failed, Memory, Inconsistent}
-use Rattle.recovery.specs.declared.state.Known.TheVariants.{Settled}
-use Rattle.recovery.specs.Fault.{CausesFault}
-use Rattle.recovery.specs.Stutters.{Stutters}
-use Rattle.recovery.specs.Listing.{TellsOf}
-use Rattle.recovery.specs.Calls.{Bound, always, Met, GivenOf, Keeps, Tells, Asks}
-use Rattle.recovery.specs.Plan.{IsOwnReply, Plans}
-use Rattle.recovery.proofs.lemmas.Agree.{quiet_agree, quiet_trans, failed_after}
-use Rattle.recovery.proofs.lemmas.Ask.{asks_told}
-use Rattle.recovery.proofs.lemmas.Ends.{IsWider, calls_in_vain, calls_end}
-use Rattle.recovery.proofs.lemmas.Faults.{err_is}
-use Rattle.recovery.proofs.lemmas.Idle.{goes_trans}
+use Rattle.account_calls.specs.declared.fault.PlanFault.{PlanFault}
+use Rattle.account_calls.specs.declared.fault.PlanFault.TheVariants.{Failed, Memory, Inconsistent}
+use Rattle.account_calls.specs.declared.state.Known.TheVariants.{Settled}
+use Rattle.account_calls.specs.Fault.{CausesFault}
+use Rattle.account_calls.specs.Stutters.{Stutters}
+use Rattle.account_calls.specs.Listing.{TellsOf}
+use Rattle.account_calls.specs.Calls.{Bound, always, Met, GivenOf, Keeps, Tells, Asks}
+use Rattle.account_calls.specs.Plan.{IsOwnReply, Plans}
+use Rattle.account_calls.proofs.lemmas.Agree.{quiet_agree, quiet_trans, failed_after}
+use Rattle.account_calls.proofs.lemmas.Ask.{asks_told}
+use Rattle.account_calls.proofs.lemmas.Ends.{IsWider, calls_in_vain, calls_end}
+use Rattle.account_calls.proofs.lemmas.Faults.{err_is}
+use Rattle.account_calls.proofs.lemmas.Idle.{goes_trans}
 
 -- ---- calls that leave the account
 

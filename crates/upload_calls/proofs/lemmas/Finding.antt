@@ -23,13 +23,13 @@ use Rattle.upload_records.specs.Native.{IsSettled, bucket_from, bucket_of, kept_
 use Rattle.upload_records.specs.Consistent.{IsConsistent, IsThere}
 use Rattle.upload_records.proofs.lemmas.Buckets.{s3_state_there}
 use Rattle.upload_records.proofs.lemmas.Settled.{s3_state_unsealed, unsealed_of}
+use Rattle.account_calls.specs.Answers.{named_by}
+use Rattle.account_calls.specs.Listing.{TellsOf}
+use Rattle.account_calls.specs.Calls.{Given, GivenOf, Met, TellsBucket, acl_of_bucket}
 use Rattle.upload_calls.specs.declared.found.Found.{Found}
 use Rattle.upload_calls.specs.declared.found.Found.TheVariants as found
 use Rattle.upload_calls.specs.Found.{IsOpenUpload, LacksUpload, TellsUpload, found_by}
 use Rattle.upload_calls.specs.Records.{InBucket, ReadsId}
-use Rattle.recovery.specs.Answers.{named_by}
-use Rattle.recovery.specs.Listing.{TellsOf}
-use Rattle.recovery.specs.Calls.{Given, GivenOf, Met, TellsBucket, acl_of_bucket}
 
 -- ---- the bucket
 

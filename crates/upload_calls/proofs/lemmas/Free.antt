@@ -5,7 +5,7 @@ use Rattle.std.proofs.Common.{refl, inl, inr}
 use Rattle.swift_calls.specs.Account.{SwiftAccount, SwiftObject, files}
 use Rattle.upload_records.specs.Layout.{five_digits, segment_name, segments_name, uploads_name}
 use Rattle.upload_records.specs.Laws.{IsUnused}
-use Rattle.recovery.specs.Answers.{IsNamedBy, IsTaken}
+use Rattle.account_calls.specs.Answers.{IsNamedBy, IsTaken}
 
 not_taken : (o : Option SwiftObject) → (is_some o ≡ true → ⊥) → o ≡ None
 not_taken None free = refl

@@ -9,9 +9,9 @@ use Rattle.swift_calls.specs.Account.{SwiftAccount, files}
 use Rattle.upload_records.specs.Layout.{uploads_name}
 use Rattle.upload_records.specs.Consistent.{IsOpen}
 use Rattle.upload_records.specs.Native.{record_at}
+use Rattle.account_calls.specs.Calls.{LacksBucket, TellsBucket, acl_of_bucket}
 use Rattle.upload_calls.specs.Found.{IsOpenUpload}
 use Rattle.upload_calls.specs.Records.{HasOpen}
-use Rattle.recovery.specs.Calls.{LacksBucket, TellsBucket, acl_of_bucket}
 
 none_of : (o : Option Bucket) → option_map acl_of_bucket o ≡ None → o ≡ None
 none_of None e = refl

@@ -18,16 +18,16 @@ use Rattle.swift_calls.specs.History.{History, present}
 use Rattle.upload_records.specs.Layout.{segments_name, segments_prefix, segment_name}
 use Rattle.upload_records.specs.Native.{parts_of}
 use Rattle.upload_records.specs.Consistent.{IsConsistent}
+use Rattle.account_calls.specs.declared.fault.PlanFault.{PlanFault}
+use Rattle.account_calls.specs.Answers.{named_by, pages}
+use Rattle.account_calls.specs.Listing.{TellsOf}
+use Rattle.account_calls.specs.Calls.{Bound, always, by_account, Asks, GivenOf, Met}
+use Rattle.account_calls.specs.FilePages.{items_after, rows_after}
+use Rattle.account_calls.proofs.lemmas.Idle.{grows_none, none_made}
 use Rattle.upload_calls.specs.Listing.{part_due, told_after, TellsNext}
 use Rattle.upload_calls.specs.Records.{InBucket, TellsParts, items_above}
 use Rattle.upload_calls.proofs.PartRows.{items_told, none_above, parts_told}
 use Rattle.upload_calls.proofs.lemmas.Taking.{Taking, taking_end, taking_fault, taking_none}
-use Rattle.recovery.specs.declared.fault.PlanFault.{PlanFault}
-use Rattle.recovery.specs.Answers.{named_by, pages}
-use Rattle.recovery.specs.Listing.{TellsOf}
-use Rattle.recovery.specs.Calls.{Bound, always, by_account, Asks, GivenOf, Met}
-use Rattle.recovery.specs.FilePages.{items_after, rows_after}
-use Rattle.recovery.proofs.lemmas.Idle.{grows_none, none_made}
 
 -- ---- the first of some items
 

@@ -15,16 +15,16 @@ use Rattle.swift_calls.specs.Account.{SwiftObject, SwiftAccount, files}
 use Rattle.swift_calls.specs.History.{History, present}
 use Rattle.upload_records.specs.Layout.{uploads_name}
 use Rattle.upload_records.specs.Consistent.{IsConsistent, IsThere}
+use Rattle.account_calls.specs.declared.fault.PlanFault.{PlanFault}
+use Rattle.account_calls.specs.Answers.{pages, records_of}
+use Rattle.account_calls.specs.Calls.{always, by_account, Asks, GivenOf}
+use Rattle.account_calls.specs.FilePages.{item_at, rows_after, items_after}
+use Rattle.account_calls.specs.Listing.{TellsOf}
+use Rattle.account_calls.proofs.lemmas.Markers.{IsEntry, entries_are}
 use Rattle.upload_calls.specs.Listing.{id_due, told_after, TellsIds, TellsNext}
 use Rattle.upload_calls.specs.Records.{InBucket}
 use Rattle.upload_calls.proofs.lemmas.PartWalk.{shorter}
 use Rattle.upload_calls.proofs.lemmas.Taking.{Taking, taking_end, taking_fault, taking_none}
-use Rattle.recovery.specs.declared.fault.PlanFault.{PlanFault}
-use Rattle.recovery.specs.Answers.{pages, records_of}
-use Rattle.recovery.specs.Calls.{always, by_account, Asks, GivenOf}
-use Rattle.recovery.specs.FilePages.{item_at, rows_after, items_after}
-use Rattle.recovery.specs.Listing.{TellsOf}
-use Rattle.recovery.proofs.lemmas.Markers.{IsEntry, entries_are}
 
 all_filter : {X : Type 0} (q p : X → Bool) (es : List X) → list_all q es ≡ true → list_all q (filter p es) ≡ true
 all_filter q p [] h = refl

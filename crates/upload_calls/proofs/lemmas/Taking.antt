@@ -13,18 +13,18 @@ use Rattle.swift_calls.specs.declared.heads.NameItem.{NameItem}
 use Rattle.upload_records.specs.Native.{IsSettled}
 use Rattle.upload_records.specs.Consistent.{IsConsistent}
 use Rattle.list_pages.specs.Listing.{name_in}
+use Rattle.account_calls.specs.declared.fault.PlanFault.{PlanFault}
+use Rattle.account_calls.specs.declared.fault.PlanFault.TheVariants as plan
+use Rattle.account_calls.specs.Answers.{pages}
+use Rattle.account_calls.specs.Calls.{always, by_account, Any, Asks, GivenOf, GoesOn, Grows, Met}
+use Rattle.account_calls.specs.FilePages.{item_at, rows_after, items_after, next_after, TellsFiles}
+use Rattle.account_calls.specs.Listing.{TellsOf}
+use Rattle.account_calls.proofs.lemmas.Ask.{asks_out_of_memory}
+use Rattle.account_calls.proofs.lemmas.Faults.{err_is}
+use Rattle.account_calls.proofs.lemmas.Idle.{goes_none, goes_trans}
+use Rattle.account_calls.proofs.lemmas.Walk.{Idles, idles_none, idles_trans, cause_after, keeps_after}
 use Rattle.upload_calls.specs.Listing.{told_after, Adds, GoesOnWith, HasOdd, TellsNext}
 use Rattle.upload_calls.proofs.Turned.{turned, ended}
-use Rattle.recovery.specs.declared.fault.PlanFault.{PlanFault}
-use Rattle.recovery.specs.declared.fault.PlanFault.TheVariants as plan
-use Rattle.recovery.specs.Answers.{pages}
-use Rattle.recovery.specs.Calls.{always, by_account, Any, Asks, GivenOf, GoesOn, Grows, Met}
-use Rattle.recovery.specs.FilePages.{item_at, rows_after, items_after, next_after, TellsFiles}
-use Rattle.recovery.specs.Listing.{TellsOf}
-use Rattle.recovery.proofs.lemmas.Ask.{asks_out_of_memory}
-use Rattle.recovery.proofs.lemmas.Faults.{err_is}
-use Rattle.recovery.proofs.lemmas.Idle.{goes_none, goes_trans}
-use Rattle.recovery.proofs.lemmas.Walk.{Idles, idles_none, idles_trans, cause_after, keeps_after}
 
 -- ---- one item more
 

@@ -1,7 +1,7 @@
 use Rattle.std.proofs.Common.{◌∙◌, refl, sym, ap, subst, inl, inr, arith}
 use Rattle.gate_base.specs.Causes.{Rose}
 use Rattle.swift_calls.proofs.lemmas.Histories.{is_fault_free}
-use Rattle.recovery.specs.declared.state.Known.TheVariants.{Unsure}
+use Rattle.account_calls.specs.declared.state.Known.TheVariants.{Unsure}
 use Rattle.sign_cmd.specs.Signing.{SignsOn}
 use Rattle.gateway.specs.World.{world}
 use Rattle.gateway_cmd.specs.declared.status.Status.TheVariants.{Memory}

@@ -1,6 +1,6 @@
 use Rattle.std.specs.Prelude.{None, Some}
 use Rattle.std.proofs.Common.{lit≤, rules}
-use Rattle.recovery.proofs.lemmas.Ends.{told_nothing, answers, goes_on}
+use Rattle.account_calls.proofs.lemmas.Ends.{told_nothing, answers, goes_on}
 use Rattle.many_keys.proofs.CopiedPart.{copy_of_no_bucket}
 use Rattle.many_keys.proofs.copied_part.plan_part_copy_into_upload.Goals as goal
 

@@ -1,7 +1,7 @@
 use Rattle.std.specs.Prelude.{None, Some}
 use Rattle.std.proofs.Common.{sym, ◌∙◌, lit≤, rules}
-use Rattle.recovery.specs.Calls.{always}
-use Rattle.recovery.proofs.lemmas.Ends.{after_told, calls_end, calls_in_vain, goes_on_from, met_within}
+use Rattle.account_calls.specs.Calls.{always}
+use Rattle.account_calls.proofs.lemmas.Ends.{after_told, calls_end, calls_in_vain, goes_on_from, met_within}
 use Rattle.many_keys.proofs.CopiedPart.{as_wanted, copy_is_told, not_gone, not_large, source_told}
 use Rattle.many_keys.proofs.copied_part.plan_part_copy_of_bytes.Goals as goal
 

@@ -1,5 +1,5 @@
 use Rattle.std.proofs.Common.{sym, ◌∙◌, lit≤, arith, rules}
-use Rattle.recovery.proofs.lemmas.Ends.{needs_none}
+use Rattle.account_calls.proofs.lemmas.Ends.{needs_none}
 use Rattle.many_keys.proofs.CopiedPart.{copy_is_empty, copy_past_end, copy_too_large, not_large, plans_within, same_length, too_large}
 use Rattle.many_keys.proofs.copied_part.plan_part_copy_of_source.Goals as goal
 

@@ -1,7 +1,7 @@
 use Rattle.std.proofs.Common.{sym, subst, ◌∙◌, lit≤}
+use Rattle.account_calls.specs.Plan.{Plans}
+use Rattle.account_calls.proofs.lemmas.Ends.{out_of_memory, commits, becomes}
 use Rattle.upload_calls.proofs.lemmas.Opened.{has_open}
-use Rattle.recovery.specs.Plan.{Plans}
-use Rattle.recovery.proofs.lemmas.Ends.{out_of_memory, commits, becomes}
 use Rattle.many_keys.proofs.CopiedPart.{copied_is_own, copy_stored}
 use Rattle.many_keys.proofs.copied_part.plan_part_copy_with_etag.Goals as goal
 

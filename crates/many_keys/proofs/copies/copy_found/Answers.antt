@@ -1,6 +1,6 @@
 use Rattle.std.proofs.Common.{arith, sym, ◌∙◌, lit≤, rules}
 use Rattle.std.proofs.lemmas.Bool.Decides.{nat_tests}
-use Rattle.recovery.proofs.lemmas.Ends.{needs_none}
+use Rattle.account_calls.proofs.lemmas.Ends.{needs_none}
 use Rattle.many_keys.proofs.CopySteps.{as_few, copy_itself, plans_of_parts, plans_wider}
 use Rattle.many_keys.proofs.copies.copy_found.Goals as goal
 

@@ -1,7 +1,7 @@
 use Rattle.std.specs.Prelude.{None, Some}
 use Rattle.std.proofs.Common.{lit≤, rules}
 use Rattle.upload_records.specs.Native.{s3_state}
-use Rattle.recovery.proofs.lemmas.Ends.{told_nothing, answers, met_settled, after_told, goes_on_from}
+use Rattle.account_calls.proofs.lemmas.Ends.{told_nothing, answers, met_settled, after_told, goes_on_from}
 use Rattle.many_keys.specs.Copies.{IsFoundBucket, IsFoundSource}
 use Rattle.many_keys.proofs.CopySteps.{as_few, one_more, copy_source_missing}
 use Rattle.many_keys.proofs.copies.copy_from.Goals as goal

@@ -1,7 +1,7 @@
 use Rattle.std.proofs.Common.{refl, arith}
 use Rattle.upload_records.specs.Native.{s3_state}
-use Rattle.recovery.specs.Calls.{always}
-use Rattle.recovery.proofs.lemmas.Ends.{after_told, calls_in_vain, goes_on_from, met_within}
+use Rattle.account_calls.specs.Calls.{always}
+use Rattle.account_calls.proofs.lemmas.Ends.{after_told, calls_in_vain, goes_on_from, met_within}
 use Rattle.many_keys.specs.Copies.{IsFoundSource, IsReadSource}
 use Rattle.many_keys.proofs.copies.copy_plain_source.Goals as goal
 

@@ -1,8 +1,8 @@
 use Rattle.std.specs.Prelude.{None, Some}
 use Rattle.std.proofs.Common.{sym, ◌∙◌, lit≤, rules}
 use Rattle.upload_records.specs.Native.{s3_state}
-use Rattle.recovery.specs.Calls.{TellsBucket}
-use Rattle.recovery.proofs.lemmas.Ends.{needs_none, told_nothing, answers, met_settled, after_told, goes_on_from}
+use Rattle.account_calls.specs.Calls.{TellsBucket}
+use Rattle.account_calls.proofs.lemmas.Ends.{needs_none, told_nothing, answers, met_settled, after_told, goes_on_from}
 use Rattle.many_keys.specs.Copies.{IsFoundBucket}
 use Rattle.many_keys.proofs.CopySteps.{as_few, one_more, copy_other, copy_from_missing}
 use Rattle.many_keys.proofs.copies.copy_within.Goals as goal

@@ -1,6 +1,6 @@
 use Rattle.std.proofs.Common.{sym, subst, ◌∙◌, lit≤, rules}
-use Rattle.recovery.specs.Plan.{Plans}
-use Rattle.recovery.proofs.lemmas.Ends.{commits, becomes}
+use Rattle.account_calls.specs.Plan.{Plans}
+use Rattle.account_calls.proofs.lemmas.Ends.{commits, becomes}
 use Rattle.many_keys.proofs.CopySteps.{copy_put}
 use Rattle.many_keys.proofs.Sources.{source_body}
 use Rattle.many_keys.proofs.copies.put_copy.Goals as goal

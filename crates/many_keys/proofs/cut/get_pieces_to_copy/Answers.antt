@@ -1,8 +1,8 @@
 use Rattle.std.proofs.Common.{sym, subst}
 use Rattle.swift_calls.specs.Limits.{IsObjectName}
 use Rattle.swift_calls.specs.Step.{IsContainerName}
-use Rattle.recovery.proofs.lemmas.Names.{container_name, object_name}
-use Rattle.recovery.proofs.lemmas.One.{not_asked, asked_of, asked_of_in_vain}
+use Rattle.account_calls.proofs.lemmas.Names.{container_name, object_name}
+use Rattle.account_calls.proofs.lemmas.One.{not_asked, asked_of, asked_of_in_vain}
 use Rattle.many_keys.proofs.CutCalls.{cut_reads}
 use Rattle.many_keys.proofs.cut.get_pieces_to_copy.Goals as goal
 

@@ -1,4 +1,4 @@
-use Rattle.recovery.proofs.lemmas.One.{not_sent}
+use Rattle.account_calls.proofs.lemmas.One.{not_sent}
 use Rattle.many_keys.proofs.deletions.delete_key.Goals as goal
 
 pub returns-in_err-container-clause-changes : goal.returns-in_err-container-clause-changes

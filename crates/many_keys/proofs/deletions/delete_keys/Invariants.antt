@@ -1,4 +1,4 @@
-use Rattle.recovery.specs.Lent.{Stays}
+use Rattle.account_calls.specs.Lent.{Stays}
 use Rattle.many_keys.proofs.Deleting.{Deleting}
 use Rattle.many_keys.proofs.deletions.delete_keys.Given as goal
 

@@ -1,8 +1,8 @@
 use Rattle.std.specs.Prelude.{None, Some}
 use Rattle.std.proofs.Common.{arith, rules, sym, subst}
-use Rattle.recovery.specs.Plan.{Plans}
-use Rattle.recovery.proofs.lemmas.Ends.{told_nothing, answers, goes_on}
-use Rattle.recovery.proofs.lemmas.Faults.{err_is}
+use Rattle.account_calls.specs.Plan.{Plans}
+use Rattle.account_calls.proofs.lemmas.Ends.{told_nothing, answers, goes_on}
+use Rattle.account_calls.proofs.lemmas.Faults.{err_is}
 use Rattle.many_keys.proofs.Deleting.{delete_missing, deletes_rest}
 use Rattle.many_keys.proofs.deletions.delete_objects.Goals as goal
 

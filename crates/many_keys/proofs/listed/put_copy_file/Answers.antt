@@ -1,4 +1,4 @@
-use Rattle.recovery.proofs.lemmas.One.{not_sent, sent_in_vain, sent}
+use Rattle.account_calls.proofs.lemmas.One.{not_sent, sent_in_vain, sent}
 use Rattle.many_keys.proofs.PutsFile.{puts_copy}
 use Rattle.many_keys.proofs.listed.put_copy_file.Goals as goal
 

@@ -1,6 +1,6 @@
 use Rattle.std.proofs.Common.{sym, subst, lit≤, rules}
-use Rattle.recovery.specs.Plan.{Plans}
-use Rattle.recovery.proofs.lemmas.Ends.{commits, out_of_memory}
+use Rattle.account_calls.specs.Plan.{Plans}
+use Rattle.account_calls.proofs.lemmas.Ends.{commits, out_of_memory}
 use Rattle.many_keys.proofs.PutsFile.{copy_steps}
 use Rattle.many_keys.proofs.listed.put_listed_copy.Goals as goal
 

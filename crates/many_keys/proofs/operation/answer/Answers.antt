@@ -1,6 +1,6 @@
 use Rattle.std.proofs.Common.{sym, subst}
-use Rattle.recovery.specs.Plan.{Answered}
-use Rattle.recovery.proofs.lemmas.Ends.{answered_by}
+use Rattle.account_calls.specs.Plan.{Answered}
+use Rattle.account_calls.proofs.lemmas.Ends.{answered_by}
 use Rattle.many_keys.proofs.Deleting.{none_beside_many}
 use Rattle.many_keys.proofs.operation.answer.Goals as goal
 

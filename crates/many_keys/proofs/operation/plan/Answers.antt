@@ -1,7 +1,7 @@
 use Rattle.std.specs.Prelude.{Err}
 use Rattle.std.proofs.Common.{refl}
-use Rattle.recovery.specs.declared.fault.PlanFault.TheVariants.{Memory}
-use Rattle.recovery.proofs.lemmas.Ends.{out_of_memory}
+use Rattle.account_calls.specs.declared.fault.PlanFault.TheVariants.{Memory}
+use Rattle.account_calls.proofs.lemmas.Ends.{out_of_memory}
 use Rattle.many_keys.proofs.operation.plan.Goals as goal
 
 pub returns-in-DeleteObjects-clause-plans : goal.returns-in-DeleteObjects-clause-plans

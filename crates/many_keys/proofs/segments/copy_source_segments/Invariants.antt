@@ -1,5 +1,5 @@
 use Rattle.std.specs.Prelude.{take}
-use Rattle.recovery.specs.Lent.{Stays}
+use Rattle.account_calls.specs.Lent.{Stays}
 use Rattle.many_keys.proofs.Copying.{Copying}
 use Rattle.many_keys.proofs.segments.copy_source_segments.Given as goal
 

@@ -1,5 +1,5 @@
 use Rattle.std.specs.Prelude.{◌+◌, ◌-◌, Some}
-use Rattle.recovery.proofs.lemmas.One.{not_asked}
+use Rattle.account_calls.proofs.lemmas.One.{not_asked}
 use Rattle.many_keys.proofs.PieceCalls.{asks_piece, piece_fault}
 use Rattle.many_keys.proofs.segments.get_piece_to_copy.Goals as goal
 

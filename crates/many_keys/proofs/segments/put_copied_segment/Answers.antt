@@ -3,7 +3,7 @@ use Rattle.std.proofs.lemmas.Result.{IfOk-weaker}
 use Rattle.s3_machine.specs.ETag.{body_etag}
 use Rattle.upload_texts.specs.Sealed.{part_fits_sealed_text}
 use Rattle.upload_texts.specs.declared.sealed.SealedPart.{SealedPart}
-use Rattle.recovery.proofs.lemmas.One.{not_asked}
+use Rattle.account_calls.proofs.lemmas.One.{not_asked}
 use Rattle.many_keys.proofs.PieceCalls.{part_is_sealed}
 use Rattle.many_keys.proofs.segments.put_copied_segment.Goals as goal
 

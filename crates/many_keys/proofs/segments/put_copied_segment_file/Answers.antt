@@ -1,7 +1,7 @@
 use Rattle.std.proofs.Common.{refl, ap, ◌∙◌, inr}
-use Rattle.recovery.specs.Interpret.{stored_due}
-use Rattle.recovery.proofs.lemmas.One.{not_asked}
-use Rattle.recovery.proofs.lemmas.Quiet.{quiet_in_vain, quieted}
+use Rattle.account_calls.specs.Interpret.{stored_due}
+use Rattle.account_calls.proofs.lemmas.One.{not_asked}
+use Rattle.account_calls.proofs.lemmas.Quiet.{quiet_in_vain, quieted}
 use Rattle.many_keys.specs.CopiedLists.{told_due}
 use Rattle.many_keys.proofs.PieceCalls.{puts_segment}
 use Rattle.many_keys.proofs.segments.put_copied_segment_file.Goals as goal

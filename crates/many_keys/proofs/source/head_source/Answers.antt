@@ -1,6 +1,6 @@
 use Rattle.std.proofs.Common.{sym, subst}
-use Rattle.recovery.specs.Calls.{Asks}
-use Rattle.recovery.proofs.lemmas.Faults.{err_is}
+use Rattle.account_calls.specs.Calls.{Asks}
+use Rattle.account_calls.proofs.lemmas.Faults.{err_is}
 use Rattle.many_keys.proofs.Sources.{asks_proper}
 use Rattle.many_keys.proofs.source.head_source.Goals as goal
 

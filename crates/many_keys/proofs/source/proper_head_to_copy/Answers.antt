@@ -1,5 +1,5 @@
 use Rattle.std.proofs.Common.{subst, sym, ◌∙◌}
-use Rattle.recovery.specs.Interpret.{IsShownHead}
+use Rattle.account_calls.specs.Interpret.{IsShownHead}
 use Rattle.many_keys.proofs.Sources.{proper_head}
 use Rattle.many_keys.proofs.source.proper_head_to_copy.Goals as goal
 

@@ -1,4 +1,4 @@
-use Rattle.recovery.proofs.lemmas.Ends.{out_of_memory}
+use Rattle.account_calls.proofs.lemmas.Ends.{out_of_memory}
 use Rattle.plan_uploads.proofs.Beside.{beside_none}
 use Rattle.plan_uploads.proofs.abort.abort_open.Goals as goal
 

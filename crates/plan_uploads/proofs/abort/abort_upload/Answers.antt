@@ -1,10 +1,10 @@
 use Rattle.std.proofs.Common.{ap, arith, rules}
+use Rattle.account_calls.specs.Answers.{pages}
+use Rattle.account_calls.specs.Calls.{always}
+use Rattle.account_calls.proofs.lemmas.Ends.{met_settled, goes_on_from}
 use Rattle.upload_calls.specs.declared.found.Found.TheVariants.{NoBucket, NoUpload, Open}
 use Rattle.upload_calls.proofs.lemmas.Asking.{after_told_of, asked_in_vain, asked_reply}
 use Rattle.upload_calls.proofs.lemmas.Finding.{named_same}
-use Rattle.recovery.specs.Answers.{pages}
-use Rattle.recovery.specs.Calls.{always}
-use Rattle.recovery.proofs.lemmas.Ends.{met_settled, goes_on_from}
 use Rattle.plan_uploads.proofs.Behind.{clears_fault, clears_on, clears_other}
 use Rattle.plan_uploads.proofs.Steps.{abort_lost, abort_missing}
 use Rattle.plan_uploads.proofs.abort.abort_upload.Goals as goal

@@ -1,8 +1,8 @@
 use Rattle.std.proofs.Common.{sym, subst, arith}
 use Rattle.swift_calls.specs.Limits.{IsMarker}
 use Rattle.swift_calls.specs.Step.{IsContainerName}
-use Rattle.recovery.specs.Plan.{Plans}
-use Rattle.recovery.proofs.lemmas.SideNames.{prefix_is_marker, segments_fits}
+use Rattle.account_calls.specs.Plan.{Plans}
+use Rattle.account_calls.proofs.lemmas.SideNames.{prefix_is_marker, segments_fits}
 use Rattle.plan_uploads.specs.Plans.{LeavesBeside}
 use Rattle.plan_uploads.proofs.Behind.{clears_behind, clears_fault, drop_fails, gone_then, purged_at}
 use Rattle.plan_uploads.proofs.abort.plan_abort_and_purge_upload.Goals as goal

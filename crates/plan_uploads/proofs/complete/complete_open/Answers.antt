@@ -3,9 +3,9 @@ use Rattle.s3_names.specs.Id.{id_digits}
 use Rattle.s3_machine.specs.declared.code.Code.TheVariants.{InvalidPartOrder}
 use Rattle.s3_machine.specs.Uploads.{rises}
 use Rattle.swift_calls.specs.History.{present}
-use Rattle.recovery.specs.Answers.{named_by, pages}
-use Rattle.recovery.specs.Calls.{by_account}
-use Rattle.recovery.proofs.lemmas.Ends.{goes_on_from, met_within}
+use Rattle.account_calls.specs.Answers.{named_by, pages}
+use Rattle.account_calls.specs.Calls.{by_account}
+use Rattle.account_calls.proofs.lemmas.Ends.{goes_on_from, met_within}
 use Rattle.plan_uploads.proofs.CompletionCalls.{asked_nothing, refused_at_once}
 use Rattle.plan_uploads.proofs.CompletionSteps.{order_refused}
 use Rattle.plan_uploads.proofs.Completions.{has_parts}

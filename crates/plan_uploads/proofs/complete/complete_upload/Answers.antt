@@ -1,8 +1,8 @@
 use Rattle.std.proofs.Common.{refl, ap, subst, arith, rules}
+use Rattle.account_calls.specs.Answers.{pages}
+use Rattle.account_calls.specs.Calls.{always}
+use Rattle.account_calls.proofs.lemmas.Ends.{met_settled, goes_on_from}
 use Rattle.upload_calls.proofs.lemmas.Asking.{after_told_of, asked_in_vain, asked_reply}
-use Rattle.recovery.specs.Answers.{pages}
-use Rattle.recovery.specs.Calls.{always}
-use Rattle.recovery.proofs.lemmas.Ends.{met_settled, goes_on_from}
 use Rattle.plan_uploads.specs.Completing.{IsCompleted, LacksCompletion}
 use Rattle.plan_uploads.specs.declared.completed.ToComplete.TheVariants.{NoBucket, NoUpload, Again, Open}
 use Rattle.plan_uploads.proofs.CompletionEnds.{asked_out_of_memory, ends_answered, ends_with_fault}

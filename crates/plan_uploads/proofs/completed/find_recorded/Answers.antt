@@ -1,5 +1,5 @@
 use Rattle.std.proofs.Common.{sym, subst}
-use Rattle.recovery.proofs.lemmas.Ask.{asks_told}
+use Rattle.account_calls.proofs.lemmas.Ask.{asks_told}
 use Rattle.plan_uploads.specs.Completing.{TellsToComplete}
 use Rattle.plan_uploads.proofs.FoundCompletion.{tells_completion}
 use Rattle.plan_uploads.proofs.completed.find_recorded.Goals as goal

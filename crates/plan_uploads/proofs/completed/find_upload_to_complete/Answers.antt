@@ -1,10 +1,10 @@
 use Rattle.std.specs.Prelude.{None, Some}
 use Rattle.std.proofs.Common.{subst, lit≤}
 use Rattle.upload_records.specs.Native.{s3_state}
+use Rattle.account_calls.specs.Calls.{GivenOf, TellsBucket}
 use Rattle.upload_calls.specs.Records.{InBucket, ReadsId}
 use Rattle.upload_calls.proofs.lemmas.Asking.{asks_as, asks_on}
 use Rattle.upload_calls.proofs.lemmas.Finding.{there_of}
-use Rattle.recovery.specs.Calls.{GivenOf, TellsBucket}
 use Rattle.plan_uploads.proofs.FoundCompletion.{no_completion}
 use Rattle.plan_uploads.proofs.completed.find_upload_to_complete.Goals as goal
 

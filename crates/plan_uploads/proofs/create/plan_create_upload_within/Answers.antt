@@ -1,7 +1,7 @@
 use Rattle.std.proofs.Common.{sym, ◌∙◌, arith, rules}
+use Rattle.account_calls.proofs.lemmas.Ends.{needs_none, goes_on_from}
 use Rattle.upload_calls.proofs.lemmas.Asking.{asked_in_vain}
 use Rattle.upload_calls.proofs.lemmas.Finding.{met_there}
-use Rattle.recovery.proofs.lemmas.Ends.{needs_none, goes_on_from}
 use Rattle.plan_uploads.proofs.Beside.{opens_none, opens_on, opens_still}
 use Rattle.plan_uploads.proofs.Creating.{asks_start, start_after}
 use Rattle.plan_uploads.proofs.Steps.{create_other}

@@ -1,6 +1,6 @@
 use Rattle.std.proofs.Common.{sym, subst, lit≤, rules}
-use Rattle.recovery.specs.Plan.{Plans}
-use Rattle.recovery.proofs.lemmas.Ends.{out_of_memory, commits, becomes}
+use Rattle.account_calls.specs.Plan.{Plans}
+use Rattle.account_calls.proofs.lemmas.Ends.{out_of_memory, commits, becomes}
 use Rattle.plan_uploads.proofs.Beside.{beside_none}
 use Rattle.plan_uploads.proofs.Creating.{may_open, new_id, opens_first}
 use Rattle.plan_uploads.proofs.Steps.{created, it}

@@ -1,5 +1,5 @@
 use Rattle.std.proofs.Common.{false, ap}
-use Rattle.recovery.proofs.lemmas.One.{not_asked}
+use Rattle.account_calls.proofs.lemmas.One.{not_asked}
 use Rattle.plan_uploads.proofs.UploadsListed.{none_asked}
 use Rattle.plan_uploads.proofs.listed_uploads.list_uploads.Goals as goal
 

@@ -1,4 +1,4 @@
-use Rattle.recovery.specs.Lent.{Stays}
+use Rattle.account_calls.specs.Lent.{Stays}
 use Rattle.plan_uploads.specs.Listing.{AllShown}
 use Rattle.plan_uploads.proofs.UploadRows.{Gathered}
 use Rattle.plan_uploads.proofs.listed_uploads.open_uploads_of_ids.Given as goal

@@ -1,5 +1,5 @@
 use Rattle.std.proofs.Common.{sym, subst}
-use Rattle.recovery.specs.Plan.{Answered}
+use Rattle.account_calls.specs.Plan.{Answered}
 use Rattle.plan_uploads.proofs.Answering.{answered_alike, answered_as, answered_with}
 use Rattle.plan_uploads.proofs.operation.answer_upload_operation.Goals as goal
 

@@ -1,7 +1,7 @@
 use Rattle.std.specs.Prelude.{Err}
 use Rattle.std.proofs.Common.{refl}
-use Rattle.recovery.specs.declared.fault.PlanFault.TheVariants.{Memory}
-use Rattle.recovery.proofs.lemmas.Ends.{out_of_memory}
+use Rattle.account_calls.specs.declared.fault.PlanFault.TheVariants.{Memory}
+use Rattle.account_calls.proofs.lemmas.Ends.{out_of_memory}
 use Rattle.plan_uploads.proofs.Beside.{beside_none}
 use Rattle.plan_uploads.proofs.operation.plan_listing.Goals as goal
 

@@ -1,7 +1,7 @@
 use Rattle.std.proofs.Common.{sym, subst, ◌∙◌, lit≤, rules}
+use Rattle.account_calls.specs.Plan.{Plans}
+use Rattle.account_calls.proofs.lemmas.Ends.{out_of_memory, commits, becomes}
 use Rattle.upload_calls.proofs.lemmas.Opened.{has_open}
-use Rattle.recovery.specs.Plan.{Plans}
-use Rattle.recovery.proofs.lemmas.Ends.{out_of_memory, commits, becomes}
 use Rattle.plan_uploads.proofs.Steps.{part_stored}
 use Rattle.plan_uploads.proofs.part.plan_upload_part_bytes.Goals as goal
 

@@ -1,8 +1,8 @@
 use Rattle.std.proofs.Common.{lit≤, rules}
+use Rattle.account_calls.specs.Calls.{always}
+use Rattle.account_calls.proofs.lemmas.Ends.{met_settled, goes_on_from}
 use Rattle.upload_calls.specs.declared.found.Found.TheVariants.{NoBucket, NoUpload, Open}
 use Rattle.upload_calls.proofs.lemmas.Asking.{after_told_of, asked_in_vain, asked_reply}
-use Rattle.recovery.specs.Calls.{always}
-use Rattle.recovery.proofs.lemmas.Ends.{met_settled, goes_on_from}
 use Rattle.plan_uploads.proofs.Steps.{part_lost, part_missing}
 use Rattle.plan_uploads.proofs.part.upload_part.Goals as goal
 

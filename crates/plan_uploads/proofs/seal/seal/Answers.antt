@@ -1,6 +1,6 @@
 use Rattle.std.proofs.Common.{ap, sym, subst, ◌∙◌}
 use Rattle.std.specs.Prelude.{◌≤◌, length}
-use Rattle.recovery.specs.Interpret.{stored_due}
+use Rattle.account_calls.specs.Interpret.{stored_due}
 use Rattle.s3_machine.specs.ETag.{body_etag}
 use Rattle.upload_records.proofs.lemmas.TextLengths.{sealed_short}
 use Rattle.plan_uploads.specs.Completing.{most_sealed_text}

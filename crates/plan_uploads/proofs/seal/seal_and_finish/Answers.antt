@@ -3,7 +3,7 @@ use Rattle.plan_uploads.proofs.seal.seal_and_finish.Goals as goal
 
 pub returns-in-Ok-clause-plans : goal.returns-in-Ok-clause-plans
 returns-in-Ok-clause-plans g c = λ text list label.
-    finished_then c.args.state.now.settings.now c.args.sealed.now text list label c.in-Ok.ensures.seals c.roll_forward.ensures.asks c.roll_forward.ensures.done c.end_complete_upload_sealed.result c.args.reply c.end_complete_upload_sealed.ensures
+    finished_then c.args.state.now.settings.now c.args.sealed.now text list label c.in-Ok.ensures.seals c.roll_forward_held.ensures.asks c.roll_forward_held.ensures.done c.end_complete_upload_sealed.result c.args.reply c.end_complete_upload_sealed.ensures
     c.requires.reply
 
 pub returns-in-Err-clause-plans : goal.returns-in-Err-clause-plans

@@ -2,12 +2,12 @@ use Rattle.std.specs.Prelude.{Ok}
 use Rattle.std.proofs.Common.{rules, ap}
 use Rattle.s3_names.specs.Id.{id_digits}
 use Rattle.swift_calls.specs.History.{present}
+use Rattle.account_calls.specs.Answers.{named_by, pages}
+use Rattle.account_calls.specs.Calls.{by_account}
+use Rattle.account_calls.proofs.lemmas.Ends.{as_wide, met_within}
+use Rattle.account_calls.specs.Listing.{TellsOf}
 use Rattle.upload_calls.specs.Records.{TellsParts}
 use Rattle.upload_calls.proofs.lemmas.Asking.{asked_in_vain, asked_end}
-use Rattle.recovery.specs.Answers.{named_by, pages}
-use Rattle.recovery.specs.Calls.{by_account}
-use Rattle.recovery.proofs.lemmas.Ends.{as_wide, met_within}
-use Rattle.recovery.specs.Listing.{TellsOf}
 use Rattle.plan_uploads.specs.Plans.{parts_told}
 use Rattle.plan_uploads.proofs.Steps.{parts_are_own, parts_listed}
 use Rattle.plan_uploads.proofs.uploads.plan_list_parts_within.Goals as goal

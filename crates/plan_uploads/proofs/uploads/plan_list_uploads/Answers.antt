@@ -1,10 +1,10 @@
 use Rattle.std.specs.Prelude.{◌+◌, None, Some}
 use Rattle.std.proofs.Common.{ap, arith, rules}
 use Rattle.upload_records.specs.Native.{s3_state}
+use Rattle.account_calls.specs.Answers.{pages, records_of}
+use Rattle.account_calls.specs.Calls.{Any, TellsBucket}
+use Rattle.account_calls.proofs.lemmas.Ends.{told_nothing, answers, met_settled, after_told, goes_on_from}
 use Rattle.upload_calls.proofs.lemmas.Opened.{lacks_of}
-use Rattle.recovery.specs.Answers.{pages, records_of}
-use Rattle.recovery.specs.Calls.{Any, TellsBucket}
-use Rattle.recovery.proofs.lemmas.Ends.{told_nothing, answers, met_settled, after_told, goes_on_from}
 use Rattle.plan_uploads.proofs.Steps.{uploads_missing}
 use Rattle.plan_uploads.proofs.uploads.plan_list_uploads.Goals as goal
 

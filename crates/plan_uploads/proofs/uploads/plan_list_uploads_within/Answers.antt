@@ -1,10 +1,10 @@
 use Rattle.std.specs.Prelude.{◌+◌, Ok}
 use Rattle.std.proofs.Common.{refl, rules, ap}
 use Rattle.swift_calls.specs.History.{present}
+use Rattle.account_calls.specs.Answers.{pages, records_of}
+use Rattle.account_calls.specs.Calls.{by_account}
+use Rattle.account_calls.proofs.lemmas.Ends.{as_wide, calls_in_vain, calls_end}
 use Rattle.upload_calls.proofs.lemmas.Finding.{met_there}
-use Rattle.recovery.specs.Answers.{pages, records_of}
-use Rattle.recovery.specs.Calls.{by_account}
-use Rattle.recovery.proofs.lemmas.Ends.{as_wide, calls_in_vain, calls_end}
 use Rattle.plan_uploads.specs.Plans.{uploads_told}
 use Rattle.plan_uploads.proofs.Steps.{uploads_are_own, uploads_listed}
 use Rattle.plan_uploads.proofs.uploads.plan_list_uploads_within.Goals as goal

@@ -1,6 +1,6 @@
 use Rattle.std.specs.Prelude.{None, Some}
 use Rattle.std.proofs.Common.{lit≤, rules}
-use Rattle.recovery.proofs.lemmas.Ends.{told_nothing, answers}
+use Rattle.account_calls.proofs.lemmas.Ends.{told_nothing, answers}
 use Rattle.planner.proofs.BucketSteps.{acl_missing, acl_told}
 use Rattle.planner.proofs.acls.get_bucket_acl.Goals as goal
 

@@ -1,6 +1,6 @@
 use Rattle.std.specs.Prelude.{None, Some}
 use Rattle.std.proofs.Common.{lit≤, rules}
-use Rattle.recovery.proofs.lemmas.Ends.{told_nothing, answers}
+use Rattle.account_calls.proofs.lemmas.Ends.{told_nothing, answers}
 use Rattle.planner.proofs.BucketSteps.{object_acl_none, object_acl_told}
 use Rattle.planner.proofs.acls.plan_object_acl_within.Goals as goal
 

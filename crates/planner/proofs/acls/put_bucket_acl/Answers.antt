@@ -1,6 +1,6 @@
 use Rattle.std.proofs.Common.{sym, subst, lit≤}
-use Rattle.recovery.specs.Plan.{Plans}
-use Rattle.recovery.proofs.lemmas.Ends.{commits}
+use Rattle.account_calls.specs.Plan.{Plans}
+use Rattle.account_calls.proofs.lemmas.Ends.{commits}
 use Rattle.planner.proofs.Replies.{set_is_own}
 use Rattle.planner.proofs.BucketSteps.{set}
 use Rattle.planner.proofs.acls.put_bucket_acl.Goals as goal

@@ -1,6 +1,6 @@
 use Rattle.std.specs.Prelude.{Some}
 use Rattle.std.proofs.Common.{rules, arith}
-use Rattle.recovery.proofs.lemmas.Ends.{told_nothing, answers}
+use Rattle.account_calls.proofs.lemmas.Ends.{told_nothing, answers}
 use Rattle.planner.proofs.CreateBucket.{steps_owned}
 use Rattle.planner.proofs.MakeBucket.{missing_goes_on}
 use Rattle.planner.proofs.buckets.create_bucket.Goals as goal

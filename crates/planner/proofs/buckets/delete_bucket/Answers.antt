@@ -1,6 +1,6 @@
 use Rattle.std.proofs.Common.{sym, subst, lit≤}
-use Rattle.recovery.specs.Plan.{Plans}
-use Rattle.recovery.proofs.lemmas.Ends.{commits}
+use Rattle.account_calls.specs.Plan.{Plans}
+use Rattle.account_calls.proofs.lemmas.Ends.{commits}
 use Rattle.planner.proofs.Replies.{dropped_is_own}
 use Rattle.planner.proofs.BucketSteps.{dropped}
 use Rattle.planner.proofs.buckets.delete_bucket.Goals as goal

@@ -1,4 +1,4 @@
-use Rattle.recovery.proofs.lemmas.Sides.{side_name}
+use Rattle.account_calls.proofs.lemmas.Sides.{side_name}
 use Rattle.planner.proofs.MakeBucket.{emptied_segments, not_emptied_segments, segments_beside}
 use Rattle.planner.proofs.buckets.empty_segments.Goals as goal
 

@@ -1,4 +1,4 @@
-use Rattle.recovery.proofs.lemmas.Sides.{side_name}
+use Rattle.account_calls.proofs.lemmas.Sides.{side_name}
 use Rattle.planner.proofs.MakeBucket.{emptied_uploads, not_emptied_uploads, uploads_beside}
 use Rattle.planner.proofs.buckets.empty_uploads.Goals as goal
 

@@ -1,6 +1,6 @@
 use Rattle.std.specs.Prelude.{None, Some}
 use Rattle.std.proofs.Common.{◌∙◌, lit≤, rules}
-use Rattle.recovery.proofs.lemmas.Ends.{told_nothing, out_of_memory, answers}
+use Rattle.account_calls.proofs.lemmas.Ends.{told_nothing, out_of_memory, answers}
 use Rattle.planner.proofs.BucketSteps.{locate_missing, located}
 use Rattle.planner.proofs.buckets.get_location.Goals as goal
 

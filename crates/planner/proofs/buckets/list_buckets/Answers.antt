@@ -1,8 +1,8 @@
 use Rattle.std.proofs.Common.{refl, rules}
 use Rattle.s3_machine.specs.declared.operation.Op.TheVariants.{ListBuckets}
 use Rattle.swift_calls.specs.History.{present}
-use Rattle.recovery.specs.Answers.{most_calls}
-use Rattle.recovery.proofs.lemmas.Ends.{as_wide, met_settled, calls_in_vain, calls_end}
+use Rattle.account_calls.specs.Answers.{most_calls}
+use Rattle.account_calls.proofs.lemmas.Ends.{as_wide, met_settled, calls_in_vain, calls_end}
 use Rattle.planner.proofs.BucketSteps.{buckets_listed}
 use Rattle.planner.proofs.Replies.{buckets_is_own}
 use Rattle.planner.proofs.buckets.list_buckets.Goals as goal

@@ -1,6 +1,6 @@
 use Rattle.std.proofs.Common.{ap, arith, ◌∙◌}
 use Rattle.upload_records.specs.Layout.{uploads_name}
-use Rattle.recovery.proofs.lemmas.Ends.{out_of_memory}
+use Rattle.account_calls.proofs.lemmas.Ends.{out_of_memory}
 use Rattle.planner.proofs.MakeBucket.{made_uploads, not_made}
 use Rattle.planner.proofs.buckets.plan_create_missing_bucket.Goals as goal
 

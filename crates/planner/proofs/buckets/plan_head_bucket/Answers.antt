@@ -1,6 +1,6 @@
 use Rattle.std.specs.Prelude.{None, Some}
 use Rattle.std.proofs.Common.{sym, ◌∙◌, lit≤, rules}
-use Rattle.recovery.proofs.lemmas.Ends.{told_nothing, answers}
+use Rattle.account_calls.proofs.lemmas.Ends.{told_nothing, answers}
 use Rattle.planner.proofs.BucketSteps.{show_missing, show_refused, shown}
 use Rattle.planner.proofs.buckets.plan_head_bucket.Goals as goal
 

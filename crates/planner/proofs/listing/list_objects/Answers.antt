@@ -1,7 +1,7 @@
 use Rattle.std.specs.Prelude.{None, Some}
 use Rattle.std.proofs.Common.{arith, rules}
-use Rattle.recovery.specs.Answers.{pages}
-use Rattle.recovery.proofs.lemmas.Ends.{told_nothing, answers}
+use Rattle.account_calls.specs.Answers.{pages}
+use Rattle.account_calls.proofs.lemmas.Ends.{told_nothing, answers}
 use Rattle.planner.proofs.Listings.{counted_on, list_missing}
 use Rattle.planner.proofs.listing.list_objects.Goals as goal
 

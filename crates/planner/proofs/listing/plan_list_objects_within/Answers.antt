@@ -3,10 +3,10 @@ use Rattle.std.specs.FinMap.{len}
 use Rattle.std.proofs.Common.{refl, rules, sym, ap, subst, ◌∙◌}
 use Rattle.swift_calls.specs.Account.{files}
 use Rattle.swift_calls.specs.History.{present}
-use Rattle.recovery.specs.Answers.{pages}
-use Rattle.recovery.specs.Calls.{by_account}
-use Rattle.recovery.specs.Plan.{IsOwnReply}
-use Rattle.recovery.proofs.lemmas.Ends.{as_wide, met_settled, needs_none, calls_in_vain, calls_end}
+use Rattle.account_calls.specs.Answers.{pages}
+use Rattle.account_calls.specs.Calls.{by_account}
+use Rattle.account_calls.specs.Plan.{IsOwnReply}
+use Rattle.account_calls.proofs.lemmas.Ends.{as_wide, met_settled, needs_none, calls_in_vain, calls_end}
 use Rattle.planner.proofs.Listings.{items_are_own, list_refused, list_told}
 use Rattle.planner.proofs.listing.plan_list_objects_within.Goals as goal
 

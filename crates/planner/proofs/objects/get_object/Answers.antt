@@ -1,6 +1,6 @@
 use Rattle.std.specs.Prelude.{None, Some}
 use Rattle.std.proofs.Common.{lit≤, rules}
-use Rattle.recovery.proofs.lemmas.Ends.{told_nothing, answers, goes_on}
+use Rattle.account_calls.proofs.lemmas.Ends.{told_nothing, answers, goes_on}
 use Rattle.planner.proofs.Readings.{get_missing}
 use Rattle.planner.proofs.objects.get_object.Goals as goal
 

@@ -1,6 +1,6 @@
 use Rattle.std.specs.Prelude.{None, Some}
 use Rattle.std.proofs.Common.{lit≤, rules}
-use Rattle.recovery.proofs.lemmas.Ends.{told_nothing, answers, goes_on}
+use Rattle.account_calls.proofs.lemmas.Ends.{told_nothing, answers, goes_on}
 use Rattle.planner.proofs.Readings.{head_missing}
 use Rattle.planner.proofs.objects.head_object.Goals as goal
 

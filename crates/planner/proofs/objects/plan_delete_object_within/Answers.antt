@@ -1,6 +1,6 @@
 use Rattle.std.proofs.Common.{sym, subst, lit≤, rules}
-use Rattle.recovery.specs.Plan.{Plans}
-use Rattle.recovery.proofs.lemmas.Ends.{commits, becomes}
+use Rattle.account_calls.specs.Plan.{Plans}
+use Rattle.account_calls.proofs.lemmas.Ends.{commits, becomes}
 use Rattle.planner.proofs.Steps.{deletes}
 use Rattle.planner.proofs.objects.plan_delete_object_within.Goals as goal
 

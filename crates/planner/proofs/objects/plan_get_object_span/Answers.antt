@@ -1,8 +1,8 @@
 use Rattle.std.specs.Prelude.{None, Some}
 use Rattle.std.proofs.Common.{lit≤, rules, subst, ◌∙◌}
 use Rattle.upload_records.specs.Native.{s3_state}
-use Rattle.recovery.specs.Calls.{always, TellsBytes}
-use Rattle.recovery.proofs.lemmas.Ends.{met_within, calls_in_vain, calls_end}
+use Rattle.account_calls.specs.Calls.{always, TellsBytes}
+use Rattle.account_calls.proofs.lemmas.Ends.{met_within, calls_in_vain, calls_end}
 use Rattle.planner.proofs.Readings.{has_told, judged_shown, not_gone, part_is, part_there}
 use Rattle.planner.proofs.objects.plan_get_object_span.Goals as goal
 

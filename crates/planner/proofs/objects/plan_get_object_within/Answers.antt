@@ -1,6 +1,6 @@
 use Rattle.std.specs.Prelude.{None, Some}
 use Rattle.std.proofs.Common.{sym, ◌∙◌, lit≤, rules}
-use Rattle.recovery.proofs.lemmas.Ends.{needs_none, told_nothing, answers, goes_on}
+use Rattle.account_calls.proofs.lemmas.Ends.{needs_none, told_nothing, answers, goes_on}
 use Rattle.planner.proofs.Readings.{get_refused, get_none}
 use Rattle.planner.proofs.objects.plan_get_object_within.Goals as goal
 

@@ -1,6 +1,6 @@
 use Rattle.std.proofs.Common.{sym, ◌∙◌}
 use Rattle.s3_machine.specs.declared.reading.Judged.TheVariants.{PreconditionFailed, NotModified, InvalidRange}
-use Rattle.recovery.proofs.lemmas.Ends.{needs_none}
+use Rattle.account_calls.proofs.lemmas.Ends.{needs_none}
 use Rattle.planner.proofs.Readings as reads
 use Rattle.planner.proofs.Readings.{beyond_is_own, failed_is_own, not_modified_is_own}
 use Rattle.planner.proofs.objects.plan_get_readable_object.Goals as goal

@@ -1,7 +1,7 @@
 use Rattle.std.specs.Prelude.{None, Some, Ok}
 use Rattle.std.proofs.Common.{sym, ap, ◌∙◌, lit≤, rules}
+use Rattle.account_calls.proofs.lemmas.Ends.{needs_none, told_nothing, answers, ends_by}
 use Rattle.planner.specs.Objects.{headed_reply}
-use Rattle.recovery.proofs.lemmas.Ends.{needs_none, told_nothing, answers, ends_by}
 use Rattle.planner.proofs.Readings.{head_refused, head_none, head_there}
 use Rattle.planner.proofs.objects.plan_head_object_within.Goals as goal
 

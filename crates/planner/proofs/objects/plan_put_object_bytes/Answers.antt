@@ -1,6 +1,6 @@
 use Rattle.std.proofs.Common.{sym, subst, ◌∙◌, lit≤, rules}
-use Rattle.recovery.specs.Plan.{Plans}
-use Rattle.recovery.proofs.lemmas.Ends.{out_of_memory, commits, becomes}
+use Rattle.account_calls.specs.Plan.{Plans}
+use Rattle.account_calls.proofs.lemmas.Ends.{out_of_memory, commits, becomes}
 use Rattle.planner.proofs.Steps.{put_stored}
 use Rattle.planner.proofs.objects.plan_put_object_bytes.Goals as goal
 

@@ -1,5 +1,5 @@
 use Rattle.std.proofs.Common.{sym, ◌∙◌, rules}
-use Rattle.recovery.proofs.lemmas.Ends.{needs_none}
+use Rattle.account_calls.proofs.lemmas.Ends.{needs_none}
 use Rattle.planner.proofs.Steps.{put_other}
 use Rattle.planner.proofs.objects.plan_put_object_within.Goals as goal
 

@@ -1,6 +1,6 @@
 use Rattle.std.proofs.Common.{sym, subst}
-use Rattle.recovery.specs.Plan.{Answered}
-use Rattle.recovery.proofs.lemmas.Ends.{answered_by, none_beside}
+use Rattle.account_calls.specs.Plan.{Answered}
+use Rattle.account_calls.proofs.lemmas.Ends.{answered_by, none_beside}
 use Rattle.planner.proofs.operation.answer.Goals as goal
 
 pub returns-clause-answered : goal.returns-clause-answered

@@ -1,7 +1,7 @@
 use Rattle.std.proofs.Common.{Err, ap, sym, subst, inr}
 use Rattle.upload_texts.specs.Sealed.{ReadsSealed}
 use Rattle.upload_records.proofs.lemmas.SealedTexts.{sealed_has}
-use Rattle.recovery.specs.Interpret.{known}
+use Rattle.account_calls.specs.Interpret.{known}
 use Rattle.recovery.proofs.SealedVersions.{none_of_version}
 use Rattle.recovery.proofs.sealed.read_sealed.Goals as goal
 

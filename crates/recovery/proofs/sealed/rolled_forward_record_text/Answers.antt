@@ -6,7 +6,7 @@ use Rattle.upload_texts.specs.declared.record.Record.{Record}
 use Rattle.upload_texts.specs.declared.record.Record.TheVariants.{Done}
 use Rattle.upload_texts.specs.declared.sealed.Sealed.{Sealed}
 use Rattle.upload_records.specs.Native.{listed_of, sealed_record}
-use Rattle.recovery.proofs.lemmas.SealStands.{record_has_text}
+use Rattle.account_calls.proofs.lemmas.SealStands.{record_has_text}
 use Rattle.recovery.proofs.sealed.rolled_forward_record_text.Goals as goal
 
 made : (s : Sealed) (key : List ℕ) (list : List Listed) (etag : List ℕ) → key ≡ s.key → list ≡ map listed_of s.list → etag ≡ s.etag → Done key list etag s.started (Some s.moment) ≡ sealed_record s

@@ -1,7 +1,7 @@
 use Rattle.std.proofs.Common.{inr}
+use Rattle.account_calls.proofs.lemmas.One.{not_asked}
+use Rattle.account_calls.proofs.lemmas.Quiet.{quiet_in_vain, quieted}
 use Rattle.recovery.proofs.RollCalls.{delete_keeps, deleted, deletes_sealed}
-use Rattle.recovery.proofs.lemmas.One.{not_asked}
-use Rattle.recovery.proofs.lemmas.Quiet.{quiet_in_vain, quieted}
 use Rattle.recovery.proofs.settling.delete_rolled_forward_seal.Goals as goal
 
 pub returns-in_err-container-clause-asks : goal.returns-in_err-container-clause-asks

@@ -1,5 +1,5 @@
 use Rattle.std.proofs.Common.{lit≤}
-use Rattle.recovery.proofs.lemmas.Quiet.{asks_failed, asks_then}
+use Rattle.account_calls.proofs.lemmas.Quiet.{asks_failed, asks_then}
 use Rattle.recovery.proofs.settling.finish_roll_forward.Goals as goal
 
 pub returns-in_err-put_rolled_forward_record-clause-asks : goal.returns-in_err-put_rolled_forward_record-clause-asks

@@ -1,6 +1,6 @@
 use Rattle.std.proofs.Common.{inr}
+use Rattle.account_calls.proofs.lemmas.Quiet.{quiet_in_vain, quieted}
 use Rattle.recovery.proofs.SettleCalls.{gateway_put_there, puts_gateway}
-use Rattle.recovery.proofs.lemmas.Quiet.{quiet_in_vain, quieted}
 use Rattle.recovery.proofs.settling.make_gateway.Goals as goal
 
 pub returns-in_err-reply-clause-asks : goal.returns-in_err-reply-clause-asks

@@ -1,9 +1,9 @@
 use Rattle.std.proofs.Common.{ap, inr, ◌∙◌}
 use Rattle.s3_machine.specs.ETag.{body_etag}
-use Rattle.recovery.specs.Interpret.{stored_due}
+use Rattle.account_calls.specs.Interpret.{stored_due}
+use Rattle.account_calls.proofs.lemmas.One.{not_asked}
+use Rattle.account_calls.proofs.lemmas.Quiet.{quiet_in_vain, quieted}
 use Rattle.recovery.proofs.RollCalls.{puts_record, record_keeps, written_by}
-use Rattle.recovery.proofs.lemmas.One.{not_asked}
-use Rattle.recovery.proofs.lemmas.Quiet.{quiet_in_vain, quieted}
 use Rattle.recovery.proofs.settling.put_rolled_forward_record.Goals as goal
 
 pub returns-in_err-text-clause-asks : goal.returns-in_err-text-clause-asks

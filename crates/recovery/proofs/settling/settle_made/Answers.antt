@@ -1,6 +1,6 @@
 use Rattle.std.proofs.Common.{lit≤}
+use Rattle.account_calls.proofs.lemmas.Quiet.{asks_failed, asks_left, asks_then}
 use Rattle.recovery.proofs.RollCalls.{found_none, found_sealed}
-use Rattle.recovery.proofs.lemmas.Quiet.{asks_failed, asks_left, asks_then}
 use Rattle.recovery.proofs.settling.settle_made.Goals as goal
 
 pub returns-in_err-sealed-clause-asks : goal.returns-in_err-sealed-clause-asks

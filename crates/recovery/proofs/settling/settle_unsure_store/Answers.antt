@@ -1,5 +1,5 @@
 use Rattle.std.proofs.Common.{lit≤}
-use Rattle.recovery.proofs.lemmas.Quiet.{asks_failed, asks_then}
+use Rattle.account_calls.proofs.lemmas.Quiet.{asks_failed, asks_then}
 use Rattle.recovery.proofs.settling.settle_unsure_store.Goals as goal
 
 pub returns-in_err-make_gateway-clause-asks : goal.returns-in_err-make_gateway-clause-asks

@@ -1,11 +1,11 @@
 use Rattle.std.specs.Prelude.{None, Some}
 use Rattle.std.proofs.Common.{subst, lit≤}
 use Rattle.upload_records.specs.Native.{s3_state}
+use Rattle.account_calls.specs.Calls.{GivenOf, TellsBucket}
 use Rattle.upload_calls.specs.Records.{InBucket, ReadsId}
 use Rattle.upload_calls.proofs.lemmas.Asking.{asks_as, asks_on}
 use Rattle.upload_calls.proofs.lemmas.Finding.{no_record, there_of}
 use Rattle.upload_calls.proofs.found.find_upload.Goals as goal
-use Rattle.recovery.specs.Calls.{GivenOf, TellsBucket}
 
 pub returns-in_default-read_upload_id_to_find-clause-asks : goal.returns-in_default-read_upload_id_to_find-clause-asks
 returns-in_default-read_upload_id_to_find-clause-asks g c =

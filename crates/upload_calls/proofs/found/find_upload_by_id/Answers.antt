@@ -1,8 +1,8 @@
 use Rattle.std.proofs.Common.{sym, subst}
+use Rattle.account_calls.proofs.lemmas.Ask.{asks_told}
 use Rattle.upload_calls.specs.Found.{TellsUpload}
 use Rattle.upload_calls.proofs.lemmas.Finding.{tells_found}
 use Rattle.upload_calls.proofs.found.find_upload_by_id.Goals as goal
-use Rattle.recovery.proofs.lemmas.Ask.{asks_told}
 
 pub returns-clause-asks : goal.returns-clause-asks
 returns-clause-asks g c =

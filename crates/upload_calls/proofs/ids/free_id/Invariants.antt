@@ -1,6 +1,6 @@
+use Rattle.account_calls.specs.Lent.{Stays}
 use Rattle.upload_calls.proofs.FreeSearch.{Tried}
 use Rattle.upload_calls.proofs.ids.free_id.Given as goal
-use Rattle.recovery.specs.Lent.{Stays}
 
 abbrev pub invariant-tries : goal.invariant-tries
 invariant-tries g l = record {

@@ -2,10 +2,10 @@ use Rattle.std.proofs.Common.{ap, sym, subst, ◌∙◌, inr, arith}
 use Rattle.swift_calls.specs.Limits.{IsMarker}
 use Rattle.swift_calls.specs.Step.{IsContainerName}
 use Rattle.upload_records.specs.Layout.{segments_name}
+use Rattle.account_calls.proofs.lemmas.One.{not_asked, asked_of, asked_of_in_vain}
+use Rattle.account_calls.proofs.lemmas.SideNames.{no_marker, prefix_is_marker, segments_fits}
 use Rattle.upload_calls.proofs.TakenIds.{segmented}
 use Rattle.upload_calls.proofs.ids.is_taken_by_segment.Goals as goal
-use Rattle.recovery.proofs.lemmas.One.{not_asked, asked_of, asked_of_in_vain}
-use Rattle.recovery.proofs.lemmas.SideNames.{no_marker, prefix_is_marker, segments_fits}
 
 pub returns-in_err-container-clause-asks : goal.returns-in_err-container-clause-asks
 returns-in_err-container-clause-asks g c = not_asked _ _ _ c.from_residual.ensures.1

@@ -3,16 +3,16 @@ use Rattle.std.specs.List.{filter_map}
 use Rattle.swift_calls.specs.Step.{IsContainerName}
 use Rattle.list_pages.specs.Listing.{name_in}
 use Rattle.upload_records.specs.Layout.{uploads_name}
+use Rattle.account_calls.specs.FilePages.{next_after}
+use Rattle.account_calls.proofs.lemmas.Ask.{asks_told}
+use Rattle.account_calls.proofs.lemmas.One.{not_asked}
+use Rattle.account_calls.proofs.lemmas.SideNames.{no_marker, uploads_fits}
 use Rattle.upload_calls.specs.Listing.{id_due}
 use Rattle.upload_calls.specs.Records.{InBucket}
 use Rattle.upload_calls.proofs.lemmas.RecordIds.{all_ids}
 use Rattle.upload_calls.proofs.lemmas.Taking.{as_page, not_added, tells_next}
 use Rattle.upload_calls.proofs.Turned.{next_may_be}
 use Rattle.upload_calls.proofs.listed_ids.next_record_ids.Goals as goal
-use Rattle.recovery.specs.FilePages.{next_after}
-use Rattle.recovery.proofs.lemmas.Ask.{asks_told}
-use Rattle.recovery.proofs.lemmas.One.{not_asked}
-use Rattle.recovery.proofs.lemmas.SideNames.{no_marker, uploads_fits}
 
 pub returns-in_err-folder-clause-asks : goal.returns-in_err-folder-clause-asks
 returns-in_err-folder-clause-asks g c = not_asked _ _ _ c.from_residual.ensures.1

@@ -1,10 +1,10 @@
 use Rattle.std.proofs.Common.{refl, sym, subst, ◌∙◌}
 use Rattle.std.specs.Prelude.{IfSome}
 use Rattle.swift_calls.specs.Limits.{IsMarker}
+use Rattle.account_calls.proofs.lemmas.SideNames.{no_marker}
 use Rattle.upload_calls.proofs.lemmas.RecordIds.{counting_end, counting_fault, counting_none}
 use Rattle.upload_calls.proofs.lemmas.Taking.{taking_more}
 use Rattle.upload_calls.proofs.listed_ids.record_ids.Goals as goal
-use Rattle.recovery.proofs.lemmas.SideNames.{no_marker}
 
 pub pages-init : goal.pages-init
 pages-init g c = record {

@@ -1,9 +1,9 @@
 use Rattle.std.proofs.Common.{◌-◌}
 use Rattle.swift_calls.specs.History.{budget}
 use Rattle.swift_calls.specs.Limits.{IsMarker}
+use Rattle.account_calls.specs.Lent.{Stays}
 use Rattle.upload_calls.proofs.lemmas.RecordIds.{Counting}
 use Rattle.upload_calls.proofs.listed_ids.record_ids.Given as goal
-use Rattle.recovery.specs.Lent.{Stays}
 
 abbrev pub invariant-pages : goal.invariant-pages
 invariant-pages g l = record {

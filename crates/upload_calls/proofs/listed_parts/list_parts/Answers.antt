@@ -1,12 +1,12 @@
 use Rattle.std.proofs.Common.{refl, ap, sym, subst, inl, inr, ◌∙◌, false, rules, arith}
 use Rattle.std.specs.Prelude.{IfSome}
 use Rattle.swift_calls.specs.Limits.{IsMarker}
+use Rattle.account_calls.proofs.lemmas.One.{not_asked}
+use Rattle.account_calls.proofs.lemmas.SideNames.{segment_is_marker}
 use Rattle.upload_calls.proofs.lemmas.PartWalk.{IsEnough, great_marker, marker_fits, none_listed, parting_end, parting_fault, parting_none}
 use Rattle.upload_calls.proofs.lemmas.Taking.{taking_more}
 use Rattle.upload_calls.proofs.listed_parts.list_parts.Goals as goal
 use Rattle.upload_calls.proofs.listed_parts.list_parts.Goals.{then-max-eq0-via-then-max-eq0, then-max-eq0-via-else-max-eq0+then-marker-ge-GREATEST_PART_NUMBER}
-use Rattle.recovery.proofs.lemmas.One.{not_asked}
-use Rattle.recovery.proofs.lemmas.SideNames.{segment_is_marker}
 
 pub returns-then-max-eq0-clause-asks : goal.returns-then-max-eq0-clause-asks
 returns-then-max-eq0-clause-asks g c =

@@ -3,9 +3,9 @@ use Rattle.std.specs.List.{All}
 use Rattle.s3_machine.specs.Shown.{IsShownPart}
 use Rattle.swift_calls.specs.History.{budget}
 use Rattle.swift_calls.specs.Limits.{IsMarker}
+use Rattle.account_calls.specs.Lent.{Stays}
 use Rattle.upload_calls.proofs.lemmas.PartWalk.{Parting}
 use Rattle.upload_calls.proofs.listed_parts.list_parts.Given as goal
-use Rattle.recovery.specs.Lent.{Stays}
 
 abbrev pub invariant-pages : goal.invariant-pages
 invariant-pages g l = record {

@@ -1,8 +1,8 @@
 use Rattle.std.proofs.Common.{sym, subst}
 use Rattle.swift_calls.specs.Limits.{IsMarker}
+use Rattle.account_calls.proofs.lemmas.One.{not_asked}
+use Rattle.account_calls.proofs.lemmas.SideNames.{prefix_is_marker}
 use Rattle.upload_calls.proofs.listed_parts.next_parts.Goals as goal
-use Rattle.recovery.proofs.lemmas.One.{not_asked}
-use Rattle.recovery.proofs.lemmas.SideNames.{prefix_is_marker}
 
 pub returns-in_err-prefix-clause-asks : goal.returns-in_err-prefix-clause-asks
 returns-in_err-prefix-clause-asks g c = not_asked _ _ _ c.from_residual.ensures.1

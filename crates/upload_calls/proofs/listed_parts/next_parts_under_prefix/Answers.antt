@@ -3,14 +3,14 @@ use Rattle.std.specs.List.{filter_map}
 use Rattle.s3_names.specs.Id.{id_digits}
 use Rattle.list_pages.specs.Listing.{name_in}
 use Rattle.upload_records.specs.Layout.{segments_name, segments_prefix}
+use Rattle.account_calls.specs.FilePages.{next_after}
+use Rattle.account_calls.proofs.lemmas.Ask.{asks_fault, asks_out_of_memory, asks_told}
 use Rattle.upload_calls.specs.Listing.{part_due}
 use Rattle.upload_calls.specs.Records.{InBucket}
 use Rattle.upload_calls.proofs.lemmas.PartWalk.{all_parts}
 use Rattle.upload_calls.proofs.lemmas.Taking.{as_page, not_added, tells_next}
 use Rattle.upload_calls.proofs.Turned.{next_may_be}
 use Rattle.upload_calls.proofs.listed_parts.next_parts_under_prefix.Goals as goal
-use Rattle.recovery.specs.FilePages.{next_after}
-use Rattle.recovery.proofs.lemmas.Ask.{asks_fault, asks_out_of_memory, asks_told}
 
 pub returns-in_err-page-clause-asks : goal.returns-in_err-page-clause-asks
 returns-in_err-page-clause-asks g c = λ id named. asks_fault (λ tree has. tt) c.in_err-page.ensures.asks _ c.from_residual.ensures.1

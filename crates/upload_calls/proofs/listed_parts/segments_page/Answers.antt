@@ -1,10 +1,10 @@
 use Rattle.std.proofs.Common.{sym, ap, subst, ◌∙◌}
 use Rattle.swift_calls.specs.Step.{IsContainerName}
 use Rattle.upload_records.specs.Layout.{segments_name}
+use Rattle.account_calls.proofs.lemmas.One.{not_asked}
+use Rattle.account_calls.proofs.lemmas.SideNames.{segments_fits}
 use Rattle.upload_calls.proofs.lemmas.Taking.{as_page}
 use Rattle.upload_calls.proofs.listed_parts.segments_page.Goals as goal
-use Rattle.recovery.proofs.lemmas.One.{not_asked}
-use Rattle.recovery.proofs.lemmas.SideNames.{segments_fits}
 
 pub returns-in_err-folder-clause-asks : goal.returns-in_err-folder-clause-asks
 returns-in_err-folder-clause-asks g c = not_asked _ _ _ c.from_residual.ensures.1

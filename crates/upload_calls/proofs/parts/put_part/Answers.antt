@@ -1,8 +1,8 @@
 use Rattle.std.proofs.Common.{ap, ◌∙◌}
+use Rattle.account_calls.specs.Interpret.{stored_due}
+use Rattle.account_calls.proofs.lemmas.One.{not_sent, sent_in_vain, sent}
 use Rattle.upload_calls.proofs.PartCalls.{puts}
 use Rattle.upload_calls.proofs.parts.put_part.Goals as goal
-use Rattle.recovery.specs.Interpret.{stored_due}
-use Rattle.recovery.proofs.lemmas.One.{not_sent, sent_in_vain, sent}
 
 pub returns-in_err-request-clause-changes : goal.returns-in_err-request-clause-changes
 returns-in_err-request-clause-changes g c = not_sent _ _ c.from_residual.ensures.1

@@ -2,11 +2,11 @@ use Rattle.std.proofs.Common.{ap, sym, subst, ◌∙◌}
 use Rattle.swift_calls.specs.Limits.{IsObjectName}
 use Rattle.swift_calls.specs.Step.{IsContainerName}
 use Rattle.upload_records.specs.Layout.{uploads_name}
+use Rattle.account_calls.proofs.lemmas.One.{not_sent, sent_in_vain, sent}
+use Rattle.account_calls.proofs.lemmas.SideNames.{id_fits, uploads_fits}
 use Rattle.upload_calls.proofs.Clearing.{clearable}
 use Rattle.upload_calls.proofs.DropCalls.{drops, to_none, to_this}
 use Rattle.upload_calls.proofs.records.drop_record.Goals as goal
-use Rattle.recovery.proofs.lemmas.One.{not_sent, sent_in_vain, sent}
-use Rattle.recovery.proofs.lemmas.SideNames.{id_fits, uploads_fits}
 
 pub returns-in_err-container-clause-drops : goal.returns-in_err-container-clause-drops
 returns-in_err-container-clause-drops g c = to_none (not_sent _ _ c.from_residual.ensures.1) _ c.from_residual.ensures.1

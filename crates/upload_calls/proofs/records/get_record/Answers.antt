@@ -2,10 +2,10 @@ use Rattle.std.proofs.Common.{ap, sym, subst, ◌∙◌}
 use Rattle.swift_calls.specs.Limits.{IsObjectName}
 use Rattle.swift_calls.specs.Step.{IsContainerName}
 use Rattle.upload_records.specs.Layout.{uploads_name}
+use Rattle.account_calls.proofs.lemmas.One.{not_asked, asked_of, asked_of_in_vain}
+use Rattle.account_calls.proofs.lemmas.SideNames.{id_fits, uploads_fits}
 use Rattle.upload_calls.proofs.RecordCalls.{record_reads}
 use Rattle.upload_calls.proofs.records.get_record.Goals as goal
-use Rattle.recovery.proofs.lemmas.One.{not_asked, asked_of, asked_of_in_vain}
-use Rattle.recovery.proofs.lemmas.SideNames.{id_fits, uploads_fits}
 
 pub returns-in_err-container-clause-asks : goal.returns-in_err-container-clause-asks
 returns-in_err-container-clause-asks g c = not_asked _ _ _ c.from_residual.ensures.1

@@ -1,9 +1,9 @@
 use Rattle.std.proofs.Common.{ap, ◌∙◌}
-use Rattle.recovery.specs.Interpret.{stored_due}
+use Rattle.account_calls.specs.Interpret.{stored_due}
 use Rattle.s3_machine.specs.ETag.{body_etag}
+use Rattle.account_calls.proofs.lemmas.One.{not_sent, sent_in_vain, sent}
 use Rattle.upload_calls.proofs.OpenCalls.{opens_by}
 use Rattle.upload_calls.proofs.records.put_record.Goals as goal
-use Rattle.recovery.proofs.lemmas.One.{not_sent, sent_in_vain, sent}
 
 pub returns-in_err-text-clause-changes : goal.returns-in_err-text-clause-changes
 returns-in_err-text-clause-changes g c = not_sent _ _ c.from_residual.ensures.1

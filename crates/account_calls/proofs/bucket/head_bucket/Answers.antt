@@ -1,0 +1,13 @@
+use Rattle.std.proofs.Common.{inr}
+use Rattle.account_calls.proofs.Head.{head_reads}
+use Rattle.account_calls.proofs.lemmas.One.{not_asked, asked_in_vain, asked}
+use Rattle.account_calls.proofs.bucket.head_bucket.Goals as goal
+
+pub returns-in_err-copy-clause-asks : goal.returns-in_err-copy-clause-asks
+returns-in_err-copy-clause-asks g c = not_asked _ _ _ c.from_residual.ensures.1
+
+pub returns-in_err-reply-clause-asks : goal.returns-in_err-reply-clause-asks
+returns-in_err-reply-clause-asks g c = asked_in_vain (head_reads c.in_ok-copy.ensures c.requires) c.in_err-reply.ensures _ c.from_residual-in_err-reply.ensures.1
+
+pub returns-clause-asks : goal.returns-clause-asks
+returns-clause-asks g c = asked (head_reads c.in_ok-copy.ensures c.requires) c.in_ok-reply.ensures _ (inr c.interpret_bucket_head.ensures.due) c.interpret_bucket_head.ensures.own

@@ -1,0 +1,14 @@
+use Rattle.std.proofs.Common.{refl}
+use Rattle.account_calls.proofs.Files.{get_reads}
+use Rattle.account_calls.proofs.lemmas.One.{asked_in_vain, asked}
+use Rattle.account_calls.proofs.Unchanged.{gives_unchanged}
+use Rattle.account_calls.proofs.object.get_object.Goals as goal
+
+pub returns-in_err-reply-clause-asks : goal.returns-in_err-reply-clause-asks
+returns-in_err-reply-clause-asks g c = asked_in_vain (get_reads refl refl c.requires.name) c.in_err-reply.ensures _ c.from_residual.ensures.1
+
+pub returns-clause-asks : goal.returns-clause-asks
+returns-clause-asks g c = asked (get_reads refl refl c.requires.name) c.in_ok-reply.ensures _ c.bytes_in.ensures.due c.bytes_in.ensures.own
+
+pub returns-clause-unchanged : goal.returns-clause-unchanged
+returns-clause-unchanged g c = gives_unchanged c.args.etag.now c.args.size c.in_ok-reply.ensures _ c.bytes_in.ensures.due

@@ -1,0 +1,13 @@
+pub mod Answers
+pub mod Calls
+pub mod Fault
+pub mod FilePages
+pub mod Interpret
+pub mod Keys
+pub mod Known
+pub mod Lent
+pub mod Listing
+pub mod Plan
+pub mod Purging
+pub mod Sealed
+pub mod Stutters

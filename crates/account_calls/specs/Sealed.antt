@@ -1,0 +1,43 @@
+-- What is put of a completion that is sealed, and of a copy that is laid out like one; and what is answered. Source: Object
+-- Storage API v1, "Static large objects", and this profile.
+use Rattle.std.specs.Prelude.{ℕ, List, [], ◌∷◌, codes, Result, Ok, Err}
+use Rattle.s3_names.specs.Id.{id_digits}
+use Rattle.slo_manifest.specs.declared.Segment.{Segment}
+use Rattle.swift_calls.specs.declared.calls.SwiftReply.{SwiftReply}
+use Rattle.swift_calls.specs.declared.calls.SwiftReply.TheVariants.{Stored}
+use Rattle.swift_calls.specs.declared.calls.SwiftRequest.{SwiftRequest}
+use Rattle.swift_calls.specs.declared.calls.SwiftRequest.TheVariants.{PutManifest, PutObject}
+use Rattle.swift_marks.specs.Pack.{pack_of}
+use Rattle.swift_marks.specs.Tag.{tag_text}
+use Rattle.upload_texts.specs.Records.{record_text}
+use Rattle.upload_texts.specs.declared.sealed.Sealed.{Sealed}
+use Rattle.upload_records.specs.Layout.{uploads_name, segments_name}
+use Rattle.upload_records.specs.Native.{sealed_record, sealed_tag, filled_parts, listing_of}
+use Rattle.account_calls.specs.declared.fault.PlanFault.{PlanFault}
+use Rattle.account_calls.specs.declared.fault.PlanFault.TheVariants.{Inconsistent}
+
+-- ---- what an answer comes to
+
+-- PUT of a file, whatever ETag the store has of it
+abbrev pub kept_due : SwiftReply → Result (Unit {0}) PlanFault
+kept_due (Stored etag) = Ok tt
+kept_due _ = Err Inconsistent
+
+-- ---- what is put
+
+-- the PUT of an object that lists these segments, or has no byte where there are none
+abbrev pub put_by : List ℕ → List ℕ → List ℕ → List (List ℕ) → List Segment → SwiftRequest
+put_by bucket key content_type meta [] = PutObject bucket key content_type meta []
+put_by bucket key content_type meta (first ∷ rest) = PutManifest bucket key content_type meta (first ∷ rest)
+
+-- the segments of the object of a sealed completion
+abbrev pub sealed_listing : Sealed → List Segment
+sealed_listing s = listing_of (segments_name s.bucket) (id_digits s.id) (filled_parts s.list)
+
+-- the PUT of its object
+abbrev pub put_object_of : Sealed → SwiftRequest
+put_object_of s = put_by s.bucket s.key (tag_text (sealed_tag s)) (pack_of s.meta) (sealed_listing s)
+
+-- the PUT of its record
+abbrev pub put_record_of : Sealed → SwiftRequest
+put_record_of s = PutObject (uploads_name s.bucket) (id_digits s.id) (codes "application/json") [] (record_text (sealed_record s))

@@ -1,0 +1,116 @@
+//! The listing of a bucket's objects: the names of its container page by page, rolled up as they come.
+ghost use Rattle.std.specs.Prelude.{◌≡◌, ◌<◌, ◌+◌, true, false, map, IfOk, Ok};
+ghost use Rattle.std.specs.List.{All};
+ghost use Rattle.std.specs.FinMap.{len};
+ghost use Rattle.s3_names.specs.Bucket.{is_bucket};
+ghost use Rattle.s3_machine.specs.Shown.{IsShownItem};
+ghost use Rattle.s3_machine.specs.Step.{IsProperAsked};
+ghost use Rattle.swift_calls.specs.Account.{files};
+ghost use Rattle.swift_calls.specs.History.{budget, present};
+ghost use Rattle.swift_calls.specs.Limits.{IsMarker};
+ghost use Rattle.upload_records.specs.Native.{IsSettled};
+ghost use Rattle.list_pages.specs.Listing.{name_in, IsPageOf};
+ghost use Rattle.account_calls.specs.Answers.{pages};
+ghost use Rattle.account_calls.specs.Calls.{always, by_account, Asks, Tells};
+ghost use Rattle.account_calls.specs.Keys.{TellsKeys, TellsListing, TellsTaken};
+ghost use Rattle.account_calls.specs.Lent.{Stays};
+ghost use Rattle.account_calls.specs.Listing.{TellsOf};
+
+use crate::{PlanFault, Settled};
+use gate_base::{Bytes, List};
+use list_pages::{MOST_NAMES, Roll, names};
+use s3_machine::{Asked, Item};
+use std::alloc::Global;
+use swift_calls::{NameItem, Swift};
+
+/// A page of the keys of a bucket that begin with a prefix and come after a marker, by GET of its container (Object Storage
+/// API v1, "Show container details and list objects").
+#[tactic(auto, using(crate::proofs::KeyPages::page_fits))]
+fn page<W: Swift>(
+    alloc: Global,
+    state: &mut Settled<'_, W>,
+    bucket: &Bytes,
+    prefix: &Bytes,
+    marker: &[u8],
+) -> Result<List<NameItem>, PlanFault>
+    requires name { is_bucket bucket.now ≡ true }
+    requires prefix { IsMarker prefix.now }
+    requires marker { IsMarker marker.now }
+    ensures stays { Stays state.old state.new }
+    ensures counted { IfOk result (λ _. (W.history state.old.store.now).called < budget
+        × ((W.history state.new.store.now).called ≡ (W.history state.old.store.now).called + 1)) }
+    ensures page { IfOk result (λ items. IsPageOf prefix.now marker.now (map name_in items)) }
+    ensures asks { Asks (always 1) (W.history state.old.store.now) (W.history state.new.store.now)
+        IsSettled (TellsOf (TellsKeys bucket.now prefix.now marker.now)) result }
+{
+    Ok(names(
+        alloc,
+        state.store,
+        bucket.as_slice(),
+        prefix.as_slice(),
+        marker,
+    )?)
+}
+
+/// Takes the next page of keys, of a listing that wants items and is not full yet. What is told is whether another is
+/// wanted.
+fn take_page<W: Swift>(
+    alloc: Global,
+    state: &mut Settled<'_, W>,
+    bucket: &Bytes,
+    prefix: &Bytes,
+    roll: &mut Roll,
+) -> Result<bool, PlanFault>
+    requires name { is_bucket bucket.now ≡ true }
+    requires prefix { IsMarker prefix.now }
+    requires same { roll.old.wanted.prefix ≡ prefix.now }
+    requires marker { IsMarker roll.old.last }
+    requires wants { 0 < roll.old.wanted.max }
+    requires room { roll.old.more ≡ false }
+    ensures stays { Stays state.old state.new }
+    ensures counted { IfOk result (λ _. (W.history state.old.store.now).called < budget
+        × ((W.history state.new.store.now).called ≡ (W.history state.old.store.now).called + 1)) }
+    ensures wanted { roll.new.wanted ≡ roll.old.wanted }
+    ensures room { result ≡ Ok true → roll.new.more ≡ false }
+    ensures is_marker { result ≡ Ok true → IsMarker roll.new.last }
+    ensures asks { Asks (always 1) (W.history state.old.store.now) (W.history state.new.store.now)
+        IsSettled (TellsOf (TellsTaken bucket.now prefix.now roll.old roll.new)) result }
+{
+    let page = page(alloc, state, bucket, prefix, roll.next_marker())?;
+    if !roll.push_page(page.as_slice())? {
+        return Ok(false);
+    }
+    Ok(page.len() == MOST_NAMES as usize)
+}
+
+/// The items of a listing of a bucket's objects, and whether it is truncated (Amazon S3 API Reference, "ListObjects"): the
+/// keys of the bucket page by page, until the answer is full or a page is short; where no item is wanted, no page. At
+/// most as many calls as there are pages of the bucket's objects, where the store is observable and its account
+/// consistent; and the S3 state stays. One page is held at a time. Failed comes only where the store's count of faults
+/// rose; Memory where memory ran out; Inconsistent never over an observable consistent account.
+#[tactic(auto, using(crate::proofs::AskedMarkers::prefix_is_marker))]
+pub fn list_objects<W: Swift>(
+    alloc: Global,
+    state: &mut Settled<'_, W>,
+    bucket: &Bytes,
+    asked: &Asked,
+) -> Result<(List<Item>, bool), PlanFault>
+    requires name { is_bucket bucket.now ≡ true }
+    requires asked { IsProperAsked asked.now }
+    ensures stays { Stays state.old state.new }
+    ensures dated { IfOk result (λ told. All IsShownItem told.0) }
+    ensures asks { Asks
+        (by_account (pages (len (files (present (W.history state.old.store.now)) bucket.now))))
+        (W.history state.old.store.now) (W.history state.new.store.now) IsSettled
+        (Tells (TellsListing bucket.now asked.now)) result }
+{
+    let mut roll = Roll::new(alloc, asked)?;
+    if asked.max == 0 {
+        return Ok(roll.finish());
+    }
+    'pages: loop {
+        if !take_page(alloc, state, bucket, &asked.prefix, &mut roll)? {
+            return Ok(roll.finish());
+        }
+    }
+}

@@ -1,0 +1,12 @@
+//! Laws of the definitions, each the contract of a function that does nothing.
+ghost use Rattle.account_calls.specs.Answers.{AnsweredFaultFree, NeverUnavailable};
+
+/// Where no call failed, the answer is the service's own, or the word that memory ran out.
+pub fn law_answered_fault_free()
+    ensures { AnsweredFaultFree }
+{}
+
+/// Over a history in which no call failed, no operation is answered ServiceUnavailable while calls are left.
+pub fn law_never_unavailable()
+    ensures { NeverUnavailable }
+{}

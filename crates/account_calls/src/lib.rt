@@ -1,0 +1,31 @@
+//! The calls on the account that the service keeps on Swift: each as what it means for the S3 state, and what the calls of a whole
+//! operation may amount to.
+#![tactic(auto)]
+
+mod beside;
+mod bucket;
+mod fault;
+mod file_pages;
+mod interpret;
+mod keys;
+mod laws;
+mod listing;
+mod object;
+mod plans;
+mod sealed;
+mod state;
+
+pub use beside::{interpret_container_put, purge, put_container_beside};
+pub use bucket::{
+    Dropped, delete_bucket_container, head_bucket, post_bucket_container, put_bucket_container,
+};
+pub use fault::PlanFault;
+pub use file_pages::{next_marker, settled_file_page};
+pub use interpret::{interpret_file_delete, interpret_put_with_etag};
+pub use keys::list_objects;
+pub use laws::{law_answered_fault_free, law_never_unavailable};
+pub use listing::list_buckets;
+pub use object::{delete_object, get_object, head_object, put_object};
+pub use plans::{is_many, is_upload, reply_of, taken_text};
+pub use sealed::{interpret_put_without_etag, object_request};
+pub use state::{Known, Settled, ask};
