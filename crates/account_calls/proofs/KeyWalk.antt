@@ -27,7 +27,8 @@ use Rattle.account_calls.proofs.Taken.{keys_sorted, keys_fit}
 use Rattle.account_calls.proofs.lemmas.Faults.{err_is}
 use Rattle.account_calls.proofs.lemmas.Idle.{goes_none, goes_trans, none_made, grows_none}
 use Rattle.account_calls.proofs.lemmas.One.{tells_state}
-use Rattle.account_calls.proofs.lemmas.Walk.{Idles, idles_none, idles_trans, cause_after, keeps_after}
+use Rattle.account_calls.specs.Told.{Idles}
+use Rattle.account_calls.proofs.lemmas.Walk.{idles_none, idles_trans, cause_after, keeps_after}
 
 -- ---- the keys up to the marker
 

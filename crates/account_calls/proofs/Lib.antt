@@ -15,6 +15,7 @@ pub mod Made
 pub mod PurgePage
 pub mod PurgeWalk
 pub mod Put
+pub mod SubLists
 pub mod Taken
 pub mod Unchanged
 pub mod lemmas

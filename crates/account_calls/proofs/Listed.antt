@@ -14,7 +14,8 @@ use Rattle.account_calls.specs.Listing.{TellsOf, TellsNames, TellsItems, TellsBu
 use Rattle.account_calls.specs.Calls.{always, by_account, Met, Keeps, Asks, Tells}
 use Rattle.account_calls.proofs.Made.{bucket_items_are, len_is}
 use Rattle.account_calls.proofs.lemmas.Idle.{goes_trans}
-use Rattle.account_calls.proofs.lemmas.Walk.{Idles, idles_trans, cause_after, keeps_after}
+use Rattle.account_calls.specs.Told.{Idles}
+use Rattle.account_calls.proofs.lemmas.Walk.{idles_trans, cause_after, keeps_after}
 
 module _ {a b : History} {names : List (List ℕ)} (first : Asks (by_account (pages (len (present a)))) a b IsSettled (TellsOf TellsNames) (Ok names)) where
   idles_first : Met IsSettled a → Idles b a.called b.called

@@ -26,7 +26,8 @@ use Rattle.account_calls.proofs.lemmas.Idle.{none_made, goes_none, goes_trans, g
 use Rattle.account_calls.proofs.lemmas.Ascending.{front, back}
 use Rattle.account_calls.proofs.lemmas.Markers.{IsEntry, IsKey, entries_are, keys_are}
 use Rattle.account_calls.proofs.lemmas.Pages.{at_index}
-use Rattle.account_calls.proofs.lemmas.Walk.{Idles, idles_none, idles_trans, cause_after, keeps_after}
+use Rattle.account_calls.specs.Told.{Idles}
+use Rattle.account_calls.proofs.lemmas.Walk.{idles_none, idles_trans, cause_after, keeps_after}
 
 -- ---- the buckets of the state are those of the containers
 

@@ -2,6 +2,7 @@ pub mod Agree
 pub mod Ascending
 pub mod Ask
 pub mod Causes
+pub mod Counted
 pub mod Ends
 pub mod Etags
 pub mod Faults
@@ -21,4 +22,6 @@ pub mod SealStands
 pub mod Segments
 pub mod SideNames
 pub mod Sides
+pub mod SubParts
+pub mod Told
 pub mod Walk

@@ -37,13 +37,18 @@ use Rattle.s3_machine.specs.declared.operation.Reply.{Reply}
 use Rattle.s3_machine.specs.declared.operation.Reply.TheVariants.{Refused, Memory, Gone, Completed}
 use Rattle.s3_machine.specs.Items.{begins}
 use Rattle.s3_machine.specs.State.{Object, Bucket, Upload, State}
-use Rattle.s3_machine.specs.Step.{S3Step}
+use Rattle.s3_machine.specs.Step.{S3Step, head_of}
+use Rattle.s3_machine.specs.Reading.{judged}
+use Rattle.s3_machine.specs.declared.reading.Conditions.{Conditions}
+use Rattle.s3_machine.specs.declared.reading.Judged.{Judged}
+use Rattle.s3_machine.specs.declared.reading.Judged.TheVariants.{Bytes}
+use Rattle.s3_machine.specs.declared.reading.Range.{Range}
 use Rattle.swift_calls.specs.Account.{SwiftAccount, SwiftObject, files, find_object}
 use Rattle.swift_calls.specs.Bodies as bodies
 use Rattle.swift_calls.specs.History.{History, budget, FaultFree}
 use Rattle.s3_names.specs.Id.{id_digits}
 use Rattle.upload_records.specs.Layout.{uploads_name, segments_name}
-use Rattle.upload_records.specs.Native.{object_at, s3_state}
+use Rattle.upload_records.specs.Native.{object_at, s3_state, seal_of, sub_manifests, sub_manifests_of}
 use Rattle.upload_records.specs.Consistent.{IsConsistent}
 use Rattle.account_calls.specs.Calls.{Bound, always, by_account}
 use Rattle.account_calls.specs.Stutters.{OldBefore, calm, LastFailed}
@@ -330,6 +335,19 @@ copy_calls n tree bucket from_bucket from_key =
     cond (is_of_parts (object_at (get (s3_state tree) from_bucket) from_key))
     (n + 2 + 2 * (records_of tree bucket + segments_of tree bucket) + 2 * listed_by tree from_bucket from_key) n
 
+-- how many pieces so many bytes are sent in: each has 1 MiB, but for the last
+abbrev pub pieces : ℕ → ℕ
+pieces bytes = (bytes + 1048575) / 1048576
+
+-- how many bytes a read of an object gives: none where it is missing, and none of a reply without bytes
+abbrev pub judged_length : Judged → ℕ
+judged_length (Bytes span partial) = span.length
+judged_length judged = 0
+
+abbrev pub read_length : Option Object → Option Range → Conditions → ℕ
+read_length None range conditions = 0
+read_length (Some o) range conditions = judged_length (judged range conditions (head_of o))
+
 -- the greatest number of calls of an operation, by the account as it began
 abbrev pub most_calls : Op → SwiftAccount → Bound
 most_calls ListBuckets tree = by_account (pages (len tree) + len (s3_state tree))
@@ -341,7 +359,7 @@ most_calls (GetBucketAcl bucket) tree = always 1
 most_calls (PutBucketAcl bucket acl) tree = always 1
 most_calls (ListObjects bucket asked) tree = by_account (1 + pages (len (files tree bucket)))
 most_calls (PutObject bucket key acl content_type meta body) tree = always 2
-most_calls (GetObject bucket key range conditions) tree = always 3
+most_calls (GetObject bucket key range conditions) tree = by_account (2 + pieces (read_length (object_at (get (s3_state tree) bucket) key) range conditions))
 most_calls (HeadObject bucket key range conditions) tree = always 2
 most_calls (DeleteObject bucket key) tree = always 2
 most_calls (GetObjectAcl bucket key) tree = always 2
@@ -349,7 +367,7 @@ most_calls (ListUploads bucket prefix key_marker id_marker max) tree = by_accoun
 most_calls (CreateUpload bucket key acl content_type meta) tree = by_account (2 + 2 * (records_of tree bucket + segments_of tree bucket + 1))
 most_calls (UploadPart bucket key id number body) tree = always 3
 most_calls (ListParts bucket key id marker max) tree = by_account (2 + pages (named_by tree bucket id))
-most_calls (CompleteUpload bucket key id list) tree = by_account (6 + pages (named_by tree bucket id))
+most_calls (CompleteUpload bucket key id list) tree = by_account (6 + pages (named_by tree bucket id) + sub_manifests (length list))
 most_calls (AbortUpload bucket key id) tree = by_account (3 + pages (named_by tree bucket id) + named_by tree bucket id)
 most_calls (DeleteObjects bucket keys quiet) tree = always (1 + length keys)
 most_calls (CopyObject bucket key acl from_bucket from_key replaced) tree = by_account (copy_calls 5 tree bucket from_bucket from_key)
@@ -423,4 +441,4 @@ may_leave_unsure (CopyPart bucket key id number from_bucket from_key range) repl
 
 -- the greatest number of calls by which a store is settled, by the account as it began
 abbrev pub most_settling : SwiftAccount → Bound
-most_settling tree = always 5
+most_settling tree = by_account (5 + sub_manifests_of (seal_of tree))

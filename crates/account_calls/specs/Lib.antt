@@ -11,3 +11,5 @@ pub mod Plan
 pub mod Purging
 pub mod Sealed
 pub mod Stutters
+pub mod SubManifests
+pub mod Told

@@ -1,6 +1,6 @@
 -- What is put of a completion that is sealed, and of a copy that is laid out like one; and what is answered. Source: Object
 -- Storage API v1, "Static large objects", and this profile.
-use Rattle.std.specs.Prelude.{ℕ, List, [], ◌∷◌, codes, Result, Ok, Err}
+use Rattle.std.specs.Prelude.{◌+◌, ℕ, List, [], ◌∷◌, codes, Result, Ok, Err}
 use Rattle.s3_names.specs.Id.{id_digits}
 use Rattle.slo_manifest.specs.declared.Segment.{Segment}
 use Rattle.swift_calls.specs.declared.calls.SwiftReply.{SwiftReply}
@@ -11,8 +11,8 @@ use Rattle.swift_marks.specs.Pack.{pack_of}
 use Rattle.swift_marks.specs.Tag.{tag_text}
 use Rattle.upload_texts.specs.Records.{record_text}
 use Rattle.upload_texts.specs.declared.sealed.Sealed.{Sealed}
-use Rattle.upload_records.specs.Layout.{uploads_name, segments_name}
-use Rattle.upload_records.specs.Native.{sealed_record, sealed_tag, filled_parts, listing_of}
+use Rattle.upload_records.specs.Layout.{uploads_name, segments_name, sub_manifest_name}
+use Rattle.upload_records.specs.Native.{sealed_record, sealed_tag, filled_parts, listing_of, run, sealed_segments, sub_tag}
 use Rattle.account_calls.specs.declared.fault.PlanFault.{PlanFault}
 use Rattle.account_calls.specs.declared.fault.PlanFault.TheVariants.{Inconsistent}
 
@@ -33,6 +33,11 @@ put_by bucket key content_type meta (first ∷ rest) = PutManifest bucket key co
 -- the segments of the object of a sealed completion
 abbrev pub sealed_listing : Sealed → List Segment
 sealed_listing s = listing_of (segments_name s.bucket) (id_digits s.id) (filled_parts s.list)
+
+-- the PUT of its sub-manifest of that number, counted from 0
+abbrev pub put_sub_of : Sealed → ℕ → SwiftRequest
+put_sub_of s n =
+    PutManifest (segments_name s.bucket) (sub_manifest_name (id_digits s.id) (n + 1)) (tag_text (sub_tag s (run n (sealed_segments s)))) [] (run n (sealed_segments s))
 
 -- the PUT of its object
 abbrev pub put_object_of : Sealed → SwiftRequest

@@ -14,6 +14,7 @@ mod object;
 mod plans;
 mod sealed;
 mod state;
+mod sub_manifests;
 
 pub use beside::{interpret_container_put, purge, put_container_beside};
 pub use bucket::{
@@ -27,5 +28,6 @@ pub use laws::{law_answered_fault_free, law_never_unavailable};
 pub use listing::list_buckets;
 pub use object::{delete_object, get_object, head_object, put_object};
 pub use plans::{is_many, is_upload, reply_of, taken_text};
-pub use sealed::{interpret_put_without_etag, object_request};
+pub use sealed::{interpret_put_without_etag, object_request, sealed_segments};
 pub use state::{Known, Settled, ask};
+pub use sub_manifests::{sub_manifest_count, sub_manifest_request};

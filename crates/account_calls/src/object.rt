@@ -13,6 +13,7 @@ ghost use Rattle.account_calls.specs.Interpret.{IsShownHead, plain_tag, put_of};
 ghost use Rattle.upload_records.specs.Native.{IsSettled};
 ghost use Rattle.account_calls.specs.Calls.{always, Any, Asks, Becomes, Changes, Given, GivesUnchanged, HasBucket, HasObject, Tells, TellsBytes, TellsObject, drops_object, puts_object};
 ghost use Rattle.account_calls.specs.Lent.{Stays};
+ghost use Rattle.account_calls.specs.Told.{CountsOne};
 
 use crate::interpret::{
     bytes_in, interpret_file_delete, interpret_object_head, interpret_put_with_etag,
@@ -74,6 +75,8 @@ pub fn get_object<W: Swift>(
         (Given (HasObject bucket key etag.now size)) (Tells (TellsBytes bucket key range)) result }
     ensures unchanged { GivesUnchanged (W.history state.old.store.now) bucket key etag.now size
         result }
+    ensures counts { CountsOne (W.history state.old.store.now).called
+        (W.history state.new.store.now).called result }
 {
     let reply = ask(
         state.store,

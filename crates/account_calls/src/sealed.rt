@@ -5,11 +5,12 @@ ghost use Rattle.s3_names.specs.Id.{id_digits};
 ghost use Rattle.swift_calls.specs.Step.{Fit};
 ghost use Rattle.swift_marks.specs.Tag.{tag_text};
 ghost use Rattle.upload_texts.specs.Sealed.{has_sealed_text, part_fits_sealed_text};
-ghost use Rattle.upload_records.specs.Native.{filled_parts, listing_of, part_segment, sealed_tag};
+ghost use Rattle.upload_records.specs.Native.{filled_parts, part_segment, part_segments, sealed_segments, sealed_tag};
 ghost use Rattle.account_calls.specs.Sealed.{kept_due, put_by, put_object_of, sealed_listing};
 ghost use Rattle.account_calls.specs.declared.fault.PlanFault.TheVariants as fault;
 
 use crate::PlanFault;
+use crate::sub_manifests::listing_of_segments;
 use gate_base::{Bytes, Copying, List, Memory};
 use s3_names::id_digits;
 use slo_manifest::Segment;
@@ -89,10 +90,20 @@ fn sealed_object_tag(alloc: Global, sealed: &Sealed) -> Result<Bytes, Memory>
     tag.write(alloc)
 }
 
-/// The segments that a completed object lists.
+/// The segments that the object of a sealed completion lists.
 fn sealed_listing(alloc: Global, sealed: &Sealed) -> Result<List<Segment>, Memory>
     requires { has_sealed_text sealed.now ≡ true }
-    ensures { IfOk result (λ segments. segments ≡ sealed_listing sealed.now) }
+    ensures { IfOk result (λ listed. listed ≡ sealed_listing sealed.now) }
+{
+    let segments = sealed_segments(alloc, sealed)?;
+    let folder = segments_container(alloc, sealed.bucket.as_slice())?;
+    listing_of_segments(alloc, &folder, sealed.id, segments)
+}
+
+/// The segments that are the parts of a sealed completion, but for the empty ones.
+pub fn sealed_segments(alloc: Global, sealed: &Sealed) -> Result<List<Segment>, Memory>
+    requires { has_sealed_text sealed.now ≡ true }
+    ensures { IfOk result (λ segments. segments ≡ sealed_segments sealed.now) }
 {
     let folder = segments_container(alloc, sealed.bucket.as_slice())?;
     sealed_listing_segments(alloc, &folder, sealed.id, sealed.list.as_slice())
@@ -107,7 +118,7 @@ fn sealed_listing_segments(
 ) -> Result<List<Segment>, Memory>
     requires { list_all part_fits_sealed_text parts.now ≡ true }
     ensures { IfOk result
-        (λ segments. segments ≡ listing_of folder.now (id_digits id) (filled_parts parts.now)) }
+        (λ segments. segments ≡ part_segments folder.now (id_digits id) (filled_parts parts.now)) }
 {
     let mut segments = List::new(alloc);
     for part in parts {

@@ -1,10 +1,15 @@
 pub mod Calendars
 pub mod Handling
+pub mod Lines
 pub mod Living
 pub mod Looping
+pub mod Loops
 pub mod Operating
+pub mod Pieces
 pub mod Replying
 pub mod Resolving
+pub mod Sending
 pub mod Serving
 pub mod Statuses
+pub mod Tracing
 pub mod lemmas

@@ -1,5 +1,5 @@
 -- An operation: its store is settled where that is not known to be needless, and then it is answered.
-use Rattle.std.specs.Prelude.{◌≡◌, ◌≤◌, ◌⊎◌, ℕ, ◌+◌, IsTrue, Some, Result, Ok, Err}
+use Rattle.std.specs.Prelude.{◌≡◌, ◌≤◌, ◌⊎◌, ℕ, ◌+◌, IsTrue, [], Some, Result, Ok, Err}
 use Rattle.std.proofs.Common.{refl, sym, subst, inl, inr, arith}
 use Rattle.gate_base.specs.Causes.{Rose}
 use Rattle.s3_machine.specs.declared.code.Code.TheVariants.{ServiceUnavailable}
@@ -25,6 +25,12 @@ use Rattle.recovery.specs.declared.state.SettleFault.{SettleFault}
 use Rattle.recovery.specs.declared.state.SettleFault.TheVariants.{Failed, Memory, Inconsistent}
 use Rattle.recovery.specs.Settling.{settle_fault, as_plan, SettlesIt, Settles}
 use Rattle.gateway.specs.Exchange.{SettledBy, IsFault, unsettled, answered, Operated}
+use Rattle.account_calls.proofs.lemmas.Told.{told_as}
+use Rattle.planner.specs.declared.reading.Reading.{Reading}
+use Rattle.planner.specs.declared.reading.Reading.TheVariants.{Whole, Pieces}
+use Rattle.planner.specs.Reading.{AnsweredOrFound, Finds}
+use Rattle.planner.specs.declared.reading.Found.{Found}
+use Rattle.gateway.specs.Reading.{Readied, Reads, PerformsOrFinds, OperatedOrReads, IsReady}
 use Rattle.gateway.proofs.lemmas.Map.{settled_by_agree}
 
 -- ---- histories that go on
@@ -33,20 +39,14 @@ use Rattle.gateway.proofs.lemmas.Map.{settled_by_agree}
 pub from_present : {old new : History} → (on : GoesOn old new) → (observable : IsTrue old.observable) → new.account_at old.called ≡ present old
 from_present {old = old} on observable = (on.kept observable).accounts old.called (omega arith)
 
-within_amount : {premises : Type 0} (most : Bound) (p q : ℕ) → IsWithin most premises p q → premises → q ≤ p + amount most
+pub within_amount : {premises : Type 0} (most : Bound) (p q : ℕ) → IsWithin most premises p q → premises → q ≤ p + amount most
 within_amount (always n) p q within met = within
 within_amount (by_account n) p q within met = within met
 
-rose_later : (before then now : ℕ) → before ≤ then → Rose then now → Rose before now
+pub rose_later : (before then now : ℕ) → before ≤ then → Rose then now → Rose before now
 rose_later before then now near rose = omega arith
 
 -- ---- the store as the operation finds it
-
--- it was settled
-pub record Readied (old middle : History) (was : Known) : Type 0 where
-  pub on : GoesOn old middle
-  pub by : Met (IsKnown was) old → SettledBy middle was old.called middle.called
-  pub settled : IsTrue old.observable → IsKnown was (present old) → IsSettled (present middle)
 
 -- it was known to be
 at_once : (h : History) → Readied h h known.Settled
@@ -175,3 +175,34 @@ pub operated_unsettled : {settings : Settings} {op : Op} {label : Label} {old ne
     → Operated settings op label old new was was given
 operated_unsettled {settings = settings} {op = op} {label = label} {old = old} {new = new} fault is says settles =
     subst {A = Known × Reply} (λ x. Operated settings op label old new x.0 x.0 x.1) (λ i. (sym is i, sym says i)) (not_settled fault settles)
+
+-- ---- over one that was, an operation was answered or its object found
+
+pub performs_or_finds : (a b : History) (settings : Settings) (op : Op) (label : Label) (reading : Reading) → AnsweredOrFound (most_calls op (present a)) a b settings op label reading → PerformsOrFinds a b settings op label known.Settled reading
+performs_or_finds a b settings op label (Whole reply) told = told
+performs_or_finds a b settings op label (Pieces found) finds = (refl, finds)
+
+-- a read was begun
+pub reads_begun : {settings : Settings} {op : Op} {label : Label} {found : Found} {old middle new : History} {was : Known} → Readied old middle was → Finds 2 middle new settings Any op label found → Reads settings op label found old new was [] 0
+reads_begun {middle = middle} readied finds = record {
+  middle = middle;
+  readied = readied;
+  told = told_as finds.told (λ tree has. record { has = has; first = λ o there. refl });
+  is = finds.is;
+  reads = finds.reads;
+}
+
+pub operated_or_reads : (settings : Settings) (op : Op) (label : Label) (old middle new : History) (was now : Known) (reading : Reading) → Readied old middle was → PerformsOrFinds middle new settings op label now reading
+    → OperatedOrReads settings op label old new was now reading
+operated_or_reads settings op label old middle new was now (Whole reply) readied told = operated_by readied told
+operated_or_reads settings op label old middle new was now (Pieces found) readied (is, finds) = (is, reads_begun readied finds)
+
+-- what is to be sent can be
+pub ready_of : (settings : Settings) (op : Op) (label : Label) (old new : History) (was now : Known) (reading : Reading) → Knows was old → OperatedOrReads settings op label old new was now reading → IsReady new reading
+ready_of settings op label old new was now (Whole reply) known operated = operated.showable
+ready_of settings op label old new was now (Pieces found) known (is, reads) = (
+  reads.is,
+  λ observable.
+      let before = (goes_trans reads.readied.on reads.told.on).told observable in
+      reads.told.settled (reads.readied.on.observable before) (reads.readied.settled before (known before)),
+)

@@ -24,6 +24,9 @@ use Rattle.s3_requests.specs.Proper.{IsProperCode, IsProperMeant}
 use Rattle.gateway.specs.Request.{Request}
 use Rattle.gateway.specs.Connection.{sent_by}
 use Rattle.gateway.specs.Exchange.{Asked, asked_by, store_cursor, Span, IsSpan, Performs, unsettled, answered, refused, performed, refused_any, performed_any, RepliesBy, RepliesExpected, Where, IsCaused, Operated}
+use Rattle.planner.specs.declared.reading.Reading.{Reading}
+use Rattle.planner.specs.declared.reading.Reading.TheVariants.{Whole, Pieces}
+use Rattle.gateway.specs.Reading.{OperatedOrReads, RepliedOrReads}
 use Rattle.gateway.specs.Stands.{SpanPasses, Stands}
 use Rattle.gateway.proofs.lemmas.Order.{follows_none, is_span_follows}
 use Rattle.gateway.proofs.lemmas.Passing.{performs_pass, all_pass_none, all_pass_one}
@@ -156,3 +159,16 @@ module _ (settings : Settings) (h : History) (was : Known) (request : Request) (
   pub replied_memory : (all : Bool) → Understands meant.Memory request → Where all (Met (IsKnown was) h)
       → RepliesExpected (RepliesBy all settings h) (store_cursor h was) (store_cursor h was) request label answer.Memory
   replied_memory all understands met = by_means all request.means refl understands.meant understands.proper met
+
+-- an operation was answered, or its object found
+pub replied_by : (settings : Settings) (label : Label) (old new : History) (was now : Known) (means : Meant) (op : Op) → means ≡ meant.Op op → (reading : Reading) → OperatedOrReads settings op label old new was now reading
+    → RepliedOrReads settings means label old new was now reading
+replied_by settings label old new was now means op is (Whole reply) operated = record {
+  showable = operated.showable;
+  on = operated.on;
+  knows = operated_knows operated;
+  out_of_memory = λ none. absurd (let no : meant.Op op ≡ meant.Memory = sym is ∙ none in cc);
+  stands = operated_stands operated;
+  effect = λ all met request understands from. replied_op settings old new was now request label all means op reply is understands from operated met;
+}
+replied_by settings label old new was now means op is (Pieces found) (settled, reads) = (op, is, settled, reads)

@@ -3,6 +3,7 @@ pub mod Exchange
 pub mod Handled
 pub mod Laws
 pub mod Life
+pub mod Reading
 pub mod Request
 pub mod ResolvedRequest
 pub mod Serving

@@ -1,5 +1,5 @@
 -- What the writing of a reply does to the line.
-use Rattle.std.specs.Prelude.{◌≡◌, ◌≢◌, ◌⊎◌, ℕ, Bool, true, false, List}
+use Rattle.std.specs.Prelude.{◌≡◌, ◌≢◌, ◌⊎◌, ℕ, Bool, true, false, List, Option, None, Some}
 use Rattle.gate_base.specs.Transcript.{Transcript, with_piece, SendsPrefix}
 use Rattle.http_wire.specs.FirstMessage.{is_head}
 use Rattle.http_wire.specs.Print.{memory_reply}
@@ -7,6 +7,8 @@ use Rattle.s3_machine.specs.declared.operation.Label.{Label}
 use Rattle.s3_machine.specs.declared.operation.Reply.{Reply}
 use Rattle.s3_machine.specs.declared.operation.Reply.TheVariants as answer
 use Rattle.gateway.specs.Request.{reply_text}
+use Rattle.gateway.specs.declared.send.Stop.{Stop}
+use Rattle.gateway.specs.declared.send.Stop.TheVariants as stop
 use Rattle.gateway.specs.declared.write.Written.{Written}
 use Rattle.gateway.specs.declared.write.Written.TheVariants.{Whole, Memory, Failed}
 
@@ -34,3 +36,20 @@ abbrev pub is_failed_write : Written → Bool
 is_failed_write Whole = false
 is_failed_write Memory = false
 is_failed_write Failed = true
+
+-- the line failed under the head of a read, or under the out-of-memory reply
+abbrev pub CutsHead : Transcript → ℕ → List ℕ → List ℕ → Transcript → Type 0
+CutsHead old at text method new =
+    (bytes : List ℕ) × (((is_head method ≡ false) × (bytes ≡ text)) ⊎ (bytes ≡ memory_reply (is_head method))) × SendsPrefix old at bytes new
+
+-- the head of a read was sent, after `at` calls, or the out-of-memory reply in its place, or the line failed
+abbrev pub WritesHead : Transcript → ℕ → List ℕ → List ℕ → Written → Transcript → Type 0
+WritesHead old at text method Whole new = new ≡ with_piece old at text
+WritesHead old at text method Memory new = new ≡ with_piece old at (memory_reply (is_head method))
+WritesHead old at text method Failed new = CutsHead old at text method new
+
+-- whether the line failed under a piece
+abbrev pub is_failed_stop : Option Stop → Bool
+is_failed_stop None = false
+is_failed_stop (Some stop.Line) = true
+is_failed_stop (Some (stop.Fault fault)) = false

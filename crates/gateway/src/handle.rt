@@ -9,7 +9,7 @@ use crate::label::{next_label, sent_by};
 use crate::received::Received;
 use crate::reply::reply_to;
 use crate::resolve::resolve;
-use crate::write::{Written, write_reply};
+use crate::send::send_reading;
 use crate::{Ended, Service};
 use account_calls::Known;
 use gate_base::{Clock, Draws, Line, drop};
@@ -28,7 +28,7 @@ pub enum Handled {
 }
 
 /// Answers what was received: the clock is read once and two words are drawn, the request is resolved and its reply
-/// found, and that is written as one piece.
+/// found, and that is sent.
 pub fn handle_request<N: Line<W>, W: Swift, C: Clock, D: Draws>(
     alloc: Global,
     store: &mut W,
@@ -54,7 +54,7 @@ pub fn handle_request<N: Line<W>, W: Swift, C: Clock, D: Draws>(
     let resolved = resolve(alloc, service, &mut received, next.moment);
     let label = sent_by(resolved.caller, next);
     let end = resolved.end;
-    let reply = reply_to(
+    let reading = reply_to(
         alloc,
         store,
         known,
@@ -62,29 +62,17 @@ pub fn handle_request<N: Line<W>, W: Swift, C: Clock, D: Draws>(
         resolved.means,
         &label,
     );
-    match write_reply(
+    let handled = send_reading(
         alloc,
         line,
         store,
-        reply,
+        &service.settings,
+        reading,
         &label,
         resolved.method,
         resolved.resource,
-        end.is_some(),
-    ) {
-        Written::Whole => {
-            drop(received);
-            Handled::Served(end)
-        }
-        Written::Memory => {
-            drop(end);
-            drop(received);
-            Handled::Served(Some(Ended::Memory))
-        }
-        Written::Failed => {
-            drop(end);
-            drop(received);
-            Handled::Broken
-        }
-    }
+        end,
+    );
+    drop(received);
+    handled
 }

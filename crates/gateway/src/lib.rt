@@ -9,6 +9,7 @@ mod received;
 mod reply;
 mod resolve;
 mod resolved;
+mod send;
 mod serve;
 mod service;
 mod write;

@@ -1,36 +1,33 @@
-ghost use Rattle.std.specs.Prelude.{◌≡◌, ◌≢◌, ◌<◌, Bool, Err, IsTrue};
-ghost use Rattle.gate_base.specs.Causes.{Rose};
+ghost use Rattle.std.specs.Prelude.{◌≡◌, ◌<◌, Err, IsTrue};
 ghost use Rattle.gate_base.specs.Told.{moment_limit};
-ghost use Rattle.s3_machine.specs.declared.code.Code.TheVariants.{ServiceUnavailable};
-ghost use Rattle.s3_machine.specs.declared.operation.Reply.TheVariants as answer;
-ghost use Rattle.s3_machine.specs.Shown.{IsShowable};
 ghost use Rattle.s3_machine.specs.Step.{IsProper};
 ghost use Rattle.swift_calls.specs.History.{present};
 ghost use Rattle.upload_records.specs.Native.{IsSettled};
-ghost use Rattle.account_calls.specs.Answers.{most_calls};
-ghost use Rattle.account_calls.specs.Calls.{GoesOn, Met};
-ghost use Rattle.account_calls.specs.Known.{IsKnown, Knows};
-ghost use Rattle.account_calls.specs.Plan.{reply_of, Answered};
+ghost use Rattle.account_calls.specs.Lent.{Stays};
+ghost use Rattle.account_calls.specs.Known.{Knows};
+ghost use Rattle.account_calls.specs.Plan.{reply_of};
 ghost use Rattle.recovery.specs.Settling.{Settles, settle_fault};
-ghost use Rattle.gateway.specs.Connection.{sent_by};
-ghost use Rattle.s3_requests.specs.declared.meant.Meant.TheVariants as variant;
-ghost use Rattle.gateway.specs.ResolvedRequest.{Understands};
 ghost use Rattle.s3_requests.specs.Proper.{IsProperMeant};
-ghost use Rattle.gateway.specs.Request.{Request};
-ghost use Rattle.gateway.specs.Exchange.{store_cursor, Operated, RepliesBy, RepliesExpected, Where};
-ghost use Rattle.gateway.specs.Stands.{Stands};
+ghost use Rattle.gateway.specs.Reading.{PerformsOrFinds, IsReady, OperatedOrReads, RepliedOrReads};
 
 use account_calls::{Known, Settled, is_many, is_upload};
 use gate_base::drop;
-use plan_uploads::Replied;
+use planner::Reading;
 use recovery::{SettleFault, Unsure};
 use s3_machine::{Code, Label, Op, Reply, Settings};
 use s3_requests::Meant;
 use std::alloc::Global;
 use swift_calls::Swift;
 
-/// The reply to what a request means: its code, without a call of the store; or what the operation is answered. `known`,
-/// what is known of the store, goes from one request to the next.
+/// What an operation came to on a settled store, and what is known of the store then.
+#[derive(Debug, Drop)]
+struct Performed {
+    reading: Reading,
+    known: Known,
+}
+
+/// What a request is answered: its code, without a call of the store; or what the operation is answered, of a read that finds its
+/// object these bytes. `known`, what is known of the store, goes from one request to the next.
 pub fn reply_to<W: Swift>(
     alloc: Global,
     store: &mut W,
@@ -38,33 +35,18 @@ pub fn reply_to<W: Swift>(
     settings: &Settings,
     means: Meant,
     label: &Label,
-) -> Reply
+) -> Reading
     requires proper { IsProperMeant means }
     requires moment { label.now.moment < moment_limit }
     requires knows { Knows known.old (W.history store.old) }
-
-    ensures showable { IsShowable result }
-    ensures goes_on { GoesOn (W.history store.old) (W.history store.new) }
-    ensures knows { Knows known.new (W.history store.new) }
-    ensures unavailable { result ≡ answer.Refused ServiceUnavailable
-        → Rose (W.history store.old).faults (W.history store.new).faults }
-    ensures out_of_memory { means ≡ variant.Memory → result ≡ answer.Memory }
-    ensures stands { Stands settings.now known.old known.new (W.history store.old)
-        (W.history store.new) }
-
-    // Where memory ran out, some reply is expected, and it is not this one; then who sent the request may be unknown.
-    ensures effect { (all : Bool) → Where all (Met (IsKnown known.old) (W.history store.old))
-        → (request : Request) → Understands means request
-        → (means ≢ variant.Memory → label.now.caller ≡ request.caller)
-        → RepliesExpected (RepliesBy all settings.now (W.history store.new))
-        (store_cursor (W.history store.old) known.old)
-        (store_cursor (W.history store.new) known.new) request (sent_by request.caller label.now)
-        result }
+    ensures ready { IsReady (W.history store.new) result }
+    ensures replied { RepliedOrReads settings.now means label.now (W.history store.old)
+        (W.history store.new) known.old known.new result }
 {
     match means {
         Meant::Op(op) => settle_and_perform(alloc, store, known, settings, op, label),
-        Meant::Refused(code) => Reply::Refused(code),
-        Meant::Memory => Reply::Memory,
+        Meant::Refused(code) => Reading::Whole(Reply::Refused(code)),
+        Meant::Memory => Reading::Whole(Reply::Memory),
     }
 }
 
@@ -77,10 +59,10 @@ fn settle_and_perform<W: Swift>(
     settings: &Settings,
     op: Op,
     label: &Label,
-) -> Reply
+) -> Reading
     requires proper { IsProper op label.now }
     requires knows { Knows known.old (W.history store.old) }
-    ensures { Operated settings.now op label.now (W.history store.old) (W.history store.new)
+    ensures { OperatedOrReads settings.now op label.now (W.history store.old) (W.history store.new)
         known.old known.new result }
 {
     match known {
@@ -89,13 +71,13 @@ fn settle_and_perform<W: Swift>(
             Ok(()) => *known = Known::Settled,
             Err(fault) => {
                 drop(op);
-                return unsettled(fault);
+                return Reading::Whole(unsettled(fault));
             }
         },
     }
     let answer = perform_on_settled_store(alloc, store, settings, op, label);
     *known = answer.known;
-    answer.reply
+    answer.reading
 }
 
 fn settle_before_operation<W: Swift>(
@@ -115,24 +97,42 @@ fn perform_on_settled_store<W: Swift>(
     settings: &Settings,
     op: Op,
     label: &Label,
-) -> Replied
+) -> Performed
     requires proper { IsProper op label.now }
     requires settled { IsTrue (W.history store.old).observable
         → IsSettled (present (W.history store.old)) }
-    ensures { Answered (most_calls op (present (W.history store.old))) (W.history store.old)
-        (W.history store.new) settings.now op label.now result.known result.reply }
+    ensures { PerformsOrFinds (W.history store.old) (W.history store.new) settings.now op label.now
+        result.known result.reading }
 {
     let mut state = Settled::hold(store, settings);
+    perform(alloc, &mut state, op, label)
+}
+
+/// The same, of the store as it is held.
+fn perform<W: Swift>(alloc: Global, state: &mut Settled<'_, W>, op: Op, label: &Label) -> Performed
+    requires { IsProper op label.now }
+    ensures stays { Stays state.old state.new }
+    ensures performs { PerformsOrFinds (W.history state.old.store.now)
+        (W.history state.new.store.now) state.old.settings.now op label.now result.known
+        result.reading }
+{
     if is_upload(&op) {
-        return plan_uploads::answer(alloc, &mut state, op, label);
+        let replied = plan_uploads::answer(alloc, state, op, label);
+        return Performed {
+            reading: Reading::Whole(replied.reply),
+            known: replied.known,
+        };
     }
-    let reply = if is_many(&op) {
-        many_keys::answer(alloc, &mut state, op, label)
-    } else {
-        planner::answer(alloc, &mut state, op, label)
-    };
-    Replied {
-        reply,
+    if is_many(&op) {
+        let reply = many_keys::answer(alloc, state, op, label);
+        return Performed {
+            reading: Reading::Whole(reply),
+            known: Known::Settled,
+        };
+    }
+    let reading = planner::answer(alloc, state, op, label);
+    Performed {
+        reading,
         known: Known::Settled,
     }
 }

@@ -26,6 +26,7 @@ use Rattle.upload_records.specs.Consistent.{AreParts, IsConsistent}
 use Rattle.upload_records.specs.Laws.{ListingFound, ListsParts, ObjectListed}
 use Rattle.upload_records.specs.Layout.{five_digits, segment_name, segments_name}
 use Rattle.upload_records.specs.Native.{object_at, s3_state}
+use Rattle.upload_records.proofs.lemmas.Subs.{listing_direct}
 use Rattle.account_calls.specs.Answers.{listed_in}
 use Rattle.account_calls.specs.Calls.{Given, HasObject}
 use Rattle.account_calls.proofs.lemmas.One.{IsReadingOf}
@@ -81,13 +82,15 @@ same_size (s ∷ list) =
 lists_cut : (segments : Names SwiftObject) (folder : List ℕ) (listed : List Segment) (o : Object) (size : ℕ) → length o.bytes ≡ size → ListsParts segments folder listed o → is_cut size (cut_of listed) ≡ true
 unfolding is_cut most_parts
 lists_cut segments folder listed o size whole lists =
-    let some = lists.some in
-    let few = lists.few in
-    let long = length-map listed piece_of in
-    and_from _ _ (le-leb 1 (length (cut_of listed)) (omega (arith, some, long)))
-    (and_from _ _ (le-leb (length (cut_of listed)) most_parts (omega (arith, few, long)))
-    (and_from _ _ (parts_are_pieces segments folder (id_digits lists.id) 0 listed lists.parts lists.sized)
-    (and_from _ _ (parts_ascend segments folder (id_digits lists.id) 0 listed lists.parts) (eq-eqb (size_of_cut (cut_of listed)) size (same_size listed ∙ lists.whole ∙ whole)))))
+    let list = lists.list in
+    let some = list.some in
+    let few = list.few in
+    let long = length-map list.parts piece_of in
+    ap (λ l. is_cut size (cut_of l)) (list.lists ∙ listing_direct folder (id_digits lists.id) list.parts (omega (arith, few)))
+    ∙ and_from _ _ (le-leb 1 (length (cut_of list.parts)) (omega (arith, some, long)))
+    (and_from _ _ (le-leb (length (cut_of list.parts)) most_parts (omega (arith, few, long)))
+    (and_from _ _ (parts_are_pieces segments folder (id_digits lists.id) 0 list.parts list.are lists.sized)
+    (and_from _ _ (parts_ascend segments folder (id_digits lists.id) 0 list.parts list.are) (eq-eqb (size_of_cut (cut_of list.parts)) size (same_size list.parts ∙ lists.whole ∙ whole)))))
 
 -- ---- the call
 

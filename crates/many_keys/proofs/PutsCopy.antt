@@ -17,10 +17,10 @@ use Rattle.upload_texts.specs.declared.sealed.Sealed.{Sealed}
 use Rattle.upload_texts.specs.declared.sealed.SealedPart.{SealedPart}
 use Rattle.upload_records.specs.Consistent.{IsStored}
 use Rattle.upload_records.specs.Layout.{segments_name}
-use Rattle.upload_records.specs.Native.{completed_file, content_by, filled_parts, listing_of, sealed_tag}
+use Rattle.upload_records.specs.Native.{completed_file, content_by, filled_parts, listing_by, listing_of, part_segments, sealed_segments, sealed_tag}
 use Rattle.s3_names.specs.Id.{id_digits}
 use Rattle.account_calls.specs.Sealed.{put_by, put_object_of, sealed_listing}
-use Rattle.account_calls.proofs.lemmas.SealStands.{ListsFew, lists_few, object_fits, object_stored, pack_fits, sum_of}
+use Rattle.account_calls.proofs.lemmas.SealStands.{SegmentsFew, segments_few, object_fits, object_stored, pack_fits, sum_of}
 use Rattle.account_calls.proofs.lemmas.Fits.{typed}
 use Rattle.account_calls.proofs.lemmas.Names.{container_name, object_name}
 use Rattle.account_calls.proofs.lemmas.SideNames.{file_name}
@@ -51,14 +51,17 @@ copy_has_text s is some =
 -- ---- one without a part
 
 pub none_listed : (s : Sealed) → s.list ≡ [] → sealed_listing s ≡ []
-unfolding listing_of
+unfolding listing_by
 none_listed s none = ap (λ list. listing_of (segments_name s.bucket) (id_digits s.id) (filled_parts list)) none
 
-none_few : (s : Sealed) → s.list ≡ [] → ListsFew s
+none_segments : (s : Sealed) → s.list ≡ [] → sealed_segments s ≡ []
+none_segments s none = ap (λ list. part_segments (segments_name s.bucket) (id_digits s.id) (filled_parts list)) none
+
+none_few : (s : Sealed) → s.list ≡ [] → SegmentsFew s
 none_few s none = record {
-  few = subst (λ (l : List Segment). length l ≤ 1000) (sym (none_listed s none)) (omega arith);
-  sum = subst (λ (l : List Segment). sum_of l < 2 ^ 63) (sym (none_listed s none)) (omega arith);
-  places = subst (λ (l : List Segment). All IsSegmentPlace l) (sym (none_listed s none)) (All-nil IsSegmentPlace);
+  few = subst (λ (l : List Segment). length l ≤ most_parts) (sym (none_segments s none)) (omega arith);
+  sum = subst (λ (l : List Segment). sum_of l < 2 ^ 63) (sym (none_segments s none)) (omega arith);
+  places = subst (λ (l : List Segment). All IsSegmentPlace l) (sym (none_segments s none)) (All-nil IsSegmentPlace);
 }
 
 -- the PUT of an object without a byte
@@ -83,8 +86,8 @@ module _ (P : Sealed → Type 0) (none : (s : Sealed) → IsCopy s → s.list �
   by_list s is [] e = none s is e
   by_list s is (p ∷ rest) e = some s (copy_has_text s is (λ empty. let no : [] ≡ p ∷ rest = sym empty ∙ e in cc))
 
-pub copy_few : (s : Sealed) → IsCopy s → ListsFew s
-copy_few s is = by_list ListsFew (λ t it none. none_few t none) lists_few s is s.list refl
+pub copy_segments : (s : Sealed) → IsCopy s → SegmentsFew s
+copy_segments s is = by_list SegmentsFew (λ t it none. none_few t none) segments_few s is s.list refl
 
 pub copy_fits : (s : Sealed) → IsCopy s → Fit (put_object_of s)
 copy_fits s is = by_list (λ t. Fit (put_object_of t)) none_fits object_fits s is s.list refl

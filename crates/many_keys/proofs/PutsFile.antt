@@ -23,29 +23,37 @@ use Rattle.swift_calls.specs.declared.calls.SwiftRequest.{SwiftRequest}
 use Rattle.swift_marks.specs.Pack.{pack_of}
 use Rattle.swift_marks.specs.Tag.{tag_text}
 use Rattle.upload_texts.specs.declared.sealed.Sealed.{Sealed}
-use Rattle.upload_records.specs.Consistent.{IsConsistent, IsOpen}
+use Rattle.upload_records.specs.Consistent.{HasSubManifests, IsConsistent, IsOpen}
 use Rattle.upload_records.specs.Laws.{MayStand, PutsFile, Stands}
 use Rattle.upload_records.specs.Layout.{segments_name, uploads_name}
-use Rattle.upload_records.specs.Native.{IsSettled, completed_file, record_at, s3_state, sealed_object, sealed_tag}
+use Rattle.upload_records.specs.Native.{IsSettled, completed_file, record_at, s3_state, sealed_object, sealed_segments, sealed_sub_manifests, sealed_tag}
 use Rattle.upload_records.proofs.lemmas.Objects.{file_puts}
 use Rattle.upload_records.proofs.lemmas.Rolling.{completed_stands, listing_stands}
+use Rattle.upload_records.proofs.lemmas.Subs.{no_sub_manifests}
 use Rattle.upload_records.proofs.lemmas.Settled.{same_off, settled_same, unsealed_of}
 use Rattle.account_calls.specs.Sealed.{kept_due, put_object_of, sealed_listing}
 use Rattle.account_calls.proofs.lemmas.Fits.{has_a_pack}
 use Rattle.account_calls.proofs.lemmas.ListPut.{by_stays, put_step}
 use Rattle.account_calls.proofs.lemmas.One.{Effect, IsWritingOf}
-use Rattle.account_calls.proofs.lemmas.SealStands.{all_counted, takes_parts}
+use Rattle.account_calls.proofs.lemmas.SealStands.{all_counted, some_parts, takes_listing}
 use Rattle.many_keys.specs.CopiedLists.{CopiesObject, HasCopy, IsCopy, MayPut}
 use Rattle.many_keys.proofs.CopySteps.{of_source}
-use Rattle.many_keys.proofs.PutsCopy.{copy_few, copy_stored, tag_has_text}
+use Rattle.many_keys.proofs.PutsCopy.{copy_segments, copy_stored, tag_has_text}
 
 -- ---- what it does to the state
 
 module _ (from_bucket from_key : List ℕ) (replaced : Option Replaced) (s : Sealed) (is : IsCopy s) where
   module _ (tree : SwiftAccount) (sound : IsConsistent tree) (settled : IsSettled tree) (has : HasCopy from_bucket from_key replaced s tree) where
-    may_stand : MayStand (files tree (segments_name s.bucket)) s
+    -- it has no sub-manifest
+    subs_there : HasSubManifests (files tree (segments_name s.bucket)) (id_digits s.id) (sealed_segments s) (sealed_sub_manifests s)
     unfolding most_parts
-    may_stand = let few = is.few in record {
+    subs_there n below =
+        let few = (copy_segments s is).few in
+        let none = no_sub_manifests (length (sealed_segments s)) (omega (arith, few)) in
+        absurd (omega (arith, none, below))
+
+    may_stand : MayStand (files tree (segments_name s.bucket)) s
+    may_stand = record {
       keyed = is.place.keyed;
       tagged = tag_has_text s is;
       of_upload = is.of_parts;
@@ -53,9 +61,10 @@ module _ (from_bucket from_key : List ℕ) (replaced : Option Replaced) (s : Sea
       described = is.described;
       ascends = is.ascends;
       counted = all_counted s.list is.proper;
-      few = omega (arith, few);
+      few = is.few;
       filed = (sound.buckets s.bucket is.place.named has.unnamed.there).of_segments;
       parts = has.parts;
+      subs = subs_there;
     }
 
     stands : Stands (files tree (segments_name s.bucket)) s (completed_file s)
@@ -63,9 +72,9 @@ module _ (from_bucket from_key : List ℕ) (replaced : Option Replaced) (s : Sea
 
     takes_list : 0 < length (sealed_listing s) → is_good_list (find_object tree) (sealed_listing s) ≡ true
     takes_list some =
-        let lists = copy_few s is in
+        let lists = copy_segments s is in
         let parts = (listing_stands (files tree (segments_name s.bucket)) (segments_name s.bucket) (id_digits s.id) 0 s.list is.ascends (all_counted s.list is.proper) may_stand.filed has.parts).0 in
-        takes_parts tree (segments_name s.bucket) (id_digits s.id) (sealed_listing s) lists.few lists.sum parts some
+        takes_listing tree (segments_name s.bucket) (id_digits s.id) (sealed_segments s) parts lists.places lists.few lists.sum (some_parts (segments_name s.bucket) (id_digits s.id) (sealed_segments s) some) subs_there
 
     puts : PutsFile tree s.bucket s.key (sealed_object (files tree (segments_name s.bucket)) s) (put_file s.bucket s.key (completed_file s) tree)
     puts = file_puts tree s.bucket s.key (completed_file s) (sealed_object (files tree (segments_name s.bucket)) s) is.place.named stands.is stands.reads

@@ -1,9 +1,9 @@
 -- The completion that an open upload is sealed with, over a consistent account, by what its parts and its list come to.
-use Rattle.std.specs.Prelude.{◌≡◌, ◌<◌, ◌≤◌, ◌^◌, ◌&&◌, ℕ, Bool, true, false, nat_lt, cond, List, map, length, Option, Some, None, bytes_eq}
-use Rattle.std.proofs.Common.{refl, sym, ap, subst, ◌∙◌, arith}
+use Rattle.std.specs.Prelude.{◌≡◌, ◌<◌, ◌≤◌, ◌+◌, ◌/◌, ◌^◌, ◌&&◌, ℕ, suc, Bool, true, false, nat_le, nat_lt, cond, List, [], ◌∷◌, map, length, Option, Some, None, bytes_eq}
+use Rattle.std.proofs.Common.{refl, sym, ap, subst, ◌∙◌, arith, true≢false}
 use Rattle.std.specs.Option.{option_and_then, option_map}
 use Rattle.std.specs.FinMap.{get}
-use Rattle.std.proofs.lemmas.Bool.{and_from, and_parts, le-leb, lt-ltb}
+use Rattle.std.proofs.lemmas.Bool.{and_from, and_parts, le-leb, leb-true, lt-ltb}
 use Rattle.std.proofs.lemmas.List.{length-map}
 use Rattle.std.proofs.lemmas.Option.{none-some, same_Some}
 use Rattle.gate_base.specs.Told.{moment_limit}
@@ -32,11 +32,14 @@ use Rattle.upload_texts.specs.declared.record.Record.{Record}
 use Rattle.upload_texts.specs.declared.record.Record.TheVariants.{Open}
 use Rattle.upload_texts.specs.declared.sealed.Sealed.{Sealed}
 use Rattle.upload_texts.specs.declared.sealed.SealedPart.{SealedPart}
+use Rattle.upload_records.proofs.lemmas.Settled.{unsealed_of}
+use Rattle.upload_records.proofs.lemmas.SideCalls.{open_unlisted}
+use Rattle.s3_machine.specs.declared.limits.TheConstants.{MOST_PARTS}
 use Rattle.upload_records.specs.Layout.{segments_name, uploads_name}
-use Rattle.upload_records.specs.Native.{listed_of, part_at, parts_of, record_at, record_of, s3_state}
-use Rattle.upload_records.specs.Consistent.{Agrees, IsConsistent, SealedIn}
+use Rattle.upload_records.specs.Native.{filled_parts, listed_of, part_at, part_segment, parts_of, record_at, record_of, s3_state, sealed_segments, sealed_sub_manifests, sub_manifests}
+use Rattle.upload_records.specs.Consistent.{Agrees, IsConsistent, IsOpen, SealedIn}
 use Rattle.account_calls.specs.Listing.{TellsOf}
-use Rattle.upload_calls.specs.Records.{TellsParts, items_above}
+use Rattle.upload_calls.specs.Records.{HasOnlyParts, TellsParts, items_above}
 use Rattle.plan_uploads.specs.declared.completed.Opened.{Opened}
 use Rattle.plan_uploads.specs.Completing.{Ascend, HasParts, IsOpenAs, MayComplete, by_number, completion_of, finishes, has_small_chosen_part, listed_parts}
 use Rattle.plan_uploads.proofs.ByNumber.{all_listed, found_by_number, items_ascend}
@@ -44,6 +47,8 @@ use Rattle.plan_uploads.proofs.ChosenParts.{Chooses, chosen_found, chosen_missin
 use Rattle.plan_uploads.proofs.CompletionSteps.{is_completed, part_refused, small_refused}
 use Rattle.plan_uploads.proofs.PartsStand.{are_sealed, parts_have_text, same_bytes}
 use Rattle.plan_uploads.proofs.SealedTexts.{completion_etag}
+use Rattle.plan_uploads.proofs.Steps.{only_parts}
+use Rattle.slo_manifest.specs.declared.manifest.TheConstants.{MOST_SEGMENTS}
 
 -- ---- the record
 
@@ -152,6 +157,7 @@ module _ (tree : SwiftAccount) (bucket key : List ℕ) (opened : Opened) (parts 
         parts = are_sealed tree bucket id is sound has.opens.there chooses;
         etag = ap upload_etag (sym (sealed_have_etags chooses));
         agrees = subst (Agrees s) (sym has.opens.reads) (refl, refl, refl, refl);
+        subs = λ number file found. absurd (none-some file (sym (open_unlisted tree bucket opened.id is has.opens.there (subst IsOpen (sym has.opens.reads) tt) sound (unsealed_of has.opens.settled) number) ∙ found));
       };
     }
 
@@ -211,17 +217,45 @@ module _ (tree : SwiftAccount) (bucket key : List ℕ) (opened : Opened) (parts 
 
 -- ---- the parts that a listing of all of them tells
 
-most_listed : greatest_part ≤ 1000
+most_listed : greatest_part ≤ MOST_PARTS
 unfolding greatest_part
 most_listed = omega arith
 
 -- an upload that was found open has them
 pub has_parts : {bucket key text : List ℕ} {opened : Opened} {old new : SwiftAccount} {told : List PartItem × Bool} {parts : List PartItem} → parts ≡ told.0 → IsOpenAs bucket key text opened old
-    → TellsOf (TellsParts bucket opened.id 0 1000) old new told → HasParts bucket key text opened parts new
+    → TellsOf (TellsParts bucket opened.id 0 MOST_PARTS) old new told → HasParts bucket key text opened parts new
 has_parts {bucket = bucket} {key = key} {text = text} {opened = opened} {old = old} {told = told} are opens tells =
     let all : told.0 ≡ items_above 0 (parts_of (files old (segments_name bucket)) (id_digits opened.id)) =
-    ap (λ (t : List PartItem × Bool). t.0) tells.of_account ∙ all_listed (part_at (files old (segments_name bucket)) (id_digits opened.id)) greatest_part 1000 most_listed in
+    ap (λ (t : List PartItem × Bool). t.0) tells.of_account ∙ all_listed (part_at (files old (segments_name bucket)) (id_digits opened.id)) greatest_part MOST_PARTS most_listed in
     record {
       opens = subst (IsOpenAs bucket key text opened) (sym tells.same) opens;
       are = are ∙ all ∙ (λ i. items_above 0 (parts_of (files (sym tells.same i) (segments_name bucket)) (sym opens.is i)));
     }
+
+-- over a consistent account all that stands under the id of an upload that was found open are parts
+pub opened_parts : {bucket key text : List ℕ} {opened : Opened} → is_bucket bucket ≡ true → (tree : SwiftAccount) → IsOpenAs bucket key text opened tree → HasOnlyParts bucket opened.id tree
+opened_parts {bucket = bucket} is tree opens = only_parts is opens.settled (record {
+  there = opens.there;
+  opens = subst IsOpen (sym (ap (record_at (files tree (uploads_name bucket))) (sym opens.is) ∙ opens.reads)) tt;
+})
+
+-- how many parts of a completion aren't empty
+few_filled : (list : List SealedPart) → length (filled_parts list) ≤ length list
+few_filled [] = omega arith
+few_filled (p ∷ list) = by (nat_lt 0 p.size) (few_filled list)
+  where
+    by : (t : Bool) → length (filled_parts list) ≤ length list → length (cond t (p ∷ filled_parts list) (filled_parts list)) ≤ suc (length list)
+    by true few = omega (arith, few)
+    by false few = omega (arith, few)
+
+more_runs : (n k : ℕ) (t u : Bool) → nat_le n MOST_SEGMENTS ≡ t → nat_le k MOST_SEGMENTS ≡ u → n ≤ k → cond t 0 ((n + 999) / MOST_SEGMENTS) ≤ cond u 0 ((k + 999) / MOST_SEGMENTS)
+more_runs n k true u few most less = omega arith
+more_runs n k false true few most less = absurd (let far : nat_le n MOST_SEGMENTS ≡ true = le-leb n MOST_SEGMENTS (let near = leb-true k MOST_SEGMENTS most in omega (arith, near, less)) in true≢false (sym far ∙ few))
+more_runs n k false false few most less = omega (arith, less)
+
+-- a completion of a list has no more sub-manifests than one of as many parts that aren't empty
+pub few_subs : (s : Sealed) (list : List Listed) → length s.list ≡ length list → sealed_sub_manifests s ≤ sub_manifests (length list)
+few_subs s list as_many =
+    let counted : length (sealed_segments s) ≡ length (filled_parts s.list) = length-map (filled_parts s.list) (part_segment (segments_name s.bucket) (id_digits s.id)) in
+    let filled = few_filled s.list in
+    more_runs (length (sealed_segments s)) (length list) (nat_le (length (sealed_segments s)) MOST_SEGMENTS) (nat_le (length list) MOST_SEGMENTS) refl refl (omega (arith, counted, filled, as_many))

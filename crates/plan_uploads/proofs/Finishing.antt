@@ -1,5 +1,5 @@
 -- The call that seals a completion, and those behind it that finish it.
-use Rattle.std.specs.Prelude.{◌≡◌, ◌⊎◌, ℕ, List, Result, Ok, Err, IfOk}
+use Rattle.std.specs.Prelude.{◌≡◌, ◌⊎◌, ◌+◌, ℕ, List, Result, Ok, Err, IfOk}
 use Rattle.std.proofs.Common.{refl, sym, ap, subst, ◌∙◌, inl, inr, arith}
 use Rattle.gate_base.specs.Causes.{Rose}
 use Rattle.s3_machine.specs.State.{State}
@@ -14,7 +14,7 @@ use Rattle.s3_machine.specs.declared.operation.Settings.{Settings}
 use Rattle.swift_calls.specs.Account.{SwiftAccount}
 use Rattle.swift_calls.specs.History.{History, present}
 use Rattle.upload_texts.specs.declared.sealed.Sealed.{Sealed}
-use Rattle.upload_records.specs.Native.{IsSettled, s3_state}
+use Rattle.upload_records.specs.Native.{IsSettled, s3_state, sealed_sub_manifests}
 use Rattle.account_calls.specs.Answers.{ends_by_commit, machine, memory, steps_of, unavailable}
 use Rattle.account_calls.specs.Calls.{always, Asks, Becomes, Commits, CommitsUntold, GivenOf, Keeps, Met, Writes}
 use Rattle.account_calls.specs.Fault.{CausesFault}
@@ -110,7 +110,7 @@ module _ (settings : Settings) (s : Sealed) (text : List ℕ) (list : List Liste
   fault_cause before now Memory cause = cause
   fault_cause before now Inconsistent cause = cause
 
-  pub seal_fails : {a b : History} (fault : PlanFault) → Seals a b s (Err fault) → Plans (always 4) a b settings (GivenOf (CompletesBy settings text list label s)) (asked s text list) label Unsure (Err fault)
+  pub seal_fails : {a b : History} (fault : PlanFault) → Seals a b s (Err fault) → Plans (always (4 + sealed_sub_manifests s)) a b settings (GivenOf (CompletesBy settings text list label s)) (asked s text list) label Unsure (Err fault)
   seal_fails {a = a} {b = b} fault seals = record {
     grows = record { on = seals.grows.on; calls = let near = seals.grows.calls in omega (arith, near) };
     cause = fault_cause a.faults b.faults fault seals.cause;
@@ -123,7 +123,7 @@ module _ (settings : Settings) (s : Sealed) (text : List ℕ) (list : List Liste
 
   -- ---- it was, and these calls came behind it
 
-  module _ {a b c : History} {finished : Result (Unit {0}) PlanFault} (seals : Seals a b s (Ok tt)) (asks : Asks (always 3) b c (IsSealed s) (Leaves IsSettled) finished)
+  module _ {a b c : History} {finished : Result (Unit {0}) PlanFault} (seals : Seals a b s (Ok tt)) (asks : Asks (always (3 + sealed_sub_manifests s)) b c (IsSealed s) (Leaves IsSettled) finished)
       (clear : LeavesClear tt b c finished) where
     met_behind : Met (GivenOf (CompletesBy settings text list label s)) a → Met (IsSealed s) b
     met_behind met = record {
@@ -171,7 +171,7 @@ module _ (settings : Settings) (s : Sealed) (text : List ℕ) (list : List Liste
       ends_by (Err Inconsistent) never = absurd never
 
     -- they amount to the operation
-    amounts : Plans (always 4) a c settings (GivenOf (CompletesBy settings text list label s)) (asked s text list) label
+    amounts : Plans (always (4 + sealed_sub_manifests s)) a c settings (GivenOf (CompletesBy settings text list label s)) (asked s text list) label
         (end_complete_upload_sealed finished (completes s)).known (end_complete_upload_sealed finished (completes s)).end
     amounts = record {
       grows = record { on = goes_trans seals.grows.on asks.grows.on; calls = let near = seals.grows.calls in let far = asks.grows.calls in omega (arith, near, far) };
@@ -189,6 +189,6 @@ module _ (settings : Settings) (s : Sealed) (text : List ℕ) (list : List Liste
 
     -- what is handed on of them is their end
     pub finished_then : (completing : Completing) (reply : Reply) → completing ≡ end_complete_upload_sealed finished reply → reply ≡ completes s
-        → Plans (always 4) a c settings (GivenOf (CompletesBy settings text list label s)) (asked s text list) label completing.known completing.end
+        → Plans (always (4 + sealed_sub_manifests s)) a c settings (GivenOf (CompletesBy settings text list label s)) (asked s text list) label completing.known completing.end
     finished_then completing reply is same =
-        subst (λ (x : Completing). Plans (always 4) a c settings (GivenOf (CompletesBy settings text list label s)) (asked s text list) label x.known x.end) (sym (is ∙ ap (end_complete_upload_sealed finished) same)) amounts
+        subst (λ (x : Completing). Plans (always (4 + sealed_sub_manifests s)) a c settings (GivenOf (CompletesBy settings text list label s)) (asked s text list) label x.known x.end) (sym (is ∙ ap (end_complete_upload_sealed finished) same)) amounts

@@ -10,6 +10,7 @@ use Rattle.gate_base.specs.Maps as maps
 use Rattle.gate_base.specs.Maps.{Numbers}
 use Rattle.gate_base.proofs.lemmas.Maps.{table_zero, table_above, table_within}
 use Rattle.s3_names.specs.Bucket.{is_bucket}
+use Rattle.s3_names.specs.Id.{id_digits}
 use Rattle.s3_machine.specs.ETag.{body_etag}
 use Rattle.s3_machine.specs.Limits.{most_body_bytes}
 use Rattle.s3_machine.specs.State.{Part}
@@ -23,8 +24,9 @@ use Rattle.upload_texts.specs.Sealed.{part_fits_sealed_text}
 use Rattle.upload_texts.specs.declared.sealed.SealedPart.{SealedPart}
 use Rattle.upload_records.specs.Layout.{segment_name, segments_name}
 use Rattle.upload_records.specs.Native.{part_at, part_by, part_bytes, part_of, parts_of, sealed_bytes}
-use Rattle.upload_records.specs.Consistent.{AreSealedParts, IsConsistent, IsSegment, IsThere, is_part}
+use Rattle.upload_records.specs.Consistent.{AreSealedParts, IsConsistent, IsSegment, IsThere, is_part, is_sub_manifest}
 use Rattle.upload_records.specs.Laws as laws
+use Rattle.upload_records.proofs.lemmas.Sides.{part_no_sub}
 use Rattle.account_calls.proofs.lemmas.Etags.{part_etag}
 use Rattle.plan_uploads.proofs.ChosenParts.{Chooses, Names, Row, part_in, sealed_in}
 
@@ -60,6 +62,7 @@ module _ (tree : SwiftAccount) (bucket id : List ℕ) (is : is_bucket bucket ≡
         counted = counted;
         at = at;
       }
+  by_file q p counted at file found reads (is_sub_manifest sub) = absurd (part_no_sub id (id_digits sub.id) q sub.number sub.named)
 
   by_found : (q : ℕ) (p : Part) → IsPartNumber q → part_at segments id q ≡ Some p → (o : Option SwiftObject) → get segments (segment_name id q) ≡ o → option_and_then part_of o ≡ Some p → Stands segments id q p
   by_found q p counted at None found reads = absurd (none-some p reads)

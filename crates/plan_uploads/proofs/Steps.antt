@@ -23,12 +23,15 @@ use Rattle.s3_machine.specs.declared.operation.Op.TheVariants.{ListUploads, Crea
 use Rattle.s3_machine.specs.declared.operation.Reply.TheVariants as reply
 use Rattle.s3_machine.proofs.lemmas.StepLemmas.{steps, in_missing, in_found, step_part, step_parts, step_aborted, step_started, start_with_another_acl}
 use Rattle.swift_calls.specs.Account.{SwiftAccount, files}
+use Rattle.upload_records.specs.Native.{IsSettled}
+use Rattle.upload_records.proofs.lemmas.Settled.{unsealed_of}
+use Rattle.upload_records.proofs.lemmas.SideCalls.{open_unlisted}
 use Rattle.upload_records.specs.Layout.{segments_name, uploads_name}
 use Rattle.upload_records.specs.Native.{bucket_from, parts_of, s3_state}
 use Rattle.account_calls.specs.Calls.{LacksBucket, TellsBucket}
 use Rattle.account_calls.specs.Plan.{IsOwnReply}
 use Rattle.upload_calls.specs.Found.{IsOpenUpload, LacksUpload}
-use Rattle.upload_calls.specs.Records.{TellsParts, TellsUploads, opens_upload, uploads_in}
+use Rattle.upload_calls.specs.Records.{HasOnlyParts, HasOpen, TellsParts, TellsUploads, opens_upload, uploads_in}
 use Rattle.upload_calls.specs.Records as records
 use Rattle.upload_calls.proofs.lemmas.Finding.{bucket_there, has_upload, no_upload}
 use Rattle.upload_calls.proofs.lemmas.Opened.{bucket_by}
@@ -131,3 +134,12 @@ parts_are_own bucket key id marker max told dated = record { showable = dated; n
 
 pub uploads_are_own : (bucket prefix key_marker id_marker : List ℕ) (max : ℕ) (told : List UploadItem × Bool) → All IsShownUpload told.0 → IsOwnReply (uploads_told bucket prefix key_marker id_marker max told)
 uploads_are_own bucket prefix key_marker id_marker max told dated = record { showable = dated; no_memory = λ e. cc; no_failure = λ e. cc; no_inconsistency = λ e. cc }
+
+-- ---- what the calls ask
+
+-- over a consistent account all that stands under the id of an upload that is open are parts
+pub only_parts : {bucket : List ℕ} {id : ℕ} {tree : SwiftAccount} → is_bucket bucket ≡ true → IsSettled tree → HasOpen bucket id tree → HasOnlyParts bucket id tree
+only_parts {bucket = bucket} {id = id} {tree = tree} is settled has = λ sound. record {
+  there = has.there;
+  unlisted = open_unlisted tree bucket id is has.there has.opens sound (unsealed_of settled);
+}

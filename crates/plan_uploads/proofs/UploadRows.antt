@@ -35,7 +35,8 @@ use Rattle.account_calls.specs.Listing.{TellsOf}
 use Rattle.account_calls.proofs.lemmas.Ask.{asks_out_of_memory, asks_told}
 use Rattle.account_calls.proofs.lemmas.Faults.{err_is}
 use Rattle.account_calls.proofs.lemmas.Idle.{goes_none, goes_trans}
-use Rattle.account_calls.proofs.lemmas.Walk.{Idles, idles_none, idles_trans, cause_after, keeps_after}
+use Rattle.account_calls.specs.Told.{Idles}
+use Rattle.account_calls.proofs.lemmas.Walk.{idles_none, idles_trans, cause_after, keeps_after}
 use Rattle.upload_calls.specs.Records.{InBucket, TellsRecord}
 use Rattle.upload_calls.proofs.lemmas.Taking.{met_after, same_after}
 use Rattle.plan_uploads.specs.declared.listed_uploads.AskedUploads.{AskedUploads}

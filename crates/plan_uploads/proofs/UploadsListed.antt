@@ -36,7 +36,8 @@ use Rattle.account_calls.specs.Listing.{TellsOf}
 use Rattle.account_calls.proofs.lemmas.Faults.{err_is}
 use Rattle.account_calls.proofs.lemmas.Idle.{goes_trans, grows_none, none_made}
 use Rattle.account_calls.proofs.lemmas.Markers.{IsEntry, entries_are}
-use Rattle.account_calls.proofs.lemmas.Walk.{Idles, idles_trans, cause_after, keeps_after}
+use Rattle.account_calls.specs.Told.{Idles}
+use Rattle.account_calls.proofs.lemmas.Walk.{idles_trans, cause_after, keeps_after}
 use Rattle.upload_calls.specs.Listing.{id_due, ids_in, TellsIds}
 use Rattle.upload_calls.specs.Records.{InBucket, TellsUploads, uploads_in}
 use Rattle.upload_calls.proofs.lemmas.PartWalk.{cut_none}

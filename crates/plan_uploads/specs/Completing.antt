@@ -130,7 +130,7 @@ MaySeal s tree = SealedIn tree s
 
 -- the PUT of its text, which has no more bytes
 abbrev pub most_sealed_text : ℕ
-most_sealed_text = 240000
+most_sealed_text = 2150000
 
 abbrev pub put_sealed_text : List ℕ → SwiftRequest
 put_sealed_text text = PutObject gateway_name sealed_name (codes "application/json") [] text

@@ -1,5 +1,5 @@
 //! The parts that a completion lists.
-ghost use Rattle.std.specs.Prelude.{◌≡◌, IfOk};
+ghost use Rattle.std.specs.Prelude.{◌≡◌, length, IfOk, IfSome};
 ghost use Rattle.std.specs.FinMap.{get};
 ghost use Rattle.std.specs.Option.{option_copied};
 ghost use Rattle.plan_uploads.specs.Completing.{Ascend, by_number, has_small_chosen_part, listed_parts, size_of_chosen_part};
@@ -16,8 +16,9 @@ pub(crate) fn chosen_parts(
     parts: &[PartItem],
     list: &[Listed],
 ) -> Result<Option<List<SealedPart>>, Memory>
-    ensures { Ascend parts.now
+    ensures listed { Ascend parts.now
         → IfOk result (λ chosen. chosen ≡ listed_parts (by_number parts.now) list.now) }
+    ensures many { IfOk result (λ chosen. IfSome chosen (λ some. length some ≡ length list.now)) }
 {
     let mut chosen = List::new(alloc);
     for listed in list {

@@ -1,5 +1,5 @@
 //! The plan of CompleteUpload.
-ghost use Rattle.std.specs.Prelude.{◌≡◌, ◌<◌, ◌+◌, ◌^◌, ℕ, true, List, Some, IfOk};
+ghost use Rattle.std.specs.Prelude.{◌≡◌, ◌<◌, ◌+◌, ◌^◌, ℕ, true, List, length, Some, IfOk};
 ghost use Rattle.gate_base.specs.Told.{moment_limit};
 ghost use Rattle.s3_names.specs.Id.{id_digits};
 ghost use Rattle.s3_machine.specs.Step.{IsPlace, IsProperList};
@@ -9,6 +9,7 @@ ghost use Rattle.s3_machine.specs.declared.operation.Label.{Label};
 ghost use Rattle.s3_machine.specs.declared.operation.Listed.{Listed};
 ghost use Rattle.s3_machine.specs.declared.operation.Op.TheVariants.{CompleteUpload};
 ghost use Rattle.swift_calls.specs.History.{present};
+ghost use Rattle.upload_records.specs.Native.{sealed_sub_manifests, sub_manifests};
 ghost use Rattle.account_calls.specs.Answers.{named_by, pages};
 ghost use Rattle.account_calls.specs.Calls.{always, by_account, Any, Given, GivenOf};
 ghost use Rattle.account_calls.specs.Lent.{Stays};
@@ -20,7 +21,7 @@ use crate::completed::{Opened, ToComplete, find_upload_to_complete};
 use crate::seal::seal_and_finish;
 use account_calls::{Known, PlanFault, Settled};
 use gate_base::{Bytes, Copying, List, Memory, drop};
-use s3_machine::{Code, Label, Listed, MOST_ITEMS, PartItem, Reply, rises, upload_etag};
+use s3_machine::{Code, Label, Listed, MOST_PARTS, PartItem, Reply, rises, upload_etag};
 use std::alloc::Global;
 use swift_calls::Swift;
 use upload_calls::list_parts;
@@ -34,9 +35,9 @@ pub(crate) struct Completing {
 }
 
 /// CompleteUpload: HEAD of the bucket's container, GET of the upload's record, the names of its segments page by page, then PUT
-/// of the completion into the gateway's own container, which commits, and three calls behind it, which put the object and the
-/// record and delete what was sealed. Over an observable consistent account at most six calls more than there are pages of the
-/// upload's segments. A completion that is kept is answered again after the first two. The faults are those of the calls up to
+/// of the completion into the gateway's own container, which commits, and the calls behind it, which put its sub-manifests, the
+/// object and the record and delete what was sealed. Over an observable consistent account at most six calls more than there are
+/// pages of the upload's segments, and one for each sub-manifest. A completion that is kept is answered again after the first two. The faults are those of the calls up to
 /// the one that commits; that the store failed behind it is no failure of the operation.
 pub(crate) fn complete_upload<W: Swift>(
     alloc: Global,
@@ -52,7 +53,8 @@ pub(crate) fn complete_upload<W: Swift>(
     requires moment { label.now.moment < moment_limit }
     ensures stays { Stays state.old state.new }
     ensures plans { Plans (by_account
-        (6 + pages (named_by (present (W.history state.old.store.now)) bucket.now text.now)))
+        (6 + pages (named_by (present (W.history state.old.store.now)) bucket.now text.now)
+        + sub_manifests (length list.now)))
         (W.history state.old.store.now) (W.history state.new.store.now) state.old.settings.now
         (Given Any) (CompleteUpload bucket.now key.now text.now list.now) label.now
         (known_in result) (end_in result) }
@@ -107,7 +109,8 @@ fn complete_open<W: Swift>(
     ensures stays { Stays state.old state.new }
     ensures plans { (text : List ℕ)
         → Plans (by_account (4 + pages
-        (named_by (present (W.history state.old.store.now)) bucket.now (id_digits opened.id))))
+        (named_by (present (W.history state.old.store.now)) bucket.now (id_digits opened.id))
+        + sub_manifests (length list.now)))
         (W.history state.old.store.now) (W.history state.new.store.now) state.old.settings.now
         (GivenOf (IsOpenAs bucket.now key.now text opened))
         (CompleteUpload bucket.now key.now text list.now) label.now (known_in result)
@@ -117,7 +120,7 @@ fn complete_open<W: Swift>(
     if !rises(list.as_slice()) {
         return Ok(end_complete_upload_refused(Code::InvalidPartOrder));
     }
-    let (parts, _) = list_parts(alloc, state, bucket, opened.id, 0, MOST_ITEMS)?;
+    let (parts, _) = list_parts(alloc, state, bucket, opened.id, 0, MOST_PARTS as u32)?;
     complete_by(
         alloc,
         state,
@@ -147,7 +150,8 @@ fn complete_by<W: Swift>(
     requires moment { label.now.moment < moment_limit }
     ensures stays { Stays state.old state.new }
     ensures plans { (text : List ℕ)
-        → Plans (always 4) (W.history state.old.store.now) (W.history state.new.store.now)
+        → Plans (always (4 + sub_manifests (length list.now))) (W.history state.old.store.now)
+        (W.history state.new.store.now)
         state.old.settings.now (GivenOf (HasParts bucket.now key.now text opened parts.now))
         (CompleteUpload bucket.now key.now text list.now) label.now (known_in result)
         (end_in result) }
@@ -173,11 +177,13 @@ fn complete_chosen<W: Swift>(
     requires place { IsPlace bucket.now key.now }
     requires list { IsProperList list.now }
     requires ascends { rises list.now ≡ true }
+    requires many { length chosen ≡ length list.now }
     requires moment { label.now.moment < moment_limit }
     ensures stays { Stays state.old state.new }
     ensures plans { (text : List ℕ) (parts : List PartItem)
         → (Ascend parts → listed_parts (by_number parts) list.now ≡ Some chosen)
-        → Plans (always 4) (W.history state.old.store.now) (W.history state.new.store.now)
+        → Plans (always (4 + sub_manifests (length list.now))) (W.history state.old.store.now)
+        (W.history state.new.store.now)
         state.old.settings.now (GivenOf (HasParts bucket.now key.now text opened parts))
         (CompleteUpload bucket.now key.now text list.now) label.now (known_in result)
         (end_in result) }
@@ -238,7 +244,8 @@ fn complete_sealed<W: Swift>(
 ) -> Result<Completing, PlanFault>
     ensures stays { Stays state.old state.new }
     ensures plans { (text : List ℕ) (list : List Listed) (label : Label)
-        → Plans (always 4) (W.history state.old.store.now) (W.history state.new.store.now)
+        → Plans (always (4 + sealed_sub_manifests sealed.now)) (W.history state.old.store.now)
+        (W.history state.new.store.now)
         state.old.settings.now
         (GivenOf (MayComplete state.old.settings.now text list label sealed.now))
         (CompleteUpload sealed.now.bucket sealed.now.key text list) label (known_in result)

@@ -1,10 +1,11 @@
 //! The call that seals a completion, and those behind it.
-ghost use Rattle.std.specs.Prelude.{◌≡◌, ◌≤◌, ℕ, true, List, length, IfOk, Ok};
+ghost use Rattle.std.specs.Prelude.{◌≡◌, ◌≤◌, ◌+◌, ℕ, true, List, length, IfOk, Ok};
 ghost use Rattle.s3_machine.specs.declared.operation.Label.{Label};
 ghost use Rattle.s3_machine.specs.declared.operation.Listed.{Listed};
 ghost use Rattle.s3_machine.specs.declared.operation.Op.TheVariants.{CompleteUpload};
 ghost use Rattle.swift_calls.specs.Step.{Fit};
 ghost use Rattle.upload_texts.specs.Sealed.{has_sealed_text};
+ghost use Rattle.upload_records.specs.Native.{sealed_sub_manifests};
 ghost use Rattle.account_calls.specs.Calls.{always, GivenOf};
 ghost use Rattle.account_calls.specs.Lent.{Stays};
 ghost use Rattle.account_calls.specs.Plan.{Plans};
@@ -60,8 +61,8 @@ fn sealed_request(alloc: Global, text: Bytes) -> Result<SwiftRequest, Memory>
     })
 }
 
-/// Seals a completion and finishes it: PUT of what is sealed, which commits, then PUT of the object, PUT of the record and DELETE
-/// of what is sealed. At most four calls. The reply is made before: where a call behind the commit fails, or memory runs out there,
+/// Seals a completion and finishes it: PUT of what is sealed, which commits, then PUT of each sub-manifest, PUT of the object, PUT
+/// of the record and DELETE of what is sealed. At most four calls, and one for each sub-manifest. The reply is made before: where a call behind the commit fails, or memory runs out there,
 /// the completion is done all the same, and it is then unsure whether it is sealed still. The faults are those of [`seal`], after
 /// which that is unsure too.
 pub(crate) fn seal_and_finish<W: Swift>(
@@ -74,7 +75,8 @@ pub(crate) fn seal_and_finish<W: Swift>(
     requires reply { reply ≡ Reply.Completed sealed.now.bucket sealed.now.key sealed.now.etag }
     ensures stays { Stays state.old state.new }
     ensures plans { (text : List ℕ) (list : List Listed) (label : Label)
-        → Plans (always 4) (W.history state.old.store.now) (W.history state.new.store.now)
+        → Plans (always (4 + sealed_sub_manifests sealed.now)) (W.history state.old.store.now)
+        (W.history state.new.store.now)
         state.old.settings.now
         (GivenOf (CompletesBy state.old.settings.now text list label sealed.now))
         (CompleteUpload sealed.now.bucket sealed.now.key text list) label result.known result.end }

@@ -1,5 +1,6 @@
 pub mod BucketSteps
 pub mod CreateBucket
+pub mod Finding
 pub mod Listings
 pub mod MakeBucket
 pub mod Readings

@@ -24,42 +24,18 @@ use Rattle.s3_machine.specs.declared.reading.Span.{Span}
 use Rattle.s3_machine.specs.Reading.{judged, taken}
 use Rattle.s3_machine.specs.Shown.{IsShown}
 use Rattle.s3_machine.specs.State.{Object, Bucket, State}
-use Rattle.s3_machine.specs.Step.{S3Step, may_read, head_of, read_by}
+use Rattle.s3_machine.specs.Step.{S3Step, IsPlace, may_read, head_of, read_by}
 use Rattle.s3_machine.proofs.lemmas.Reading.{IsWithin, Fits, judged_fits}
 use Rattle.s3_machine.proofs.lemmas.StepLemmas.{get_without_bucket, head_without_bucket, get_denied, head_denied, get_without_key, head_without_key, step_read, step_headed}
 use Rattle.swift_calls.specs.Bodies.{ranged}
 use Rattle.upload_records.specs.Native.{object_at}
 use Rattle.account_calls.specs.Calls.{TellsBucket, TellsObject, TellsBytes, HasObject, bytes_in}
 use Rattle.account_calls.specs.Interpret.{IsShownHead}
-use Rattle.account_calls.specs.declared.fault.PlanFault.TheVariants.{Inconsistent}
 use Rattle.account_calls.specs.Plan.{IsOwnReply}
-use Rattle.planner.specs.Objects.{TellsReadable, headed_reply, part_end, range_of}
+use Rattle.planner.specs.Objects.{TellsReadable, headed_reply}
+use Rattle.planner.specs.Reading.{IsFound}
 use Rattle.planner.proofs.CreateBucket.{missing_of}
 use Rattle.planner.proofs.Steps.{bucket_by, no_object, object_by_head}
-
-some_same : {x y : List ℕ} → Some x ≡ Some y → x ≡ y
-some_same e = cc
-
-never : {x : List ℕ} → Some x ≡ None → ⊥
-never e = cc
-
--- the bytes of a span are as many as it says
-taken_size : (bytes : List ℕ) (span : Span) → span.from + span.length ≤ length bytes → length (taken span bytes) ≡ span.length
-taken_size bytes span ends = length-take-le span.length (drop span.from bytes) (omega (arith, ends, length-drop span.from bytes))
-
--- what a store has of the range that is asked for a span
-part_by : (bytes : List ℕ) (span : Span) (partial : Bool) → IsWithin (length bytes) partial span → ranged (range_of span partial) bytes ≡ Some (taken span bytes)
-part_by bytes span false within = ap (λ b. Some b) (sym (take-length bytes) ∙ ap (λ s. taken s bytes) (sym (within.whole refl)))
-part_by bytes span true within =
-    let ends = within.ends in
-    let filled = within.filled refl in
-    let first : nat_lt span.from (length bytes) ≡ true = grind (arith, nat_tests) in
-    let last : min (span.from + span.length - 1 + 1) (length bytes) - span.from ≡ span.length = omega (arith, ends, filled) in
-    cond-true _ _ _ first ∙ ap (λ n. Some (take n (drop span.from bytes))) last
-
--- the object that is there has the ETag and the size of its head
-pub has_told : {bucket key etag : List ℕ} {caller : Caller} {list : Acl} {head : ObjectHead} {state : State} → etag ≡ head.etag → TellsReadable bucket key caller list head state → HasObject bucket key etag head.size state
-has_told {head = head} is readable = (head, readable.there, sym is, refl)
 
 module _ (settings : Settings) (state : State) (bucket key : List ℕ) (range : Option Range) (conditions : Conditions) (label : Label) where
   -- the bucket is missing
@@ -115,35 +91,12 @@ module _ (settings : Settings) (state : State) (bucket key : List ℕ) (range : 
     pub get_judged : (j : Judged) → judged range conditions head ≡ j → S3Step settings state (GetObject bucket key range conditions) label (read_by head (λ span. taken span found.0.bytes) j) state
     get_judged j is = subst (λ j. S3Step settings state (GetObject bucket key range conditions) label (read_by head (λ span. taken span found.0.bytes) j) state) is get_there
 
-    size_is : length found.0.bytes ≡ head.size
+    pub size_is : length found.0.bytes ≡ head.size
     size_is = ap (λ (h : ObjectHead). h.size) found.2
 
     module _ (span : Span) (partial : Bool) (is : judged range conditions head ≡ Bytes span partial) where
-      fits : IsWithin head.size partial span
+      pub fits : IsWithin head.size partial span
       fits = subst (Fits head.size) is (judged_fits range conditions head)
-
-      -- the store tells the bytes of the span
-      told_part : option_and_then (ranged (range_of span partial)) (option_map bytes_in (object_at (get state bucket) key)) ≡ Some (taken span found.0.bytes)
-      told_part =
-          ap (λ o. option_and_then (ranged (range_of span partial)) (option_map bytes_in o)) found.1
-          ∙ part_by found.0.bytes span partial (subst (λ size. IsWithin size partial span) (sym size_is) fits)
-
-      pub part_there : (body : List ℕ) → TellsBytes bucket key (range_of span partial) state (Some body)
-          → S3Step settings state (GetObject bucket key range conditions) label (reply.Object head span.from span.length partial body) state
-      part_there body told =
-          let same : taken span found.0.bytes ≡ body = some_same (sym told_part ∙ told) in
-          subst (λ bytes. S3Step settings state (GetObject bucket key range conditions) label (reply.Object head span.from span.length partial bytes) state) same (get_judged (Bytes span partial) is)
-
-      -- they are as many as were asked for
-      pub part_is : (body : List ℕ) → TellsBytes bucket key (range_of span partial) state (Some body) → part_end head span partial body ≡ Ok (reply.Object head span.from span.length partial body)
-      part_is body told =
-          let same : taken span found.0.bytes ≡ body = some_same (sym told_part ∙ told) in
-          let sized : length body ≡ span.length = ap length (sym same) ∙ taken_size found.0.bytes span (subst (λ size. span.from + span.length ≤ size) (sym size_is) fits.ends) in
-          ap (λ t. cond t (Ok (reply.Object head span.from span.length partial body)) (Err Inconsistent)) (eq-eqb (length body) span.length sized)
-
-      -- the object that was there is there, with these bytes
-      pub not_gone : TellsBytes bucket key (range_of span partial) state None → ⊥
-      not_gone none = never (sym told_part ∙ none)
 
 -- ---- the replies are the service's own, and have a page
 
@@ -158,15 +111,13 @@ pub judged_shown : (range : Option Range) (conditions : Conditions) (head : Obje
     → judged range conditions head ≡ Bytes span partial → IsShown head span.from span.length partial
 judged_shown range conditions head span partial shown is = span_shown head span partial shown (subst (Fits head.size) is (judged_fits range conditions head))
 
-pub judged_filled : (range : Option Range) (conditions : Conditions) (head : ObjectHead) (span : Span) (partial : Bool) → judged range conditions head ≡ Bytes span partial → partial ≡ true → 0 < span.length
-judged_filled range conditions head span partial is = (subst (Fits head.size) is (judged_fits range conditions head)).filled
-
-pub judged_below : (range : Option Range) (conditions : Conditions) (head : ObjectHead) (span : Span) (partial : Bool) → IsShownHead (Some head)
-    → judged range conditions head ≡ Bytes span partial → span.from + span.length < 2 ^ 63
-judged_below range conditions head span partial shown is =
-    let ends = (subst (Fits head.size) is (judged_fits range conditions head)).ends in
-    let least = shown.1 in
-    omega (arith, ends, least)
+pub judged_found : (bucket key : List ℕ) (range : Option Range) (conditions : Conditions) (head : ObjectHead) (span : Span) (partial : Bool) → IsPlace bucket key → IsShownHead (Some head)
+    → judged range conditions head ≡ Bytes span partial → IsFound (record { bucket = bucket; key = key; head = head; from = span.from; length = span.length; partial = partial })
+judged_found bucket key range conditions head span partial place shown is = record {
+  shown = judged_shown range conditions head span partial shown is;
+  within = (subst (Fits head.size) is (judged_fits range conditions head)).ends;
+  place = place;
+}
 
 pub object_is_own : (head : ObjectHead) (span : Span) (partial : Bool) (body : List ℕ) → IsShown head span.from span.length partial
     → IsOwnReply (reply.Object head span.from span.length partial body)

@@ -1,3 +1,4 @@
 pub mod Buckets
 pub mod Listing
 pub mod Objects
+pub mod Reading

@@ -1,18 +1,14 @@
 -- What the calls before the last one told of an object that is read. Source: this profile.
-use Rattle.std.specs.Prelude.{◌≡◌, ◌==◌, ◌+◌, ◌-◌, ℕ, Bool, true, false, if◌then◌else◌, List, [], length, Option, None, Some, Result, Ok, Err}
+use Rattle.std.specs.Prelude.{◌≡◌, ℕ, true, List, [], Option, Some}
 use Rattle.gate_base.specs.declared.caller.Caller.{Caller}
 use Rattle.s3_names.specs.declared.acl.Acl.{Acl}
 use Rattle.s3_machine.specs.declared.operation.ObjectHead.{ObjectHead}
 use Rattle.s3_machine.specs.declared.operation.Reply.{Reply}
-use Rattle.s3_machine.specs.declared.operation.Reply.TheVariants.{Object}
 use Rattle.s3_machine.specs.declared.reading.Conditions.{Conditions}
 use Rattle.s3_machine.specs.declared.reading.Range.{Range}
-use Rattle.s3_machine.specs.declared.reading.Span.{Span}
 use Rattle.s3_machine.specs.Reading.{judged}
 use Rattle.s3_machine.specs.State.{State}
 use Rattle.s3_machine.specs.Step.{may_read, read_by}
-use Rattle.account_calls.specs.declared.fault.PlanFault.{PlanFault}
-use Rattle.account_calls.specs.declared.fault.PlanFault.TheVariants.{Inconsistent}
 use Rattle.account_calls.specs.Calls.{TellsBucket, TellsObject}
 
 -- the object is there, in a bucket that one who asks may read
@@ -24,12 +20,3 @@ pub record TellsReadable (bucket key : List ℕ) (caller : Caller) (acl : Acl) (
 -- the reply to HeadObject, by the head of the object
 abbrev pub headed_reply : Option Range → Conditions → ObjectHead → Reply
 headed_reply range conditions head = read_by head (λ span. []) (judged range conditions head)
-
--- the range that is asked of the store for these bytes: none where they are all of the object
-abbrev pub range_of : Span → Bool → Option (ℕ × ℕ)
-range_of span true = Some (span.from, span.from + span.length - 1)
-range_of span false = None
-
--- the reply to GetObject, by the head of the object and the bytes of a span, which are as many as it says
-abbrev pub part_end : ObjectHead → Span → Bool → List ℕ → Result Reply PlanFault
-part_end head span partial body = if length body == span.length then Ok (Object head span.from span.length partial body) else Err Inconsistent

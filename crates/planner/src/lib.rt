@@ -7,5 +7,7 @@ mod buckets;
 mod listing;
 mod objects;
 mod operation;
+mod reading;
 
 pub use operation::answer;
+pub use reading::{Found, Reading, read_piece};

@@ -1,29 +1,23 @@
 //! The plans of the operations on objects.
-ghost use Rattle.std.specs.Prelude.{◌≡◌, ◌≢◌, ◌<◌, ◌+◌, ◌^◌, false, true, Some, IfOk, IfSome, Err};
+ghost use Rattle.std.specs.Prelude.{◌≡◌, ◌<◌, false, true, Some, IfOk};
 ghost use Rattle.gate_base.specs.Told.{moment_limit};
 ghost use Rattle.s3_names.specs.declared.acl.Acl.{Acl};
 ghost use Rattle.s3_machine.specs.ETag.{body_etag};
-ghost use Rattle.s3_machine.specs.Reading.{judged};
-ghost use Rattle.s3_machine.specs.Shown.{IsShown};
 ghost use Rattle.s3_machine.specs.Step.{IsPlace, IsProperContent, is_other_acl};
-ghost use Rattle.s3_machine.specs.declared.reading.Judged.TheVariants as judged_as;
-ghost use Rattle.swift_calls.specs.Limits.{IsRange};
 ghost use Rattle.s3_machine.specs.declared.operation.Label.{Label};
-ghost use Rattle.s3_machine.specs.declared.operation.Op.TheVariants.{PutObject, GetObject, HeadObject, DeleteObject};
+ghost use Rattle.s3_machine.specs.declared.operation.Op.TheVariants.{PutObject, HeadObject, DeleteObject};
 ghost use Rattle.s3_machine.specs.declared.operation.Reply.TheVariants.{Gone, Stored};
 ghost use Rattle.account_calls.specs.Calls.{always, Any, Given, TellsBucket};
 ghost use Rattle.account_calls.specs.Interpret.{IsShownHead};
 ghost use Rattle.account_calls.specs.Lent.{Stays};
-ghost use Rattle.account_calls.specs.declared.fault.PlanFault.TheVariants.{Failed};
 ghost use Rattle.account_calls.specs.declared.state.Known.TheVariants as known;
 ghost use Rattle.account_calls.specs.Plan.{ended, Plans, IsOwnReply};
-ghost use Rattle.planner.specs.Objects.{TellsReadable, headed_reply, part_end, range_of};
+ghost use Rattle.planner.specs.Objects.{headed_reply};
 
 use account_calls::{PlanFault, Settled, head_bucket};
 use gate_base::Bytes;
 use s3_machine::{
-    Body, Code, Conditions, Judged, Label, ObjectHead, Range, Reply, Span, is_other_acl, judge,
-    may_read,
+    Body, Code, Conditions, Judged, Label, ObjectHead, Range, Reply, is_other_acl, judge, may_read,
 };
 use s3_names::{Acl, Meta};
 use std::alloc::Global;
@@ -156,159 +150,6 @@ fn end_put_object_plan(end: Result<(), PlanFault>, etag: Bytes) -> Result<Reply,
         Ok(()) => Ok(Reply::Stored { etag }),
         Err(fault) => Err(fault),
     }
-}
-
-/// GetObject: HEAD of the bucket's container, HEAD of the object's file, then its GET. At most three calls, none of
-/// which commits. Conditions and range are decided by the head: where a condition doesn't hold, or the object has no byte
-/// of the range, there is no GET, and else it asks for the bytes that are replied alone. The faults are those of the calls.
-pub(crate) fn get_object<W: Swift>(
-    alloc: Global,
-    state: &mut Settled<'_, W>,
-    bucket: Bytes,
-    key: Bytes,
-    range: Option<Range>,
-    conditions: &Conditions,
-    label: &Label,
-) -> Result<Reply, PlanFault>
-    requires place { IsPlace bucket key }
-    ensures stays { Stays state.old state.new }
-    ensures plans { Plans (always 3) (W.history state.old.store.now) (W.history state.new.store.now)
-        state.old.settings.now (Given Any) (GetObject bucket key range conditions.now) label.now
-        known.Settled result }
-{
-    let Some(list) = head_bucket(state, &bucket)? else {
-        return Ok(Reply::Refused(Code::NoSuchBucket));
-    };
-    plan_get_object_within(alloc, state, bucket, key, range, conditions, list, label)
-}
-
-/// The rest of GetObject, in a bucket that has this access control list.
-fn plan_get_object_within<W: Swift>(
-    alloc: Global,
-    state: &mut Settled<'_, W>,
-    bucket: Bytes,
-    key: Bytes,
-    range: Option<Range>,
-    conditions: &Conditions,
-    list: Acl,
-    label: &Label,
-) -> Result<Reply, PlanFault>
-    requires place { IsPlace bucket key }
-    ensures stays { Stays state.old state.new }
-    ensures plans { Plans (always 2) (W.history state.old.store.now) (W.history state.new.store.now)
-        state.old.settings.now (Given (λ s. TellsBucket bucket s (Some list)))
-        (GetObject bucket key range conditions.now) label.now known.Settled result }
-{
-    if !may_read(label.caller, list) {
-        return Ok(Reply::Refused(Code::AccessDenied));
-    }
-    let Some(head) = account_calls::head_object(alloc, state, &bucket, &key)? else {
-        return Ok(Reply::Refused(Code::NoSuchKey));
-    };
-    plan_get_readable_object(alloc, state, bucket, key, range, conditions, head)
-}
-
-/// The rest of GetObject, for an object that is there and may be read, whatever list its bucket has and whoever asks.
-fn plan_get_readable_object<W: Swift>(
-    alloc: Global,
-    state: &mut Settled<'_, W>,
-    bucket: Bytes,
-    key: Bytes,
-    range: Option<Range>,
-    conditions: &Conditions,
-    head: ObjectHead,
-) -> Result<Reply, PlanFault>
-    requires place { IsPlace bucket key }
-    requires shown { IsShownHead (Some head) }
-    ensures stays { Stays state.old state.new }
-    ensures plans { (list : Acl) (label : Label)
-        → Plans (always 1) (W.history state.old.store.now) (W.history state.new.store.now)
-        state.old.settings.now (Given (TellsReadable bucket key label.caller list head))
-        (GetObject bucket key range conditions.now) label known.Settled result }
-{
-    match judge(range, conditions, &head) {
-        Judged::PreconditionFailed => Ok(Reply::Refused(Code::PreconditionFailed)),
-        Judged::NotModified => Ok(Reply::NotModified(head)),
-        Judged::InvalidRange => Ok(Reply::Refused(Code::InvalidRange)),
-        Judged::Bytes { span, partial } => plan_get_object_span(
-            alloc, state, bucket, key, range, conditions, head, span, partial,
-        ),
-    }
-}
-
-/// The rest of GetObject, where these bytes are asked for.
-fn plan_get_object_span<W: Swift>(
-    alloc: Global,
-    state: &mut Settled<'_, W>,
-    bucket: Bytes,
-    key: Bytes,
-    range: Option<Range>,
-    conditions: &Conditions,
-    head: ObjectHead,
-    span: Span,
-    partial: bool,
-) -> Result<Reply, PlanFault>
-    requires place { IsPlace bucket key }
-    requires shown { IsShownHead (Some head) }
-    requires judged { judged range conditions.now head ≡ judged_as.Bytes span partial }
-    ensures stays { Stays state.old state.new }
-    ensures plans { (list : Acl) (label : Label)
-        → Plans (always 1) (W.history state.old.store.now) (W.history state.new.store.now)
-        state.old.settings.now (Given (TellsReadable bucket key label.caller list head))
-        (GetObject bucket key range conditions.now) label known.Settled result }
-{
-    let asked = range_of(span, partial);
-    let told = account_calls::get_object(
-        alloc,
-        state,
-        bucket,
-        key,
-        head.etag.as_slice(),
-        head.size,
-        asked,
-    )?;
-    let Some(body) = told else {
-        return Err(PlanFault::Inconsistent);
-    };
-    end_get_object_plan(head, span, partial, body)
-}
-
-/// The range that is asked of the store for these bytes, by the numbers of the first and the last: none where they are all
-/// of the object, which may be empty.
-fn range_of(span: Span, partial: bool) -> Option<(u64, u64)>
-    requires filled { partial ≡ true → 0 < span.length }
-    requires ends { span.from + span.length < 2 ^ 63 }
-    ensures value { result ≡ range_of span partial }
-    ensures fits { IfSome result IsRange }
-{
-    if !partial {
-        return None;
-    }
-    Some((span.from, span.from + (span.length - 1)))
-}
-
-/// The reply to GetObject. A store whose GET gives another number of bytes than were asked for is inconsistent.
-fn end_get_object_plan(
-    head: ObjectHead,
-    span: Span,
-    partial: bool,
-    body: Bytes,
-) -> Result<Reply, PlanFault>
-    requires shown { IsShown head span.from span.length partial }
-    ensures own { IfOk result IsOwnReply }
-    ensures no_failure { result ≢ Err Failed }
-    ensures end { result ≡ part_end head span partial body }
-{
-    if body.len() as u64 != span.length {
-        return Err(PlanFault::Inconsistent);
-    }
-    Ok(Reply::Object {
-        head,
-        from: span.from,
-        length: span.length,
-        partial,
-        body,
-    })
 }
 
 /// HeadObject: HEAD of the bucket's container, then HEAD of the object's file. At most two calls, none of which commits.

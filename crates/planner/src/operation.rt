@@ -6,12 +6,14 @@ ghost use Rattle.account_calls.specs.Answers.{is_upload, most_calls};
 ghost use Rattle.account_calls.specs.declared.state.Known.TheVariants as known;
 ghost use Rattle.account_calls.specs.Calls.{Any, Given};
 ghost use Rattle.account_calls.specs.Lent.{Stays};
-ghost use Rattle.account_calls.specs.Plan.{Plans, Answered};
+ghost use Rattle.account_calls.specs.Plan.{Plans};
+ghost use Rattle.planner.specs.Reading.{AnsweredOrFound, reading_end};
 
 use crate::acls::{get_bucket_acl, get_object_acl, put_bucket_acl};
 use crate::buckets::{create_bucket, delete_bucket, get_location, list_buckets, plan_head_bucket};
 use crate::listing::list_objects;
-use crate::objects::{delete_object, get_object, head_object, put_object};
+use crate::objects::{delete_object, head_object, put_object};
+use crate::reading::{Reading, find_object};
 use account_calls::{PlanFault, Settled, reply_of, taken_text};
 use gate_base::{Bytes, drop};
 use s3_machine::{Asked, Body, Label, Op, Reply};
@@ -19,29 +21,68 @@ use std::alloc::Global;
 use std::mem::replace;
 use swift_calls::Swift;
 
-/// Answers one operation of Amazon S3 that isn't one on uploads in parts. The reply is the service's own, and then the state
-/// is as its step leaves it. Or it is ServiceUnavailable, only where the store's count of faults rose in this call: the last
-/// call failed, no earlier one did, and the state is the old one or the step's. Or it is `Memory`, where memory ran out, with
-/// the same two states. Or it is InconsistentStore, never over an observable consistent account. A call that failed is the
-/// last one. How many there are is bounded by the operation, also where the reply is a refusal.
-pub fn answer<W: Swift>(alloc: Global, state: &mut Settled<'_, W>, op: Op, label: &Label) -> Reply
+/// Answers one operation of Amazon S3 that isn't one on uploads in parts; of GetObject it finds the object, whose bytes are still to
+/// be got ([`crate::read_piece`]). The reply is the service's own, and then the state is as its step leaves it. Or it is
+/// ServiceUnavailable, only where the store's count of faults rose in this call: the last call failed, no earlier one did, and the
+/// state is the old one or the step's. Or it is `Memory`, where memory ran out, with the same two states. Or it is
+/// InconsistentStore, never over an observable consistent account. A call that failed is the last one. How many there are is
+/// bounded by the operation, also where the reply is a refusal.
+pub fn answer<W: Swift>(alloc: Global, state: &mut Settled<'_, W>, op: Op, label: &Label) -> Reading
     requires proper { IsProper op label.now }
     requires own { is_upload op ≡ false }
     ensures stays { Stays state.old state.new }
 
-    // The calls amount to the operation, with at most one commit.
-    ensures answered { Answered (most_calls op (present (W.history state.old.store.now)))
+    // The calls amount to the operation, with at most one commit, or they left the state and found what is asked for.
+    ensures answered { AnsweredOrFound (most_calls op (present (W.history state.old.store.now)))
         (W.history state.old.store.now) (W.history state.new.store.now) state.old.settings.now op
-        label.now known.Settled result }
+        label.now result }
 {
     let mut op = op;
-    let end = plan(alloc, state, &mut op, label);
+    let reading = begin(alloc, state, &mut op, label);
     drop(op);
-    reply_of(end)
+    reading
+}
+
+/// Finds what a read asks for, and answers any other operation. It takes of the operation what it needs, and the operation is
+/// dropped by its owner alone.
+fn begin<W: Swift>(alloc: Global, state: &mut Settled<'_, W>, op: &mut Op, label: &Label) -> Reading
+    requires proper { IsProper op.old label.now }
+    requires own { is_upload op.old ≡ false }
+    ensures stays { Stays state.old state.new }
+    ensures answered { AnsweredOrFound (most_calls op.old (present (W.history state.old.store.now)))
+        (W.history state.old.store.now) (W.history state.new.store.now) state.old.settings.now
+        op.old label.now result }
+{
+    match op {
+        Op::GetObject {
+            bucket,
+            key,
+            range,
+            conditions,
+        } => reading_end(find_object(
+            alloc,
+            state,
+            taken_text(alloc, bucket),
+            taken_text(alloc, key),
+            *range,
+            conditions,
+            label,
+        )),
+        _ => Reading::Whole(reply_of(plan(alloc, state, op, label))),
+    }
+}
+
+fn reading_end(end: Result<Reading, PlanFault>) -> Reading
+    ensures { result ≡ reading_end end }
+{
+    match end {
+        Ok(reading) => reading,
+        Err(fault) => Reading::Whole(reply_of(Err(fault))),
+    }
 }
 
 /// Makes the calls of an operation's plan. It takes of the operation what it needs, and the operation is dropped by its owner alone.
-/// One on uploads in parts or on many keys ends as where memory ran out, without a call.
+/// A read, or one on uploads in parts or on many keys, ends as where memory ran out, without a call.
 fn plan<W: Swift>(
     alloc: Global,
     state: &mut Settled<'_, W>,
@@ -71,7 +112,7 @@ fn plan<W: Swift>(
     }
 }
 
-/// The plan of an operation that puts, gets or deletes an object, or is lent its names.
+/// The plan of an operation that puts or deletes an object, or is lent its names.
 fn plan_of_key<W: Swift>(
     alloc: Global,
     state: &mut Settled<'_, W>,
@@ -101,20 +142,6 @@ fn plan_of_key<W: Swift>(
             taken_text(alloc, content_type),
             meta,
             replace(body, Body::new(Bytes::new(alloc))),
-            label,
-        ),
-        Op::GetObject {
-            bucket,
-            key,
-            range,
-            conditions,
-        } => get_object(
-            alloc,
-            state,
-            taken_text(alloc, bucket),
-            taken_text(alloc, key),
-            *range,
-            conditions,
             label,
         ),
         Op::DeleteObject { bucket, key } => {

@@ -1,3 +1,4 @@
 pub mod RollCalls
 pub mod SealedVersions
 pub mod SettleCalls
+pub mod SubCalls

@@ -1,5 +1,5 @@
 -- The calls that finish a sealed completion: what each does to the account, and what it leaves.
-use Rattle.std.specs.Prelude.{◌≡◌, ◌⊎◌, ℕ, Bool, true, false, cond, IsTrue, List, [], codes, Option, None, Some, Result, Ok, Err}
+use Rattle.std.specs.Prelude.{◌≡◌, ◌⊎◌, ◌<◌, ◌+◌, ℕ, Bool, true, false, cond, IsTrue, List, [], codes, Option, None, Some, Result, Ok, Err}
 use Rattle.std.specs.FinMap.{get}
 use Rattle.std.proofs.Common.{refl, sym, ap, subst, ◌∙◌, inl, inr, arith}
 use Rattle.gate_base.proofs.lemmas.Maps.{some_value}
@@ -20,9 +20,9 @@ use Rattle.upload_texts.specs.Sealed.{read_sealed, has_sealed_text}
 use Rattle.upload_texts.specs.declared.sealed.Sealed.{Sealed}
 use Rattle.upload_records.specs.Consistent.{IsConsistent, IsStored}
 use Rattle.upload_records.specs.Laws.{IsRolled, Rolls, Stands, file_put}
-use Rattle.upload_records.specs.Layout.{uploads_name, segments_name, gateway_name, sealed_name}
-use Rattle.upload_records.specs.Native.{SameGateway, IsSettled, IsUnsealed, completed_file, object_of, seal_of, sealed_object, sealed_record, sealed_tag, s3_state}
-use Rattle.upload_records.proofs.lemmas.Beside.{records_there, same_beside}
+use Rattle.upload_records.specs.Layout.{uploads_name, segments_name, gateway_name, sealed_name, sub_manifest_name}
+use Rattle.upload_records.specs.Native.{SameGateway, IsSettled, IsUnsealed, completed_file, object_of, run, seal_of, sealed_object, sealed_record, sealed_segments, sealed_sub_manifests, sealed_tag, sub_file_at, sub_tag, s3_state}
+use Rattle.upload_records.proofs.lemmas.Beside.{records_there, same_beside, segments_there}
 use Rattle.upload_records.proofs.lemmas.Rolling as rolls
 use Rattle.upload_records.proofs.lemmas.Rolling.{TellsNone, TellsSeal, sealed_told}
 use Rattle.upload_records.proofs.lemmas.Settled.{same_off, seal_same, settled_same, unsealed_by}
@@ -30,14 +30,14 @@ use Rattle.upload_records.proofs.lemmas.SideCalls.{delete_settled, none_sealed}
 use Rattle.account_calls.specs.declared.fault.PlanFault.{PlanFault}
 use Rattle.account_calls.specs.declared.fault.PlanFault.TheVariants as fault
 use Rattle.account_calls.specs.Interpret.{Gives, gone_due, known, stored_due}
-use Rattle.account_calls.specs.Sealed.{kept_due, put_object_of, put_record_of, sealed_listing}
-use Rattle.account_calls.proofs.lemmas.SealStands.{limits, may_stand, object_stored, record_short, takes_list}
+use Rattle.account_calls.specs.Sealed.{kept_due, put_object_of, put_record_of, put_sub_of, sealed_listing}
+use Rattle.account_calls.proofs.lemmas.SealStands.{limits, may_stand, object_stored, record_short, segments_are, sub_stands, sub_stored, takes_list, takes_sub}
 use Rattle.account_calls.proofs.lemmas.Etags.{etag_agrees}
-use Rattle.account_calls.proofs.lemmas.ListPut.{by_stays, put_stays, put_step}
+use Rattle.account_calls.proofs.lemmas.ListPut.{by_stays, manifest_stays, manifest_step, put_stays, put_step}
 use Rattle.account_calls.proofs.lemmas.One.{found, stays_so}
 use Rattle.account_calls.proofs.lemmas.Quiet.{IsQuietOf, QuietEffect}
 use Rattle.account_calls.proofs.lemmas.SideNames.{file_name, id_fits}
-use Rattle.recovery.specs.Rolls.{HasGateway, HasObject, HasRecord, IsSealed, KeepsGateway, Leaves, LeavesClear, TellsSealed, sealed_by, sealed_due}
+use Rattle.recovery.specs.Rolls.{HasGateway, HasObject, HasRecord, HasSubs, IsSealed, KeepsGateway, Leaves, LeavesClear, TellsSealed, sealed_by, sealed_due}
 
 -- ---- the GET of what is sealed
 
@@ -112,30 +112,83 @@ found_sealed old new told s is has tells = record { gateway = subst HasGateway (
 pub found_none : (old new : SwiftAccount) (told : Option Sealed) → told ≡ None → HasGateway old → TellsSealed old new told → IsSettled new
 found_none old new told is has tells = record { none = unsealed_by new (ap seal_of tells.same ∙ sym tells.is ∙ is); gateway = subst HasGateway (sym tells.same) has }
 
+-- ---- the PUT of a sub-manifest
+
+module _ (tree : SwiftAccount) (s : Sealed) (n : ℕ) (has : has_sealed_text s ≡ true) (below : n < sealed_sub_manifests s) (sound : IsConsistent tree) (given : HasSubs s n tree) where
+  abbrev after_sub : SwiftAccount
+  after_sub = put_file (segments_name s.bucket) (sub_manifest_name (id_digits s.id) (n + 1)) (sub_file_at s n) tree
+
+  sub_rolled : Rolls tree after_sub
+  sub_rolled = rolls.sub_rolls tree s n given.sealed.is below (sub_stands s n has below) (sub_stored s n has below) sound
+
+  sub_answered : swift_step (put_sub_of s n) tree ≡ put_object (Some (some_value (get tree (segments_name s.bucket)) (segments_there tree s.bucket sound (limits s has).bucket (sound.sealed s given.sealed.is).there)).0)
+      (segments_name s.bucket) (sub_manifest_name (id_digits s.id) (n + 1)) (sub_file_at s n) tree
+  sub_answered =
+      let there = some_value (get tree (segments_name s.bucket)) (segments_there tree s.bucket sound (limits s has).bucket (sound.sealed s given.sealed.is).there) in
+      manifest_step tree (segments_name s.bucket) (sub_manifest_name (id_digits s.id) (n + 1)) (tag_text (sub_tag s (run n (sealed_segments s)))) [] (run n (sealed_segments s)) there.0 there.1
+      (takes_sub s n has below tree (segments_are tree s sound given.sealed.is))
+
+  has_sub : HasSubs s (n + 1) after_sub
+  has_sub = record {
+    sealed = record { gateway = sub_rolled.gateway.there ∙ given.sealed.gateway; is = seal_same tree after_sub sub_rolled.gateway ∙ given.sealed.is };
+    subs = rolls.subs_grow tree s n given.sealed.is below (sub_stands s n has below) (sub_stored s n has below) sound given.subs;
+  }
+
+  sub_effect : QuietEffect tree (put_sub_of s n) kept_due (Leaves (HasSubs s (n + 1)))
+  sub_effect = record {
+    told = tt;
+    says = ap (λ (a : Answer). kept_due a.reply) sub_answered;
+    sound = subst IsConsistent (sym (ap (λ (a : Answer). a.tree) sub_answered)) sub_rolled.sound;
+    same = ap (λ (a : Answer). s3_state a.tree) sub_answered ∙ sub_rolled.same;
+    tells = subst (HasSubs s (n + 1)) (sym (ap (λ (a : Answer). a.tree) sub_answered)) has_sub;
+  }
+
+sub_same : (tree : SwiftAccount) (s : Sealed) (n : ℕ) → has_sealed_text s ≡ true → SameGateway tree (swift_step (put_sub_of s n) tree).tree
+sub_same tree s n has = same_beside tree (swift_step (put_sub_of s n) tree).tree s.bucket (segments_name s.bucket) (record { of_bucket = (limits s has).bucket; is = inr refl })
+    (manifest_stays tree (segments_name s.bucket) (sub_manifest_name (id_digits s.id) (n + 1)) (tag_text (sub_tag s (run n (sealed_segments s)))) [] (get tree (segments_name s.bucket)) (run n (sealed_segments s)))
+
+sub_put : (s : Sealed) (n : ℕ) → has_sealed_text s ≡ true → n < sealed_sub_manifests s → IsQuietOf (HasSubs s n) (put_sub_of s n) kept_due (Leaves (HasSubs s (n + 1)))
+sub_put s n has below = record {
+  effect = λ tree sound given. sub_effect tree s n has below sound given;
+  settled = λ tree. settled_same (sub_same tree s n has);
+}
+
+pub puts_sub : {request : SwiftRequest} {s : Sealed} {n : ℕ} → request ≡ put_sub_of s n → has_sealed_text s ≡ true → n < sealed_sub_manifests s
+    → IsQuietOf (HasSubs s n) request kept_due (Leaves (HasSubs s (n + 1)))
+puts_sub {s = s} {n = n} same has below = subst (λ r. IsQuietOf (HasSubs s n) r kept_due (Leaves (HasSubs s (n + 1)))) (sym same) (sub_put s n has below)
+
+pub sub_keeps : {a b : History} {request : SwiftRequest} (s : Sealed) (n : ℕ) {result : Result SwiftReply SwiftFault} → request ≡ put_sub_of s n → has_sealed_text s ≡ true → Calls a b request result → KeepsGateway a b
+sub_keeps {a = a} {b = b} s n {result = result} same has calls =
+    stays_so {P = HasGateway} (λ tree there. (sub_same tree s n has).there ∙ there) (subst (λ r. Calls a b r result) same calls)
+
+-- none is asked for at first
+pub no_subs : (old new : SwiftAccount) (s : Sealed) → new ≡ old → IsSealed s old → HasSubs s 0 new
+no_subs old new s same sealed = subst (HasSubs s 0) (sym same) (record { sealed = sealed; subs = λ n below. absurd (omega (arith, below)) })
+
 -- ---- the PUT of its object
 
-module _ (tree : SwiftAccount) (s : Sealed) (has : has_sealed_text s ≡ true) (sound : IsConsistent tree) (given : IsSealed s tree) where
+module _ (tree : SwiftAccount) (s : Sealed) (has : has_sealed_text s ≡ true) (sound : IsConsistent tree) (given : HasSubs s (sealed_sub_manifests s) tree) where
   abbrev after_object : SwiftAccount
   after_object = put_file s.bucket s.key (completed_file s) tree
 
   stands : Stands (files tree (segments_name s.bucket)) s (completed_file s)
-  stands = rolls.completed_stands (files tree (segments_name s.bucket)) s (may_stand tree s sound given.is)
+  stands = rolls.completed_stands (files tree (segments_name s.bucket)) s (may_stand tree s sound given.sealed.is given.subs)
 
   object_rolled : Rolls tree after_object
-  object_rolled = rolls.object_rolls tree s (completed_file s) given.is stands.is stands.lists (object_stored s has) sound
+  object_rolled = rolls.object_rolls tree s (completed_file s) given.sealed.is stands.is stands.lists (object_stored s has) sound
 
-  object_answered : swift_step (put_object_of s) tree ≡ put_object (Some (some_value (get tree s.bucket) (sound.sealed s given.is).there).0) s.bucket s.key (completed_file s) tree
+  object_answered : swift_step (put_object_of s) tree ≡ put_object (Some (some_value (get tree s.bucket) (sound.sealed s given.sealed.is).there).0) s.bucket s.key (completed_file s) tree
   object_answered =
-      let there = some_value (get tree s.bucket) (sound.sealed s given.is).there in
-      put_step tree s.bucket s.key (tag_text (sealed_tag s)) (pack_of s.meta) (sealed_listing s) there.0 there.1 (takes_list tree s sound given.is)
+      let there = some_value (get tree s.bucket) (sound.sealed s given.sealed.is).there in
+      put_step tree s.bucket s.key (tag_text (sealed_tag s)) (pack_of s.meta) (sealed_listing s) there.0 there.1 (takes_list tree s sound given.sealed.is given.subs)
 
   has_object : HasObject s after_object
   has_object = record {
-    sealed = record { gateway = object_rolled.gateway.there ∙ given.gateway; is = seal_same tree after_object object_rolled.gateway ∙ given.is };
+    sealed = record { gateway = object_rolled.gateway.there ∙ given.sealed.gateway; is = seal_same tree after_object object_rolled.gateway ∙ given.sealed.is };
     file = completed_file s;
-    there = rolls.object_there tree s (completed_file s) given.is stands.is stands.lists (object_stored s has) sound;
+    there = rolls.object_there tree s (completed_file s) given.sealed.is stands.is stands.lists (object_stored s has) sound;
     stands = subst (λ fs. object_of fs s.key (completed_file s) ≡ Some (sealed_object fs s))
-        (sym (rolls.object_segments tree s (completed_file s) given.is stands.is stands.lists (object_stored s has) sound)) stands.reads;
+        (sym (rolls.object_segments tree s (completed_file s) given.sealed.is stands.is stands.lists (object_stored s has) sound)) stands.reads;
   }
 
   object_effect : QuietEffect tree (put_object_of s) kept_due (Leaves (HasObject s))
@@ -150,14 +203,14 @@ module _ (tree : SwiftAccount) (s : Sealed) (has : has_sealed_text s ≡ true) (
 object_same : (tree : SwiftAccount) (s : Sealed) → has_sealed_text s ≡ true → SameGateway tree (swift_step (put_object_of s) tree).tree
 object_same tree s has = same_off tree (swift_step (put_object_of s) tree).tree s.bucket (limits s has).bucket (by_stays tree s.bucket s.key (tag_text (sealed_tag s)) (pack_of s.meta) (sealed_listing s))
 
-object_put : (s : Sealed) → has_sealed_text s ≡ true → IsQuietOf (IsSealed s) (put_object_of s) kept_due (Leaves (HasObject s))
+object_put : (s : Sealed) → has_sealed_text s ≡ true → IsQuietOf (HasSubs s (sealed_sub_manifests s)) (put_object_of s) kept_due (Leaves (HasObject s))
 object_put s has = record {
   effect = λ tree sound given. object_effect tree s has sound given;
   settled = λ tree. settled_same (object_same tree s has);
 }
 
-pub puts_object : {request : SwiftRequest} {s : Sealed} → request ≡ put_object_of s → has_sealed_text s ≡ true → IsQuietOf (IsSealed s) request kept_due (Leaves (HasObject s))
-puts_object {s = s} same has = subst (λ r. IsQuietOf (IsSealed s) r kept_due (Leaves (HasObject s))) (sym same) (object_put s has)
+pub puts_object : {request : SwiftRequest} {s : Sealed} → request ≡ put_object_of s → has_sealed_text s ≡ true → IsQuietOf (HasSubs s (sealed_sub_manifests s)) request kept_due (Leaves (HasObject s))
+puts_object {s = s} same has = subst (λ r. IsQuietOf (HasSubs s (sealed_sub_manifests s)) r kept_due (Leaves (HasObject s))) (sym same) (object_put s has)
 
 pub object_keeps : {a b : History} {request : SwiftRequest} (s : Sealed) {result : Result SwiftReply SwiftFault} → request ≡ put_object_of s → has_sealed_text s ≡ true → Calls a b request result → KeepsGateway a b
 object_keeps {a = a} {b = b} s {result = result} same has calls =

@@ -10,7 +10,7 @@ use Rattle.swift_calls.specs.declared.calls.SwiftReply.{SwiftReply}
 use Rattle.swift_calls.specs.declared.calls.SwiftRequest.TheVariants.{PutContainer}
 use Rattle.upload_records.specs.Layout.{gateway_name, sealed_name}
 use Rattle.upload_records.specs.Native.{IsSettled}
-use Rattle.upload_records.proofs.lemmas.SideCalls.{gateway_made, gateway_settled, gateway_there}
+use Rattle.upload_records.proofs.lemmas.SideCalls.{gateway_made, gateway_seals, gateway_settled, gateway_there}
 use Rattle.account_calls.specs.declared.fault.PlanFault.{PlanFault}
 use Rattle.account_calls.specs.declared.fault.PlanFault.TheVariants as plan
 use Rattle.account_calls.specs.Calls.{always, Any, Asks}
@@ -19,8 +19,9 @@ use Rattle.account_calls.proofs.lemmas.Markers.{folder_is_marker, text_is_marker
 use Rattle.account_calls.proofs.lemmas.Quiet.{IsQuietOf, asks_left, asks_untold}
 use Rattle.account_calls.proofs.lemmas.Sides.{placed}
 use Rattle.recovery.specs.declared.state.SettleFault.{SettleFault}
-use Rattle.recovery.specs.Rolls.{HasGateway, Leaves}
+use Rattle.recovery.specs.Rolls.{HasGateway, IsCounted, Leaves, OpensGateway}
 use Rattle.recovery.specs.Settling.{settle_fault, IsNamedFault, Settles, SettlesIt}
+use Rattle.recovery.proofs.SubCalls.{asks_counted}
 
 -- ---- the names
 
@@ -44,16 +45,16 @@ sealed_is_object name is = subst IsObjectName (sym is) own_is_object
 
 -- ---- the PUT of the container
 
-gateway_put : IsQuietOf Any (PutContainer gateway_name Nobody None) placed_due (Leaves HasGateway)
+gateway_put : IsQuietOf Any (PutContainer gateway_name Nobody None) placed_due OpensGateway
 gateway_put = record {
   effect = λ tree sound any.
       let made = gateway_made tree None sound in
-      record { told = tt; says = placed (get tree gateway_name) gateway_name tree; sound = made.sound; same = made.same; tells = made.there };
+      record { told = tt; says = placed (get tree gateway_name) gateway_name tree; sound = made.sound; same = made.same; tells = record { there = made.there; same = gateway_seals tree None } };
   settled = λ tree settled. gateway_settled tree None settled;
 }
 
-pub puts_gateway : {name : List ℕ} → name ≡ gateway_name → IsQuietOf Any (PutContainer name Nobody None) placed_due (Leaves HasGateway)
-puts_gateway named = subst (λ n. IsQuietOf Any (PutContainer n Nobody None) placed_due (Leaves HasGateway)) (sym named) gateway_put
+pub puts_gateway : {name : List ℕ} → name ≡ gateway_name → IsQuietOf Any (PutContainer name Nobody None) placed_due OpensGateway
+puts_gateway named = subst (λ n. IsQuietOf Any (PutContainer n Nobody None) placed_due OpensGateway) (sym named) gateway_put
 
 there_by : {a b : History} {reply : SwiftReply} → Calls a b (PutContainer gateway_name Nobody None) (Ok reply) → IsTrue a.observable → HasGateway (present b)
 there_by {a = a} {b = b} calls observable = subst HasGateway (sym (calls.effect observable).tree) (gateway_there (b.account_at a.called) None)
@@ -64,16 +65,20 @@ gateway_put_there {a = a} {b = b} {reply = reply} named calls = there_by (subst 
 
 -- ---- the whole
 
-module _ {a b : History} where
-  pub settles_done : Asks (always 5) a b Any (Leaves IsSettled) (Ok tt) → (IsTrue a.observable → IsSettled (present b)) → Settles a b (Ok tt)
-  settles_done asks settled = record { asks = asks_left tt (lit≤ tt) asks (λ old new sound same given clear. clear); done = λ observable e. settled observable }
+module _ {a b : History} (counted : IsCounted 5 Any a b) where
+  pub settles_done : Asks (always 15) a b Any (Leaves IsSettled) (Ok tt) → (IsTrue a.observable → IsSettled (present b)) → Settles a b (Ok tt)
+  settles_done asks settled = record {
+    within = asks.grows.calls;
+    asks = asks_counted {n = 15} (asks_left tt (lit≤ tt) asks (λ old new sound same given clear. clear)) counted;
+    done = λ observable e. settled observable;
+  }
 
-  fault_same : (f : PlanFault) (e : SettleFault) → IsNamedFault f e → Asks (always 5) a b Any SettlesIt (Err f) → Asks (always 5) a b Any SettlesIt (Err (settle_fault e))
-  fault_same plan.Failed e is asks = subst (λ e. Asks (always 5) a b Any SettlesIt (Err (settle_fault e))) (sym is) asks
-  fault_same plan.Memory e is asks = subst (λ e. Asks (always 5) a b Any SettlesIt (Err (settle_fault e))) (sym is) asks
+  fault_same : (f : PlanFault) (e : SettleFault) → IsNamedFault f e → Asks (always 15) a b Any SettlesIt (Err f) → Asks (always 15) a b Any SettlesIt (Err (settle_fault e))
+  fault_same plan.Failed e is asks = subst (λ e. Asks (always 15) a b Any SettlesIt (Err (settle_fault e))) (sym is) asks
+  fault_same plan.Memory e is asks = subst (λ e. Asks (always 15) a b Any SettlesIt (Err (settle_fault e))) (sym is) asks
   fault_same plan.Inconsistent e (inl is) asks =
-      subst (λ e. Asks (always 5) a b Any SettlesIt (Err (settle_fault e))) (sym is) (record { grows = asks.grows; cause = asks.cause; effect = λ met. absurd (asks.effect met); settled = asks.settled })
-  fault_same plan.Inconsistent e (inr is) asks = subst (λ e. Asks (always 5) a b Any SettlesIt (Err (settle_fault e))) (sym is) asks
+      subst (λ e. Asks (always 15) a b Any SettlesIt (Err (settle_fault e))) (sym is) (record { grows = asks.grows; cause = asks.cause; effect = λ met. absurd (asks.effect met); settled = asks.settled })
+  fault_same plan.Inconsistent e (inr is) asks = subst (λ e. Asks (always 15) a b Any SettlesIt (Err (settle_fault e))) (sym is) asks
 
-  pub settles_fault : {f : PlanFault} {e : SettleFault} → IsNamedFault f e → Asks (always 5) a b Any (Leaves IsSettled) (Err f) → Settles a b (Err e)
-  settles_fault {f = f} {e = e} is asks = record { asks = fault_same f e is (asks_untold f asks); done = λ observable no. cc }
+  pub settles_fault : {f : PlanFault} {e : SettleFault} → IsNamedFault f e → Asks (always 15) a b Any (Leaves IsSettled) (Err f) → Settles a b (Err e)
+  settles_fault {f = f} {e = e} is asks = record { within = asks.grows.calls; asks = asks_counted (fault_same f e is (asks_untold f asks)) counted; done = λ observable no. cc }

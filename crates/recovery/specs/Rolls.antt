@@ -1,6 +1,6 @@
 -- A completion that is sealed, and the calls that finish it: how far it is, and what each call leaves. Source: Object Storage API
 -- v1, "Static large objects", and this profile.
-use Rattle.std.specs.Prelude.{◌≡◌, ℕ, Bool, true, false, IsTrue, List, Option, None, Some, Result, Ok, Err}
+use Rattle.std.specs.Prelude.{◌≡◌, ◌≤◌, ◌+◌, ℕ, Bool, true, false, IsTrue, List, Option, None, Some, Result, Ok, Err}
 use Rattle.s3_names.specs.Id.{id_digits}
 use Rattle.swift_calls.specs.Account.{SwiftObject, SwiftAccount, files, find_object}
 use Rattle.swift_calls.specs.History.{History, present}
@@ -8,11 +8,12 @@ use Rattle.swift_calls.specs.declared.calls.SwiftReply.{SwiftReply}
 use Rattle.swift_calls.specs.declared.calls.SwiftReply.TheVariants.{NotFound, Bytes}
 use Rattle.upload_texts.specs.Sealed.{read_sealed}
 use Rattle.upload_texts.specs.declared.sealed.Sealed.{Sealed}
-use Rattle.upload_records.specs.Consistent.{IsThere}
+use Rattle.upload_records.specs.Consistent.{HasSubManifests, IsThere}
 use Rattle.upload_records.specs.Layout.{uploads_name, segments_name, gateway_name}
-use Rattle.upload_records.specs.Native.{object_of, record_at, seal_of, sealed_object, sealed_record, IsSettled}
+use Rattle.upload_records.specs.Native.{object_of, record_at, seal_of, sealed_object, sealed_record, sealed_segments, sub_manifests_of, IsSettled}
 use Rattle.account_calls.specs.declared.fault.PlanFault.{PlanFault}
 use Rattle.account_calls.specs.declared.fault.PlanFault.TheVariants.{Inconsistent}
+use Rattle.account_calls.specs.Calls.{Met}
 use Rattle.account_calls.specs.Interpret.{known}
 
 -- ---- how far a sealed completion is
@@ -25,6 +26,16 @@ HasGateway tree = IsThere tree gateway_name
 pub record IsSealed (s : Sealed) (tree : SwiftAccount) : Type 0 where
   pub gateway : HasGateway tree
   pub is : seal_of tree ≡ Some s
+
+-- the gateway's own container is there, and what is sealed is as it was
+pub record OpensGateway (old new : SwiftAccount) (done : Unit {0}) : Type 0 where
+  pub there : HasGateway new
+  pub same : seal_of new ≡ seal_of old
+
+-- this completion is sealed, and its first sub-manifests are there
+pub record HasSubs (s : Sealed) (count : ℕ) (tree : SwiftAccount) : Type 0 where
+  pub sealed : IsSealed s tree
+  pub subs : HasSubManifests (files tree (segments_name s.bucket)) (id_digits s.id) (sealed_segments s) count
 
 -- and its object is there
 pub record HasObject (s : Sealed) (tree : SwiftAccount) : Type 0 where
@@ -66,3 +77,9 @@ abbrev pub sealed_due : SwiftReply → Result (Option Sealed) PlanFault
 sealed_due (Bytes head body) = sealed_by head.manifest body
 sealed_due NotFound = Ok None
 sealed_due _ = Err Inconsistent
+
+-- ---- how many calls
+
+-- over a consistent account that is observable: so many calls, and one for each sub-manifest of what is sealed on it
+pub record IsCounted (most : ℕ) (given : SwiftAccount → Type 0) (old new : History) : Type 0 where
+  pub within : Met given old → new.called ≤ old.called + (most + sub_manifests_of (seal_of (present old)))

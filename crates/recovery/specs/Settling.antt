@@ -1,5 +1,5 @@
 -- How a store is settled, and what its fault names. Source: this profile.
-use Rattle.std.specs.Prelude.{◌≡◌, ◌⊎◌, IsTrue, Result, Ok, Err}
+use Rattle.std.specs.Prelude.{◌≡◌, ◌≤◌, ◌⊎◌, ◌+◌, IsTrue, Result, Ok, Err}
 use Rattle.swift_calls.specs.Account.{SwiftAccount}
 use Rattle.swift_calls.specs.History.{History, present}
 use Rattle.upload_records.specs.Layout.{gateway_name, sealed_name}
@@ -31,8 +31,9 @@ IsNamedFault plan.Failed fault = fault ≡ Failed
 IsNamedFault plan.Memory fault = fault ≡ Memory
 IsNamedFault plan.Inconsistent fault = (fault ≡ Memory) ⊎ (fault ≡ Inconsistent gateway_name sealed_name)
 
--- a store was settled: the state stays, and after Ok no completion is sealed and the gateway's own container is there, also where
+-- a store was settled by at most fifteen calls, and over a consistent account by no more than it has sub-manifests to put: the state stays, and after Ok no completion is sealed and the gateway's own container is there, also where
 -- the account is not consistent
 pub record Settles (old new : History) (result : Result (Unit {0}) SettleFault) : Type 0 where
+  pub within : new.called ≤ old.called + 15
   pub asks : Asks (most_settling (present old)) old new Any SettlesIt (as_plan result)
   pub done : IsTrue old.observable → result ≡ Ok tt → IsSettled (present new)

@@ -1,20 +1,22 @@
 //! The calls that settle a store, one function a call: what is sealed is got, and rolled forward.
-ghost use Rattle.std.specs.Prelude.{◌≡◌, true, IfOk, IfSome, IsTrue, None, Ok};
+ghost use Rattle.std.specs.Prelude.{◌≡◌, ◌<◌, ◌+◌, true, IfOk, IfSome, IsTrue, None, Ok};
 ghost use Rattle.swift_calls.specs.History.{present};
 ghost use Rattle.upload_texts.specs.Sealed.{has_sealed_text};
-ghost use Rattle.upload_records.specs.Native.{IsSettled};
+ghost use Rattle.upload_records.specs.Native.{IsSettled, sealed_segments, sealed_sub_manifests};
 ghost use Rattle.account_calls.specs.Calls.{always, Any, Asks};
 ghost use Rattle.account_calls.specs.Lent.{Stays};
-ghost use Rattle.recovery.specs.Rolls.{HasGateway, HasObject, HasRecord, IsSealed, KeepsGateway, Leaves, LeavesClear, TellsSealed};
+ghost use Rattle.recovery.specs.Rolls.{HasGateway, HasObject, HasRecord, HasSubs, IsCounted, IsSealed, KeepsGateway, Leaves, LeavesClear, OpensGateway, TellsSealed};
 
 use crate::sealed::{
     interpret_sealed_get, rolled_forward_record_request, rolled_forward_record_text,
 };
 use account_calls::{
     PlanFault, Settled, ask, interpret_container_put, interpret_file_delete,
-    interpret_put_with_etag, interpret_put_without_etag, object_request,
+    interpret_put_with_etag, interpret_put_without_etag, object_request, sealed_segments,
+    sub_manifest_count, sub_manifest_request,
 };
 use s3_machine::body_etag;
+use slo_manifest::Segment;
 use std::alloc::Global;
 use swift_calls::{ReadList, Swift, SwiftRequest};
 use upload_records::{gateway_container, sealed_name};
@@ -22,8 +24,9 @@ use upload_texts::Sealed;
 
 /// Settles a store: makes the gateway's own container, and finishes the completion that is sealed there, if one is.
 pub(crate) fn settle_unsure_store<W: Swift>(alloc: Global, store: &mut W) -> Result<(), PlanFault>
-    ensures asks { Asks (always 5) (W.history store.old) (W.history store.new) Any
+    ensures asks { Asks (always 15) (W.history store.old) (W.history store.new) Any
         (Leaves IsSettled) result }
+    ensures counted { IsCounted 5 Any (W.history store.old) (W.history store.new) }
     ensures done { IsTrue (W.history store.old).observable → result ≡ Ok tt
         → IsSettled (present (W.history store.new)) }
 {
@@ -35,7 +38,7 @@ pub(crate) fn settle_unsure_store<W: Swift>(alloc: Global, store: &mut W) -> Res
 #[tactic(auto, using(crate::proofs::SettleCalls::gateway_is_container))]
 fn make_gateway<W: Swift>(alloc: Global, store: &mut W) -> Result<(), PlanFault>
     ensures asks { Asks (always 1) (W.history store.old) (W.history store.new) Any
-        (Leaves HasGateway) result }
+        OpensGateway result }
     ensures there { IsTrue (W.history store.old).observable → result ≡ Ok tt
         → HasGateway (present (W.history store.new)) }
 {
@@ -52,8 +55,9 @@ fn make_gateway<W: Swift>(alloc: Global, store: &mut W) -> Result<(), PlanFault>
 
 /// Finishes the completion that is sealed, if one is.
 fn settle_made<W: Swift>(alloc: Global, store: &mut W) -> Result<(), PlanFault>
-    ensures asks { Asks (always 4) (W.history store.old) (W.history store.new) HasGateway
+    ensures asks { Asks (always 14) (W.history store.old) (W.history store.new) HasGateway
         (Leaves IsSettled) result }
+    ensures counted { IsCounted 4 HasGateway (W.history store.old) (W.history store.new) }
     ensures done { LeavesClear tt (W.history store.old) (W.history store.new) result }
 {
     match get_sealed(alloc, store)? {
@@ -85,19 +89,89 @@ fn get_sealed<W: Swift>(alloc: Global, store: &mut W) -> Result<Option<Sealed>, 
     interpret_sealed_get(alloc, &reply)
 }
 
-/// Finishes a sealed completion by three calls: PUT of its object, PUT of its record, and DELETE of what is sealed. The S3 state
-/// stays, in which the completion is finished since it was sealed. Failed comes only where the store's count of faults rose;
+/// Finishes a sealed completion by a PUT of each of its sub-manifests and three calls: PUT of its object, PUT of its record, and
+/// DELETE of what is sealed. The S3 state stays, in which the completion is finished since it was sealed. Failed comes only where the store's count of faults rose;
 /// Memory where memory ran out; Inconsistent never over an observable consistent account on which this completion is sealed.
 /// After Ok over an observable store that has the gateway's own container none is sealed, also where the account isn't
 /// consistent; after a fault it may be sealed still. The container stays.
-fn roll_forward<W: Swift>(
+fn roll_forward<W: Swift>(alloc: Global, store: &mut W, sealed: &Sealed) -> Result<(), PlanFault>
+    requires { has_sealed_text sealed.now ≡ true }
+    ensures asks { Asks (always (3 + sealed_sub_manifests sealed.now)) (W.history store.old)
+        (W.history store.new) (IsSealed sealed.now) (Leaves IsSettled) result }
+    ensures keeps { KeepsGateway (W.history store.old) (W.history store.new) }
+    ensures done { LeavesClear tt (W.history store.old) (W.history store.new) result }
+{
+    put_sub_manifests(alloc, store, sealed)?;
+    roll_forward_object(alloc, store, sealed)
+}
+
+/// Puts the sub-manifests of a sealed completion, which are none where its object's own manifest may list its parts.
+fn put_sub_manifests<W: Swift>(
     alloc: Global,
     store: &mut W,
     sealed: &Sealed,
 ) -> Result<(), PlanFault>
     requires { has_sealed_text sealed.now ≡ true }
-    ensures asks { Asks (always 3) (W.history store.old) (W.history store.new) (IsSealed sealed.now)
-        (Leaves IsSettled) result }
+    ensures asks { Asks (always (sealed_sub_manifests sealed.now)) (W.history store.old)
+        (W.history store.new) (IsSealed sealed.now)
+        (Leaves (HasSubs sealed.now (sealed_sub_manifests sealed.now))) result }
+    ensures keeps { KeepsGateway (W.history store.old) (W.history store.new) }
+{
+    let segments = sealed_segments(alloc, sealed)?;
+    put_sub_manifests_of(alloc, store, sealed, segments.as_slice())
+}
+
+/// The same, by the segments that its parts are.
+fn put_sub_manifests_of<W: Swift>(
+    alloc: Global,
+    store: &mut W,
+    sealed: &Sealed,
+    segments: &[Segment],
+) -> Result<(), PlanFault>
+    requires has { has_sealed_text sealed.now ≡ true }
+    requires are { segments.now ≡ sealed_segments sealed.now }
+    ensures asks { Asks (always (sealed_sub_manifests sealed.now)) (W.history store.old)
+        (W.history store.new) (IsSealed sealed.now)
+        (Leaves (HasSubs sealed.now (sealed_sub_manifests sealed.now))) result }
+    ensures keeps { KeepsGateway (W.history store.old) (W.history store.new) }
+{
+    let count = sub_manifest_count(segments.len());
+    for n in 0..count {
+        put_sub_manifest(alloc, store, sealed, segments, n)?;
+    }
+    Ok(())
+}
+
+/// Puts the sub-manifest of that number, counted from 0, where those before it are there (Object Storage API v1, "Static large
+/// objects").
+fn put_sub_manifest<W: Swift>(
+    alloc: Global,
+    store: &mut W,
+    sealed: &Sealed,
+    segments: &[Segment],
+    n: usize,
+) -> Result<(), PlanFault>
+    requires has { has_sealed_text sealed.now ≡ true }
+    requires are { segments.now ≡ sealed_segments sealed.now }
+    requires below { n < sealed_sub_manifests sealed.now }
+    ensures asks { Asks (always 1) (W.history store.old) (W.history store.new)
+        (HasSubs sealed.now n) (Leaves (HasSubs sealed.now (n + 1))) result }
+    ensures keeps { KeepsGateway (W.history store.old) (W.history store.new) }
+{
+    let request = sub_manifest_request(alloc, sealed, segments, n)?;
+    let reply = ask(store, request)?;
+    interpret_put_without_etag(&reply)
+}
+
+/// Finishes a sealed completion whose sub-manifests are there.
+fn roll_forward_object<W: Swift>(
+    alloc: Global,
+    store: &mut W,
+    sealed: &Sealed,
+) -> Result<(), PlanFault>
+    requires { has_sealed_text sealed.now ≡ true }
+    ensures asks { Asks (always 3) (W.history store.old) (W.history store.new)
+        (HasSubs sealed.now (sealed_sub_manifests sealed.now)) (Leaves IsSettled) result }
     ensures keeps { KeepsGateway (W.history store.old) (W.history store.new) }
     ensures done { LeavesClear tt (W.history store.old) (W.history store.new) result }
 {
@@ -114,8 +188,9 @@ pub fn roll_forward_held<W: Swift>(
 ) -> Result<(), PlanFault>
     requires { has_sealed_text sealed.now ≡ true }
     ensures stays { Stays state.old state.new }
-    ensures asks { Asks (always 3) (W.history state.old.store.now) (W.history state.new.store.now)
-        (IsSealed sealed.now) (Leaves IsSettled) result }
+    ensures asks { Asks (always (3 + sealed_sub_manifests sealed.now))
+        (W.history state.old.store.now) (W.history state.new.store.now) (IsSealed sealed.now)
+        (Leaves IsSettled) result }
     ensures keeps { KeepsGateway (W.history state.old.store.now) (W.history state.new.store.now) }
     ensures done { LeavesClear tt (W.history state.old.store.now) (W.history state.new.store.now)
         result }
@@ -130,8 +205,8 @@ fn put_rolled_forward_object<W: Swift>(
     sealed: &Sealed,
 ) -> Result<(), PlanFault>
     requires { has_sealed_text sealed.now ≡ true }
-    ensures asks { Asks (always 1) (W.history store.old) (W.history store.new) (IsSealed sealed.now)
-        (Leaves (HasObject sealed.now)) result }
+    ensures asks { Asks (always 1) (W.history store.old) (W.history store.new)
+        (HasSubs sealed.now (sealed_sub_manifests sealed.now)) (Leaves (HasObject sealed.now)) result }
     ensures keeps { KeepsGateway (W.history store.old) (W.history store.new) }
 {
     let request = object_request(alloc, sealed)?;

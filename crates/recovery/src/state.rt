@@ -45,8 +45,8 @@ impl<'a, W: Swift> Unsure<'a, W> {
     }
 
     /// Settles the store, so that it can be held as `Settled`: the gateway's own container is made, what is sealed there is
-    /// looked for, and a completion that is found is finished. That is two calls, or five. The S3 state stays. Failed comes
-    /// only where the store's count of faults rose; Memory where memory ran out; Inconsistent, of the file of what is sealed,
+    /// looked for, and a completion that is found is finished. That is two calls, or five and one for each sub-manifest. The S3
+    /// state stays. Failed comes only where the store's count of faults rose; Memory where memory ran out; Inconsistent, of the file of what is sealed,
     /// never over an observable consistent account. After Ok no completion is sealed and the container is there, over every
     /// observable store; after a fault a completion may be sealed.
     pub fn settle(&mut self) -> Result<(), SettleFault>

@@ -11,9 +11,10 @@ use Rattle.account_calls.specs.declared.fault.PlanFault.{PlanFault}
 use Rattle.account_calls.specs.declared.fault.PlanFault.TheVariants as fault
 use Rattle.account_calls.specs.Listing.{TellsOf}
 use Rattle.account_calls.specs.Calls.{always, by_account, Asks, GivenOf, Met}
+use Rattle.account_calls.specs.Told.{Told}
+use Rattle.account_calls.proofs.lemmas.Told.{told_none, told_more, told_end, told_fault, told_out_of_memory}
 use Rattle.upload_calls.specs.Records.{InBucket, TellsFree, TellsTaken}
 use Rattle.upload_calls.proofs.FreeIds.{tries_few}
-use Rattle.upload_calls.proofs.Told.{Told, told_none, told_more, told_end, told_fault, told_out_of_memory}
 
 -- the first ids from the draw on are taken
 abbrev pub AllTaken : List ℕ → ℕ → ℕ → SwiftAccount → Type 0

@@ -13,7 +13,6 @@ pub mod RecordCalls
 pub mod RecordLength
 pub mod SideFiles
 pub mod TakenIds
-pub mod Told
 pub mod Turned
 pub mod Versions
 pub mod lemmas

@@ -9,6 +9,7 @@ use Rattle.std.specs.FinMap.{entries, entries_sorted, find, get, get-entries, is
 use Rattle.std.specs.FinMap.Entries.{below_all, find-where_key, same_entries}
 use Rattle.std.proofs.lemmas.Bool.{and_from, cases_lt}
 use Rattle.std.proofs.lemmas.Bool.Decides.{nat_tests}
+use Rattle.std.proofs.lemmas.Option.{none-some}
 use Rattle.std.proofs.Math.Seq.{take-append_seam}
 use Rattle.gate_base.specs.Maps.{Names, name_cmp}
 use Rattle.gate_base.proofs.lemmas.Maps.{name_antisymmetric, number_total, number_antisymmetric, table_zero, table_above, table_within}
@@ -23,9 +24,9 @@ use Rattle.swift_calls.specs.Account.{SwiftObject, SwiftAccount, files, size_of}
 use Rattle.swift_calls.specs.Bodies.{plain_bytes}
 use Rattle.swift_calls.specs.declared.heads.NameItem.{NameItem}
 use Rattle.swift_marks.proofs.lemmas.Stamps.{tag_has_stamp}
-use Rattle.upload_records.specs.Layout.{five_digits, segments_name, segments_prefix, segment_name}
+use Rattle.upload_records.specs.Layout.{five_digits, segments_name, segments_prefix, segment_name, sub_manifest_name}
 use Rattle.upload_records.specs.Native.{part_by, part_of, part_at, parts_of}
-use Rattle.upload_records.specs.Consistent.{IsConsistent, IsPart, IsSegment, is_part, IsThere}
+use Rattle.upload_records.specs.Consistent.{IsConsistent, IsPart, IsSegment, is_part, is_sub_manifest}
 use Rattle.upload_records.specs.Laws.{part_in}
 use Rattle.list_pages.proofs.lemmas.Pages.{parts}
 use Rattle.list_pages.proofs.lemmas.Rising.{begins_cut}
@@ -33,7 +34,7 @@ use Rattle.list_pages.proofs.lemmas.Sorted.{both, sorted_filter}
 use Rattle.account_calls.specs.FilePages.{item_at, items_after}
 use Rattle.account_calls.proofs.lemmas.Markers.{IsEntry, entries_are}
 use Rattle.upload_calls.specs.Listing.{number_in, part_due, part_from}
-use Rattle.upload_calls.specs.Records.{items_above}
+use Rattle.upload_calls.specs.Records.{HasPartsAlone, items_above}
 use Rattle.upload_calls.proofs.Digits.{name_is, number_read, segments_order}
 
 abbrev parts_due : List ℕ → List NameItem → List PartItem
@@ -96,12 +97,28 @@ module _ (i : ℕ) (e : List ℕ × SwiftObject) where
         told = part_told part named;
       }
 
-segment_row : (i : ℕ) (e : List ℕ × SwiftObject) → IsSegment e.0 e.1 → IsUnder (segments_prefix (id_digits i)) e → PartRow (id_digits i) e
-segment_row i e (is_part part) under = part_row i e part under
+-- a sub-manifest that begins as a part does is of the same upload
+sub_ids : (i j : ℕ) (n : ℕ) (v : List ℕ) → sub_manifest_name (id_digits j) n ≡ segments_prefix (id_digits i) ++ v → id_digits j ≡ id_digits i
+unfolding sub_manifest_name segments_prefix
+sub_ids i j n v e =
+    let a = id_digits i in
+    let b = id_digits j in
+    let long_a = length-id_digits i in
+    let long_b = length-id_digits j in
+    sym (take-append_seam b (47 ∷ (109 ∷ five_digits n))) ∙ ap (λ k. take k (b ++ 47 ∷ (109 ∷ five_digits n))) (long_b ∙ sym long_a)
+    ∙ ap (take (length a)) (e ∙ append_assoc a (47 ∷ []) v) ∙ take-append_seam a (47 ∷ v)
+
+segment_row : (segments : Names SwiftObject) (i : ℕ) (e : List ℕ × SwiftObject) → ((number : ℕ) → get segments (sub_manifest_name (id_digits i) number) ≡ None) → get segments e.0 ≡ Some e.1
+    → IsSegment e.0 e.1 → IsUnder (segments_prefix (id_digits i)) e → PartRow (id_digits i) e
+segment_row segments i e none found (is_part part) under = part_row i e part under
+segment_row segments i e none found (is_sub_manifest sub) under =
+    let cut = begins_cut (segments_prefix (id_digits i)) e.0 under in
+    let same : id_digits sub.id ≡ id_digits i = sub_ids i sub.id sub.number cut.0 (sym sub.named ∙ cut.1) in
+    absurd (none-some e.1 (sym (none sub.number) ∙ ap (get segments) (ap (λ d. sub_manifest_name d sub.number) (sym same) ∙ sym sub.named) ∙ found))
 
 -- ---- all of them
 
-module _ (tree : SwiftAccount) (bucket : List ℕ) (i : ℕ) (is : is_bucket bucket ≡ true) (sound : IsConsistent tree) (there : IsThere tree bucket) where
+module _ (tree : SwiftAccount) (bucket : List ℕ) (i : ℕ) (is : is_bucket bucket ≡ true) (sound : IsConsistent tree) (has : HasPartsAlone bucket i tree) where
   abbrev segments : Names SwiftObject
   segments = files tree (segments_name bucket)
 
@@ -118,7 +135,7 @@ module _ (tree : SwiftAccount) (bucket : List ℕ) (i : ℕ) (is : is_bucket buc
   rows_of [] h = tt
   rows_of (e ∷ es) h =
       elim (begins prefix e.0) as (λ t. begins prefix e.0 ≡ t → AllByRecursion (PartRow id) (cond t (e ∷ with_prefix prefix es) (with_prefix prefix es))) [
-        | true ↦ λ under. (segment_row i e ((sound.buckets bucket is there).of_segments e.0 e.1 h.0) under, rows_of es h.1)
+        | true ↦ λ under. (segment_row segments i e has.unlisted h.0 ((sound.buckets bucket is has.there).of_segments e.0 e.1 h.0) under, rows_of es h.1)
         | false ↦ λ under. rows_of es h.1
       ] refl
 

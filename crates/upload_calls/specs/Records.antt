@@ -12,9 +12,9 @@ use Rattle.s3_machine.specs.declared.items.PartItem.{PartItem}
 use Rattle.s3_machine.specs.declared.items.UploadItem.{UploadItem}
 use Rattle.swift_calls.specs.Account.{SwiftAccount, files}
 use Rattle.upload_texts.specs.declared.record.Record.{Record}
-use Rattle.upload_records.specs.Layout.{segments_name, segments_prefix, uploads_name}
+use Rattle.upload_records.specs.Layout.{segments_name, segments_prefix, sub_manifest_name, uploads_name}
 use Rattle.upload_records.specs.Native.{parts_of, record_at}
-use Rattle.upload_records.specs.Consistent.{IsOpen, IsThere}
+use Rattle.upload_records.specs.Consistent.{IsConsistent, IsOpen, IsThere}
 use Rattle.upload_records.specs.Laws.{IsUnused}
 use Rattle.account_calls.specs.Answers.{IsFirstFree, IsTaken}
 use Rattle.account_calls.specs.Purging.{MayPurge}
@@ -31,6 +31,15 @@ ReadsId text (Some id) = text ≡ id_digits id
 -- the bucket is there, and with it the containers beside it
 abbrev pub InBucket : List ℕ → SwiftAccount → Type 0
 InBucket bucket tree = IsThere tree bucket
+
+-- and no sub-manifest stands under the id, so that all that does are parts
+pub record HasPartsAlone (bucket : List ℕ) (id : ℕ) (tree : SwiftAccount) : Type 0 where
+  pub there : IsThere tree bucket
+  pub unlisted : (number : ℕ) → get (files tree (segments_name bucket)) (sub_manifest_name (id_digits id) number) ≡ None
+
+-- where the account is consistent
+abbrev pub HasOnlyParts : List ℕ → ℕ → SwiftAccount → Type 0
+HasOnlyParts bucket id tree = IsConsistent tree → HasPartsAlone bucket id tree
 
 -- and an upload of the id is open in it
 pub record HasOpen (bucket : List ℕ) (id : ℕ) (tree : SwiftAccount) : Type 0 where

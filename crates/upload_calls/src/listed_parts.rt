@@ -3,7 +3,6 @@ ghost use Rattle.std.specs.Prelude.{◌≡◌, ◌≤◌, ◌<◌, ◌+◌, ℕ,
 ghost use Rattle.std.specs.List.{All};
 ghost use Rattle.s3_names.specs.Bucket.{is_bucket};
 ghost use Rattle.s3_names.specs.Id.{id_digits};
-ghost use Rattle.s3_machine.specs.Limits.{most_items};
 ghost use Rattle.s3_machine.specs.Shown.{IsShownPart};
 ghost use Rattle.s3_machine.specs.Uploads.{cut};
 ghost use Rattle.swift_calls.specs.History.{budget, present};
@@ -16,7 +15,7 @@ ghost use Rattle.account_calls.specs.FilePages.{TellsFiles};
 ghost use Rattle.account_calls.specs.Lent.{Stays};
 ghost use Rattle.account_calls.specs.Listing.{TellsOf};
 ghost use Rattle.upload_calls.specs.Listing.{digits_in, number_in, part_due, Adds, ReadsPart, TellsNext};
-ghost use Rattle.upload_calls.specs.Records.{InBucket, TellsParts};
+ghost use Rattle.upload_calls.specs.Records.{HasOnlyParts, TellsParts};
 
 use account_calls::{PlanFault, Settled, next_marker, settled_file_page};
 use gate_base::{Bytes, List};
@@ -131,7 +130,7 @@ fn next_parts<W: Swift>(
     ensures dated { All IsShownPart parts.old → OnOk result (All IsShownPart parts.new) }
     ensures is_marker { IfOk result (λ next. IfSome next IsMarker) }
     ensures asks { Asks (always 1) (W.history state.old.store.now) (W.history state.new.store.now)
-        (GivenOf (InBucket bucket.now)) (TellsOf (TellsNext
+        (GivenOf (HasOnlyParts bucket.now id)) (TellsOf (TellsNext
         (part_due (segments_prefix (id_digits id))) (segments_name bucket.now)
         (segments_prefix (id_digits id)) marker.now parts.old parts.new)) result }
 {
@@ -158,7 +157,7 @@ fn next_parts_under_prefix<W: Swift>(
     ensures is_marker { IfOk result (λ next. IfSome next IsMarker) }
     ensures asks { (id : ℕ) → prefix.now ≡ segments_prefix (id_digits id)
         → Asks (always 1) (W.history state.old.store.now) (W.history state.new.store.now)
-        (GivenOf (InBucket bucket.now)) (TellsOf (TellsNext
+        (GivenOf (HasOnlyParts bucket.now id)) (TellsOf (TellsNext
         (part_due (segments_prefix (id_digits id))) (segments_name bucket.now)
         (segments_prefix (id_digits id)) marker.now parts.old parts.new)) result }
 {
@@ -183,7 +182,7 @@ fn first_listed_parts(items: List<PartItem>, max: u32) -> (List<PartItem>, bool)
 /// Reference, "ListParts"), by the names of its segments page by page. At most as many calls as there are pages of them, where
 /// the store is observable and its account consistent; and the S3 state stays. Failed comes only where the store's count of
 /// faults rose; Memory where memory ran out; Inconsistent never over an observable consistent account on which the bucket is
-/// there.
+/// there and no sub-manifest stands under the id, as under that of an open upload none does.
 pub fn list_parts<W: Swift>(
     alloc: Global,
     state: &mut Settled<'_, W>,
@@ -193,13 +192,12 @@ pub fn list_parts<W: Swift>(
     max: u32,
 ) -> Result<(List<PartItem>, bool), PlanFault>
     requires name { is_bucket bucket.now ≡ true }
-    requires few { max ≤ most_items }
     ensures stays { Stays state.old state.new }
     ensures dated { IfOk result (λ told. All IsShownPart told.0) }
     ensures asks { Asks (by_account
         (pages (named_by (present (W.history state.old.store.now)) bucket.now (id_digits id))))
         (W.history state.old.store.now) (W.history state.new.store.now)
-        (GivenOf (InBucket bucket.now)) (TellsOf (TellsParts bucket.now id marker max)) result }
+        (GivenOf (HasOnlyParts bucket.now id)) (TellsOf (TellsParts bucket.now id marker max)) result }
 {
     let mut parts = List::new(alloc);
     if max == 0 || GREATEST_PART_NUMBER <= marker {

@@ -42,6 +42,7 @@ bucket_bare folder sealed = record {
   of_segments = λ k f found. absurd (none_found f (sym (get_empty by_name k) ∙ found));
   of_records = λ k f found. absurd (none_found f (sym (get_empty by_name k) ∙ found));
   apart = λ id lists opens. absurd (no_record (id_digits id) opens);
+  subs_apart = λ n f sub found opens. absurd (no_record (id_digits sub.id) opens);
 }
 
 -- ---- a change of one container that isn't the gateway's own
@@ -275,6 +276,7 @@ sound_changed tree b g is sound unsealed all lists =
       of_segments = (old there).of_segments;
       of_records = (old there).of_records;
       apart = λ id listed opens. (old there).apart id (lists id listed opens) opens;
+      subs_apart = (old there).subs_apart;
     })))
     (λ key file found. (all key file (found_after g (get tree b) key file (ap (λ o. get (files_of o) key) (sym at) ∙ found))).1)
 

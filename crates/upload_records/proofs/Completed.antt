@@ -6,11 +6,11 @@ use Rattle.std.proofs.Common.{refl, sym, ap, ◌∙◌, arith}
 use Rattle.std.proofs.lemmas.Bool.{and_parts}
 use Rattle.std.proofs.lemmas.Bool.Decides.{nat_tests}
 use Rattle.gate_base.specs.Maps.{Names}
-use Rattle.s3_machine.specs.Uploads.{greatest_part, rises_from}
+use Rattle.s3_machine.specs.Uploads.{greatest_part, most_parts, rises_from}
 use Rattle.s3_names.specs.Id.{id_digits}
-use Rattle.slo_manifest.specs.declared.manifest.TheConstants.{MOST_SEGMENTS}
 use Rattle.slo_manifest.specs.declared.Segment.{Segment}
 use Rattle.std.proofs.lemmas.Option.{same_Some}
+use Rattle.swift_calls.specs.declared.account.Content.TheVariants.{Segments}
 use Rattle.swift_calls.specs.Account.{SwiftObject}
 use Rattle.swift_calls.specs.Bodies.{plain_bytes, bytes_of, outer_bytes, joined_two, joined}
 use Rattle.swift_marks.specs.declared.tag.Tag.{Tag}
@@ -21,10 +21,11 @@ use Rattle.swift_marks.proofs.lemmas.PackLaws.{pack_unpacks}
 use Rattle.upload_texts.specs.declared.sealed.Sealed.{Sealed}
 use Rattle.upload_texts.specs.declared.sealed.SealedPart.{SealedPart}
 use Rattle.upload_records.specs.Layout.{segments_name, segment_name}
-use Rattle.upload_records.specs.Native.{within, object_by, object_of, part_by, part_of, part_at, part_bytes, sealed_bytes, sealed_object, listed_of, filled_parts, part_segment, listing_of, content_by, sealed_tag, completed_file}
-use Rattle.upload_records.specs.Consistent.{IsListedPart, AreParts, of_parts, IsCompletedBody, of_none, of_segments, IsObject, in_parts, IsListOf, IsSegment, is_part, IsSealedPart, AreSealedParts}
+use Rattle.upload_records.specs.Native.{within, object_by, object_of, part_by, part_of, part_at, part_bytes, sealed_bytes, sealed_object, listed_of, filled_parts, part_segment, part_segments, sub_manifests, listing_by, sealed_segments, content_by, sealed_tag, completed_file}
+use Rattle.upload_records.specs.Consistent.{IsListedPart, AreParts, HasSubManifests, IsCompletedBody, of_none, of_segments, IsObject, in_parts, IsListOf, IsSegment, is_part, is_sub_manifest, IsSealedPart, AreSealedParts}
 use Rattle.upload_records.specs.Laws.{AreCounted, MayStand, Stands}
-use Rattle.upload_records.proofs.Parts.{outer_listed}
+use Rattle.upload_records.proofs.Parts.{outer_listed, own_no_list}
+use Rattle.upload_records.proofs.lemmas.Subs.{listing_filled, listing_joins}
 
 lower : (S : Names SwiftObject) (folder id : List ℕ) (above from : ℕ) (list : List Segment) → above < from → AreParts S folder id from list → AreParts S folder id above list
 lower S folder id above from [] less parts = tt
@@ -68,6 +69,7 @@ parts_listed S folder id above (p ∷ list) ascends (high, counted) (part, seale
 part_there : (S : Names SwiftObject) (id : List ℕ) (p : SealedPart) (part : IsSealedPart S id p) → IsSegment (segment_name id p.number) part.file → part_bytes (part_at S id p.number) ≡ part.bytes
 part_there S id p part (is_part is) =
     ap (λ o. part_bytes (option_and_then part_of o)) part.there ∙ (λ i. part_bytes (part_by (is.tagged i) (plain_bytes (part.own i))))
+part_there S id p part (is_sub_manifest sub) = absurd (own_no_list part.file.content part.bytes sub.listed part.own sub.own)
 
 empty_bytes : (bytes : List ℕ) (size : ℕ) → nat_lt 0 size ≡ false → size ≡ length bytes → bytes ≡ []
 empty_bytes [] size none same = refl
@@ -91,8 +93,7 @@ bytes_listed S folder id segments (p ∷ list) (part, sealed) =
 
 pub listing_stands : (S : Names SwiftObject) (folder id : List ℕ) (above : ℕ) (list : List SealedPart) → rises_from above (map listed_of list) ≡ true → AreCounted list
     → ((name : List ℕ) (file : SwiftObject) → get S name ≡ Some file → IsSegment name file) → AreSealedParts S id list
-    → AreParts S folder id above (listing_of folder id (filled_parts list)) × (joined (outer_bytes (within S)) (listing_of folder id (filled_parts list)) ≡ Some (sealed_bytes S id list))
-unfolding listing_of
+    → AreParts S folder id above (part_segments folder id (filled_parts list)) × (joined (outer_bytes (within S)) (part_segments folder id (filled_parts list)) ≡ Some (sealed_bytes S id list))
 listing_stands S folder id above list ascends counted segments sealed = (parts_listed S folder id above list ascends counted sealed, bytes_listed S folder id segments list sealed)
 
 -- ---- the object's file
@@ -110,9 +111,17 @@ unfolding joined
 bytes_by S [] bytes e = e
 bytes_by S (s ∷ list) bytes e = e
 
-body_by : (S : Names SwiftObject) (folder id : List ℕ) (list : List Segment) → length list ≤ MOST_SEGMENTS → AreParts S folder id 0 list → IsCompletedBody S folder id (content_by list)
-body_by S folder id [] few parts = of_none refl
-body_by S folder id (s ∷ list) few parts = of_segments (s ∷ list) refl (of_parts (omega (arith)) few parts)
+content_filled : (list : List Segment) → 0 < length list → content_by list ≡ Segments list
+content_filled [] some = absurd (omega (arith, some))
+content_filled (s ∷ list) some = refl
+
+body_by : (S : Names SwiftObject) (folder id : List ℕ) (parts : List Segment) → length parts ≤ most_parts → AreParts S folder id 0 parts → HasSubManifests S id parts (sub_manifests (length parts))
+    → IsCompletedBody S folder id (content_by (listing_by folder id parts))
+unfolding listing_by
+body_by S folder id [] few are subs = of_none refl
+body_by S folder id (p ∷ parts) few are subs =
+    of_segments (listing_by folder id (p ∷ parts)) (content_filled (listing_by folder id (p ∷ parts)) (listing_filled folder id (p ∷ parts) (omega arith)))
+    (record { parts = p ∷ parts; some = omega arith; few = few; are = are; lists = refl; subs = subs })
 
 fewer : (a b c : ℕ) → a ≤ b → b ≤ c → a ≤ c
 fewer a b c p q = omega (arith, p, q)
@@ -124,8 +133,13 @@ module _ (S : Names SwiftObject) (s : Sealed) (may : MayStand S s) where
   packed : unpacked (pack_of s.meta) ≡ Some s.meta
   packed = pack_unpacks s.meta may.packed
 
+  few_segments : length (sealed_segments s) ≤ most_parts
+  few_segments = fewer (length (sealed_segments s)) (length s.list) most_parts (few_listed (segments_name s.bucket) (id_digits s.id) s.list) may.few
+
+  are_segments : AreParts S (segments_name s.bucket) (id_digits s.id) 0 (sealed_segments s)
+  are_segments = parts_listed S (segments_name s.bucket) (id_digits s.id) 0 s.list may.ascends may.counted may.parts
+
   completed_is : IsObject S (segments_name s.bucket) s.key (completed_file s)
-  unfolding listing_of
   completed_is = in_parts may.keyed (record {
     content_type = s.content_type;
     etag = s.etag;
@@ -136,15 +150,14 @@ module _ (S : Names SwiftObject) (s : Sealed) (may : MayStand S s) where
     of_upload = may.of_upload;
     packed = packed;
     described = may.described;
-    body = body_by S (segments_name s.bucket) (id_digits s.id) (map (part_segment (segments_name s.bucket) (id_digits s.id)) (filled_parts s.list))
-        (fewer (length (map (part_segment (segments_name s.bucket) (id_digits s.id)) (filled_parts s.list))) (length s.list) MOST_SEGMENTS (few_listed (segments_name s.bucket) (id_digits s.id) s.list) may.few)
-        (parts_listed S (segments_name s.bucket) (id_digits s.id) 0 s.list may.ascends may.counted may.parts);
+    body = body_by S (segments_name s.bucket) (id_digits s.id) (sealed_segments s) few_segments are_segments may.subs;
   })
 
   completed_reads : object_of S s.key (completed_file s) ≡ Some (sealed_object S s)
-  unfolding listing_of
   completed_reads =
-      let bytes = bytes_by S (map (part_segment (segments_name s.bucket) (id_digits s.id)) (filled_parts s.list)) (sealed_bytes S (id_digits s.id) s.list) (bytes_listed S (segments_name s.bucket) (id_digits s.id) may.filed s.list may.parts) in
+      let bytes = bytes_by S (listing_by (segments_name s.bucket) (id_digits s.id) (sealed_segments s)) (sealed_bytes S (id_digits s.id) s.list)
+      (listing_joins S (segments_name s.bucket) (id_digits s.id) (within S) (λ name file there. there) (sealed_segments s) are_segments may.subs
+      ∙ bytes_listed S (segments_name s.bucket) (id_digits s.id) may.filed s.list may.parts) in
       λ i. object_by (tagged i) (packed i) (bytes i)
 
   same_list : (id : ℕ) → IsListOf (completed_file s) id → id ≡ s.id

@@ -179,6 +179,7 @@ resealed folder O R S sealed old = record {
   of_segments = old.of_segments;
   of_records = old.of_records;
   apart = λ id lists opens. absurd (none_found id (old.apart id lists opens));
+  subs_apart = λ n f sub found opens. absurd (none_found sub.id (old.subs_apart n f sub found opens));
 }
 
 module _ (tree : SwiftAccount) (text : List ℕ) (s : Sealed) (file : SwiftObject) (own : file.content ≡ Plain text) (reads : read_sealed text ≡ Some s) (there : IsThere tree gateway_name)

@@ -12,4 +12,6 @@ pub mod RecordPut
 pub mod Rolls
 pub mod Segments
 pub mod SideCalls
+pub mod SubPut
+pub mod SubRolls
 pub mod lemmas

@@ -13,14 +13,15 @@ use Rattle.swift_calls.specs.Bodies.{plain_bytes}
 use Rattle.swift_calls.specs.declared.calls.SwiftRequest.TheVariants.{PutObject}
 use Rattle.upload_texts.specs.declared.record.Record.{Record}
 use Rattle.upload_texts.specs.declared.record.Record.TheVariants.{Open, Done}
-use Rattle.upload_records.specs.Layout.{uploads_name, segments_name, segment_name}
+use Rattle.upload_records.specs.Layout.{uploads_name, segments_name, segment_name, sub_manifest_name}
 use Rattle.upload_records.specs.Native.{object_of, part_by, part_of, part_at, parts_of, record_of, record_at, upload_by, upload_of, bucket_from, IsUnsealed}
-use Rattle.upload_records.specs.Consistent.{IsBeside, IsPart, IsSegment, is_part, IsOpen, HasList, ConsistentBucket, sealed_in, sealed_id, bucket_sound, IsStored, IsThere, IsConsistent}
+use Rattle.upload_records.specs.Consistent.{IsBeside, IsPart, IsSubManifest, IsSegment, is_part, IsOpen, HasList, ConsistentBucket, sealed_in, sealed_id, bucket_sound, IsStored, IsThere, IsConsistent}
 use Rattle.upload_records.specs.Laws.{ChangesBy, file_put, part_in}
 use Rattle.upload_records.proofs.lemmas.Settled.{seal_none}
 use Rattle.upload_records.proofs.lemmas.Objects.{put_leaves}
 use Rattle.upload_records.proofs.Carried.{none_found, bucket_as}
-use Rattle.upload_records.proofs.lemmas.Sides.{segment_id, segment_number, uploads_segments}
+use Rattle.upload_records.proofs.lemmas.Sides.{part_no_sub, segment_id, segment_number, uploads_segments}
+use Rattle.upload_records.proofs.Parts.{KeepsSegments, own_no_list}
 use Rattle.upload_records.proofs.Segments.{objects_stay, objects_same, lists_as}
 use Rattle.upload_records.proofs.lemmas.Beside.{bucket_stays, id_beside, same_beside, plain_beside, segments_there, file_off, files_new, sound_files}
 use Rattle.upload_records.proofs.Leaves.{changes_same}
@@ -81,8 +82,15 @@ module _ (S : Names SwiftObject) (name : List ℕ) (file : SwiftObject) (part : 
 module _ (folder : List ℕ) (O R S : Names SwiftObject) (sealed : Option ℕ) (name : List ℕ) (file : SwiftObject) (old : ConsistentBucket folder O R S sealed) (part : IsPart name file)
     (unlisted : (j : ℕ) → id_digits j ≡ id_digits part.id → HasList O S j → ⊥) where
   -- a list of the bucket is under another id
-  other_id : (id : ℕ) → HasList O S id → (k : ℕ) → get (insert S name file) (segment_name (id_digits id) k) ≡ get S (segment_name (id_digits id) k)
-  other_id id lists k = other_name S name file part (segment_name (id_digits id) k) (λ e. unlisted id (segment_id (id_digits id) (id_digits part.id) k part.number (e ∙ part.named)) lists)
+  other_id : (id : ℕ) → HasList O S id → KeepsSegments S (insert S name file) (id_digits id)
+  other_id id lists = record {
+    parts = λ k f found. other_name S name file part (segment_name (id_digits id) k) (λ e. unlisted id (segment_id (id_digits id) (id_digits part.id) k part.number (e ∙ part.named)) lists) ∙ found;
+    subs = λ k f found. other_name S name file part (sub_manifest_name (id_digits id) k) (λ e. part_no_sub (id_digits part.id) (id_digits id) part.number k (sym (e ∙ part.named))) ∙ found;
+  }
+
+  -- a part is no sub-manifest
+  no_sub : (x : SwiftObject) → x ≡ file → (n : List ℕ) → IsSubManifest n x → ⊥
+  no_sub x e n sub = own_no_list x.content part.bytes sub.listed (ap (λ (y : SwiftObject). y.content) e ∙ part.own) sub.own
 
   part_bucket : ConsistentBucket folder O R (insert S name file) sealed
   part_bucket = record {
@@ -90,6 +98,8 @@ module _ (folder : List ℕ) (O R S : Names SwiftObject) (sealed : Option ℕ) (
     of_segments = λ n f found. put_is IsSegment S name file n f (is_part part) (old.of_segments n f) found;
     of_records = old.of_records;
     apart = λ id lists open_record. old.apart id (lists_as O S (insert S name file) id lists) open_record;
+    subs_apart = λ n f sub found opens. put_is (λ m x. (sub : IsSubManifest m x) → IsOpen (record_at R (id_digits sub.id)) → sealed ≡ Some sub.id) S name file n f
+        (λ sub opens. absurd (no_sub file refl name sub)) (λ was sub. old.subs_apart n f sub was) found sub opens;
   }
 
   part_from : (b : SwiftContainer) → b.files ≡ O → bucket_from R (insert S name file) b ≡ on_upload (id_digits part.id) (with_part part.number (part_in part)) (bucket_from R S b)

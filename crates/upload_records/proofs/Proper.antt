@@ -36,10 +36,10 @@ use Rattle.swift_marks.proofs.lemmas.PackLaws.{metadata_has_one_pack}
 use Rattle.swift_marks.proofs.lemmas.TagLaws.{tag_has_one_text}
 use Rattle.upload_records.specs.Layout.{segments_name, segment_name}
 use Rattle.upload_records.specs.Native.{within, object_by, object_of, object_at, IsUnsealed, s3_state}
-use Rattle.upload_records.specs.Consistent.{IsPlainObject, IsListedPart, AreParts, IsSegmentList, of_parts, IsCompletedBody, of_none, of_segments, IsCompletedObject, IsSegment, is_part, IsObject, in_one_piece, in_parts, IsThere, IsConsistent}
+use Rattle.upload_records.specs.Consistent.{IsPlainObject, IsListedPart, AreParts, IsSegmentList, IsCompletedBody, of_none, of_segments, IsCompletedObject, IsSubManifest, IsSegment, is_part, is_sub_manifest, IsObject, in_one_piece, in_parts, IsThere, IsConsistent}
 use Rattle.upload_records.specs.Laws.{object_in, IsProperStored, ListsParts, HasListing}
 use Rattle.upload_records.proofs.Carried.{none_found, there_by, sound_object}
-use Rattle.upload_records.proofs.Parts.{outer_listed}
+use Rattle.upload_records.proofs.Parts.{list_bytes, outer_listed}
 use Rattle.upload_records.proofs.lemmas.Objects.{plain_object, s3_state_at}
 
 -- ---- what a tag and a pack tell
@@ -103,6 +103,9 @@ module _ (S : Names SwiftObject) (folder key : List ℕ) (file : SwiftObject) (o
 
 -- ---- the segments that an object lists
 
+no_bytes : (content : Content) (listed : List Segment) (bytes : List ℕ) → content ≡ Segments listed → content ≡ Plain bytes → ⊥
+no_bytes content listed bytes e q = let same : Segments listed ≡ Plain bytes = sym e ∙ q in cc
+
 plain_same : (content : Content) (xs ys : List ℕ) → content ≡ Plain xs → content ≡ Plain ys → xs ≡ ys
 plain_same content xs ys e q = let same : Plain xs ≡ Plain ys = sym e ∙ q in cc
 
@@ -113,6 +116,7 @@ part_sized S folder id number s listed (is_part part) =
     let same = ap length (plain_same listed.file.content listed.bytes part.bytes listed.own part.own) in
     let sized = part.sized in
     (omega (arith, filled, size), omega (arith, size, same, sized))
+part_sized S folder id number s listed (is_sub_manifest sub) = absurd (no_bytes listed.file.content sub.listed listed.bytes sub.own listed.own)
 
 parts_sized : (S : Names SwiftObject) (folder id : List ℕ) (above : ℕ) (list : List Segment) → ((name : List ℕ) (file : SwiftObject) → get S name ≡ Some file → IsSegment name file) → AreParts S folder id above list
     → All (λ s. (0 < s.size) × (s.size ≤ most_body_bytes)) list
@@ -141,24 +145,20 @@ parts_sum S folder id above (s ∷ list) bytes (number, low, high, listed, rest)
 same_list : (content : Content) (xs ys : List Segment) → content ≡ Segments xs → content ≡ Segments ys → ys ≡ xs
 same_list content xs ys e q = let same : Segments ys ≡ Segments xs = sym q ∙ e in cc
 
-no_bytes : (content : Content) (listed : List Segment) (bytes : List ℕ) → content ≡ Segments listed → content ≡ Plain bytes → ⊥
-no_bytes content listed bytes e q = let same : Segments listed ≡ Plain bytes = sym e ∙ q in cc
-
 module _ (S : Names SwiftObject) (folder key : List ℕ) (file : SwiftObject) (o : Object) (reads : object_of S key file ≡ Some o) (listed : List Segment) (own : file.content ≡ Segments listed)
     (segments : (name : List ℕ) (f : SwiftObject) → get S name ≡ Some f → IsSegment name f) where
   lists_list : (object : IsCompletedObject S folder file) → IsSegmentList S folder (id_digits object.id) listed → ListsParts S folder listed o
-  lists_list object (of_parts some few parts) =
+  lists_list object list =
       let found = has_bytes S folder key file o reads object (bytes_of (within S) file.content) refl in
-      let bytes : joined (outer_bytes (within S)) listed ≡ Some o.bytes = ap (bytes_of (within S)) (sym own) ∙ found.1 ∙ ap (λ (x : Object). Some x.bytes) found.2 in
+      let bytes : joined (outer_bytes (within S)) list.parts ≡ Some o.bytes
+      = sym (list_bytes S folder (id_digits object.id) listed list) ∙ ap (bytes_of (within S)) (sym own) ∙ found.1 ∙ ap (λ (x : Object). Some x.bytes) found.2 in
       record {
         id = object.id;
-        some = some;
-        few = few;
-        parts = parts;
-        sized = parts_sized S folder (id_digits object.id) 0 listed segments parts;
+        list = list;
+        sized = parts_sized S folder (id_digits object.id) 0 list.parts segments list.are;
         of_upload = subst (λ (x : Object). 32 < length x.etag) found.2 object.of_upload;
         bytes = bytes;
-        whole = parts_sum S folder (id_digits object.id) 0 listed o.bytes parts bytes;
+        whole = parts_sum S folder (id_digits object.id) 0 list.parts o.bytes list.are bytes;
       }
 
   lists_body : (object : IsCompletedObject S folder file) → IsCompletedBody S folder (id_digits object.id) file.content → ListsParts S folder listed o

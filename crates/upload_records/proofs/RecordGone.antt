@@ -50,6 +50,10 @@ module _ (folder : List ℕ) (O R S : Names SwiftObject) (sealed : Option ℕ) (
       | inl e ↦ absurd (subst IsOpen (gone (id_digits j) e) opens)
       | inr a ↦ old.apart j lists (subst IsOpen (ap (option_and_then record_of) (off_remove by_name R id (id_digits j) a)) opens)
     ];
+    subs_apart = λ n f sub found opens. elim (same_key by_name (id_digits sub.id) id) [
+      | inl e ↦ absurd (subst IsOpen (gone (id_digits sub.id) e) opens)
+      | inr a ↦ old.subs_apart n f sub found (subst IsOpen (ap (option_and_then record_of) (off_remove by_name R id (id_digits sub.id) a)) opens)
+    ];
   }
 
   dropped_from : IsOpen (record_at R id) → (b : SwiftContainer) → bucket_from (remove R id) S b ≡ drop_upload id (bucket_from R S b)

@@ -15,12 +15,12 @@ use Rattle.swift_calls.specs.declared.account.Content.TheVariants.{Plain}
 use Rattle.swift_calls.specs.declared.calls.SwiftRequest.TheVariants.{PutObject}
 use Rattle.upload_texts.specs.Records.{read_record}
 use Rattle.upload_texts.specs.declared.record.Record.TheVariants.{Open}
-use Rattle.upload_records.specs.Layout.{uploads_name, segments_name, segment_name}
+use Rattle.upload_records.specs.Layout.{uploads_name, segments_name, segment_name, sub_manifest_name}
 use Rattle.upload_records.specs.Native.{part_of, part_at, parts_of, record_of, upload_by, upload_of, kept_by, kept_of, bucket_from, IsUnsealed}
 use Rattle.upload_records.specs.Consistent.{IsBeside, IsRecord, IsOpen, HasList, by_object, ConsistentBucket, sealed_id, bucket_sound, IsStored, IsThere, IsConsistent}
 use Rattle.upload_records.specs.Laws.{ChangesBy, file_put, IsUnused, IsOpenText, upload_in}
 use Rattle.upload_records.proofs.lemmas.Objects.{put_leaves}
-use Rattle.upload_records.proofs.Carried.{bucket_as}
+use Rattle.upload_records.proofs.Carried.{none_found, bucket_as}
 use Rattle.upload_records.proofs.Parts.{unlisted}
 use Rattle.upload_records.proofs.lemmas.Sides.{segments_uploads}
 use Rattle.upload_records.proofs.lemmas.Beside.{bucket_stays, id_beside, same_beside, plain_beside, records_there, file_off, files_new, sound_files}
@@ -43,8 +43,8 @@ module _ (folder : List ℕ) (O R S : Names SwiftObject) (sealed : Option ℕ) (
   record_file : record_of file ≡ Some (Open opens.key opens.content_type opens.meta opens.started)
   record_file = ap (λ c. option_and_then read_record (plain_bytes c)) own ∙ opens.reads
 
-  opened_bucket : id < 2 ^ 128 → ((k : ℕ) → get S (segment_name (id_digits id) k) ≡ None) → ConsistentBucket folder O R S sealed → ConsistentBucket folder O (insert R (id_digits id) file) S sealed
-  opened_bucket fits bare old = record {
+  opened_bucket : id < 2 ^ 128 → ((k : ℕ) → get S (segment_name (id_digits id) k) ≡ None) → ((k : ℕ) → get S (sub_manifest_name (id_digits id) k) ≡ None) → ConsistentBucket folder O R S sealed → ConsistentBucket folder O (insert R (id_digits id) file) S sealed
+  opened_bucket fits bare unlisted_id old = record {
     of_objects = old.of_objects;
     of_segments = old.of_segments;
     of_records = λ n f found. put_is IsRecord R (id_digits id) file n f
@@ -53,6 +53,10 @@ module _ (folder : List ℕ) (O R S : Names SwiftObject) (sealed : Option ℕ) (
     apart = λ j lists open_record. elim (same_key by_name (id_digits j) (id_digits id)) [
       | inl e ↦ absurd (none_listed j e lists)
       | inr a ↦ old.apart j lists (subst IsOpen (ap (option_and_then record_of) (off_insert by_name R (id_digits id) file (id_digits j) a)) open_record)
+    ];
+    subs_apart = λ n f sub found open_record. elim (same_key by_name (id_digits sub.id) (id_digits id)) [
+      | inl e ↦ absurd (none_found f (sym (unlisted_id sub.number) ∙ ap (get S) (ap (λ t. sub_manifest_name t sub.number) (sym e) ∙ sym sub.named) ∙ found))
+      | inr a ↦ old.subs_apart n f sub found (subst IsOpen (ap (option_and_then record_of) (off_insert by_name R (id_digits id) file (id_digits sub.id) a)) open_record)
     ];
   }
     where
@@ -90,7 +94,7 @@ module _ (tree : SwiftAccount) (b : List ℕ) (id : ℕ) (file : SwiftObject) (t
   this_bucket : IsThere tree b → bucket_sound (put_file (uploads_name b) (id_digits id) file tree) b
   this_bucket there = bucket_as (segments_name b) objects_new (records_new there) segments_new
       (id_beside tree (put_file (uploads_name b) (id_digits id) file tree) b (uploads_name b) beside (file_off tree b (uploads_name b) (λ fs. insert fs (id_digits id) file) beside) b)
-      (opened_bucket (segments_name b) (files tree b) (files tree (uploads_name b)) (files tree (segments_name b)) (sealed_id tree b) id file text opens own fits unused.bare (sound.buckets b is there))
+      (opened_bucket (segments_name b) (files tree b) (files tree (uploads_name b)) (files tree (segments_name b)) (sealed_id tree b) id file text opens own fits unused.bare unused.unlisted (sound.buckets b is there))
 
   opened_sound : IsConsistent (put_file (uploads_name b) (id_digits id) file tree)
   opened_sound = sound_files tree b (uploads_name b) (λ fs. insert fs (id_digits id) file) beside sound unsealed this_bucket

@@ -68,18 +68,18 @@ small_id s has = small_by s.id (and_parts (nat_lt s.id (2 ^ 128)) _ (and_parts (
 pub seal_id : (tree : SwiftAccount) (s : Sealed) → seal_of tree ≡ Some s → s.id < 2 ^ 128
 seal_id tree s e = let text = seal_read tree s e in small_id s (sealed_has text.0 s text.1)
 
-sealed_here : (tree : SwiftAccount) (s : Sealed) → seal_of tree ≡ Some s → sealed_id tree s.bucket ≡ Some s.id
+pub sealed_here : (tree : SwiftAccount) (s : Sealed) → seal_of tree ≡ Some s → sealed_id tree s.bucket ≡ Some s.id
 sealed_here tree s e = ap (λ x. sealed_in x s.bucket) e ∙ ap (λ t. cond t (Some s.id) None) ((bytes_eq-Decides s.bucket s.bucket).1 refl)
 
 -- the state, with the completion finished
-state_sealed : (tree : SwiftAccount) (s : Sealed) → seal_of tree ≡ Some s → s3_state tree ≡ finished (finished_from (files tree (segments_name s.bucket)) s) (plain tree)
+pub state_sealed : (tree : SwiftAccount) (s : Sealed) → seal_of tree ≡ Some s → s3_state tree ≡ finished (finished_from (files tree (segments_name s.bucket)) s) (plain tree)
 unfolding s3_state sealed_of
 state_sealed tree s e = ap (λ o. laid (option_map (λ x. finished_from (files tree (segments_name x.bucket)) x) o) (plain tree)) e
 
 -- ---- a change of one container, while a completion is sealed
 
 module _ (tree tree' : SwiftAccount) (c : List ℕ) (gate : eq_by_cmp name_cmp gateway_name c ≡ false) (off : OffSame tree tree' c) where
-  sound_with : IsConsistent tree → ConsistentContainers (heads tree')
+  pub sound_with : IsConsistent tree → ConsistentContainers (heads tree')
       → ((n : List ℕ) → is_bucket n ≡ true → IsThere tree' n → bucket_sound tree' n)
       → ((s : Sealed) → seal_of tree' ≡ Some s → SealedIn tree' s)
       → ((name : List ℕ) (file : SwiftObject) → find_object tree' c name ≡ Some file → IsStored name file)
@@ -153,6 +153,7 @@ module _ (tree : SwiftAccount) (s : Sealed) (file : SwiftObject) (seals : seal_o
         of_segments = old.of_segments;
         of_records = old.of_records;
         apart = λ id listed opens. list_apart old id listed opens;
+        subs_apart = old.subs_apart;
       })
 
   each_bucket : (n : List ℕ) → is_bucket n ≡ true → IsThere (put_file s.bucket s.key file tree) n → bucket_sound (put_file s.bucket s.key file tree) n
@@ -228,6 +229,10 @@ module _ (folder : List ℕ) (O R S : Names SwiftObject) (sealed : Option ℕ) (
       | inl e ↦ absurd (subst IsOpen (ap (record_at (insert R (id_digits s.id) file)) e ∙ record_there) opens)
       | inr a ↦ old.apart j lists (subst IsOpen (ap (option_and_then record_of) (off_insert by_name R (id_digits s.id) file (id_digits j) a)) opens)
     ];
+    subs_apart = λ n f sub found opens. elim (same_key by_name (id_digits sub.id) (id_digits s.id)) [
+      | inl e ↦ absurd (subst IsOpen (ap (record_at (insert R (id_digits s.id) file)) e ∙ record_there) opens)
+      | inr a ↦ old.subs_apart n f sub found (subst IsOpen (ap (option_and_then record_of) (off_insert by_name R (id_digits s.id) file (id_digits sub.id) a)) opens)
+    ];
   }
 
   done_sealed : ConsistentSealed R S s → ConsistentSealed (insert R (id_digits s.id) file) S s
@@ -236,6 +241,7 @@ module _ (folder : List ℕ) (O R S : Names SwiftObject) (sealed : Option ℕ) (
     parts = old.parts;
     etag = old.etag;
     agrees = subst (Agrees s) (sym record_there) (refl, refl, refl, refl, refl);
+    subs = old.subs;
   }
 
   done_from : (b : SwiftContainer) → bucket_from (insert R (id_digits s.id) file) S b ≡ with_record (id_digits s.id) (sealed_kept s) (bucket_from R S b)
@@ -408,6 +414,7 @@ module _ (tree : SwiftAccount) (s : Sealed) (seals : seal_of tree ≡ Some s) (r
     of_segments = old.of_segments;
     of_records = old.of_records;
     apart = λ id lists opens. absurd (never id (old.apart id lists opens) opens);
+    subs_apart = λ name file sub found opens. absurd (never sub.id (old.subs_apart name file sub found opens) opens);
   }
     where
       never : (id : ℕ) → sealed_id tree n ≡ Some id → IsOpen (record_at (files tree (uploads_name n)) (id_digits id)) → ⊥

@@ -15,15 +15,16 @@ use Rattle.swift_calls.specs.Account.{SwiftObject, SwiftContainer, SwiftAccount,
 use Rattle.swift_calls.specs.Step.{put_container, swift_step}
 use Rattle.upload_texts.specs.declared.record.Record.{Record}
 use Rattle.upload_texts.specs.declared.record.Record.TheVariants.{Open, Done}
-use Rattle.upload_records.specs.Layout.{uploads_name, segments_name, segment_name}
+use Rattle.upload_records.specs.Layout.{uploads_name, segments_name, segment_name, sub_manifest_name}
 use Rattle.upload_records.specs.Native.{object_of, part_of, part_at, parts_of, record_of, record_at, upload_by, upload_of, bucket_from, IsUnsealed}
-use Rattle.upload_records.specs.Consistent.{Head, head_of, heads, IsBeside, IsSegment, IsOpen, HasList, ConsistentBucket, sealed_id, bucket_sound, IsStored, IsThere, IsConsistent}
-use Rattle.upload_records.specs.Laws.{IsQuiet, MakesSide, StaysThere, LeavesContainers, IsAbandoned}
+use Rattle.upload_records.specs.Consistent.{Head, head_of, heads, IsBeside, IsSubManifest, IsSegment, IsOpen, HasList, ConsistentBucket, sealed_id, bucket_sound, IsStored, IsThere, IsConsistent}
+use Rattle.upload_records.specs.Laws.{IsQuiet, MakesSide, StaysThere, LeavesContainers, IsAbandoned, IsNameUnder, of_part, of_sub_manifest}
 use Rattle.upload_records.proofs.lemmas.Settled.{OffSame}
 use Rattle.upload_records.proofs.lemmas.Objects.{delete_leaves}
 use Rattle.upload_records.proofs.lemmas.Off.{put_off}
 use Rattle.upload_records.proofs.Carried.{none_found, bucket_as, containers_beside}
-use Rattle.upload_records.proofs.lemmas.Sides.{segment_id, uploads_segments}
+use Rattle.upload_records.proofs.lemmas.Sides.{part_no_sub, segment_id, sub_id, uploads_segments}
+use Rattle.upload_records.proofs.Parts.{KeepsSegments}
 use Rattle.upload_records.proofs.Segments.{objects_stay, objects_same, lists_as}
 use Rattle.upload_records.proofs.lemmas.Beside.{bucket_stays, id_beside, same_beside, plain_same, segments_there, sound_beside, file_off, files_new, sound_files}
 use Rattle.upload_records.proofs.Leaves.{changes_same}
@@ -123,92 +124,109 @@ closed_same S S' q None closed = refl
 closed_same S S' q (Some (Open key content_type meta started)) closed = absurd (closed tt)
 closed_same S S' q (Some (Done key list etag started moment)) closed = refl
 
-parts_same : (S S' : Names SwiftObject) (q : List ℕ) → parts_of S' q ≡ parts_of S q → (r : Option Record) → upload_by S' q r ≡ upload_by S q r
+pub parts_same : (S S' : Names SwiftObject) (q : List ℕ) → parts_of S' q ≡ parts_of S q → (r : Option Record) → upload_by S' q r ≡ upload_by S q r
 parts_same S S' q same None = refl
 parts_same S S' q same (Some (Open key content_type meta started)) = λ i. Some (record { key = key; content_type = content_type; meta = meta; started = started; parts = same i })
 parts_same S S' q same (Some (Done key list etag started moment)) = refl
 
-module _ (folder : List ℕ) (O R S : Names SwiftObject) (sealed : Option ℕ) (id : List ℕ) (number : ℕ) (closed : IsOpen (record_at R id) → ⊥)
+module _ (folder : List ℕ) (O R S : Names SwiftObject) (sealed : Option ℕ) (id name : List ℕ) (under : IsNameUnder id name) (closed : IsOpen (record_at R id) → ⊥)
     (unlisted : (j : ℕ) → id_digits j ≡ id → HasList O S j → ⊥) (old : ConsistentBucket folder O R S sealed) where
-  other_id : (q : List ℕ) (k : ℕ) → (q ≡ id → ⊥) → get (remove S (segment_name id number)) (segment_name q k) ≡ get S (segment_name q k)
-  other_id q k other = off_remove by_name S (segment_name id number) (segment_name q k) (apart by_name (segment_name q k) (segment_name id number) (λ e. other (segment_id q id k number e)))
+  -- no name under another id is this one
+  part_name : (q : List ℕ) (k : ℕ) → IsNameUnder id name → (q ≡ id → ⊥) → segment_name q k ≡ name → ⊥
+  part_name q k (of_part number is) other e = other (segment_id q id k number (e ∙ is))
+  part_name q k (of_sub_manifest number is) other e = part_no_sub q id k number (e ∙ is)
 
-  listed_same : (j : ℕ) → HasList O S j → (k : ℕ) → get (remove S (segment_name id number)) (segment_name (id_digits j) k) ≡ get S (segment_name (id_digits j) k)
-  listed_same j lists k = other_id (id_digits j) k (λ e. unlisted j e lists)
+  sub_name : (q : List ℕ) (k : ℕ) → IsNameUnder id name → (q ≡ id → ⊥) → sub_manifest_name q k ≡ name → ⊥
+  sub_name q k (of_part number is) other e = part_no_sub id q number k (sym is ∙ sym e)
+  sub_name q k (of_sub_manifest number is) other e = other (sub_id q id k number (e ∙ is))
 
-  left_bucket : ConsistentBucket folder O R (remove S (segment_name id number)) sealed
-  left_bucket = record {
-    of_objects = objects_stay folder O S (remove S (segment_name id number)) old.of_objects listed_same;
-    of_segments = λ n f found. removed_is IsSegment S (segment_name id number) n f (old.of_segments n f) found;
-    of_records = old.of_records;
-    apart = λ j lists opens. old.apart j (lists_as O S (remove S (segment_name id number)) j lists) opens;
+  other_id : (q : List ℕ) (k : ℕ) → (q ≡ id → ⊥) → get (remove S name) (segment_name q k) ≡ get S (segment_name q k)
+  other_id q k other = off_remove by_name S name (segment_name q k) (apart by_name (segment_name q k) name (part_name q k under other))
+
+  other_sub : (q : List ℕ) (k : ℕ) → (q ≡ id → ⊥) → get (remove S name) (sub_manifest_name q k) ≡ get S (sub_manifest_name q k)
+  other_sub q k other = off_remove by_name S name (sub_manifest_name q k) (apart by_name (sub_manifest_name q k) name (sub_name q k under other))
+
+  listed_same : (j : ℕ) → HasList O S j → KeepsSegments S (remove S name) (id_digits j)
+  listed_same j lists = record {
+    parts = λ k f found. other_id (id_digits j) k (λ e. unlisted j e lists) ∙ found;
+    subs = λ k f found. other_sub (id_digits j) k (λ e. unlisted j e lists) ∙ found;
   }
 
-  uploads_same : picked (upload_of (remove S (segment_name id number))) R ≡ picked (upload_of S) R
-  uploads_same = picked_same by_name (upload_of (remove S (segment_name id number))) (upload_of S) R (λ q x found. elim (same_key by_name q id) [
-    | inl e ↦ closed_same S (remove S (segment_name id number)) q (record_of x) (λ opens. closed (subst IsOpen (sym (ap (λ t. option_and_then record_of (get R t)) (sym e) ∙ ap (option_and_then record_of) found)) opens))
-    | inr a ↦ parts_same S (remove S (segment_name id number)) q (parts_stay q (not_same by_name q id a)) (record_of x)
+  left_bucket : ConsistentBucket folder O R (remove S name) sealed
+  left_bucket = record {
+    of_objects = objects_stay folder O S (remove S name) old.of_objects listed_same;
+    of_segments = λ n f found. removed_is IsSegment S name n f (old.of_segments n f) found;
+    of_records = old.of_records;
+    apart = λ j lists opens. old.apart j (lists_as O S (remove S name) j lists) opens;
+    subs_apart = λ n f sub found opens. removed_is (λ m x. (sub : IsSubManifest m x) → IsOpen (record_at R (id_digits sub.id)) → sealed ≡ Some sub.id) S name n f
+        (λ was sub. old.subs_apart n f sub was) found sub opens;
+  }
+
+  uploads_same : picked (upload_of (remove S name)) R ≡ picked (upload_of S) R
+  uploads_same = picked_same by_name (upload_of (remove S name)) (upload_of S) R (λ q x found. elim (same_key by_name q id) [
+    | inl e ↦ closed_same S (remove S name) q (record_of x) (λ opens. closed (subst IsOpen (sym (ap (λ t. option_and_then record_of (get R t)) (sym e) ∙ ap (option_and_then record_of) found)) opens))
+    | inr a ↦ parts_same S (remove S name) q (parts_stay q (not_same by_name q id a)) (record_of x)
   ])
     where
-      parts_stay : (q : List ℕ) → (q ≡ id → ⊥) → parts_of (remove S (segment_name id number)) q ≡ parts_of S q
-      parts_stay q other = table_same (part_at (remove S (segment_name id number)) q) (part_at S q) greatest_part (λ k low high. ap (option_and_then part_of) (other_id q k other))
+      parts_stay : (q : List ℕ) → (q ≡ id → ⊥) → parts_of (remove S name) q ≡ parts_of S q
+      parts_stay q other = table_same (part_at (remove S name) q) (part_at S q) greatest_part (λ k low high. ap (option_and_then part_of) (other_id q k other))
 
-  left_from : (b : SwiftContainer) → b.files ≡ O → bucket_from R (remove S (segment_name id number)) b ≡ bucket_from R S b
+  left_from : (b : SwiftContainer) → b.files ≡ O → bucket_from R (remove S name) b ≡ bucket_from R S b
   left_from b is =
-      let same = ap (picked (object_of (remove S (segment_name id number)))) is ∙ objects_same folder O S (remove S (segment_name id number)) old.of_objects listed_same ∙ sym (ap (picked (object_of S)) is) in
+      let same = ap (picked (object_of (remove S name))) is ∙ objects_same folder O S (remove S name) old.of_objects listed_same ∙ sym (ap (picked (object_of S)) is) in
       let uploads = uploads_same in
       λ i. record (bucket_from R S b) { objects = same i; uploads = uploads i }
 
-module _ (tree : SwiftAccount) (b id : List ℕ) (number : ℕ) (is : is_bucket b ≡ true) (abandoned : IsAbandoned tree b id) (sound : IsConsistent tree) (unsealed : IsUnsealed tree) where
+module _ (tree : SwiftAccount) (b id name : List ℕ) (under : IsNameUnder id name) (is : is_bucket b ≡ true) (abandoned : IsAbandoned tree b id) (sound : IsConsistent tree) (unsealed : IsUnsealed tree) where
   segment_beside : IsBeside (segments_name b) b
   segment_beside = record { of_bucket = is; is = inr refl }
 
-  segment_off : OffSame tree (remove_file (segments_name b) (segment_name id number) tree) (segments_name b)
-  segment_off = file_off tree b (segments_name b) (λ fs. remove fs (segment_name id number)) segment_beside
+  segment_off : OffSame tree (remove_file (segments_name b) name tree) (segments_name b)
+  segment_off = file_off tree b (segments_name b) (λ fs. remove fs name) segment_beside
 
-  objects_new : files (remove_file (segments_name b) (segment_name id number) tree) b ≡ files tree b
-  objects_new = ap files_of (bucket_stays tree (remove_file (segments_name b) (segment_name id number) tree) b (segments_name b) segment_beside segment_off b is)
+  objects_new : files (remove_file (segments_name b) name tree) b ≡ files tree b
+  objects_new = ap files_of (bucket_stays tree (remove_file (segments_name b) name tree) b (segments_name b) segment_beside segment_off b is)
 
-  records_new : files (remove_file (segments_name b) (segment_name id number) tree) (uploads_name b) ≡ files tree (uploads_name b)
+  records_new : files (remove_file (segments_name b) name tree) (uploads_name b) ≡ files tree (uploads_name b)
   records_new = ap files_of (segment_off (uploads_name b) (uploads_segments b b is is))
 
-  segments_new : IsThere tree b → files (remove_file (segments_name b) (segment_name id number) tree) (segments_name b) ≡ remove (files tree (segments_name b)) (segment_name id number)
-  segments_new there = files_new tree b (segments_name b) (λ fs. remove fs (segment_name id number)) segment_beside (segments_there tree b sound is there)
+  segments_new : IsThere tree b → files (remove_file (segments_name b) name tree) (segments_name b) ≡ remove (files tree (segments_name b)) name
+  segments_new there = files_new tree b (segments_name b) (λ fs. remove fs name) segment_beside (segments_there tree b sound is there)
 
-  this_bucket : IsThere tree b → bucket_sound (remove_file (segments_name b) (segment_name id number) tree) b
+  this_bucket : IsThere tree b → bucket_sound (remove_file (segments_name b) name tree) b
   this_bucket there = bucket_as (segments_name b) objects_new records_new (segments_new there)
-      (id_beside tree (remove_file (segments_name b) (segment_name id number) tree) b (segments_name b) segment_beside segment_off b)
-      (left_bucket (segments_name b) (files tree b) (files tree (uploads_name b)) (files tree (segments_name b)) (sealed_id tree b) id number abandoned.closed abandoned.unlisted (sound.buckets b is there))
+      (id_beside tree (remove_file (segments_name b) name tree) b (segments_name b) segment_beside segment_off b)
+      (left_bucket (segments_name b) (files tree b) (files tree (uploads_name b)) (files tree (segments_name b)) (sealed_id tree b) id name under abandoned.closed abandoned.unlisted (sound.buckets b is there))
 
   along : (folder : SwiftContainer) → get tree b ≡ Some folder
-      → bucket_from (files (remove_file (segments_name b) (segment_name id number) tree) (uploads_name b)) (files (remove_file (segments_name b) (segment_name id number) tree) (segments_name b)) folder
+      → bucket_from (files (remove_file (segments_name b) name tree) (uploads_name b)) (files (remove_file (segments_name b) name tree) (segments_name b)) folder
       ≡ bucket_from (files tree (uploads_name b)) (files tree (segments_name b)) folder
   along folder found =
       let there : IsThere tree b = ap is_some found in
       let news = segments_new there in
       (λ i. bucket_from (records_new i) (news i) folder)
-      ∙ left_from (segments_name b) (files tree b) (files tree (uploads_name b)) (files tree (segments_name b)) (sealed_id tree b) id number abandoned.closed abandoned.unlisted (sound.buckets b is there) folder (sym (ap files_of found))
+      ∙ left_from (segments_name b) (files tree b) (files tree (uploads_name b)) (files tree (segments_name b)) (sealed_id tree b) id name under abandoned.closed abandoned.unlisted (sound.buckets b is there) folder (sym (ap files_of found))
 
-  orphan_quiet : IsQuiet tree (DeleteObject (segments_name b) (segment_name id number))
+  orphan_quiet : IsQuiet tree (DeleteObject (segments_name b) name)
   orphan_quiet =
-      let new : SwiftAccount = remove_file (segments_name b) (segment_name id number) tree in
-      changes_same tree new (DeleteObject (segments_name b) (segment_name id number)) (λ state. state) unsealed
+      let new : SwiftAccount = remove_file (segments_name b) name tree in
+      changes_same tree new (DeleteObject (segments_name b) name) (λ state. state) unsealed
       (same_beside tree new b (segments_name b) segment_beside segment_off)
-      (delete_leaves (find_object tree (segments_name b) (segment_name id number)) (segments_name b) (segment_name id number) tree refl)
-      (sound_files tree b (segments_name b) (λ fs. remove fs (segment_name id number)) segment_beside sound unsealed this_bucket
-      (λ n f found. removed_is IsStored (files tree (segments_name b)) (segment_name id number) n f (sound.stored (segments_name b) n f) found))
+      (delete_leaves (find_object tree (segments_name b) name) (segments_name b) name tree refl)
+      (sound_files tree b (segments_name b) (λ fs. remove fs name) segment_beside sound unsealed this_bucket
+      (λ n f found. removed_is IsStored (files tree (segments_name b)) name n f (sound.stored (segments_name b) n f) found))
       (plain_same tree new b (segments_name b) segment_beside segment_off along)
 
-  orphan_abandoned : IsAbandoned (remove_file (segments_name b) (segment_name id number) tree) b id
+  orphan_abandoned : IsAbandoned (remove_file (segments_name b) name tree) b id
   orphan_abandoned =
-      let new : SwiftAccount = remove_file (segments_name b) (segment_name id number) tree in
+      let new : SwiftAccount = remove_file (segments_name b) name tree in
       record {
         closed = λ opens. abandoned.closed (subst (λ R. IsOpen (record_at R id)) records_new opens);
         unlisted = λ j e lists. abandoned.unlisted j e (lists_as (files tree b) (files tree (segments_name b)) (files new (segments_name b)) j (subst (λ O. HasList O (files new (segments_name b)) j) objects_new lists));
       }
 
-  pub orphan_gone : IsQuiet tree (DeleteObject (segments_name b) (segment_name id number)) × IsAbandoned (swift_step (DeleteObject (segments_name b) (segment_name id number)) tree).tree b id
+  pub orphan_gone : IsQuiet tree (DeleteObject (segments_name b) name) × IsAbandoned (swift_step (DeleteObject (segments_name b) name) tree).tree b id
   orphan_gone = (
     orphan_quiet,
-    subst (λ x. IsAbandoned x b id) (sym (delete_leaves (find_object tree (segments_name b) (segment_name id number)) (segments_name b) (segment_name id number) tree refl)) orphan_abandoned,
+    subst (λ x. IsAbandoned x b id) (sym (delete_leaves (find_object tree (segments_name b) name) (segments_name b) name tree refl)) orphan_abandoned,
   )

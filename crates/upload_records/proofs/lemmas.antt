@@ -10,4 +10,5 @@ pub mod SealedTexts
 pub mod Settled
 pub mod SideCalls
 pub mod Sides
+pub mod Subs
 pub mod TextLengths

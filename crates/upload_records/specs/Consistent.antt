@@ -1,5 +1,5 @@
 -- What holds of each account that only the gateway writes. Source: this profile.
-use Rattle.std.specs.Prelude.{◌≡◌, ◌⊎◌, ◌<◌, ◌≤◌, ◌^◌, ℕ, List, [], ◌∷◌, map, cond, true, false, bytes_eq, length, Contains, IsUtf8, is_some, Option, Some, None, IfSome}
+use Rattle.std.specs.Prelude.{◌≡◌, ◌⊎◌, ◌<◌, ◌≤◌, ◌+◌, ◌^◌, ℕ, List, [], ◌∷◌, map, cond, true, false, bytes_eq, length, Contains, IsUtf8, is_some, Option, Some, None, IfSome}
 use Rattle.std.specs.Option.{option_map}
 use Rattle.std.specs.FinMap.{get, empty}
 use Rattle.gate_base.specs.Maps.{Names}
@@ -10,7 +10,7 @@ use Rattle.s3_names.specs.Id.{id_digits}
 use Rattle.s3_names.specs.Key.{is_key}
 use Rattle.s3_machine.specs.ETag.{body_etag}
 use Rattle.s3_machine.specs.Limits.{is_proper_meta, most_body_bytes}
-use Rattle.s3_machine.specs.Uploads.{greatest_part, IsPartNumber, upload_etag, rises}
+use Rattle.s3_machine.specs.Uploads.{greatest_part, most_parts, IsPartNumber, upload_etag, rises}
 use Rattle.slo_manifest.specs.declared.manifest.TheConstants.{MOST_SEGMENTS}
 use Rattle.slo_manifest.specs.declared.Segment.{Segment}
 use Rattle.swift_marks.specs.Tag.{read_tag}
@@ -20,15 +20,15 @@ use Rattle.swift_calls.specs.declared.account.ReadList.TheVariants.{Nobody}
 use Rattle.swift_calls.specs.declared.account.Content.{Content}
 use Rattle.swift_calls.specs.declared.account.Content.TheVariants.{Plain, Segments}
 use Rattle.swift_calls.specs.Account.{SwiftObject, SwiftContainer, SwiftAccount, files, find_object, size_of}
-use Rattle.swift_calls.specs.Bodies.{etag_text, is_list}
+use Rattle.swift_calls.specs.Bodies.{etag_of, etag_text, is_list}
 use Rattle.upload_texts.specs.Records.{read_record}
 use Rattle.upload_texts.specs.Sealed.{read_sealed}
 use Rattle.upload_texts.specs.declared.record.Record.{Record}
 use Rattle.upload_texts.specs.declared.record.Record.TheVariants.{Open, Done}
 use Rattle.upload_texts.specs.declared.sealed.Sealed.{Sealed}
 use Rattle.upload_texts.specs.declared.sealed.SealedPart.{SealedPart}
-use Rattle.upload_records.specs.Layout.{uploads_name, segments_name, gateway_name, sealed_name, segment_name}
-use Rattle.upload_records.specs.Native.{record_at, seal_of, listed_of}
+use Rattle.upload_records.specs.Layout.{uploads_name, segments_name, gateway_name, sealed_name, segment_name, sub_manifest_name}
+use Rattle.upload_records.specs.Native.{record_at, seal_of, listed_of, run, sub_manifests, listing_by, sealed_sub_manifests, sub_file_at}
 
 -- ---- containers
 
@@ -100,9 +100,25 @@ AreParts segments folder id above [] = Unit {0}
 AreParts segments folder id above (s ∷ list) =
     (number : ℕ) × (above < number) × (number ≤ greatest_part) × IsListedPart segments folder id number s × AreParts segments folder id number list
 
--- the segments that a completed object lists, by the form of the list: the parts themselves
-pub data IsSegmentList (segments : Names SwiftObject) (folder id : List ℕ) (listed : List Segment) : Type 0 where
-  of_parts : 0 < length listed → length listed ≤ MOST_SEGMENTS → AreParts segments folder id 0 listed → IsSegmentList segments folder id listed
+-- the sub-manifest of a number, counted from 0, is there, and lists the run of these segments
+pub record IsSubManifestOf (segments : Names SwiftObject) (id : List ℕ) (parts : List Segment) (n : ℕ) : Type 0 where
+  pub file : SwiftObject
+  pub there : get segments (sub_manifest_name id (n + 1)) ≡ Some file
+  pub own : file.content ≡ Segments (run n parts)
+
+-- each of the first sub-manifests is
+abbrev pub HasSubManifests : Names SwiftObject → List ℕ → List Segment → ℕ → Type 0
+HasSubManifests segments id parts count = (n : ℕ) → n < count → IsSubManifestOf segments id parts n
+
+-- the segments that a completed object lists: the parts themselves, or the sub-manifests of which each lists a run of them, and which
+-- are there
+pub record IsSegmentList (segments : Names SwiftObject) (folder id : List ℕ) (listed : List Segment) : Type 0 where
+  pub parts : List Segment
+  pub some : 0 < length parts
+  pub few : length parts ≤ most_parts
+  pub are : AreParts segments folder id 0 parts
+  pub lists : listed ≡ listing_by folder id parts
+  pub subs : HasSubManifests segments id parts (sub_manifests (length parts))
 
 -- what a completed object has as its body: nothing, or the segments of its upload
 pub data IsCompletedBody (segments : Names SwiftObject) (folder id : List ℕ) (content : Content) : Type 0 where
@@ -144,9 +160,31 @@ pub record IsPart (name : List ℕ) (file : SwiftObject) : Type 0 where
   pub sized : length bytes ≤ most_body_bytes
   pub tagged : read_tag file.content_type ≡ Some (record { content_type = content_type; etag = body_etag bytes; moment = moment; id = Some id })
 
--- a file beside a bucket, by its form: a part
+-- the most sub-manifests that an object has: as many as there are runs of the most parts
+abbrev pub most_sub_manifests : ℕ
+most_sub_manifests = 10
+
+-- a file that is a sub-manifest: its name is the id and the number, it lists segments, and its type is a tag with the ETag of the list
+-- and the id
+pub record IsSubManifest (name : List ℕ) (file : SwiftObject) : Type 0 where
+  pub id : ℕ
+  pub number : ℕ
+  pub listed : List Segment
+  pub content_type : List ℕ
+  pub moment : ℕ
+  pub named : name ≡ sub_manifest_name (id_digits id) number
+  pub fits : id < 2 ^ 128
+  pub from_one : 1 ≤ number
+  pub within : number ≤ most_sub_manifests
+  pub own : file.content ≡ Segments listed
+  pub some : 0 < length listed
+  pub few : length listed ≤ MOST_SEGMENTS
+  pub tagged : read_tag file.content_type ≡ Some (record { content_type = content_type; etag = etag_of (Segments listed); moment = moment; id = Some id })
+
+-- a file beside a bucket, by its form: a part, or a sub-manifest
 pub data IsSegment (name : List ℕ) (file : SwiftObject) : Type 0 where
   is_part : IsPart name file → IsSegment name file
+  is_sub_manifest : IsSubManifest name file → IsSegment name file
 
 -- a file that is the record of an upload, whose id is its name
 pub record IsRecord (name : List ℕ) (file : SwiftObject) : Type 0 where
@@ -176,12 +214,14 @@ pub data HasList (objects segments : Names SwiftObject) (id : ℕ) : Type 0 wher
   by_object : (key : List ℕ) (file : SwiftObject) → get objects key ≡ Some file → IsListOf file id → HasList objects segments id
 
 -- a bucket: its objects, the records and the segments beside it, and the id of a completion that is sealed in it. No upload is
--- open whose segments are listed, but that one
+-- open whose segments are listed, by an object or by a sub-manifest, but that one
 pub record ConsistentBucket (folder : List ℕ) (objects records segments : Names SwiftObject) (sealed : Option ℕ) : Type 0 where
   pub of_objects : (key : List ℕ) (file : SwiftObject) → get objects key ≡ Some file → IsObject segments folder key file
   pub of_segments : (name : List ℕ) (file : SwiftObject) → get segments name ≡ Some file → IsSegment name file
   pub of_records : (name : List ℕ) (file : SwiftObject) → get records name ≡ Some file → IsRecord name file
   pub apart : (id : ℕ) → HasList objects segments id → IsOpen (record_at records (id_digits id)) → sealed ≡ Some id
+  pub subs_apart : (name : List ℕ) (file : SwiftObject) (sub : IsSubManifest name file) → get segments name ≡ Some file
+      → IsOpen (record_at records (id_digits sub.id)) → sealed ≡ Some sub.id
 
 -- ---- a completion that is sealed
 
@@ -213,12 +253,20 @@ Agrees s (Some (Open key content_type meta started)) = (key ≡ s.key) × (conte
 Agrees s (Some (Done key list etag started moment)) =
     (key ≡ s.key) × (list ≡ map listed_of s.list) × (etag ≡ s.etag) × (started ≡ s.started) × IfSome moment (λ m. m ≡ s.moment)
 
+-- a sub-manifest of its id is the one of its number that rolling it forward puts
+pub record IsSealedSub (s : Sealed) (number : ℕ) (file : SwiftObject) : Type 0 where
+  pub n : ℕ
+  pub is : number ≡ n + 1
+  pub within : n < sealed_sub_manifests s
+  pub same : file ≡ sub_file_at s n
+
 -- a completion that is sealed in a bucket, by the records and the segments beside it
 pub record ConsistentSealed (records segments : Names SwiftObject) (s : Sealed) : Type 0 where
   pub ascends : rises (map listed_of s.list) ≡ true
   pub parts : AreSealedParts segments (id_digits s.id) s.list
   pub etag : s.etag ≡ upload_etag (map (λ p. p.etag) s.list)
   pub agrees : Agrees s (record_at records (id_digits s.id))
+  pub subs : (number : ℕ) (file : SwiftObject) → get segments (sub_manifest_name (id_digits s.id) number) ≡ Some file → IsSealedSub s number file
 
 -- the one file of the gateway's own container: a completion that is sealed. That it lists a part is said by its text
 pub record IsSealedFile (name : List ℕ) (file : SwiftObject) : Type 0 where

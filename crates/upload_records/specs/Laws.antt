@@ -1,5 +1,5 @@
 -- What the laws of this crate say.
-use Rattle.std.specs.Prelude.{◌≡◌, ◌<◌, ◌≤◌, ◌^◌, ℕ, List, [], ◌∷◌, map, length, sum_by, true, is_some, Option, None, Some}
+use Rattle.std.specs.Prelude.{◌≡◌, ◌<◌, ◌≤◌, ◌+◌, ◌^◌, ℕ, List, [], ◌∷◌, map, length, sum_by, true, is_some, Option, None, Some}
 use Rattle.std.specs.List.{All}
 use Rattle.std.specs.Option.{option_map}
 use Rattle.std.specs.FinMap.{empty, get, insert, remove}
@@ -13,7 +13,6 @@ use Rattle.s3_names.specs.Key.{is_key}
 use Rattle.s3_names.specs.Meta.{names_ascend}
 use Rattle.s3_machine.specs.ETag.{body_etag}
 use Rattle.s3_machine.specs.Limits.{is_content_type, is_proper_meta, most_body_bytes}
-use Rattle.slo_manifest.specs.declared.manifest.TheConstants.{MOST_SEGMENTS}
 use Rattle.slo_manifest.specs.declared.Segment.{Segment}
 use Rattle.swift_marks.specs.Tag.{has_text, is_etag}
 use Rattle.swift_marks.specs.Pack.{has_pack}
@@ -21,7 +20,7 @@ use Rattle.s3_machine.specs.State.{Object, Part, Upload, State}
 use Rattle.s3_machine.specs.Step.{new_bucket, with_acl, put_object, drop_object}
 use Rattle.s3_machine.specs.Finish.{finished}
 use Rattle.s3_machine.specs.Step as machine
-use Rattle.s3_machine.specs.Uploads.{new_upload, open_upload, drop_upload, on_upload, new_part, with_part, greatest_part, rises_from}
+use Rattle.s3_machine.specs.Uploads.{new_upload, open_upload, drop_upload, on_upload, new_part, with_part, greatest_part, most_parts, rises_from}
 use Rattle.swift_calls.specs.Account.{SwiftObject, SwiftAccount, files, find_object, put_file}
 use Rattle.swift_calls.specs.Bodies.{outer_bytes, joined}
 use Rattle.swift_calls.specs.Step.{swift_step, only_reads}
@@ -35,9 +34,9 @@ use Rattle.upload_texts.specs.Sealed.{read_sealed}
 use Rattle.upload_texts.specs.declared.sealed.Sealed.{Sealed}
 use Rattle.upload_texts.specs.declared.sealed.SealedPart.{SealedPart}
 use Rattle.upload_texts.specs.declared.record.Record.TheVariants.{Open}
-use Rattle.upload_records.specs.Layout.{uploads_name, segments_name, gateway_name, sealed_name, segment_name, readers_of}
-use Rattle.upload_records.specs.Native.{within, sealed_bytes, listed_of, filled_parts, listing_of, object_of, object_at, record_at, seal_of, sealed_object, sealed_record, sealed_tag, completed_file, finished_from, SameGateway, IsUnsealed, s3_state}
-use Rattle.upload_records.specs.Consistent.{IsBeside, HasBareSides, IsConsistent, IsPlainObject, IsObject, IsPart, IsOpen, IsListOf, HasList, AreParts, IsSegment, AreSealedParts, IsStored, IsThere, SealedIn}
+use Rattle.upload_records.specs.Layout.{uploads_name, segments_name, gateway_name, sealed_name, segment_name, sub_manifest_name, readers_of}
+use Rattle.upload_records.specs.Native.{within, sealed_bytes, listed_of, filled_parts, part_segments, sealed_segments, sealed_sub_manifests, sub_file_at, object_of, object_at, record_at, seal_of, sealed_object, sealed_record, sealed_tag, completed_file, finished_from, SameGateway, IsUnsealed, s3_state}
+use Rattle.upload_records.specs.Consistent.{IsBeside, HasBareSides, IsConsistent, IsPlainObject, IsObject, IsPart, IsOpen, IsListOf, HasList, AreParts, HasSubManifests, IsSegmentList, IsSubManifest, IsSegment, AreSealedParts, IsStored, IsThere, SealedIn}
 
 -- a call is quiet on an account: the account after it is consistent, and represents the same state
 pub record DoesStutter (tree : SwiftAccount) (request : SwiftRequest) : Type 0 where
@@ -132,10 +131,11 @@ PartPut = (tree : SwiftAccount) (bucket name content_type : List ℕ) (meta : Li
     → IsConsistent tree → IsUnsealed tree
     → ChangesBy tree (PutObject (segments_name bucket) name content_type meta body) (adjust bucket (on_upload (id_digits part.id) (with_part part.number (part_in part))))
 
--- nothing stands beside a bucket under the text of an id, neither a record nor a segment
+-- nothing stands beside a bucket under the text of an id, neither a record nor a segment nor a sub-manifest
 pub record IsUnused (tree : SwiftAccount) (bucket id : List ℕ) : Type 0 where
   pub unrecorded : get (files tree (uploads_name bucket)) id ≡ None
   pub bare : (number : ℕ) → get (files tree (segments_name bucket)) (segment_name id number) ≡ None
+  pub unlisted : (number : ℕ) → get (files tree (segments_name bucket)) (sub_manifest_name id number) ≡ None
 
 -- a text that is the record of an upload that is open
 pub record IsOpenText (text : List ℕ) : Type 0 where
@@ -197,11 +197,16 @@ abbrev pub UploadAbandoned : Type 0
 UploadAbandoned = (tree : SwiftAccount) (bucket id : List ℕ) → is_bucket bucket ≡ true → IsThere tree bucket → IsOpen (record_at (files tree (uploads_name bucket)) id)
     → IsConsistent tree → IsUnsealed tree → IsAbandoned (swift_step (DeleteObject (uploads_name bucket) id) tree).tree bucket id
 
--- the DELETE of a segment of an upload that nothing names leaves the state, and the other segments as such
+-- a name under the text of an id: of a part, or of a sub-manifest
+pub data IsNameUnder (id name : List ℕ) : Type 0 where
+  of_part : (number : ℕ) → name ≡ segment_name id number → IsNameUnder id name
+  of_sub_manifest : (number : ℕ) → name ≡ sub_manifest_name id number → IsNameUnder id name
+
+-- the DELETE of a segment of an upload that nothing names, or of a sub-manifest, leaves the state, and the other segments as such
 abbrev pub OrphanGone : Type 0
-OrphanGone = (tree : SwiftAccount) (bucket id : List ℕ) (number : ℕ) → is_bucket bucket ≡ true → IsAbandoned tree bucket id → IsConsistent tree → IsUnsealed tree
-    → IsQuiet tree (DeleteObject (segments_name bucket) (segment_name id number))
-    × IsAbandoned (swift_step (DeleteObject (segments_name bucket) (segment_name id number)) tree).tree bucket id
+OrphanGone = (tree : SwiftAccount) (bucket id name : List ℕ) → is_bucket bucket ≡ true → IsNameUnder id name → IsAbandoned tree bucket id → IsConsistent tree → IsUnsealed tree
+    → IsQuiet tree (DeleteObject (segments_name bucket) name)
+    × IsAbandoned (swift_step (DeleteObject (segments_name bucket) name) tree).tree bucket id
 
 -- ---- copies
 
@@ -221,6 +226,24 @@ OrphanPut = (tree : SwiftAccount) (bucket name content_type : List ℕ) (meta : 
     → is_bucket bucket ≡ true → IsThere tree bucket → IsAbandoned tree bucket (id_digits part.id) → IsStored name (file_put content_type meta body)
     → IsConsistent tree → IsUnsealed tree
     → PutsOrphan tree (PutObject (segments_name bucket) name content_type meta body) bucket (id_digits part.id) name (file_put content_type meta body)
+
+-- an account after which a file is put under the text of an id that nothing names: it has the same state, the bucket and its records,
+-- and nothing names the id
+pub record KeepsOrphan (tree new : SwiftAccount) (bucket id name : List ℕ) (file : SwiftObject) : Type 0 where
+  pub sound : IsConsistent new
+  pub same : s3_state new ≡ s3_state tree
+  pub gateway : SameGateway tree new
+  pub abandoned : IsAbandoned new bucket id
+  pub there : IsThere new bucket
+  pub objects : files new bucket ≡ files tree bucket
+  pub records : files new (uploads_name bucket) ≡ files tree (uploads_name bucket)
+  pub holds : files new (segments_name bucket) ≡ insert (files tree (segments_name bucket)) name file
+
+-- the PUT of a sub-manifest under an id that nothing names
+abbrev pub OrphanListed : Type 0
+OrphanListed = (tree : SwiftAccount) (bucket name : List ℕ) (file : SwiftObject) (sub : IsSubManifest name file) → is_bucket bucket ≡ true → IsThere tree bucket
+    → IsAbandoned tree bucket (id_digits sub.id) → IsStored name file → IsConsistent tree → IsUnsealed tree
+    → KeepsOrphan tree (put_file (segments_name bucket) name file tree) bucket (id_digits sub.id) name file
 
 -- nothing names the segments of an id under which nothing stands: those that an object lists are there
 abbrev pub UnusedIsAbandoned : Type 0
@@ -254,17 +277,15 @@ abbrev pub ObjectProper : Type 0
 ObjectProper = (tree : SwiftAccount) (bucket key : List ℕ) (o : Object) → is_bucket bucket ≡ true → IsConsistent tree → IsUnsealed tree
     → object_at (get (s3_state tree) bucket) key ≡ Some o → IsProperStored o
 
--- segments that are parts of one id, with numbers that ascend, each of them with some bytes and no more than a body has; in a row
--- they are the bytes of an object, whose ETag is one of parts
+-- a list of parts of one id, with numbers that ascend, each of them with some bytes and no more than a body has, by themselves or by
+-- their sub-manifests; in a row they are the bytes of an object, whose ETag is one of parts
 pub record ListsParts (segments : Names SwiftObject) (folder : List ℕ) (listed : List Segment) (o : Object) : Type 0 where
   pub id : ℕ
-  pub some : 0 < length listed
-  pub few : length listed ≤ MOST_SEGMENTS
-  pub parts : AreParts segments folder (id_digits id) 0 listed
-  pub sized : All (λ s. (0 < s.size) × (s.size ≤ most_body_bytes)) listed
+  pub list : IsSegmentList segments folder (id_digits id) listed
+  pub sized : All (λ s. (0 < s.size) × (s.size ≤ most_body_bytes)) list.parts
   pub of_upload : 32 < length o.etag
-  pub bytes : joined (outer_bytes (within segments)) listed ≡ Some o.bytes
-  pub whole : sum_by (λ s. s.size) listed ≡ length o.bytes
+  pub bytes : joined (outer_bytes (within segments)) list.parts ≡ Some o.bytes
+  pub whole : sum_by (λ s. s.size) list.parts ≡ length o.bytes
 
 -- what the segments are that the file of an object lists
 abbrev pub ObjectListed : Type 0
@@ -316,6 +337,12 @@ pub record Rolls (tree new : SwiftAccount) : Type 0 where
   pub same : s3_state new ≡ s3_state tree
   pub gateway : SameGateway tree new
 
+-- while a completion is sealed, the PUT of one of its sub-manifests
+abbrev pub SubRolled : Type 0
+SubRolled = (tree : SwiftAccount) (s : Sealed) (n : ℕ) → seal_of tree ≡ Some s → n < sealed_sub_manifests s
+    → IsSubManifest (sub_manifest_name (id_digits s.id) (n + 1)) (sub_file_at s n) → IsStored (sub_manifest_name (id_digits s.id) (n + 1)) (sub_file_at s n) → IsConsistent tree
+    → Rolls tree (put_file (segments_name s.bucket) (sub_manifest_name (id_digits s.id) (n + 1)) (sub_file_at s n) tree)
+
 -- while a completion is sealed, the PUT of a file under its key that is an object, and lists segments of its id if any
 abbrev pub ObjectRolled : Type 0
 ObjectRolled = (tree : SwiftAccount) (s : Sealed) (file : SwiftObject) → seal_of tree ≡ Some s → IsObject (files tree (segments_name s.bucket)) (segments_name s.bucket) s.key file
@@ -353,10 +380,10 @@ AreCounted (p ∷ list) = (p.number ≤ greatest_part) × AreCounted list
 abbrev pub ListingStands : Type 0
 ListingStands = (segments : Names SwiftObject) (folder id : List ℕ) (above : ℕ) (list : List SealedPart) → rises_from above (map listed_of list) ≡ true → AreCounted list
     → ((name : List ℕ) (file : SwiftObject) → get segments name ≡ Some file → IsSegment name file) → AreSealedParts segments id list
-    → AreParts segments folder id above (listing_of folder id (filled_parts list))
-    × (joined (outer_bytes (within segments)) (listing_of folder id (filled_parts list)) ≡ Some (sealed_bytes segments id list))
+    → AreParts segments folder id above (part_segments folder id (filled_parts list))
+    × (joined (outer_bytes (within segments)) (part_segments folder id (filled_parts list)) ≡ Some (sealed_bytes segments id list))
 
--- a sealed completion whose object may stand on the store: its tag and its pack have a text, and its parts are there
+-- a sealed completion whose object may stand on the store: its tag and its pack have a text, and its parts and sub-manifests are there
 pub record MayStand (segments : Names SwiftObject) (s : Sealed) : Type 0 where
   pub keyed : is_key s.key ≡ true
   pub tagged : has_text (sealed_tag s) ≡ true
@@ -365,9 +392,10 @@ pub record MayStand (segments : Names SwiftObject) (s : Sealed) : Type 0 where
   pub described : is_proper_meta s.meta ≡ true
   pub ascends : rises_from 0 (map listed_of s.list) ≡ true
   pub counted : AreCounted s.list
-  pub few : length s.list ≤ MOST_SEGMENTS
+  pub few : length s.list ≤ most_parts
   pub filed : (name : List ℕ) (file : SwiftObject) → get segments name ≡ Some file → IsSegment name file
   pub parts : AreSealedParts segments (id_digits s.id) s.list
+  pub subs : HasSubManifests segments (id_digits s.id) (sealed_segments s) (sealed_sub_manifests s)
 
 -- a file that is the object of a sealed completion
 pub record Stands (segments : Names SwiftObject) (s : Sealed) (file : SwiftObject) : Type 0 where

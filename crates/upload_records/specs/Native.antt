@@ -1,6 +1,6 @@
 -- The S3 state that an account represents: what its containers hold, and over it the completion that is sealed. It is a
 -- total function: what doesn't read as a bucket, an object, an upload or a completion isn't there. Source: this profile.
-use Rattle.std.specs.Prelude.{◌≡◌, true, ℕ, nat_lt, List, [], ◌∷◌, map, flat_map, cond, is_some, Option, None, Some}
+use Rattle.std.specs.Prelude.{◌≡◌, true, ℕ, zero, suc, ◌+◌, ◌*◌, ◌/◌, nat_le, nat_lt, List, [], ◌∷◌, ◌++◌, codes, drop, length, map, flat_map, cond, is_some, take, Option, None, Some}
 use Rattle.std.specs.Option.{unwrap_or, option_map, option_and_then}
 use Rattle.std.specs.List.{filter}
 use Rattle.std.specs.FinMap.{get}
@@ -12,9 +12,10 @@ use Rattle.s3_machine.specs.State.{Object, Part, Upload, Completion, Bucket, Sta
 use Rattle.s3_machine.specs.Finish.{Finished, finished}
 use Rattle.s3_machine.specs.Uploads.{greatest_part}
 use Rattle.s3_machine.specs.declared.operation.Listed.{Listed}
+use Rattle.slo_manifest.specs.declared.manifest.TheConstants.{MOST_SEGMENTS}
 use Rattle.slo_manifest.specs.declared.Segment.{Segment}
-use Rattle.swift_calls.specs.Account.{SwiftObject, SwiftContainer, SwiftAccount, files, find_object}
-use Rattle.swift_calls.specs.Bodies.{Look, bytes_of, plain_bytes}
+use Rattle.swift_calls.specs.Account.{SwiftObject, SwiftContainer, SwiftAccount, files, find_object, size_of}
+use Rattle.swift_calls.specs.Bodies.{Look, bytes_of, etag_of, plain_bytes}
 use Rattle.swift_calls.specs.declared.account.Content.{Content}
 use Rattle.swift_calls.specs.declared.account.Content.TheVariants.{Plain, Segments}
 use Rattle.swift_marks.specs.declared.tag.Tag.{Tag}
@@ -26,7 +27,7 @@ use Rattle.upload_texts.specs.declared.record.Record.{Record}
 use Rattle.upload_texts.specs.declared.record.Record.TheVariants.{Open, Done}
 use Rattle.upload_texts.specs.declared.sealed.Sealed.{Sealed}
 use Rattle.upload_texts.specs.declared.sealed.SealedPart.{SealedPart}
-use Rattle.upload_records.specs.Layout.{uploads_name, segments_name, gateway_name, sealed_name, segment_name, acl_of}
+use Rattle.upload_records.specs.Layout.{uploads_name, segments_name, gateway_name, sealed_name, segment_name, sub_manifest_name, acl_of}
 
 -- segments are looked up beside the bucket, whatever container they name
 abbrev pub within : Names SwiftObject → Look
@@ -194,10 +195,41 @@ filled_parts list = filter (λ p. nat_lt 0 p.size) list
 abbrev pub part_segment : List ℕ → List ℕ → SealedPart → Segment
 part_segment folder id p = record { container = folder; name = segment_name id p.number; etag = p.etag; size = p.size }
 
--- the segments that the object of these parts lists: the parts themselves. This is the one place that says how a completed
--- object lies on the store
-unfoldable pub listing_of : List ℕ → List ℕ → List SealedPart → List Segment
-listing_of folder id parts = map (part_segment folder id) parts
+-- the segments of the run of a number, counted from 0: runs have as many as a manifest may list, the last one so many or fewer
+unfoldable pub run : ℕ → List Segment → List Segment
+run n segments = take MOST_SEGMENTS (drop (MOST_SEGMENTS * n) segments)
+
+-- how many sub-manifests the object of so many segments lists: none, where its own manifest may list them, and else one for each run
+abbrev pub sub_manifests : ℕ → ℕ
+sub_manifests n = cond (nat_le n MOST_SEGMENTS) 0 ((n + 999) / MOST_SEGMENTS)
+
+-- the sub-manifest of that number, counted from 0, which lists these, as a segment
+abbrev pub sub_segment : List ℕ → List ℕ → ℕ → List Segment → Segment
+sub_segment folder id n listed = record {
+  container = folder;
+  name = sub_manifest_name id (n + 1);
+  etag = etag_of (Segments listed);
+  size = size_of (Segments listed);
+}
+
+-- the sub-manifests of the first n runs
+unfoldable pub sub_segments : List ℕ → List ℕ → List Segment → ℕ → List Segment
+sub_segments folder id segments zero = []
+sub_segments folder id segments (suc n) = sub_segments folder id segments n ++ sub_segment folder id n (run n segments) ∷ []
+
+-- what an object of these segments lists: the segments themselves, where a manifest may list so many, and else their sub-manifests.
+-- This is the one place that says how a completed object lies on the store
+unfoldable pub listing_by : List ℕ → List ℕ → List Segment → List Segment
+listing_by folder id segments =
+    cond (nat_le (length segments) MOST_SEGMENTS) segments (sub_segments folder id segments (sub_manifests (length segments)))
+
+-- the segments that these parts are
+abbrev pub part_segments : List ℕ → List ℕ → List SealedPart → List Segment
+part_segments folder id parts = map (part_segment folder id) parts
+
+-- what the object of these parts lists
+abbrev pub listing_of : List ℕ → List ℕ → List SealedPart → List Segment
+listing_of folder id parts = listing_by folder id (part_segments folder id parts)
 
 abbrev pub content_by : List Segment → Content
 content_by [] = Plain []
@@ -214,6 +246,33 @@ completed_file s = record {
   meta = pack_of s.meta;
   content = content_by (listing_of (segments_name s.bucket) (id_digits s.id) (filled_parts s.list));
 }
+
+-- ---- its sub-manifests
+
+-- the segments that are its parts, but for the empty ones
+abbrev pub sealed_segments : Sealed → List Segment
+sealed_segments s = part_segments (segments_name s.bucket) (id_digits s.id) (filled_parts s.list)
+
+-- how many sub-manifests it has
+abbrev pub sealed_sub_manifests : Sealed → ℕ
+sealed_sub_manifests s = sub_manifests (length (sealed_segments s))
+
+-- and how many what is sealed has, if something is
+abbrev pub sub_manifests_of : Option Sealed → ℕ
+sub_manifests_of None = 0
+sub_manifests_of (Some s) = sealed_sub_manifests s
+
+-- the tag of a sub-manifest that lists these
+abbrev pub sub_tag : Sealed → List Segment → Tag
+sub_tag s listed = record { content_type = codes "application/octet-stream"; etag = etag_of (Segments listed); moment = s.moment; id = Some s.id }
+
+-- the file of a sub-manifest that lists these. It has no metadata
+abbrev pub sub_file : Sealed → List Segment → SwiftObject
+sub_file s listed = record { content_type = tag_text (sub_tag s listed); meta = []; content = Segments listed }
+
+-- the file of the sub-manifest of that number, counted from 0
+abbrev pub sub_file_at : Sealed → ℕ → SwiftObject
+sub_file_at s n = sub_file s (run n (sealed_segments s))
 
 -- the record of a completed upload, with the moment of its completion
 abbrev pub sealed_record : Sealed → Record

@@ -1,7 +1,7 @@
 ghost use Rattle.std.specs.Prelude.{◌≡◌, ◌≤◌, ◌+◌, IfOk};
 ghost use Rattle.s3_names.specs.Id.{id_digits};
 ghost use Rattle.s3_machine.specs.Uploads.{greatest_part};
-ghost use Rattle.upload_records.specs.Layout.{acl_of, five_digits, gateway_name, readers_of, sealed_name, segment_name, segments_name, segments_prefix, uploads_name};
+ghost use Rattle.upload_records.specs.Layout.{acl_of, five_digits, gateway_name, readers_of, sealed_name, segment_name, segments_name, segments_prefix, sub_manifest_name, uploads_name};
 
 use gate_base::{Bytes, Memory};
 use s3_names::{Acl, id_digits};
@@ -81,6 +81,18 @@ pub fn segment_name(alloc: Global, id: u128, number: u32) -> Result<Bytes, Memor
     ensures { IfOk result (λ name. name ≡ segment_name (id_digits id) number) }
 {
     let mut name = segments_prefix(alloc, id)?;
+    name.append(&five_digits(number))?;
+    Ok(name)
+}
+
+/// The name of the sub-manifest of a number (this profile).
+#[tactic(auto, unfolding(crate::specs::Layout::sub_manifest_name, crate::specs::Layout::segments_prefix))]
+pub fn sub_manifest_name(alloc: Global, id: u128, number: u32) -> Result<Bytes, Memory>
+    requires { number ≤ 99999 }
+    ensures { IfOk result (λ name. name ≡ sub_manifest_name (id_digits id) number) }
+{
+    let mut name = segments_prefix(alloc, id)?;
+    name.push(b'm')?;
     name.append(&five_digits(number))?;
     Ok(name)
 }

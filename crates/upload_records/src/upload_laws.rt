@@ -1,6 +1,6 @@
 //! Laws on uploads, each the contract of a function that does nothing: on their records and segments, on the containers beside a
 //! bucket, on objects that list segments, and on a completion that is sealed in the gateway's own container.
-ghost use Rattle.upload_records.specs.Laws.{CompletedStands, CompletionSealed, FilePut, GatewayMade, ListingFound, ListingStands, ObjectListed, ObjectProper, ObjectRolled, OrphanGone, OrphanPut, PartPut, RecordRolled, SealGone, SideFileGone, SideMade, UnusedIsAbandoned, UploadAbandoned, UploadDropped, UploadOpened};
+ghost use Rattle.upload_records.specs.Laws.{CompletedStands, CompletionSealed, FilePut, GatewayMade, ListingFound, ListingStands, ObjectListed, ObjectProper, ObjectRolled, OrphanGone, OrphanListed, OrphanPut, PartPut, RecordRolled, SealGone, SideFileGone, SideMade, SubRolled, UnusedIsAbandoned, UploadAbandoned, UploadDropped, UploadOpened};
 
 /// Where no completion is sealed, the PUT of a part's file under an upload that is open puts the part in place of the one
 /// of its number; it leaves the account consistent, and the gateway's own container as it was.
@@ -46,6 +46,17 @@ pub fn law_orphan_gone()
 /// the id as such.
 pub fn law_orphan_put()
     ensures { OrphanPut }
+{}
+
+/// Where no completion is sealed, the PUT of a sub-manifest under an id that nothing names leaves the state, and the segments of
+/// the id as such.
+pub fn law_orphan_listed()
+    ensures { OrphanListed }
+{}
+
+/// While a completion is sealed, the PUT of one of its sub-manifests leaves the state, and what is sealed.
+pub fn law_sub_rolled()
+    ensures { SubRolled }
 {}
 
 /// Nothing names the segments of an id under which nothing stands.

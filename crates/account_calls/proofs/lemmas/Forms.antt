@@ -16,7 +16,7 @@ use Rattle.s3_machine.specs.Limits.{most_body_bytes}
 use Rattle.s3_machine.specs.State.{Object}
 use Rattle.slo_manifest.specs.declared.Segment.{Segment}
 use Rattle.swift_calls.specs.Account.{SwiftObject, size_of}
-use Rattle.swift_calls.specs.Bodies.{Look, etag_text, etag_of, is_segment, as_segment, segment_bytes_of, outer_bytes, joined_two, joined, bytes_of, is_list}
+use Rattle.swift_calls.specs.Bodies.{Look, outer_bytes, joined_two, joined, bytes_of, is_list}
 use Rattle.swift_calls.specs.Bodies as bodies
 use Rattle.swift_calls.specs.declared.account.Content.{Content}
 use Rattle.swift_calls.specs.declared.account.Content.TheVariants.{Plain}
@@ -24,27 +24,12 @@ use Rattle.swift_marks.specs.declared.tag.Tag.{Tag}
 use Rattle.swift_marks.specs.Tag.{read_tag}
 use Rattle.swift_marks.specs.Pack.{unpacked}
 use Rattle.upload_records.specs.Native.{within, object_by, object_of}
-use Rattle.upload_records.specs.Consistent.{AreParts, of_parts, IsCompletedBody, of_none, of_segments, IsPlainObject, IsCompletedObject, IsObject, in_one_piece, in_parts}
+use Rattle.upload_records.proofs.lemmas.Subs.{Finds, list_bytes, listing_sum, outer_part}
+use Rattle.upload_records.specs.Consistent.{AreParts, IsCompletedBody, of_none, of_segments, IsPlainObject, IsCompletedObject, IsObject, in_one_piece, in_parts}
 use Rattle.account_calls.specs.Interpret.{object_head_agrees_with_tag}
 use Rattle.account_calls.proofs.lemmas.Etags.{etag_agrees}
 
 -- ---- the bytes of listed parts
-
--- a way to look objects up that finds what stands in a container
-abbrev pub Finds : Names SwiftObject → List ℕ → Look → Type 0
-Finds segments folder look = (name : List ℕ) (file : SwiftObject) → get segments name ≡ Some file → look folder name ≡ Some file
-
-as_listed : (s : Segment) (file : SwiftObject) (bytes : List ℕ) → file.content ≡ Plain bytes → s.etag ≡ etag_text bytes → s.size ≡ length bytes → is_segment s file ≡ true
-as_listed s file bytes own etag size =
-    (λ i. bytes_eq (etag_of (own i)) (etag i) && nat_eq (size_of (own i)) (size i))
-    ∙ and_from _ _ ((bytes_eq-Decides (etag_text bytes) (etag_text bytes)).1 refl) (eq-eqb (length bytes) (length bytes) refl)
-
-listed_bytes : (look : Look) (s : Segment) (file : SwiftObject) (bytes : List ℕ) → look s.container s.name ≡ Some file → file.content ≡ Plain bytes → s.etag ≡ etag_text bytes → s.size ≡ length bytes
-    → outer_bytes look s ≡ Some bytes
-listed_bytes look s file bytes there own etag size =
-    ap (λ o. option_and_then (segment_bytes_of look) (as_segment s o)) there
-    ∙ ap (λ t. option_and_then (segment_bytes_of look) (cond t (Some file.content) None)) (as_listed s file bytes own etag size)
-    ∙ ap (segment_bytes_of look) own
 
 module _ (segments : Names SwiftObject) (folder id : List ℕ) where
   -- the bytes of the parts in a row
@@ -57,8 +42,7 @@ module _ (segments : Names SwiftObject) (folder id : List ℕ) where
   parts_are look finds above [] h = refl
   parts_are look finds above (s ∷ list) (number, low, high, listed, rest) =
       let later = parts_are look finds number list rest in
-      let there : look s.container s.name ≡ Some listed.file = (λ i. look (listed.contained i) (listed.named i)) ∙ finds _ listed.file listed.there in
-      let first = listed_bytes look s listed.file listed.bytes there listed.own listed.etag listed.size in
+      let first = outer_part segments folder id look finds number s listed in
       λ i. joined_two (first i) (later i)
 
   parts_sized : (above : ℕ) (list : List Segment) (parts : AreParts segments folder id above list) → sum_by (λ (s : Segment). s.size) list ≡ length (bytes_of_parts above list parts)
@@ -78,10 +62,10 @@ record HasBytes (segments : Names SwiftObject) (folder : List ℕ) (content : Co
 
 body_has : (segments : Names SwiftObject) (folder id : List ℕ) (content : Content) → IsCompletedBody segments folder id content → HasBytes segments folder content
 body_has segments folder id content (of_none own) = record { bytes = []; over = λ look finds. ap (bytes_of look) own; sized = ap size_of own }
-body_has segments folder id content (of_segments listed own (of_parts some few parts)) = record {
-  bytes = bytes_of_parts segments folder id 0 listed parts;
-  over = λ look finds. ap (bytes_of look) own ∙ parts_are segments folder id look finds 0 listed parts;
-  sized = ap size_of own ∙ parts_sized segments folder id 0 listed parts;
+body_has segments folder id content (of_segments listed own list) = record {
+  bytes = bytes_of_parts segments folder id 0 list.parts list.are;
+  over = λ look finds. ap (bytes_of look) own ∙ list_bytes segments folder id look finds listed list ∙ parts_are segments folder id look finds 0 list.parts list.are;
+  sized = ap size_of own ∙ ap (sum_by (λ (s : Segment). s.size)) list.lists ∙ listing_sum folder id list.parts ∙ parts_sized segments folder id 0 list.parts list.are;
 }
 
 -- ---- what a file says

@@ -9,7 +9,7 @@ use Rattle.slo_manifest.specs.declared.Segment.{Segment}
 use Rattle.s3_machine.specs.declared.operation.Listed.{Listed}
 use Rattle.upload_texts.specs.Sealed.{part_fits_sealed_text}
 use Rattle.upload_texts.specs.declared.sealed.SealedPart.{SealedPart}
-use Rattle.upload_records.specs.Native.{filled_parts, listed_of, listing_of, part_segment}
+use Rattle.upload_records.specs.Native.{filled_parts, listed_of, part_segment, part_segments}
 
 passes_at : (parts : List SealedPart) (i : ℕ) (d : SealedPart) → list_all part_fits_sealed_text parts ≡ true → i < length parts → part_fits_sealed_text (get_or parts i d) ≡ true
 passes_at [] i d h below = absurd (omega arith)
@@ -37,6 +37,5 @@ listed_more parts i p old new so grown below same =
 
 -- and all of them
 pub segments_all : (folder id : List ℕ) (parts : List SealedPart) (i : ℕ) (list : List Segment) → list ≡ map (part_segment folder id) (filled_parts (take i parts)) → (i < length parts → ⊥)
-    → list ≡ listing_of folder id (filled_parts parts)
-unfolding listing_of
+    → list ≡ part_segments folder id (filled_parts parts)
 segments_all folder id parts i list so end = so ∙ ap (λ ps. map (part_segment folder id) (filled_parts ps)) (take_all i parts (omega (arith, end)))

@@ -20,7 +20,7 @@ use Rattle.swift_calls.specs.Limits.{IsMarker, IsObjectName}
 use Rattle.swift_calls.specs.Step.{IsContainerName}
 use Rattle.swift_marks.proofs.lemmas.TagLaws.{weaken}
 use Rattle.upload_records.specs.Consistent.{IsFileName}
-use Rattle.upload_records.specs.Layout.{five_digits, segment_name, segments_name, segments_prefix, uploads_name}
+use Rattle.upload_records.specs.Layout.{five_digits, segment_name, segments_name, segments_prefix, sub_manifest_name, uploads_name}
 
 -- ASCII without byte 0
 abbrev is_plain : ℕ → Bool
@@ -107,6 +107,18 @@ segment_fits id number is =
     let near = is.within in
     let long = segment_length id number in
     plain_object (id_digits id ++ 47 ∷ five_digits number) (segment_is_plain id number (omega (arith, near))) (omega (arith, long)) (omega (arith, long))
+
+sub_is_plain : (id number : ℕ) → number ≤ 99999 → list_all is_plain (id_digits id ++ 47 ∷ (109 ∷ five_digits number)) ≡ true
+sub_is_plain id number near = list_all-append is_plain (id_digits id) (47 ∷ (109 ∷ five_digits number)) ∙ and_from _ _ (id_is_plain id) (five_are_plain number near)
+
+sub_length : (id number : ℕ) → length (id_digits id ++ 47 ∷ (109 ∷ five_digits number)) ≡ 39
+sub_length id number = let long = length-id_digits id in let size = length-append (id_digits id) (47 ∷ (109 ∷ five_digits number)) in omega (arith, long, size)
+
+pub sub_fits : (id number : ℕ) → number ≤ 10 → IsObjectName (sub_manifest_name (id_digits id) number)
+unfolding sub_manifest_name
+sub_fits id number near =
+    let long = sub_length id number in
+    plain_object (id_digits id ++ 47 ∷ (109 ∷ five_digits number)) (sub_is_plain id number (omega (arith, near))) (omega (arith, long)) (omega (arith, long))
 
 pub segment_is_marker : (id number : ℕ) → number ≤ 99999 → IsMarker (segment_name (id_digits id) number)
 unfolding segment_name

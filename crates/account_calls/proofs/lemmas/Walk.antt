@@ -20,6 +20,7 @@ use Rattle.account_calls.specs.Answers.{pages}
 use Rattle.account_calls.specs.Fault.{CausesFault}
 use Rattle.account_calls.specs.Listing.{after, TellsOf, TellsNames, TellsNext, MayListAfter}
 use Rattle.account_calls.specs.Stutters.{Stutters}
+use Rattle.account_calls.specs.Told.{Idles}
 use Rattle.account_calls.specs.Calls.{always, by_account, GoesOn, Met, Keeps, Asks}
 use Rattle.account_calls.proofs.lemmas.Agree.{quiet_agree, quiet_trans, failed_after}
 use Rattle.account_calls.proofs.lemmas.Faults.{err_is}
@@ -57,12 +58,6 @@ pub length-keys : (tree : SwiftAccount) → length (keys tree) ≡ len tree
 length-keys tree = length-map (entries tree) (λ e. e.0) ∙ sym (len-entries tree)
 
 -- ---- stretches of calls
-
--- calls that left the account, as they stand in the history b
-pub record Idles (b : History) (p q : ℕ) : Type 0 where
-  pub quiet : Stutters b p q
-  pub still : b.faults_at q ≡ b.faults_at p
-  pub same : b.account_at q ≡ b.account_at p
 
 pub idles_none : (h : History) → IsConsistent (present h) → Idles h h.called h.called
 idles_none h sound = record { quiet = none_made refl sound; still = refl; same = refl }

@@ -25,7 +25,7 @@ use Rattle.account_calls.specs.Calls.{Bound, always, by_account, Asks, GivenOf, 
 use Rattle.account_calls.specs.FilePages.{items_after, rows_after}
 use Rattle.account_calls.proofs.lemmas.Idle.{grows_none, none_made}
 use Rattle.upload_calls.specs.Listing.{part_due, told_after, TellsNext}
-use Rattle.upload_calls.specs.Records.{InBucket, TellsParts, items_above}
+use Rattle.upload_calls.specs.Records.{HasOnlyParts, TellsParts, items_above}
 use Rattle.upload_calls.proofs.PartRows.{items_told, none_above, parts_told}
 use Rattle.upload_calls.proofs.lemmas.Taking.{Taking, taking_end, taking_fault, taking_none}
 
@@ -79,16 +79,16 @@ unfolding segments_prefix
 rows_within tree bucket id marker = shorter (λ e. is_lt (name_cmp marker e.0)) (with_prefix (prefix_of id) (entries (files tree (segments_name bucket))))
 
 -- each item tells a part
-pub all_parts : (bucket : List ℕ) (id : ℕ) (marker : List ℕ) → is_bucket bucket ≡ true → (tree : SwiftAccount) → IsConsistent tree → InBucket bucket tree
+pub all_parts : (bucket : List ℕ) (id : ℕ) (marker : List ℕ) → is_bucket bucket ≡ true → (tree : SwiftAccount) → IsConsistent tree → HasOnlyParts bucket id tree
     → list_all (λ item. is_some (part_due (prefix_of id) item)) (items_after (prefix_of id) marker (files tree (segments_name bucket))) ≡ true
-all_parts bucket id marker is tree sound there = items_told tree bucket id is sound there marker
+all_parts bucket id marker is tree sound has = items_told tree bucket id is sound (has sound) marker
 
 -- so far the parts are listed up to the marker
 abbrev pub Parting : History → History → List ℕ → ℕ → ℕ → List ℕ → List PartItem → Type 0
-Parting a b bucket id marker last parts = Taking a b (InBucket bucket) (part_due (prefix_of id)) (segments_name bucket) (prefix_of id) (first_of id marker) last parts
+Parting a b bucket id marker last parts = Taking a b (HasOnlyParts bucket id) (part_due (prefix_of id)) (segments_name bucket) (prefix_of id) (first_of id marker) last parts
 
 pub parting_none : (a : History) (bucket : List ℕ) (id marker : ℕ) (last : List ℕ) (parts : List PartItem) → last ≡ first_of id marker → parts ≡ [] → Parting a a bucket id marker last parts
-parting_none a bucket id marker last parts begins none = taking_none a (InBucket bucket) (part_due (prefix_of id)) (segments_name bucket) (prefix_of id) (first_of id marker) last parts begins none
+parting_none a bucket id marker last parts begins none = taking_none a (HasOnlyParts bucket id) (part_due (prefix_of id)) (segments_name bucket) (prefix_of id) (first_of id marker) last parts begins none
 
 -- what is told is enough: it was the last page, or there are more parts than are asked for
 abbrev pub IsEnough : ℕ → List PartItem → Option (List ℕ) → Type 0
@@ -104,17 +104,17 @@ module _ {a b : History} (bucket : List ℕ) (id marker : ℕ) {last : List ℕ}
 
   -- the last page that is asked for
   pub parting_end : {new : List PartItem} {c : History} {told : Option (List ℕ)}
-      → Asks (always 1) b c (GivenOf (InBucket bucket)) (TellsOf (TellsNext (part_due (prefix_of id)) (segments_name bucket) (prefix_of id) last parts new)) (Ok told)
+      → Asks (always 1) b c (GivenOf (HasOnlyParts bucket id)) (TellsOf (TellsNext (part_due (prefix_of id)) (segments_name bucket) (prefix_of id) last parts new)) (Ok told)
       → is_bucket bucket ≡ true → (max : ℕ) → IsEnough max new told → (result : List PartItem × Bool) → result ≡ cut max new
-      → Asks (by_account (pages (named_by (present a) bucket (id_digits id)))) a c (GivenOf (InBucket bucket)) (TellsOf (TellsParts bucket id marker max)) (Ok result)
+      → Asks (by_account (pages (named_by (present a) bucket (id_digits id)))) a c (GivenOf (HasOnlyParts bucket id)) (TellsOf (TellsParts bucket id marker max)) (Ok result)
   parting_end {new = new} {told = told} asks named max enough result is =
       taking_end walked asks (TellsParts bucket id marker max) (named_by (present a) bucket (id_digits id)) result (rows_within (present a) bucket id (first_of id marker))
-      (λ tree sound there tells all. is ∙ cut_by tree max new told tells enough all ∙ ap (cut max) (parts_told tree bucket id named sound there marker))
+      (λ tree sound has tells all. is ∙ cut_by tree max new told tells enough all ∙ ap (cut max) (parts_told tree bucket id named sound (has sound) marker))
 
   -- a page that wasn't added
-  pub parting_fault : {T : Type 0} {Q : SwiftAccount → T → Type 0} {c : History} {f : PlanFault} → Asks (always 1) b c (GivenOf (InBucket bucket)) (TellsOf Q) (Err f) → (max : ℕ)
+  pub parting_fault : {T : Type 0} {Q : SwiftAccount → T → Type 0} {c : History} {f : PlanFault} → Asks (always 1) b c (GivenOf (HasOnlyParts bucket id)) (TellsOf Q) (Err f) → (max : ℕ)
       → (result : Result (List PartItem × Bool) PlanFault) → IsErrAnd result (λ e. e ≡ f)
-      → Asks (by_account (pages (named_by (present a) bucket (id_digits id)))) a c (GivenOf (InBucket bucket)) (TellsOf (TellsParts bucket id marker max)) result
+      → Asks (by_account (pages (named_by (present a) bucket (id_digits id)))) a c (GivenOf (HasOnlyParts bucket id)) (TellsOf (TellsParts bucket id marker max)) result
   parting_fault asks max result is =
       taking_fault walked asks (TellsParts bucket id marker max) (named_by (present a) bucket (id_digits id)) (rows_within (present a) bucket id (first_of id marker)) result is
 
@@ -131,16 +131,16 @@ great_marker marker great = great
 
 -- none is asked for, or none has so great a number
 pub none_listed : (a : History) (most : Bound) (bucket : List ℕ) (id marker max : ℕ) → is_bucket bucket ≡ true → (max ≡ 0) ⊎ (greatest_part ≤ marker) → (result : List PartItem × Bool) → result ≡ ([], false)
-    → Asks most a a (GivenOf (InBucket bucket)) (TellsOf (TellsParts bucket id marker max)) (Ok result)
+    → Asks most a a (GivenOf (HasOnlyParts bucket id)) (TellsOf (TellsParts bucket id marker max)) (Ok result)
 none_listed a most bucket id marker max named none result is = record {
-  grows = grows_none most (GivenOf (InBucket bucket)) a;
+  grows = grows_none most (GivenOf (HasOnlyParts bucket id)) a;
   cause = refl;
   effect = λ met. (none_made refl met.sound, refl, record { of_account = is ∙ sym (nothing met none); same = refl });
   settled = λ observable settled. settled;
 }
   where
-    nothing : Met (GivenOf (InBucket bucket)) a → (max ≡ 0) ⊎ (greatest_part ≤ marker) → cut max (items_above marker (parts_of (files (present a) (segments_name bucket)) (id_digits id))) ≡ ([], false)
+    nothing : Met (GivenOf (HasOnlyParts bucket id)) a → (max ≡ 0) ⊎ (greatest_part ≤ marker) → cut max (items_above marker (parts_of (files (present a) (segments_name bucket)) (id_digits id))) ≡ ([], false)
     nothing met (inl zero_is) =
         ap (λ n. cut n (items_above marker (parts_of (files (present a) (segments_name bucket)) (id_digits id)))) zero_is
         ∙ cut_none (items_above marker (parts_of (files (present a) (segments_name bucket)) (id_digits id)))
-    nothing met (inr above) = ap (cut max) (none_above (present a) bucket id named met.sound met.has.is marker above) ∙ cut_empty max
+    nothing met (inr above) = ap (cut max) (none_above (present a) bucket id named met.sound (met.has.is met.sound) marker above) ∙ cut_empty max

@@ -22,7 +22,8 @@ use Rattle.account_calls.specs.Listing.{TellsOf}
 use Rattle.account_calls.proofs.lemmas.Ask.{asks_out_of_memory}
 use Rattle.account_calls.proofs.lemmas.Faults.{err_is}
 use Rattle.account_calls.proofs.lemmas.Idle.{goes_none, goes_trans}
-use Rattle.account_calls.proofs.lemmas.Walk.{Idles, idles_none, idles_trans, cause_after, keeps_after}
+use Rattle.account_calls.specs.Told.{Idles}
+use Rattle.account_calls.proofs.lemmas.Walk.{idles_none, idles_trans, cause_after, keeps_after}
 use Rattle.upload_calls.specs.Listing.{told_after, Adds, GoesOnWith, HasOdd, TellsNext}
 use Rattle.upload_calls.proofs.Turned.{turned, ended}
 

@@ -1,6 +1,6 @@
 -- The calls that settle an account on which a completion is sealed: what the GET of its file tells, and the accounts after the calls
 -- that roll it forward.
-use Rattle.std.specs.Prelude.{◌≡◌, ◌⊎◌, ℕ, true, false, List, length, Option, None, Some}
+use Rattle.std.specs.Prelude.{◌≡◌, ◌⊎◌, ◌<◌, ◌+◌, ℕ, true, false, List, length, Option, None, Some}
 use Rattle.std.specs.Option.{option_and_then}
 use Rattle.std.specs.FinMap.{get}
 use Rattle.std.proofs.Common.{refl, sym, ap, subst, ◌∙◌, inl, inr}
@@ -17,13 +17,14 @@ use Rattle.swift_calls.specs.Step.{swift_step, body_reply, get_reply}
 use Rattle.upload_texts.specs.Records.{read_record}
 use Rattle.upload_texts.specs.Sealed.{read_sealed, has_sealed_text}
 use Rattle.upload_texts.specs.declared.sealed.Sealed.{Sealed}
-use Rattle.upload_records.specs.Layout.{uploads_name, segments_name, gateway_name, sealed_name}
-use Rattle.upload_records.specs.Native.{record_at, seal_by, seal_of, completed_file, sealed_record, IsSettled}
-use Rattle.upload_records.specs.Consistent.{IsObject, IsListOf, IsStored, IsThere, IsConsistent}
+use Rattle.upload_records.specs.Layout.{uploads_name, segments_name, gateway_name, sealed_name, sub_manifest_name}
+use Rattle.upload_records.specs.Native.{record_at, seal_by, seal_of, completed_file, sealed_record, sealed_segments, sealed_sub_manifests, sub_file_at, IsSettled}
+use Rattle.upload_records.specs.Consistent.{HasSubManifests, IsSubManifest, IsObject, IsListOf, IsStored, IsThere, IsConsistent}
 use Rattle.upload_records.specs.Laws.{file_put, Rolls, IsRolled, ListingStands, Unseals, MayStand, Stands}
 use Rattle.upload_records.proofs.Completed as completed
 use Rattle.upload_records.proofs.Parts as parts
 use Rattle.upload_records.proofs.Rolls as rolls
+use Rattle.upload_records.proofs.SubRolls as subs
 use Rattle.upload_records.proofs.lemmas.Objects.{put_leaves, delete_leaves}
 use Rattle.upload_records.proofs.lemmas.SealedTexts.{sealed_has}
 use Rattle.upload_records.proofs.lemmas.Settled.{unsealed_by}
@@ -85,6 +86,18 @@ listing_stands segments folder id above list ascends counted filed sealed = comp
 -- the file that is put is the object of the completion
 pub completed_stands : (segments : Names SwiftObject) (s : Sealed) → MayStand segments s → Stands segments s (completed_file s)
 completed_stands segments s may = completed.completed_stands segments s may
+
+-- ---- its sub-manifests
+
+module _ (tree : SwiftAccount) (s : Sealed) (n : ℕ) (seals : seal_of tree ≡ Some s) (below : n < sealed_sub_manifests s)
+    (sub : IsSubManifest (sub_manifest_name (id_digits s.id) (n + 1)) (sub_file_at s n)) (stored : IsStored (sub_manifest_name (id_digits s.id) (n + 1)) (sub_file_at s n)) (sound : IsConsistent tree) where
+  pub sub_rolls : Rolls tree (put_file (segments_name s.bucket) (sub_manifest_name (id_digits s.id) (n + 1)) (sub_file_at s n) tree)
+  sub_rolls = subs.sub_rolls tree s n seals below sub stored sound
+
+  -- the first sub-manifests, and this one
+  pub subs_grow : HasSubManifests (files tree (segments_name s.bucket)) (id_digits s.id) (sealed_segments s) n
+      → HasSubManifests (files (put_file (segments_name s.bucket) (sub_manifest_name (id_digits s.id) (n + 1)) (sub_file_at s n) tree) (segments_name s.bucket)) (id_digits s.id) (sealed_segments s) (n + 1)
+  subs_grow has = subs.subs_grow tree s n seals below sub stored sound has
 
 module _ (tree : SwiftAccount) (s : Sealed) (file : SwiftObject) (seals : seal_of tree ≡ Some s) (object : IsObject (files tree (segments_name s.bucket)) (segments_name s.bucket) s.key file)
     (lists : (id : ℕ) → IsListOf file id → id ≡ s.id) (stored : IsStored s.key file) (sound : IsConsistent tree) where

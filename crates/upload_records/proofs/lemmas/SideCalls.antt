@@ -22,17 +22,17 @@ use Rattle.swift_calls.specs.Account.{SwiftObject, SwiftAccount, files, files_of
 use Rattle.swift_calls.specs.Bodies.{Look, bytes_of, head_of, plain_bytes}
 use Rattle.swift_calls.specs.Step.{swift_step, body_reply, get_reply, delete_object}
 use Rattle.upload_texts.specs.Sealed.{read_sealed}
-use Rattle.upload_records.specs.Layout.{uploads_name, segments_name, gateway_name, sealed_name, segment_name, segments_prefix, five_digits}
-use Rattle.upload_records.specs.Native.{seal_by, seal_of, SameGateway, IsUnsealed, IsSettled, s3_state}
-use Rattle.upload_records.specs.Consistent.{IsBeside, IsSegment, is_part, IsThere, IsConsistent}
-use Rattle.upload_records.specs.Laws.{IsQuiet, MakesSide, LeavesContainers, IsAbandoned, MakesGateway, StaysThere}
+use Rattle.upload_records.specs.Layout.{uploads_name, segments_name, gateway_name, sealed_name, segment_name, segments_prefix, sub_manifest_name, five_digits}
+use Rattle.upload_records.specs.Native.{record_at, seal_by, seal_of, SameGateway, IsUnsealed, IsSettled, s3_state}
+use Rattle.upload_records.specs.Consistent.{IsBeside, IsSegment, is_part, is_sub_manifest, IsOpen, sealed_in, sealed_id, IsThere, IsConsistent}
+use Rattle.upload_records.specs.Laws.{IsQuiet, MakesSide, LeavesContainers, IsAbandoned, IsNameUnder, of_part, of_sub_manifest, MakesGateway, StaysThere}
 use Rattle.upload_records.proofs.lemmas.Settled.{same_apart, same_none, seal_holds, seal_none, settled_same, unsealed_by}
 use Rattle.upload_records.proofs.lemmas.Objects.{delete_leaves}
 use Rattle.upload_records.proofs.lemmas.Off.{put_off}
-use Rattle.upload_records.proofs.Carried.{found_after}
+use Rattle.upload_records.proofs.Carried.{found_after, none_found}
 use Rattle.upload_records.proofs.GatewayPut as gateway
 use Rattle.upload_records.proofs.SideCalls as side
-use Rattle.upload_records.proofs.lemmas.Sides.{gateway_side, segments_uploads}
+use Rattle.upload_records.proofs.lemmas.Sides.{gateway_side, part_no_sub, segments_uploads, sub_id}
 
 -- ---- the two containers
 
@@ -95,10 +95,14 @@ begins_same (x ∷ xs) (y ∷ ys) front rest same e =
     let rest_same = begins_same xs ys front rest (omega (arith, same)) parts.1 in
     λ i. sym first i ∷ rest_same i
 
--- a part that begins with an id is of that id
+-- a part, or a sub-manifest, that begins with an id is of that id
 id_of_part : (id j n : ℕ) → begins (segments_prefix (id_digits id)) (segment_name (id_digits j) n) ≡ true → id_digits j ≡ id_digits id
 unfolding segments_prefix segment_name
 id_of_part id j n e = begins_same (id_digits id) (id_digits j) (47 ∷ []) (47 ∷ five_digits n) (length-id_digits id ∙ sym (length-id_digits j)) e
+
+id_of_sub : (id j n : ℕ) → begins (segments_prefix (id_digits id)) (sub_manifest_name (id_digits j) n) ≡ true → id_digits j ≡ id_digits id
+unfolding segments_prefix sub_manifest_name
+id_of_sub id j n e = begins_same (id_digits id) (id_digits j) (47 ∷ []) (47 ∷ (109 ∷ five_digits n)) (length-id_digits id ∙ sym (length-id_digits j)) e
 
 deleted_none : (o : Option SwiftObject) (c name : List ℕ) (tree : SwiftAccount) → o ≡ None → (delete_object o c name tree).tree ≡ tree
 deleted_none o c name tree none = ap (λ v. (delete_object v c name tree).tree) none
@@ -108,12 +112,16 @@ module _ (tree : SwiftAccount) (b : List ℕ) (id : ℕ) (name : List ℕ) (is :
   abbrev Gone : Type 0
   Gone = IsQuiet tree (DeleteObject (segments_name b) name) × IsAbandoned (swift_step (DeleteObject (segments_name b) name) tree).tree b (id_digits id)
 
-  gone_part : (file : SwiftObject) → IsSegment name file → Gone
-  gone_part file (is_part part) =
+  name_under : (file : SwiftObject) → IsSegment name file → IsNameUnder (id_digits id) name
+  name_under file (is_part part) =
       let of_id : id_digits part.id ≡ id_digits id = id_of_part id part.id part.number (ap (begins (segments_prefix (id_digits id))) (sym part.named) ∙ under) in
-      let named : segment_name (id_digits id) part.number ≡ name = ap (λ t. segment_name t part.number) (sym of_id) ∙ sym part.named in
-      subst (λ n. IsQuiet tree (DeleteObject (segments_name b) n) × IsAbandoned (swift_step (DeleteObject (segments_name b) n) tree).tree b (id_digits id)) named
-      (side.orphan_gone tree b (id_digits id) part.number is abandoned sound unsealed)
+      of_part part.number (part.named ∙ ap (λ t. segment_name t part.number) of_id)
+  name_under file (is_sub_manifest sub) =
+      let of_id : id_digits sub.id ≡ id_digits id = id_of_sub id sub.id sub.number (ap (begins (segments_prefix (id_digits id))) (sym sub.named) ∙ under) in
+      of_sub_manifest sub.number (sub.named ∙ ap (λ t. sub_manifest_name t sub.number) of_id)
+
+  gone_part : (file : SwiftObject) → IsSegment name file → Gone
+  gone_part file segment = side.orphan_gone tree b (id_digits id) name (name_under file segment) is abandoned sound unsealed
 
   gone_by : (o : Option SwiftObject) → find_object tree (segments_name b) name ≡ o → Gone
   gone_by None e =
@@ -126,6 +134,27 @@ module _ (tree : SwiftAccount) (b : List ℕ) (id : ℕ) (name : List ℕ) (is :
   pub orphan_gone : Gone
   orphan_gone = gone_by (find_object tree (segments_name b) name) refl
 
+-- ---- an upload that is open
+
+-- no sub-manifest stands under the id of one
+pub open_unlisted : (tree : SwiftAccount) (b : List ℕ) (id : ℕ) → is_bucket b ≡ true → IsThere tree b → IsOpen (record_at (files tree (uploads_name b)) (id_digits id)) → IsConsistent tree → IsUnsealed tree
+    → (number : ℕ) → get (files tree (segments_name b)) (sub_manifest_name (id_digits id) number) ≡ None
+open_unlisted tree b id is there opens sound unsealed number = by (get (files tree (segments_name b)) (sub_manifest_name (id_digits id) number)) refl
+  where
+    none_sealed_here : sealed_id tree b ≡ None
+    none_sealed_here = ap (λ s. sealed_in s b) (seal_none tree unsealed)
+
+    never : (file : SwiftObject) → get (files tree (segments_name b)) (sub_manifest_name (id_digits id) number) ≡ Some file → IsSegment (sub_manifest_name (id_digits id) number) file → ⊥
+    never file found (is_part part) = part_no_sub (id_digits part.id) (id_digits id) part.number number (sym part.named)
+    never file found (is_sub_manifest sub) =
+        let same : id_digits id ≡ id_digits sub.id = sub_id (id_digits id) (id_digits sub.id) number sub.number sub.named in
+        none_found sub.id (sym none_sealed_here ∙ (sound.buckets b is there).subs_apart (sub_manifest_name (id_digits id) number) file sub found
+        (subst (λ t. IsOpen (record_at (files tree (uploads_name b)) t)) same opens))
+
+    by : (o : Option SwiftObject) → get (files tree (segments_name b)) (sub_manifest_name (id_digits id) number) ≡ o → get (files tree (segments_name b)) (sub_manifest_name (id_digits id) number) ≡ None
+    by None e = e
+    by (Some file) e = absurd (never file e ((sound.buckets b is there).of_segments (sub_manifest_name (id_digits id) number) file e))
+
 -- ---- the gateway's own container
 
 pub gateway_made : (tree : SwiftAccount) (created : Option ℕ) → IsConsistent tree → MakesGateway tree (PutContainer gateway_name Nobody created)
@@ -134,6 +163,10 @@ gateway_made tree created sound = gateway.gateway_made tree created sound
 -- over every account it is there after its PUT
 pub gateway_there : (tree : SwiftAccount) (created : Option ℕ) → IsThere (swift_step (PutContainer gateway_name Nobody created) tree).tree gateway_name
 gateway_there tree created = gateway.made_there tree created (get tree gateway_name) refl
+
+-- and what is sealed is as it was
+pub gateway_seals : (tree : SwiftAccount) (created : Option ℕ) → seal_of (swift_step (PutContainer gateway_name Nobody created) tree).tree ≡ seal_of tree
+gateway_seals tree created = seal_holds tree (swift_step (PutContainer gateway_name Nobody created) tree).tree (gateway.made_files tree created (get tree gateway_name) refl)
 
 pub gateway_settled : (tree : SwiftAccount) (created : Option ℕ) → IsSettled tree → IsSettled (swift_step (PutContainer gateway_name Nobody created) tree).tree
 gateway_settled tree created settled = record {

@@ -4,13 +4,13 @@ use Rattle.std.specs.Prelude.{◌≡◌, ◌≢◌, ◌==◌, ◌+◌, ◌*◌, 
 use Rattle.std.specs.List.{list_any}
 use Rattle.std.specs.Ordering.{eq_by_cmp}
 use Rattle.std.proofs.Common.{refl, sym, ap, ◌∙◌, inl, inr, arith, true≢false}
-use Rattle.std.proofs.lemmas.List.{append_cancel_left, append_cancel_right, length-append}
+use Rattle.std.proofs.lemmas.List.{append_assoc, append_cancel_left, append_cancel_right, length-append}
 use Rattle.std.proofs.Math.Seq.{take-append_seam}
 use Rattle.gate_base.specs.Maps.{name_cmp}
 use Rattle.gate_base.proofs.lemmas.Maps.{by_name, apart, apart_back, key_itself, not_same}
 use Rattle.s3_names.specs.Bucket.{is_bucket}
 use Rattle.s3_names.proofs.lemmas.BucketLemmas.{bucket_has_no_plus}
-use Rattle.upload_records.specs.Layout.{uploads_name, segments_name, gateway_name, segment_name, five_digits}
+use Rattle.upload_records.specs.Layout.{uploads_name, segments_name, gateway_name, segment_name, sub_manifest_name, five_digits}
 use Rattle.upload_records.specs.Consistent.{IsBeside}
 use Rattle.upload_records.proofs.Apart.{uploads_apart, segments_apart}
 
@@ -115,7 +115,7 @@ module _ (c b : List ℕ) (beside : IsBeside c b) where
   pub side_is_none : is_bucket c ≡ false
   side_is_none = not_true (is_bucket c) (λ is. true≢false (sym (key_itself by_name c) ∙ bucket_side c is))
 
--- ---- names of parts
+-- ---- names of parts, and of sub-manifests
 
 -- the name of a part tells its id
 pub segment_id : (i j : List ℕ) (k n : ℕ) → segment_name i k ≡ segment_name j n → i ≡ j
@@ -150,3 +150,35 @@ unfolding segment_name
 segment_number i k n e =
     let tails : 47 ∷ five_digits k ≡ 47 ∷ five_digits n = append_cancel_left i (47 ∷ five_digits k) (47 ∷ five_digits n) e in
     digits_one k n (ap tail_of tails)
+
+-- the name of a sub-manifest tells its id
+pub sub_id : (i j : List ℕ) (k n : ℕ) → sub_manifest_name i k ≡ sub_manifest_name j n → i ≡ j
+unfolding sub_manifest_name
+sub_id i j k n e =
+    let lengths : length i + 7 ≡ length j + 7 = sym (length-append i (47 ∷ (109 ∷ five_digits k))) ∙ ap length e ∙ length-append j (47 ∷ (109 ∷ five_digits n)) in
+    let same : length i ≡ length j = omega (arith, lengths) in
+    sym (take-append_seam i (47 ∷ (109 ∷ five_digits k))) ∙ ap (λ l. take l (i ++ 47 ∷ (109 ∷ five_digits k))) same ∙ ap (take (length j)) e ∙ take-append_seam j (47 ∷ (109 ∷ five_digits n))
+
+-- and its number
+pub sub_number : (i : List ℕ) (k n : ℕ) → sub_manifest_name i k ≡ sub_manifest_name i n → k ≡ n
+unfolding sub_manifest_name
+sub_number i k n e =
+    let tails : 47 ∷ (109 ∷ five_digits k) ≡ 47 ∷ (109 ∷ five_digits n) = append_cancel_left i (47 ∷ (109 ∷ five_digits k)) (47 ∷ (109 ∷ five_digits n)) e in
+    digits_one k n (ap tail_of (ap tail_of tails))
+
+first_is_m : List ℕ → Bool
+first_is_m [] = false
+first_is_m (c ∷ rest) = c == 109
+
+-- no name is one of a part and one of a sub-manifest
+pub part_no_sub : (i j : List ℕ) (k n : ℕ) → segment_name i k ≢ sub_manifest_name j n
+unfolding segment_name sub_manifest_name first_is_m
+part_no_sub i j k n e =
+    let moved : i ++ 47 ∷ five_digits k ≡ (j ++ 47 ∷ []) ++ 109 ∷ five_digits n = e ∙ sym (append_assoc j (47 ∷ []) (109 ∷ five_digits n)) in
+    let longer = length-append j (47 ∷ []) in
+    let lengths : length i + 6 ≡ length (j ++ 47 ∷ []) + 6 = sym (length-append i (47 ∷ five_digits k)) ∙ ap length moved ∙ length-append (j ++ 47 ∷ []) (109 ∷ five_digits n) in
+    let same : length i ≡ length (j ++ 47 ∷ []) = omega (arith, lengths) in
+    let front : i ≡ j ++ 47 ∷ []
+    = sym (take-append_seam i (47 ∷ five_digits k)) ∙ ap (λ l. take l (i ++ 47 ∷ five_digits k)) same ∙ ap (take (length (j ++ 47 ∷ []))) moved ∙ take-append_seam (j ++ 47 ∷ []) (109 ∷ five_digits n) in
+    let tails : 47 ∷ five_digits k ≡ 109 ∷ five_digits n = append_cancel_left (j ++ 47 ∷ []) (47 ∷ five_digits k) (109 ∷ five_digits n) (ap (λ t. t ++ 47 ∷ five_digits k) (sym front) ∙ moved) in
+    true≢false (sym (ap first_is_m tails))

@@ -2,6 +2,7 @@ use Rattle.std.proofs.Common.{refl}
 use Rattle.account_calls.proofs.Files.{get_reads}
 use Rattle.account_calls.proofs.lemmas.One.{asked_in_vain, asked}
 use Rattle.account_calls.proofs.Unchanged.{gives_unchanged}
+use Rattle.account_calls.proofs.lemmas.Counted.{counted, not_counted}
 use Rattle.account_calls.proofs.object.get_object.Goals as goal
 
 pub returns-in_err-reply-clause-asks : goal.returns-in_err-reply-clause-asks
@@ -12,3 +13,9 @@ returns-clause-asks g c = asked (get_reads refl refl c.requires.name) c.in_ok-re
 
 pub returns-clause-unchanged : goal.returns-clause-unchanged
 returns-clause-unchanged g c = gives_unchanged c.args.etag.now c.args.size c.in_ok-reply.ensures _ c.bytes_in.ensures.due
+
+pub returns-in_err-reply-clause-counts : goal.returns-in_err-reply-clause-counts
+returns-in_err-reply-clause-counts g c = not_counted c.in_err-reply.ensures _ c.from_residual.ensures.1
+
+pub returns-clause-counts : goal.returns-clause-counts
+returns-clause-counts g c = counted c.in_ok-reply.ensures _ c.bytes_in.ensures.own

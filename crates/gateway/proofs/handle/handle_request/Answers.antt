@@ -1,34 +1,33 @@
+use Rattle.std.proofs.Common.{subst}
+use Rattle.gateway.specs.Handled.{EndsWith}
 use Rattle.gateway.specs.Request.{asks_of}
-use Rattle.gateway.proofs.Handling.{resolved_whole, resolved_out_of_memory, resolved_broken}
+use Rattle.gateway.proofs.Handling.{handled_on, handled_knows, handled_stands, handled_effect}
 use Rattle.gateway.proofs.handle.handle_request.Goals as goal
 
-pub returns-in-Whole-clause-serves : goal.returns-in-Whole-clause-serves
-returns-in-Whole-clause-serves g c = record {
-  on = record { line = c.in-Whole.ensures.writes.serves.observable; store = c.reply_to-reply.ensures.goes_on; clock = c.next_label-next.ensures.clock_observable; draws = c.next_label-next.ensures.draws_observable };
-  knows = λ known. c.reply_to-reply.ensures.knows;
-  stands = c.reply_to-reply.ensures.stands;
-  effect = λ told all met.
-      let wrote = c.in-Whole.ensures.effect told.line in
-      resolved_whole _ _ _ _ _ _ _ _ (asks_of c.args.service.now c.args.received) c.next_label-next.result c.sent_by-label.result c.reply_to-reply.result c.resolve-resolved.result c.resolve-resolved.ensures.is
-      c.sent_by-label.ensures (c.next_label-next.ensures.effect told.clock told.draws) c.reply_to-reply.ensures.out_of_memory (c.reply_to-reply.ensures.effect all met) _ c.is_some.ensures wrote.0 wrote.1;
-}
+pub returns-clause-serves : goal.returns-clause-serves
+returns-clause-serves g c =
+    let settings = c.args.service.now.settings in
+    let old = g.W.Swift.history c.args.store.now in
+    let here = g.W.Swift.history c.reply_to-reading.new.store in
+    let new = g.W.Swift.history c.send_reading-handled.new.store in
+    let was = c.args.known.now in
+    let now = c.reply_to-reading.new.known in
+    let line = g.N.Line.model c.args.line.now in
+    let line' = g.N.Line.model c.send_reading-handled.new.line in
+    let reading = c.reply_to-reading.result in
+    let label = c.sent_by-label.result in
+    let resolved = c.resolve-resolved.result in
+    let handled = c.send_reading-handled.result in
+    let replied = c.reply_to-reading.ensures.replied in
+    let sends = c.send_reading-handled.ensures.sends in
+    record {
+      on = record { line = c.send_reading-handled.ensures.writes.serves.observable; store = handled_on settings old here new was now c.next_label-next.result label resolved line line' handled reading replied sends; clock = c.next_label-next.ensures.clock_observable; draws = c.next_label-next.ensures.draws_observable };
+      knows = handled_knows settings old here new was now c.next_label-next.result label resolved line line' handled reading replied sends;
+      stands = handled_stands settings old here new was now c.next_label-next.result label resolved line line' handled reading replied sends;
+      effect = λ told all met.
+          handled_effect settings old here new was now c.next_label-next.result label resolved line line' handled _ _ _ _ (asks_of c.args.service.now c.args.received) c.resolve-resolved.ensures.is c.sent_by-label.ensures
+          (c.next_label-next.ensures.effect told.clock told.draws) all met told.line reading replied sends;
+    }
 
-pub returns-in-Memory-clause-serves : goal.returns-in-Memory-clause-serves
-returns-in-Memory-clause-serves g c = record {
-  on = record { line = c.in-Memory.ensures.writes.serves.observable; store = c.reply_to-reply.ensures.goes_on; clock = c.next_label-next.ensures.clock_observable; draws = c.next_label-next.ensures.draws_observable };
-  knows = λ known. c.reply_to-reply.ensures.knows;
-  stands = c.reply_to-reply.ensures.stands;
-  effect = λ told all met.
-      resolved_out_of_memory _ _ _ _ _ _ _ _ (asks_of c.args.service.now c.args.received) c.next_label-next.result c.sent_by-label.result c.reply_to-reply.result c.resolve-resolved.result c.resolve-resolved.ensures.is
-      c.sent_by-label.ensures (c.next_label-next.ensures.effect told.clock told.draws) c.reply_to-reply.ensures.out_of_memory (c.reply_to-reply.ensures.effect all met) (c.in-Memory.ensures.effect told.line);
-}
-
-pub returns-in-Failed-clause-serves : goal.returns-in-Failed-clause-serves
-returns-in-Failed-clause-serves g c = record {
-  on = record { line = c.in-Failed.ensures.writes.serves.observable; store = c.reply_to-reply.ensures.goes_on; clock = c.next_label-next.ensures.clock_observable; draws = c.next_label-next.ensures.draws_observable };
-  knows = λ known. c.reply_to-reply.ensures.knows;
-  stands = c.reply_to-reply.ensures.stands;
-  effect = λ told all met.
-      resolved_broken _ _ _ _ _ _ _ _ (asks_of c.args.service.now c.args.received) c.next_label-next.result c.sent_by-label.result c.reply_to-reply.result c.resolve-resolved.result c.resolve-resolved.ensures.is
-      c.sent_by-label.ensures (c.next_label-next.ensures.effect told.clock told.draws) c.reply_to-reply.ensures.out_of_memory (c.reply_to-reply.ensures.effect all met) _ c.is_some.ensures (c.in-Failed.ensures.effect told.line);
-}
+pub returns-clause-endings : goal.returns-clause-endings
+returns-clause-endings g c = subst (λ e. EndsWith e c.send_reading-handled.result) c.resolve-resolved.ensures.ends c.send_reading-handled.ensures.endings

@@ -1,5 +1,6 @@
 use Rattle.std.proofs.Common.{ap}
-use Rattle.gateway.proofs.Operating.{Readied, readied_at_once, readied_by, settled_now, operated_by, operated_unsettled}
+use Rattle.gateway.specs.Reading.{Readied}
+use Rattle.gateway.proofs.Operating.{readied_at_once, readied_by, settled_now, operated_or_reads, operated_unsettled}
 use Rattle.gateway.proofs.reply.settle_and_perform.Goals.{in-Settled, in-Unsure+in-Ok}
 use Rattle.gateway.proofs.reply.settle_and_perform.Goals as goal
 
@@ -24,4 +25,4 @@ returns g c =
       | in-Settled w ↦ readied_at_once w.in-Settled.is (ap g.W.Swift.history w.store-is)
       | in-Unsure+in-Ok w ↦ readied_by w.in-Unsure.is (ap g.W.Swift.history w.store-is) w.in-Ok.ensures
     ] in
-    operated_by readied c.perform_on_settled_store-answer.ensures
+    operated_or_reads c.args.settings.now c.args.op c.args.label.now old middle (g.W.Swift.history c.perform_on_settled_store-answer.new.store) c.args.known.now c.perform_on_settled_store-answer.result.known c.perform_on_settled_store-answer.result.reading readied c.perform_on_settled_store-answer.ensures

@@ -1,5 +1,5 @@
 use Rattle.std.proofs.Common.{arith}
-use Rattle.gateway.proofs.Handling.{part_of}
+use Rattle.gateway.proofs.Pieces.{part_of}
 use Rattle.gateway.proofs.serve.end_connection_unread.Goals as goal
 
 pub returns-in-Failed-clause-effect : goal.returns-in-Failed-clause-effect

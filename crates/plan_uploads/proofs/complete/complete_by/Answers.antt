@@ -11,9 +11,9 @@ pub returns-in_default-clause-plans : goal.returns-in_default-clause-plans
 returns-in_default-clause-plans g c = λ text.
     refused_at_once (omega arith) _ InvalidPart (search rules)
     (λ tree sound has. invalid_part tree c.args.bucket.now c.args.key.now c.args.opened c.args.parts.now sound c.requires.place.named text has c.args.state.now.settings.now c.args.list.now c.args.label.now c.requires.ascends
-    (listed_as c.args.parts.now c.as_slice.ensures c.in_ok-chosen.ensures None c.in_default.is))
+    (listed_as c.args.parts.now c.as_slice.ensures c.in_ok-chosen.ensures.listed None c.in_default.is))
     c.end_complete_upload_refused.result c.end_complete_upload_refused.ensures
 
 pub returns-clause-plans : goal.returns-clause-plans
 returns-clause-plans g c = λ text.
-    c.complete_chosen.ensures.plans text c.args.parts.now (listed_as c.args.parts.now c.as_slice.ensures c.in_ok-chosen.ensures (Some c.in-Some.chosen) c.in-Some.is)
+    c.complete_chosen.ensures.plans text c.args.parts.now (listed_as c.args.parts.now c.as_slice.ensures c.in_ok-chosen.ensures.listed (Some c.in-Some.chosen) c.in-Some.is)

@@ -1,7 +1,9 @@
-use Rattle.std.proofs.Common.{subst, arith, rules, true, false, ◌<◌, ◌^◌}
+use Rattle.std.proofs.Common.{ap, subst, arith, rules, true, false, length, ◌<◌, ◌^◌, ◌+◌, ◌∙◌}
+use Rattle.upload_texts.specs.declared.sealed.Sealed.{Sealed}
+use Rattle.upload_records.specs.Native.{sealed_sub_manifests}
 use Rattle.s3_machine.specs.declared.code.Code.TheVariants.{EntityTooSmall}
 use Rattle.plan_uploads.proofs.CompletionCalls.{goes_on_sound, lacks_memory, refused_at_once, seals_same}
-use Rattle.plan_uploads.proofs.Completions.{may_complete, small_as, too_small}
+use Rattle.plan_uploads.proofs.Completions.{few_subs, may_complete, small_as, too_small}
 use Rattle.plan_uploads.proofs.complete.complete_chosen.Goals as goal
 
 pub returns-then-has_small_chosen_part-clause-plans : goal.returns-then-has_small_chosen_part-clause-plans
@@ -17,7 +19,8 @@ returns-in_err-sealed-clause-plans g c = λ text parts lists. lacks_memory _ _ c
 pub returns-clause-plans : goal.returns-clause-plans
 returns-clause-plans g c = λ text parts lists.
     let fits : c.args.opened.id < 2 ^ 128 = subst (λ s. s.id < 2 ^ 128) c.in_ok-sealed.ensures.sealed c.in_ok-sealed.ensures.fits in
-    goes_on_sound {n = 4} (omega arith)
+    let few = few_subs c.in_ok-sealed.sealed c.args.list.now (ap (λ (s : Sealed). length s.list) c.in_ok-sealed.ensures.sealed ∙ c.requires.many) in
+    goes_on_sound {n = 4 + sealed_sub_manifests c.in_ok-sealed.sealed} (omega (arith, few))
     (λ tree sound has. may_complete tree c.args.bucket.now c.args.key.now c.args.opened parts sound c.requires.place.named text has c.args.state.now.settings.now c.args.list.now c.args.label.now c.requires.ascends
     c.args.chosen lists (small_as c.settings.ensures c.as_slice.ensures c.has_small_chosen_part.ensures false c.if-has_small_chosen_part.false)
     c.requires.place c.requires.list c.requires.moment fits)

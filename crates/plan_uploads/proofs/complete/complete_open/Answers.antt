@@ -8,7 +8,7 @@ use Rattle.account_calls.specs.Calls.{by_account}
 use Rattle.account_calls.proofs.lemmas.Ends.{goes_on_from, met_within}
 use Rattle.plan_uploads.proofs.CompletionCalls.{asked_nothing, refused_at_once}
 use Rattle.plan_uploads.proofs.CompletionSteps.{order_refused}
-use Rattle.plan_uploads.proofs.Completions.{has_parts}
+use Rattle.plan_uploads.proofs.Completions.{has_parts, opened_parts}
 use Rattle.plan_uploads.proofs.complete.complete_open.Goals as goal
 
 pub returns-then-not-rises-clause-plans : goal.returns-then-not-rises-clause-plans
@@ -22,10 +22,10 @@ returns-then-not-rises-clause-plans g c = λ text.
 pub returns-in_err-parts-clause-plans : goal.returns-in_err-parts-clause-plans
 returns-in_err-parts-clause-plans g c = λ text.
     asked_nothing (by_account (pages (named_by (present (g.W.Swift.history c.args.state.now.store.now)) c.args.bucket.now (id_digits c.args.opened.id)))) (omega arith)
-    (met_within (λ tree opens. opens.there)) c.in_err-parts.ensures.asks c.from_residual.result c.from_residual.ensures.1
+    (met_within (opened_parts c.requires.place.named)) c.in_err-parts.ensures.asks c.from_residual.result c.from_residual.ensures.1
 
 pub returns-clause-plans : goal.returns-clause-plans
 returns-clause-plans g c = λ text.
-    goes_on_from (met_within (λ tree opens. opens.there)) c.list_parts.ensures.stays.settings c.in_ok-parts.ensures.asks (c.complete_by.ensures.plans text)
+    goes_on_from (met_within (opened_parts c.requires.place.named)) c.list_parts.ensures.stays.settings c.in_ok-parts.ensures.asks (c.complete_by.ensures.plans text)
     (λ opens tells. has_parts c.as_slice-2.ensures opens tells)
     (λ x. omega arith)

@@ -1,4 +1,5 @@
-use Rattle.std.proofs.Common.{arith}
+use Rattle.std.proofs.Common.{arith, ◌+◌}
+use Rattle.upload_records.specs.Native.{sealed_sub_manifests}
 use Rattle.plan_uploads.proofs.CompletionCalls.{goes_on_sound, lacks_memory}
 use Rattle.plan_uploads.proofs.complete.complete_sealed.Goals as goal
 
@@ -7,4 +8,4 @@ returns-in_err-reply-clause-plans g c = λ text list label. lacks_memory _ _ c.f
 
 pub returns-clause-plans : goal.returns-clause-plans
 returns-clause-plans g c = λ text list label.
-    goes_on_sound {n = 4} (omega arith) (λ tree sound has. has.completes) (c.seal_and_finish.ensures.plans text list label)
+    goes_on_sound {n = 4 + sealed_sub_manifests c.args.sealed.now} (omega arith) (λ tree sound has. has.completes) (c.seal_and_finish.ensures.plans text list label)

@@ -8,19 +8,20 @@ use Rattle.account_calls.proofs.lemmas.Ends.{as_wide, met_within}
 use Rattle.account_calls.specs.Listing.{TellsOf}
 use Rattle.upload_calls.specs.Records.{TellsParts}
 use Rattle.upload_calls.proofs.lemmas.Asking.{asked_in_vain, asked_end}
+use Rattle.upload_calls.proofs.lemmas.Opened.{has_open}
 use Rattle.plan_uploads.specs.Plans.{parts_told}
-use Rattle.plan_uploads.proofs.Steps.{parts_are_own, parts_listed}
+use Rattle.plan_uploads.proofs.Steps.{only_parts, parts_are_own, parts_listed}
 use Rattle.plan_uploads.proofs.uploads.plan_list_parts_within.Goals as goal
 
 pub returns-in_err-listed-clause-plans : goal.returns-in_err-listed-clause-plans
 returns-in_err-listed-clause-plans g c = λ text label.
     let most = by_account (pages (named_by (present (g.W.Swift.history c.args.state.now.store.now)) c.args.bucket (id_digits c.args.id))) in
-    asked_in_vain most (as_wide most) {Q = TellsOf (TellsParts c.args.bucket c.args.id c.args.marker c.args.max)} (met_within (λ tree found. found.there)) c.in_err-listed.ensures.asks _ c.from_residual.ensures.1
+    asked_in_vain most (as_wide most) {Q = TellsOf (TellsParts c.args.bucket c.args.id c.args.marker c.args.max)} (λ met. record { observable = met.observable; sound = met.sound; has = record { settled = met.has.settled; is = only_parts c.requires.name met.has.settled (has_open met.has.is) } }) c.in_err-listed.ensures.asks _ c.from_residual.ensures.1
 
 pub returns-clause-plans : goal.returns-clause-plans
 returns-clause-plans g c = λ text label.
     let most = by_account (pages (named_by (present (g.W.Swift.history c.args.state.now.store.now)) c.args.bucket (id_digits c.args.id))) in
-    asked_end most (as_wide most) (λ tree has. record { settled = has.settled; is = has.is.there }) _ c.in_ok-listed.ensures.asks
+    asked_end most (as_wide most) (λ tree has. record { settled = has.settled; is = only_parts c.requires.name has.settled (has_open has.is) }) _ c.in_ok-listed.ensures.asks
     (rw c.end_list_parts_plan.ensures (parts_are_own c.args.bucket c.args.key c.args.id c.args.marker c.args.max c.in_ok-listed.listed c.in_ok-listed.ensures.dated)) (search rules)
     (λ tree sound has told. record {
       reply = parts_told c.args.bucket c.args.key c.args.id c.args.marker c.args.max c.in_ok-listed.listed;

@@ -1,7 +1,7 @@
 use Rattle.std.proofs.Common.{false, true, inl, ◌∙◌, arith}
+use Rattle.account_calls.proofs.lemmas.Told.{told_none, told_more, told_end, told_fault, told_then}
 use Rattle.upload_calls.specs.Taken.{TellsRecorded}
 use Rattle.upload_calls.proofs.TakenIds.{taken_by}
-use Rattle.upload_calls.proofs.Told.{told_none, told_more, told_end, told_fault, told_then}
 use Rattle.upload_calls.proofs.ids.is_taken.Goals as goal
 
 pub returns-in_err-is_taken_by_record-clause-asks : goal.returns-in_err-is_taken_by_record-clause-asks

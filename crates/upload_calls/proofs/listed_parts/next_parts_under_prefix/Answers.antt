@@ -6,7 +6,7 @@ use Rattle.upload_records.specs.Layout.{segments_name, segments_prefix}
 use Rattle.account_calls.specs.FilePages.{next_after}
 use Rattle.account_calls.proofs.lemmas.Ask.{asks_fault, asks_out_of_memory, asks_told}
 use Rattle.upload_calls.specs.Listing.{part_due}
-use Rattle.upload_calls.specs.Records.{InBucket}
+use Rattle.upload_calls.specs.Records.{HasOnlyParts}
 use Rattle.upload_calls.proofs.lemmas.PartWalk.{all_parts}
 use Rattle.upload_calls.proofs.lemmas.Taking.{as_page, not_added, tells_next}
 use Rattle.upload_calls.proofs.Turned.{next_may_be}
@@ -17,7 +17,7 @@ returns-in_err-page-clause-asks g c = λ id named. asks_fault (λ tree has. tt) 
 
 pub returns-in_err-add_parts-clause-asks : goal.returns-in_err-add_parts-clause-asks
 returns-in_err-add_parts-clause-asks g c = λ id named.
-    not_added (part_due (segments_prefix (id_digits id))) (segments_name c.args.bucket.now) (segments_prefix (id_digits id)) c.args.marker.now (InBucket c.args.bucket.now)
+    not_added (part_due (segments_prefix (id_digits id))) (segments_name c.args.bucket.now) (segments_prefix (id_digits id)) c.args.marker.now (HasOnlyParts c.args.bucket.now id)
     (all_parts c.args.bucket.now id c.args.marker.now c.requires.name)
     (as_page _ _ _ _ _ _ refl named refl c.in_ok-page.ensures.asks)
     c.args.parts.now c.add_parts.new.parts (part_due c.as_slice.result.now) c.as_slice-2.result.now (ap part_due (c.as_slice.ensures ∙ named)) c.as_slice-2.ensures

@@ -8,19 +8,14 @@ use Rattle.upload_records.specs.Native.{IsSettled}
 use Rattle.account_calls.specs.declared.fault.PlanFault.{PlanFault}
 use Rattle.account_calls.specs.declared.fault.PlanFault.TheVariants as fault
 use Rattle.account_calls.specs.Listing.{TellsOf}
-use Rattle.account_calls.specs.Calls.{Bound, always, IsWithin, GoesOn, Met, Asks}
+use Rattle.s3_machine.specs.State.{State}
+use Rattle.upload_records.specs.Native.{s3_state}
+use Rattle.upload_records.specs.Consistent.{IsConsistent}
+use Rattle.account_calls.specs.Calls.{Bound, always, IsWithin, GoesOn, Met, Tells, Asks}
 use Rattle.account_calls.proofs.lemmas.Faults.{err_is}
 use Rattle.account_calls.proofs.lemmas.Idle.{goes_none, goes_trans}
-use Rattle.account_calls.proofs.lemmas.Walk.{Idles, idles_none, idles_trans, cause_after, keeps_after}
-
--- at most so many calls were made, which left the account, and this holds of it
-pub record Told (a b : History) (given : SwiftAccount → Type 0) (R : SwiftAccount → Type 0) (count : ℕ) : Type 0 where
-  pub on : GoesOn a b
-  pub faults : b.faults ≡ a.faults
-  pub settled : IsTrue a.observable → IsSettled (present a) → IsSettled (present b)
-  pub calls : b.called ≤ a.called + count
-  pub idles : Met given a → Idles b a.called b.called
-  pub so : Met given a → R (present a)
+use Rattle.account_calls.specs.Told.{Idles, Told}
+use Rattle.account_calls.proofs.lemmas.Walk.{idles_none, idles_trans, cause_after, keeps_after}
 
 -- none was
 pub told_none : (a : History) {given R : SwiftAccount → Type 0} → ((tree : SwiftAccount) → R tree) → Told a a given R 0
@@ -35,10 +30,10 @@ told_none a holds = record {
 
 module _ {a b : History} {given R : SwiftAccount → Type 0} {count : ℕ} (told : Told a b given R count) where
   -- the account is still the one at the beginning
-  same_here : Met given a → present b ≡ present a
+  pub same_here : Met given a → present b ≡ present a
   same_here met = (told.idles met).same ∙ (told.on.kept met.observable).accounts a.called (omega arith)
 
-  met_here : Met given a → Met given b
+  pub met_here : Met given a → Met given b
   met_here met =
       let order = told.on.ordered in
       record {
@@ -103,3 +98,40 @@ module _ {a b c : History} {given R : SwiftAccount → Type 0} {count : ℕ} {T 
   pub told_then : (result : Result T PlanFault) → Asks (always m) b c given (TellsOf P) result → Asks most a c given (TellsOf Q) result
   told_then (Ok y) asks = told_end (told_more told {S = λ tree. Q tree y} asks (λ tree before then. tells tree y before then)) y (λ tree is. is) within
   told_then (Err f) asks = told_fault told asks (Err f) refl within
+
+-- calls that were answered told this
+pub told_by : {a b : History} {asked given R : SwiftAccount → Type 0} {T : Type 0} {P : State → T → Type 0} {x : T} (n : ℕ) → Asks (always n) a b asked (Tells P) (Ok x) → (Met given a → Met asked a)
+    → ((tree : SwiftAccount) → IsConsistent tree → given tree → P (s3_state tree) x → R tree) → Told a b given R n
+told_by {a = a} {b = b} {P = P} {x = x} n asks under gives = record {
+  on = asks.grows.on;
+  faults = asks.cause;
+  settled = asks.settled;
+  calls = asks.grows.calls;
+  idles = λ met. let keeps = asks.effect (under met) in record { quiet = keeps.0; still = keeps.1; same = keeps.2.same };
+  so = λ met.
+      let from : b.account_at a.called ≡ present a = (asks.grows.on.kept met.observable).accounts a.called (omega arith) in
+      gives (present a) met.sound met.has (subst (λ tree. P (s3_state tree) x) from (asks.effect (under met)).2.of_state);
+}
+
+-- calls, and then others, which find what the first told
+pub told_trans : {a b c : History} {given rest R S Q : SwiftAccount → Type 0} (n m : ℕ) → Told a b given R n → Told b c rest S m → ((tree : SwiftAccount) → given tree → R tree → rest tree)
+    → ((tree : SwiftAccount) → R tree → S tree → Q tree) → Told a c given Q (n + m)
+told_trans {a = a} {b = b} {c = c} {given = given} {rest = rest} {S = S} n m first then gives joins =
+    let order = first.on.ordered in
+    let met_then : Met given a → Met rest b = λ met. record {
+      observable = first.on.observable met.observable;
+      sound = (first.idles met).quiet.sound b.called order (omega arith);
+      has = subst rest (sym (same_here first met)) (gives (present a) met.has (first.so met));
+    } in
+    record {
+      on = goes_trans first.on then.on;
+      faults = then.faults ∙ first.faults;
+      settled = λ observable settled. then.settled (first.on.observable observable) (first.settled observable settled);
+      calls = (let before = first.calls in let calls = then.calls in omega (arith, before, calls));
+      idles = λ met. idles_trans order (then.on.kept (first.on.observable met.observable)) (first.idles met) (then.idles (met_then met));
+      so = λ met. joins (present a) (first.so met) (subst S (same_here first met) (then.so (met_then met)));
+    }
+
+-- what was told says this
+pub told_as : {a b : History} {given R S : SwiftAccount → Type 0} {n : ℕ} → Told a b given R n → ((tree : SwiftAccount) → R tree → S tree) → Told a b given S n
+told_as told says = record { on = told.on; faults = told.faults; settled = told.settled; calls = told.calls; idles = told.idles; so = λ met. says _ (told.so met) }

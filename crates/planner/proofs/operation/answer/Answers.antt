@@ -1,7 +1,0 @@
-use Rattle.std.proofs.Common.{sym, subst}
-use Rattle.account_calls.specs.Plan.{Answered}
-use Rattle.account_calls.proofs.lemmas.Ends.{answered_by, none_beside}
-use Rattle.planner.proofs.operation.answer.Goals as goal
-
-pub returns-clause-answered : goal.returns-clause-answered
-returns-clause-answered g c = subst (Answered _ _ _ _ _ _ _) (sym c.reply_of.ensures) (answered_by (none_beside _ c.requires.own) c.plan-end.ensures.plans)

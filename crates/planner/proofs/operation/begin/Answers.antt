@@ -1,0 +1,12 @@
+use Rattle.std.proofs.Common.{refl, sym, subst}
+use Rattle.account_calls.specs.Plan.{Answered}
+use Rattle.account_calls.proofs.lemmas.Ends.{answered_by, none_beside}
+use Rattle.planner.proofs.Finding.{answered_or_found}
+use Rattle.planner.proofs.operation.begin.Goals as goal
+
+pub returns-in-GetObject-clause-answered : goal.returns-in-GetObject-clause-answered
+returns-in-GetObject-clause-answered g c = rw (c.in-GetObject.is, c.reading_end.ensures)
+    (rw (c.taken_text.ensures, c.taken_text-in-GetObject.ensures) at (answered_or_found _ _ _ _ _ _ refl _ c.find_object.ensures.finds))
+
+pub returns-in_default-clause-answered : goal.returns-in_default-clause-answered
+returns-in_default-clause-answered g c = subst (Answered _ _ _ _ _ _ _) (sym c.reply_of.ensures) (answered_by (none_beside _ c.requires.own) c.plan.ensures.plans)

@@ -1,0 +1,23 @@
+use Rattle.std.specs.Prelude.{None, Some, Ok}
+use Rattle.std.proofs.Common.{refl, sym, ap, subst, ◌∙◌, lit≤, rules}
+use Rattle.s3_machine.specs.declared.operation.Op.TheVariants.{GetObject}
+use Rattle.account_calls.specs.Calls.{TellsBucket}
+use Rattle.account_calls.specs.Interpret.{IsShownHead}
+use Rattle.account_calls.proofs.lemmas.Ends.{needs_none, answers}
+use Rattle.planner.proofs.Finding.{found_ends, found_nothing}
+use Rattle.planner.proofs.Readings.{get_refused, get_none}
+use Rattle.planner.proofs.reading.find_object_within.Goals as goal
+
+pub returns-then-not-may_read-clause-finds : goal.returns-then-not-may_read-clause-finds
+returns-then-not-may_read-clause-finds g c = needs_none _ (search rules) (λ tree there. get_refused _ _ _ _ _ _ _ _ there (sym c.may_read.ensures ∙ c.if-not-may_read.true))
+
+pub returns-in_err-head-clause-finds : goal.returns-in_err-head-clause-finds
+returns-in_err-head-clause-finds g c = found_nothing _ 1 _ _ _ (λ s. TellsBucket c.args.bucket s (Some c.args.list)) (GetObject c.args.bucket c.args.key c.args.range c.args.conditions.now) c.args.label.now (lit≤ tt) c.in_err-head.ensures.asks _ c.from_residual.ensures.1
+
+pub returns-in_default-clause-finds : goal.returns-in_default-clause-finds
+returns-in_default-clause-finds g c = answers (lit≤ tt) None c.in_default.is _ c.in_ok-head.ensures.asks (search rules) (λ tree there none. get_none _ _ _ _ _ _ _ _ there (sym c.may_read.ensures ∙ c.if-not-may_read.false) none)
+
+pub returns-clause-finds : goal.returns-clause-finds
+returns-clause-finds g c = rw c.reading_of.ensures
+    (found_ends c.args.state.now.settings.now _ _ c.args.range c.args.conditions.now c.args.label.now c.args.list c.in-Some.head _ c.in-Some.is c.requires.place
+    (sym c.may_read.ensures ∙ c.if-not-may_read.false) (subst IsShownHead c.in-Some.is c.in_ok-head.ensures.shown) c.in_ok-head.ensures.asks _ refl)
