@@ -27,13 +27,16 @@ const DROPS: usize = 16_777_216;
 const DROP_SILENCE: u64 = 200;
 
 /// What asks for a body.
-const INTERIM: &[u8] = b"HTTP/1.1 100 Continue\r\n\r\n";
+const ASKING: &[u8] = b"HTTP/1.1 100 Continue\r\n\r\n";
+
+/// How an interim reply begins. The reply itself is still to come.
+const INTERIM: &[u8] = b"HTTP/1.1 1";
 
 #[derive(Clone, Copy, Debug, PartialEq, Eq)]
 pub(crate) enum Phase {
     /// It waits for a turn: nothing of a request was given yet.
     Waits,
-    /// A request of it was given, and has no reply yet.
+    /// A request of it was given, and its reply isn't known to be whole.
     Served,
     /// It has its last reply, which may still be on its way.
     Closing,
@@ -83,6 +86,8 @@ pub(crate) struct Client<S> {
     /// Whether its requests have ends that are known; and where they haven't, whether it is in the middle of one.
     framed: bool,
     busy: bool,
+    /// Whether a part of the reply was sent.
+    replying: bool,
     /// Whether it can be given.
     ready: bool,
     /// What is kept to be sent, from `sent` on.
@@ -121,6 +126,7 @@ impl<S: Read + Write + OpenStream + Drop> Client<S> {
             offered: false,
             framed: true,
             busy: false,
+            replying: false,
             ready: false,
             unsent: Vec::new(alloc),
             sent: 0,
@@ -176,6 +182,7 @@ impl<S: Read + Write + OpenStream + Drop> Client<S> {
 
     /// Sends what is kept, and reads ahead or drops what comes. `full` says that there is no room to read ahead.
     pub(crate) fn attend(&mut self, now: Duration, limit: Duration, full: bool) -> After {
+        self.try_again(now, limit);
         self.flush(now);
         let gone = match self.phase {
             Phase::Waits => {
@@ -330,23 +337,24 @@ impl<S: Read + Write + OpenStream + Drop> Client<S> {
             return;
         }
         self.took = now;
-        if let Ok(count) = self.send(INTERIM, now) {
+        if let Ok(count) = self.send(ASKING, now) {
             self.offered = true;
-            if self.keep(&INTERIM[count.min(INTERIM.len())..]).is_err() {
+            if self.keep(&ASKING[count.min(ASKING.len())..]).is_err() {
                 self.fail();
             }
         }
     }
 
-    /// Whether these bytes were sent already.
+    /// Whether these bytes were sent already. Those of a reply never were, whatever they spell.
     fn is_offered(&self, bytes: &[u8]) -> bool {
-        self.offered && bytes == INTERIM
+        self.offered && !self.replying && bytes == ASKING
     }
 
     /// It is given.
     pub(crate) fn begin(&mut self) {
         self.phase = Phase::Served;
         self.busy = true;
+        self.replying = false;
         self.ready = false;
         self.queued = false;
         if self.size == 0 {
@@ -405,9 +413,15 @@ impl<S: Read + Write + OpenStream + Drop> Client<S> {
         }
     }
 
-    /// It was replied to. What stands behind the request is its next.
+    /// Whether a part of its reply was sent, behind which more may come.
+    pub(crate) fn is_replying(&self) -> bool {
+        self.replying
+    }
+
+    /// Its reply is whole. What stands behind the request is its next.
     pub(crate) fn replied(&mut self, now: Duration) {
         self.busy = false;
+        self.replying = false;
         if !self.framed || self.left != 0 {
             return;
         }
@@ -466,8 +480,10 @@ impl<S: Read + Write + OpenStream + Drop> Client<S> {
         }
     }
 
-    /// Bytes are to be sent: from now on it may take nothing for the limit of time.
-    pub(crate) fn begin_sending(&mut self, now: Duration) {
+    /// These bytes are to be sent: from now on it may take nothing for the limit of time. They are of its reply, unless it has
+    /// none yet and they are an interim one.
+    pub(crate) fn begin_sending(&mut self, bytes: &[u8], now: Duration) {
+        self.replying = self.replying || !bytes.starts_with(INTERIM);
         if self.unsent.is_empty() {
             self.took = now;
         }
@@ -478,11 +494,26 @@ impl<S: Read + Write + OpenStream + Drop> Client<S> {
         self.took.saturating_add(limit)
     }
 
+    /// Where it seems to have taken nothing for the limit of time it is tried once more. The system reports room only once there is
+    /// much of it, and a client that takes slowly takes less than that.
+    fn try_again(&mut self, now: Duration, limit: Duration) {
+        if !self.failed && self.last_taking(limit) <= now {
+            self.writable = true;
+        }
+    }
+
     /// How many bytes it takes at once, or are kept for it, where they are at most so many.
-    pub(crate) fn put(&mut self, bytes: &[u8], room: usize, now: Duration) -> io::Result<usize> {
+    pub(crate) fn put(
+        &mut self,
+        bytes: &[u8],
+        room: usize,
+        now: Duration,
+        limit: Duration,
+    ) -> io::Result<usize> {
         if self.is_offered(bytes) {
             return Ok(bytes.len());
         }
+        self.try_again(now, limit);
         let count = self.take(bytes, now)?;
         let rest = &bytes[count.min(bytes.len())..];
         if rest.len() <= room && self.keep(rest).is_ok() {

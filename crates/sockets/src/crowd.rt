@@ -143,10 +143,11 @@ impl<R: Net + Clock + Drop> Crowd<R> {
     }
 
     /// Bytes of the client that is served, or none: it came to its end, or gives way to another client that has a request,
-    /// and comes again.
+    /// and comes again. A reply that it was sent is whole: only behind that its next request is known.
     pub(crate) fn receive(&mut self, buf: &mut [u8]) -> io::Result<usize>
         ensures { IfOk result (λ count. count ≤ length buf.old) }
     {
+        self.end_reply();
         for _wait in 0..u64::MAX {
             let Some(place) = self.open else {
                 return Ok(0);
@@ -219,12 +220,12 @@ impl<R: Net + Clock + Drop> Crowd<R> {
         }
     }
 
-    /// Sends bytes to the client that is served, or keeps what it doesn't take at once. `last` says that they end a reply.
-    pub(crate) fn send(&mut self, bytes: &[u8], last: bool) -> io::Result<()> {
+    /// Sends bytes to the client that is served, or keeps what it doesn't take at once. More of the same reply may follow.
+    pub(crate) fn send(&mut self, bytes: &[u8]) -> io::Result<()> {
         let Some(place) = self.open else {
             return Ok(());
         };
-        self.begin_sending(place)?;
+        self.begin_sending(place, bytes)?;
         let mut rest = bytes;
         for _wait in 0..u64::MAX {
             let count = self.put(place, rest)?;
@@ -234,26 +235,37 @@ impl<R: Net + Clock + Drop> Crowd<R> {
             }
             self.wait_for_taking(place)?;
         }
-        if last {
-            self.replied(place);
+        Ok(())
+    }
+
+    /// Between two pieces of a reply the other clients are looked at, since there may be many.
+    fn begin_sending(&mut self, place: usize, bytes: &[u8]) -> io::Result<()> {
+        if self.is_replying(place) {
+            self.look(Duration::ZERO)?;
+        } else {
+            self.now = self.rt.monotonic()?;
+        }
+        if let Some(client) = self.places.get_mut(place) {
+            client.begin_sending(bytes, self.now);
         }
         Ok(())
     }
 
-    fn begin_sending(&mut self, place: usize) -> io::Result<()> {
-        self.now = self.rt.monotonic()?;
-        if let Some(client) = self.places.get_mut(place) {
-            client.begin_sending(self.now);
+    /// Whether a part of a reply was sent there, behind which more may come.
+    fn is_replying(&self, place: usize) -> bool {
+        match self.places.get(place) {
+            Some(client) => client.is_replying(),
+            None => false,
         }
-        Ok(())
     }
 
     /// How many bytes a client takes at once, or are kept for it.
     fn put(&mut self, place: usize, bytes: &[u8]) -> io::Result<usize> {
         let room = self.most.saturating_sub(self.held);
         let now = self.now;
+        let limit = self.limit;
         let count = match self.places.get_mut(place) {
-            Some(client) => client.put(bytes, room, now)?,
+            Some(client) => client.put(bytes, room, now, limit)?,
             None => bytes.len(),
         };
         self.count(place);
@@ -272,6 +284,15 @@ impl<R: Net + Clock + Drop> Crowd<R> {
         self.look(left)
     }
 
+    /// The reply of the client that is served, if it was sent any, is whole.
+    fn end_reply(&mut self) {
+        if let Some(place) = self.open {
+            if self.is_replying(place) {
+                self.replied(place);
+            }
+        }
+    }
+
     /// The report of its next request, or of its end, may have come already: so it is attended at once.
     fn replied(&mut self, place: usize) {
         if let Some(client) = self.places.get_mut(place) {
@@ -280,7 +301,7 @@ impl<R: Net + Clock + Drop> Crowd<R> {
         self.attend(place);
     }
 
-    /// Ends the client that is served. What is kept is sent first.
+    /// Ends the client that is served, behind its reply. What is kept is sent first.
     pub(crate) fn end(&mut self) {
         if let Some(place) = self.open.take() {
             self.close(place);

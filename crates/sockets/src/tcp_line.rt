@@ -14,9 +14,6 @@ use std::io::ErrorKind;
 use std::net::Net;
 use std::time::{Clock, Duration};
 
-/// How an interim answer begins. The request goes on behind it.
-const INTERIM: &[u8] = b"HTTP/1.1 1";
-
 /// Connections that a listener accepts, side by side in one thread. All who wait are accepted, up to 900; the others stay in the
 /// listener's queue until one of those leaves, or has been idle for a second and gives its place away.
 ///
@@ -30,7 +27,10 @@ const INTERIM: &[u8] = b"HTTP/1.1 1";
 /// doesn't give way but ends: one with a transfer coding, a head over 16,384 bytes, or a body over 16,777,216.
 ///
 /// A client that expects `100 Continue` is sent that by the line, once its head is there and its body isn't. The same bytes, written
-/// later, are then passed over.
+/// before the reply, are then passed over.
+///
+/// A reply is all that is written until more is read, `next` is asked for, or the connection is closed; an interim reply before it
+/// isn't of it. Nothing that stands behind its request is looked at before that, and between its pieces the other clients are.
 ///
 /// A connection on which nothing moves for the limit of time ends, and so does one whose head takes longer in all. That is a fault
 /// where a part of its request was given, or a write waits for it; between two requests, and while one is read ahead or a reply
@@ -156,9 +156,9 @@ impl<R: Net + Clock + Drop, C: Counted> Line<C> for TcpLine<R> {
         }
     }
 
-    /// A reply makes the connection idle, an interim answer doesn't.
+    /// A piece of a reply. The reply is whole once more is read, or the connection ends.
     fn write(&mut self, _store: &C, bytes: &[u8]) -> Result<(), Failed> {
-        match self.crowd.send(bytes, !bytes.starts_with(INTERIM)) {
+        match self.crowd.send(bytes) {
             Ok(()) => Ok(()),
             Err(_) => Err(self.fail()),
         }
