@@ -4,11 +4,12 @@ ghost use Rattle.std.specs.Prelude.{◌≡◌};
 use crate::asked::Asked;
 use crate::entry::{Entry, log_entry_line};
 use crate::log::Log;
-use crate::reply::{is_unlogged_interim, logged_request_id, logged_status_of_reply};
+use crate::reply::{LoggedReply, is_unlogged_interim};
 use gate_base::{Bytes, Counted, Failed, Line, Memory, Sink};
 use std::time::Clock;
 
-/// A line over another, which does whatever that one does, and logs each reply: a write that is no interim reply.
+/// A line over another, which does whatever that one does, and logs each reply: what is written until the line is next read, closed or
+/// asked for another connection, but for interim replies before it. Its line of the log is written then.
 #[derive(Drop)]
 pub struct LoggedLine<N, K, R> {
     line: N,
@@ -20,6 +21,8 @@ pub struct LoggedLine<N, K, R> {
     begun: u64,
     /// How many calls of the store there were at the last reply.
     calls: u64,
+    /// The reply at hand, of which a part was written.
+    reply: Option<LoggedReply>,
 }
 
 impl<N, K: Sink, R: Clock> LoggedLine<N, K, R> {
@@ -35,6 +38,7 @@ impl<N, K: Sink, R: Clock> LoggedLine<N, K, R> {
             connection: 0,
             begun: 0,
             calls: 0,
+            reply: None,
         }
     }
 
@@ -66,42 +70,60 @@ impl<N, K: Sink, R: Clock> LoggedLine<N, K, R> {
     fn note_write(&mut self, bytes: &[u8], calls: u64, sent: bool)
         ensures { self.new.line ≡ self.old.line }
     {
-        if !self.log.is_on() || is_unlogged_interim(bytes) {
+        if !self.log.is_on() {
             return;
         }
-        let now = self.log.ticks();
-        let line = self.line_for(bytes, calls, now, sent);
-        self.log.put(line);
-        self.asked.answered();
-        self.begun = now;
-        self.calls = calls;
+        let reply = match self.reply {
+            Some(reply) => reply,
+            None if is_unlogged_interim(bytes) => return,
+            None => LoggedReply::new(bytes),
+        };
+        let mut reply = reply.with_piece(bytes.len(), sent);
+        reply.calls = calls;
+        reply.moment = self.log.moment();
+        reply.ticks = self.log.ticks();
+        self.reply = Some(reply);
+    }
+
+    /// The reply at hand is whole, if there is one: its line is written.
+    fn end_reply(&mut self)
+        ensures { self.new.line ≡ self.old.line }
+    {
+        if let Some(reply) = self.reply {
+            let line = self.line_for(&reply);
+            self.log.put(line);
+            self.asked.answered();
+            self.begun = reply.ticks;
+            self.calls = reply.calls;
+            self.reply = None;
+        }
     }
 
     /// The line of the log for a reply.
-    fn line_for(&self, bytes: &[u8], calls: u64, now: u64, sent: bool) -> Result<Bytes, Memory> {
+    fn line_for(&self, reply: &LoggedReply) -> Result<Bytes, Memory> {
         let request = self.asked.first_line();
-        let status = logged_status_of_reply(bytes);
-        let id = logged_request_id(bytes);
         let entry = Entry {
-            moment: self.log.moment(),
+            moment: reply.moment,
             connection: self.connection,
             request,
-            status,
-            id,
-            bytes: if sent { Some(bytes.len() as u64) } else { None },
-            calls: calls.saturating_sub(self.calls),
-            took: now.saturating_sub(self.begun),
+            status: reply.status(),
+            id: reply.id(),
+            bytes: reply.bytes,
+            calls: reply.calls.saturating_sub(self.calls),
+            took: reply.ticks.saturating_sub(self.begun),
         };
         log_entry_line(self.log.alloc(), &entry)
     }
 }
 
 impl<N: Drop, K: Sink + Drop, R: Clock + Drop> LoggedLine<N, K, R> {
-    /// The line itself.
+    /// The line itself. The reply at hand is whole.
     pub fn into_line(self) -> N
         ensures { result ≡ self.line }
     {
-        self.line
+        let mut logged = self;
+        logged.end_reply();
+        logged.line
     }
 }
 
@@ -111,6 +133,7 @@ impl<C: Counted, N: Line<C>, K: Sink, R: Clock> Line<C> for LoggedLine<N, K, R> 
     ghost is_line = { λ logged. N.is_line logged.line };
 
     fn next(&mut self) -> Result<bool, Failed> {
+        self.end_reply();
         let result = self.line.next();
         if let Ok(true) = result {
             self.note_next();
@@ -119,6 +142,7 @@ impl<C: Counted, N: Line<C>, K: Sink, R: Clock> Line<C> for LoggedLine<N, K, R> 
     }
 
     fn read(&mut self, buf: &mut [u8]) -> Result<usize, Failed> {
+        self.end_reply();
         match self.line.read(buf) {
             Ok(count) => {
                 self.note_read(&buf[..count]);
@@ -135,6 +159,7 @@ impl<C: Counted, N: Line<C>, K: Sink, R: Clock> Line<C> for LoggedLine<N, K, R> 
     }
 
     fn close(&mut self) {
+        self.end_reply();
         self.line.close();
     }
 }

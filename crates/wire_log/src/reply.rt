@@ -11,6 +11,72 @@ const MOST_LINES: usize = 100;
 
 const ID: &[u8] = b"x-amz-request-id: ";
 
+/// A status or an id.
+#[derive(Clone, Copy, Debug)]
+struct LoggedWord {
+    bytes: [u8; LONGEST_ID],
+    len: usize,
+}
+
+impl LoggedWord {
+    /// The word, or as much of it as an id may have.
+    fn new(word: &[u8]) -> LoggedWord {
+        let mut bytes = [b' '; LONGEST_ID];
+        let len = word.len().min(LONGEST_ID);
+        bytes[..len].copy_from_slice(&word[..len]);
+        LoggedWord { bytes, len }
+    }
+
+    fn as_slice(&self) -> &[u8] {
+        &self.bytes[..self.len.min(LONGEST_ID)]
+    }
+}
+
+/// A reply, as far as it is written. Of its bytes the status and the id are kept.
+#[derive(Clone, Copy, Debug)]
+pub(crate) struct LoggedReply {
+    status: LoggedWord,
+    id: LoggedWord,
+    /// How many bytes were written; none once a write failed.
+    pub(crate) bytes: Option<u64>,
+    /// How many calls of the store there had been at the last write, the moment and the ticks.
+    pub(crate) calls: u64,
+    pub(crate) moment: u64,
+    pub(crate) ticks: u64,
+}
+
+impl LoggedReply {
+    /// A reply that begins with these bytes, which aren't written yet.
+    pub(crate) fn new(bytes: &[u8]) -> LoggedReply {
+        LoggedReply {
+            status: LoggedWord::new(logged_status_of_reply(bytes)),
+            id: LoggedWord::new(logged_request_id(bytes)),
+            bytes: Some(0),
+            calls: 0,
+            moment: 0,
+            ticks: 0,
+        }
+    }
+
+    pub(crate) fn status(&self) -> &[u8] {
+        self.status.as_slice()
+    }
+
+    pub(crate) fn id(&self) -> &[u8] {
+        self.id.as_slice()
+    }
+
+    /// The reply once so many more bytes of it are written, or aren't.
+    pub(crate) fn with_piece(self, count: usize, sent: bool) -> LoggedReply {
+        let mut reply = self;
+        reply.bytes = match reply.bytes {
+            Some(bytes) if sent => Some(bytes.saturating_add(count as u64)),
+            _ => None,
+        };
+        reply
+    }
+}
+
 pub(crate) fn is_unlogged_interim(reply: &[u8]) -> bool {
     reply.starts_with(INTERIM)
 }
