@@ -8,6 +8,8 @@ mod log_lines;
 #[cfg(test)]
 mod loopback;
 #[cfg(test)]
+mod pieces;
+#[cfg(test)]
 mod tcp_line;
 #[cfg(test)]
 mod tcp_link;

@@ -1,0 +1,125 @@
+//! A reply in several pieces, over sockets and with a log. One thread is client and gateway, so the client speaks first.
+ghost use Rattle.std.specs.Prelude.{IsTrue};
+
+use crate::loopback::{begin, client, gets, hears, listen};
+use gate_base::{Failed, Line, NoCount, Sink};
+use sockets::TcpLine;
+use std::io::{Read, Write};
+use std::net::{Net, OpenListener, TcpStream};
+use std::process::Abort;
+use wire_log::{Log, LoggedLine};
+
+const ASKED: &[u8] = b"GET /photos/a HTTP/1.1\r\nHost: h\r\n\r\n";
+
+const HEAD: &[u8] = b"HTTP/1.1 200 OK\r\nx-amz-request-id: c0ffee\r\nContent-Length: 39\r\n\r\n";
+
+/// The bytes of an object may spell an interim reply.
+const PIECES: [&[u8]; 2] = [b"HTTP/1.1 100 Continue\r\n\r\n", b"and 14 behind."];
+
+const NEXT_ASKED: &[u8] = b"HEAD /photos/b HTTP/1.1\r\nHost: h\r\n\r\n";
+
+const NEXT: &[u8] = b"HTTP/1.1 404 Not Found\r\nContent-Length: 0\r\n\r\n";
+
+/// What the log has between the time and the milliseconds.
+const LOGGED: [&[u8]; 2] = [
+    b" 1 GET /photos/a 200 c0ffee 104 0 ",
+    b" 1 HEAD /photos/b 404 - 45 0 ",
+];
+
+/// How many bytes the time of a line has.
+const TIME: usize = 24;
+
+/// How many bytes are read ahead or kept to be sent.
+const AHEAD: usize = 1_048_576;
+
+/// A limit of time in seconds that the test doesn't come to.
+const LONG: u64 = 30;
+
+/// A sink whose other end is read by the test.
+#[derive(Drop)]
+struct StreamSink<S> {
+    stream: S,
+    faults: u64,
+}
+
+impl<S: Write> Sink for StreamSink<S> {
+    ghost model = { λ sink. record { faults = sink.faults; observable = false; bytes = [] } };
+
+    fn put(&mut self, bytes: &[u8]) -> Result<(), Failed> {
+        match self.stream.write_all(bytes) {
+            Ok(()) => Ok(()),
+            Err(_) => {
+                self.faults = self.faults.saturating_add(1);
+                Err(Failed)
+            }
+        }
+    }
+}
+
+/// Two requests of one client, of which the first is answered in pieces, and the end.
+fn serve<L: Line<NoCount>, S: Read + Write>(rt: &impl Abort, line: &mut L, client: &mut S) {
+    begin(rt, line);
+    assert!(rt; hears(line, ASKED));
+    assert!(rt; line.write(&NoCount, HEAD).is_ok());
+    assert!(rt; line.write(&NoCount, PIECES[0]).is_ok());
+    assert!(rt; line.write(&NoCount, PIECES[1]).is_ok());
+    client.write_all(NEXT_ASKED).expect(rt, "its bytes");
+    assert!(rt; hears(line, NEXT_ASKED));
+    assert!(rt; line.write(&NoCount, NEXT).is_ok());
+    line.close();
+}
+
+/// Asserts that exactly these bytes come, piece behind piece.
+fn comes<S: Read>(rt: &impl Abort, stream: &mut S, bytes: &[u8]) {
+    let mut buf = [0; 100];
+    let buf = &mut buf[..bytes.len().min(100)];
+    stream.read_exact(buf).expect(rt, "all bytes");
+    assert!(rt; &*buf == bytes);
+}
+
+/// Asserts that a line of the log comes that has these bytes behind its time.
+fn is_logged<S: Read>(rt: &impl Abort, log: &mut S, bytes: &[u8]) {
+    let mut time = [0; TIME];
+    log.read_exact(&mut time).expect(rt, "a time");
+    comes(rt, log, bytes);
+    let mut byte = [0; 1];
+    for _digit in 0..10 {
+        log.read_exact(&mut byte)
+            .expect(rt, "milliseconds and the end");
+        if byte == *b"\n" {
+            return;
+        }
+        assert!(rt; byte[0].is_ascii_digit());
+    }
+    panic!(rt; "the line doesn't end");
+}
+
+/// A log that is written to a stream, and the other end of that.
+fn open_log<R: Net + Abort>(rt: &R) -> (StreamSink<R::Stream>, R::Stream) {
+    let (listener, place) = listen(rt);
+    let stream = TcpStream::connect(rt, place).expect(rt, "a connection");
+    let (log, _) = listener.accept().expect(rt, "its other end");
+    (StreamSink { stream, faults: 0 }, log)
+}
+
+#[test]
+fn a_reply_in_pieces_is_one(rt: HostRuntime) {
+    let (listener, place) = listen(&rt);
+    let own = rt.clone().expect(&rt, "a handle");
+    let made = TcpLine::<HostRuntime>::new(own, rt.alloc(), listener, LONG, Some(1), AHEAD);
+    let line = made.expect(&rt, "a line");
+    let (sink, mut log) = open_log(&rt);
+    let own = rt.clone().expect(&rt, "a handle");
+    let mut line = LoggedLine::new(line, Log::new(own, rt.alloc(), sink, true));
+    let mut client = client(&rt, place, ASKED);
+    serve(&rt, &mut line, &mut client);
+    drop(line);
+    for bytes in [HEAD, PIECES[0], PIECES[1], NEXT] {
+        comes(&rt, &mut client, bytes);
+    }
+    gets(&rt, &mut client, b"");
+    for bytes in LOGGED {
+        is_logged(&rt, &mut log, bytes);
+    }
+    gets(&rt, &mut log, b"");
+}
