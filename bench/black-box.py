@@ -178,9 +178,10 @@ class Swiftd(Program):
 
 
 class Reply:
-    """The status, the headers and the body of a reply."""
+    """The status, the headers and the body of a reply, and how many bytes it has in all."""
 
     def __init__(self, head, body):
+        self.size = len(head) + 4 + len(body)
         lines = head.decode("latin-1").split("\r\n")
         self.status = int(lines[0].split(" ")[1])
         self.names = [line.partition(":")[0] for line in lines[1:]]
@@ -902,6 +903,78 @@ def the_log_of_replies(check):
         check("the log has no other line, and the status is 0", (0, len(wanted)), (status, len(lines)))
         hidden = [TOKEN.encode(), SIGNATURE.encode(), b"TOKEN", b"Credential=KEY", b"the body", b"secret", b"pass@"] + sign.first_key()[1:2]
         check("and no secret, token or body", [], [it for it in hidden if (it if isinstance(it, bytes) else it.encode()) in report])
+
+
+MEBIBYTE = 1 << 20
+INTERIM = b"HTTP/1.1 100 Continue\r\n\r\n"
+
+# Objects that are sent in pieces: the last piece of the second spells an interim reply.
+LONG_OBJECTS = {b"a": b"abc", b"long": random.Random(4).randbytes(5 * MEBIBYTE + 1), b"odd": bytes(MEBIBYTE) + INTERIM}
+
+
+@group()
+def replies_in_pieces(check):
+    """A reply is one, in however many pieces it is sent: for its client, for the client's next request, and in the log."""
+    wanted = []
+    with Store(account=account(LONG_OBJECTS)) as store, Gate(store.text, 5, S3GATE_LOG="on") as gate, gate.client() as client, gate.client() as other:
+
+        def served(number, reply, name, calls):
+            """The reply has that object, and its line in the log is to be."""
+            check(f"all bytes of {name!r}", (200, True), (reply.status, reply.body == LONG_OBJECTS[name]))
+            wanted.append(f"{number} GET /photos/{name.decode()} 200 {reply.headers['x-amz-request-id']} {reply.size} {calls}")
+
+        def ask(number, its, name, *more, close=False):
+            before = len(store.calls)
+            its.send(request("GET", f"/photos/{name.decode()}", *more, owner=False, close=close))
+            reply = its.reply()
+            served(number, reply, name, len(store.calls) - before)
+            return len(store.calls) - before
+
+        ask(1, client, b"a")
+        calls = ask(1, client, b"long")
+        ask(1, client, b"odd")
+        short = ask(1, client, b"a")
+        check("a long object takes a call for each piece", True, calls > short + 4)
+        ask(2, other, b"long")
+        client.send(request("GET", "/photos/long", owner=False))
+        other.send(request("GET", "/photos/a", owner=False))
+        for number, its, name, made in ((3, client, b"long", calls), (4, other, b"a", short)):
+            served(number, its.reply(), name, made)
+        client.send(request("GET", "/photos/long", owner=False) * 2 + request("GET", "/photos/odd", owner=False, close=True))
+        for name in (b"long", b"long", b"odd"):
+            served(5, client.reply(), name, calls - 4 if name == b"odd" else calls)
+        check("and the end", None, client.reply())
+        status, report = gate.ended()
+    lines = log_of(report)
+    check("the log has one line for each, with its whole size", (0, wanted), (status, lines))
+
+
+@group()
+def an_object_that_spells_an_interim_reply(check):
+    """Its bytes aren't passed over, as the interim reply is that was sent already."""
+    asked = request("GET", "/photos/odd", [("Expect", "100-continue"), ("Content-Length", "3")], owner=False)
+    with Store(account=account(LONG_OBJECTS)) as store, Gate(store.text) as gate, gate.client(asked) as client:
+        check("a body is asked for", 100, client.reply().status)
+        client.send(b"abc")
+        check("an object whose last piece spells that", True, client.reply().body == LONG_OBJECTS[b"odd"])
+        client.send(request(*GET, owner=False, close=True))
+        check("and the next request", ["abc", None], client.replies(2))
+
+
+@group(first=True)
+def a_client_that_takes_slowly_is_served(check):
+    """Its reply takes longer than the limit of time, and more than is kept."""
+    long = random.Random(5).randbytes(12 * MEBIBYTE)
+    with Store(account=account({b"a": b"abc", b"long": long})) as store, Gate(store.text, S3GATE_IDLE=str(IDLE), S3GATE_AHEAD="1") as gate:
+        with Client(gate, request("GET", "/photos/long", owner=False, close=True), room=65536) as client:
+            begun = time.monotonic()
+            while time.monotonic() < begun + IDLE * 3:
+                client.came += client.stream.recv(20000)
+                time.sleep(0.05)
+            reply = client.reply()
+            check("a client that takes slowly gets all", (200, True), (reply.status, reply.body == long))
+            check("and the end", None, client.reply())
+        check("and another is served", FOUND, both(gate.ask(*GET, owner=False)))
 
 
 @group()
