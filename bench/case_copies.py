@@ -174,6 +174,9 @@ class Run:
     def whole(self):
         lines = []
         for calls, turn, answer, path in self.pieces:
+            if isinstance(answer, str):
+                lines += [f"piece 1 {calls}", f"<. {answer}"]
+                continue
             status, *headers, rest = answer
             if isinstance(rest, str):
                 code = f"<Error><Code>{headers[0]}</Code><Message>{rest}</Message><Resource>{path}</Resource>"
@@ -186,6 +189,9 @@ class Run:
         """In brief, with the ETags of the replies to GET."""
         lines = []
         for calls, turn, answer, _ in self.pieces:
+            if isinstance(answer, str):
+                lines.append(f"piece 1 {calls} bytes {len(answer.encode())}")
+                continue
             etag = next((it[6:] for it in answer[1:-1] if it.startswith("ETag: ")), "") if turn + 1 in self.etags() else ""
             told = answer[1] if isinstance(answer[-1], str) else etag
             lines.append(f"piece 1 {calls} {answer[0][:3]} {told}".rstrip())
@@ -193,12 +199,13 @@ class Run:
 
     def etags(self):
         """The numbers of the replies that have an ETag in a header."""
-        return [turn + 1 for _, turn, answer, _ in self.pieces if any(str(it).startswith("ETag: ") for it in answer)]
+        return [turn + 1 for _, turn, answer, _ in self.pieces if any(str(it).startswith("ETag: ") for it in answer[1:])]
 
     # The steps of a request.
 
     def ask(self, lines, path, plan):
         self.requests += lines
+        self.behind = ""
         try:
             if not self.is_settled:
                 self.settle()
@@ -208,7 +215,15 @@ class Run:
         except Refused as refused:
             answer = refused.args
         self.pieces.append((self.store.calls, self.turn, answer, path))
+        self.send(path)
         self.turn += 1
+
+    def send(self, path):
+        """The bytes of an object, behind the head of its reply. No case loses the GET of them, nor reads more than one piece."""
+        assert len(self.behind.encode()) <= 1_048_576
+        if self.behind:
+            self.store.call()
+            self.pieces.append((self.store.calls, self.turn, self.behind, path))
 
     def refuse(self, lines, path, refusal):
         """A request that is refused before the store is asked for anything."""
@@ -283,8 +298,8 @@ class Run:
         def plan(_draw):
             self.need_bucket(bucket)
             file = self.need_object(bucket, key)
-            self.store.call()
-            return "200 OK", *self.head_of(file), {"body": file.body}
+            self.behind = file.body
+            return "200 OK", *self.head_of(file), {"size": len(file.body.encode())}
 
         self.ask(request("GET", path_of(bucket, key)), path_of(bucket, key), plan)
 

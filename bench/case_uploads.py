@@ -165,6 +165,19 @@ def reply(place, turn, status, *headers, body=None, size=None):
     return lines + ([f"<. {body}"] if body else [])
 
 
+def read_reply(connection, calls, turn, status, *headers, body):
+    """The pieces of a reply with the bytes of an object, where so many calls were made at its end: the head, and the bytes behind the
+    GET of them. No byte is got by no GET."""
+    assert len(body.encode()) <= 1_048_576, "one piece"
+    head = reply(f"{connection} {calls - bool(body)}", turn, status, *headers, size=len(body.encode()))
+    return head + ([f"piece {connection} {calls}", f"<. {body}"] if body else [])
+
+
+def read_in_brief(connection, calls, size, etag=""):
+    """The same in brief, of an object of so many bytes that is read whole. The calls are those at its end."""
+    return [f"piece {connection} {calls - bool(size)} 200 {etag}".rstrip()] + ([f"piece {connection} {calls} bytes {size}"] if size else [])
+
+
 def head_of(done):
     return [
         f"Last-Modified: {PUT_AT}", f'ETag: "{done.etag}"', "Accept-Ranges: bytes", f"Content-Type: {done.kind}",

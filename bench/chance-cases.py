@@ -32,7 +32,7 @@ OF_OBJECTS = {"PUT": ("PUT", ""), "GET": ("GET", ""), "HEAD": ("HEAD", ""), "DEL
 
 
 class Bucket:
-    """The moment of its making, whether everybody may read it, and the MD5s of its objects by key."""
+    """The moment of its making, whether everybody may read it, and by key the MD5s and the sizes of its objects."""
 
     def __init__(self, made, is_open):
         self.made = made
@@ -91,16 +91,20 @@ class Service:
             return "501 NotImplemented"
         self.calls += 1
         if act == "PUT":
-            objects[key] = hashlib.md5(body.encode()).hexdigest()
-            return f'200 "{objects[key]}"'
+            objects[key] = hashlib.md5(body.encode()).hexdigest(), len(body)
+            return f'200 "{objects[key][0]}"'
         if act == "DELETE":
             objects.pop(key, None)
             return "204"
         if key not in objects:
             return "404" if act == "HEAD" else "404 NoSuchKey"
-        if act == "GET":
-            self.calls += 1
-        return "200" if act == "LIST OF KEY" else f'200 "{objects[key]}"'
+        return "200" if act == "LIST OF KEY" else f'200 "{objects[key][0]}"'
+
+    def size_read(self, act, bucket, key, reply):
+        """How many bytes of an object follow the head of a reply, which are got by one call."""
+        size = self.buckets[bucket].objects[key][1] if act == "GET" and reply.startswith("200") else 0
+        self.calls += bool(size)
+        return size
 
 
 def target_of(act, bucket, path):
@@ -142,6 +146,7 @@ def choices(chance):
 def case(chance, name):
     service = Service()
     given = []
+    replies = []
     wanted = []
     for turn in range(REQUESTS):
         act, acl, is_signed = choices(chance)
@@ -150,9 +155,12 @@ def case(chance, name):
         body = ".".join(str(number) for number in range(chance.randrange(40)))
         given += request_lines(act, bucket, path, body, turn, acl, is_signed)
         reply = service.answer(act, bucket, key, body, MOMENT + turn, acl, is_signed)
+        replies.append(reply)
         wanted.append(f"= piece 1 {service.calls} {reply}")
+        size = service.size_read(act, bucket, key, reply)
+        wanted += [f"= piece 1 {service.calls} bytes {size}"] if size else []
     clock = " ".join(str(MOMENT + turn) for turn in range(REQUESTS))
-    etags = " ".join(str(turn) for turn, line in enumerate(wanted, 1) if line.endswith('"'))
+    etags = " ".join(str(turn) for turn, reply in enumerate(replies, 1) if reply.endswith('"'))
     told = ["brief", f"etags {etags}", "tell left"]
     return [f"case {name}", "pieces 1000", f"clock {clock}", *told, "connection", *given, "= status 0", *wanted, *left(service)]
 

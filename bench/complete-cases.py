@@ -9,8 +9,8 @@ the MD5s are those of Python's hashlib. Nothing is taken from the program. The r
 """
 from case_signing import load_signing
 from case_uploads import (
-    CLOCK, ID, NAMESPACE, NO_UPLOADS, OBJECT, OTHER, PLAIN, STARTED, TELL, UPLOAD, Account, Completion, Writer, md5, refusal, reply,
-    request, shown, tag,
+    CLOCK, ID, NAMESPACE, NO_UPLOADS, OBJECT, OTHER, PLAIN, STARTED, TELL, UPLOAD, Account, Completion, Writer, md5, read_in_brief,
+    read_reply, refusal, reply, request, shown, tag,
 )
 
 MOMENT = 1369353700
@@ -85,8 +85,11 @@ class Asked:
     def complete(self, calls, done, asked=None, path=OBJECT):
         self.ask(calls, asked or complete(body_of(done)), "200 OK", body=result(done, path))
 
-    def read(self, done):
-        self.ask(3, request("GET", OBJECT), "200 OK", *head_now(done), body=done.body)
+    def read(self, *headers, body):
+        self.calls += 2 + bool(body)
+        self.requests += request("GET", OBJECT)
+        self.expected += read_reply(1, self.calls, self.turn, "200 OK", *headers, body=body)
+        self.turn += 1
 
     def end(self, to, name, account, given=(LEAST, *TELL)):
         to.case(name, list(given), self.requests, ["status 0", f"calls {self.calls}", *self.expected, *account.left()])
@@ -121,7 +124,7 @@ def plain_run(to, done):
     run = Asked()
     run.complete(7, done)
     run.complete(2, done)
-    run.read(done)
+    run.read(*head_now(done), body=done.body)
     run.ask(3, request("GET", "/photos?uploads"), "200 OK", body=NO_UPLOADS)
     run.refuse(2, request("GET", UPLOAD), *MISSING)
     run.refuse(2, request("PUT", f"{OBJECT}?partNumber=1&uploadId={ID}", body="again"), *MISSING)
@@ -186,7 +189,7 @@ def sizes(to):
     run.refuse(3, complete(listed([(1, hello), (2, hello)])), "400 Bad Request", "InvalidPart", "A part is missing or differs.")
     run.refuse(3, complete(listed([(1, hello), (2, world)])), *small)
     run.complete(7, alone, complete(body_of(alone)))
-    run.read(alone)
+    run.read(*head_now(alone), body=alone.body)
     run.end(to, "the last part alone may be small", finished(alone, done.parts), ["words session --least-part 6", *TELL])
     run = Asked()
     run.refuse(3, complete(body_of(done)), *small)
@@ -204,7 +207,7 @@ def contents(to):
     to.setup(done)
     run = Asked()
     run.complete(7, done)
-    run.read(done)
+    run.read(*head_now(done), body=done.body)
     run.end(to, "a part that is filled and an empty one", finished(done))
 
     done = Completed([(7, "")], "text/plain", [("-a", "b"), ("-colour", "red")])
@@ -213,7 +216,7 @@ def contents(to):
     to.setup(done)
     run = Asked()
     run.complete(7, done)
-    run.read(done)
+    run.read(*head_now(done), body=done.body)
     run.ask(2, request("HEAD", OBJECT), "200 OK", *head_now(done), size=0)
     run.end(to, "an empty part alone", finished(done))
     losses(to, done, "an empty part alone")
@@ -226,7 +229,7 @@ def contents(to):
     run = Asked()
     run.refuse(3, complete(body_of(every)), "400 Bad Request", "EntityTooSmall", "A part is too small.")
     run.complete(7, done)
-    run.read(done)
+    run.read(*head_now(done), body=done.body)
     run.end(to, "empty parts between others", finished(done, parts))
 
 
@@ -238,7 +241,7 @@ def unlisted(to):
     to.setup(extra, second=request("PUT", OBJECT, "x-amz-meta-old: 1", body="old"))
     run = Asked()
     run.complete(7, done)
-    run.read(done)
+    run.read(*head_now(done), body=done.body)
     run.refuse(2, request("GET", UPLOAD), *MISSING)
     account = finished(done, extra.parts)
     run.end(to, "an object is there, and a part isn't listed", account)
@@ -249,7 +252,7 @@ def unlisted(to):
     run.ask(2, request("PUT", OBJECT, body="other"), "200 OK", f'ETag: "{etag}"', size=0)
     run.complete(2, done)
     headers = [f"Last-Modified: {PUT_NOW}", f'ETag: "{etag}"', "Accept-Ranges: bytes", f"Content-Type: {PLAIN}"]
-    run.ask(3, request("GET", OBJECT), "200 OK", *headers, body="other")
+    run.read(*headers, body="other")
     put = account.having("photos", "v.bin", (tag(PLAIN, etag, MOMENT, "-"), [], None, "other"))
     run.end(to, "an object is put behind a completion, which is repeated", put)
 
@@ -290,8 +293,8 @@ def losses(to, done, name):
             sealed = 4 <= effect <= 6
             settles = 0 if call <= 3 else 5 if sealed else 2
             again = number + settles + (7 if effect <= 3 else 2)
-            ends = again + 3
-            expected = [f"calls {ends}", first, f"piece 1 {again} 200", f'piece 1 {ends} 200 "{done.etag}"']
+            ends = again + 2 + bool(done.body)
+            expected = [f"calls {ends}", first, f"piece 1 {again} 200", *read_in_brief(1, ends, len(done.body), f'"{done.etag}"')]
             to.case(f"{name}, {word} {number}", ["etags 3", *given], requests, ["status 0", *expected, *at[7].left()])
 
 
@@ -321,7 +324,9 @@ def across_connections(to, done):
     at = stages(done)
     to.note("What is left behind a completion is finished before the next operation, on whatever connection; a refusal finishes nothing.")
     requests = complete(body_of(done)) + ["connection"] + request("GET", "/photos?versions") + request("GET", OBJECT) + request("GET", OBJECT)
-    expected = ["status 0", "calls 18", "piece 1 7 200", "piece 2 7 501 NotImplemented", f'piece 2 15 200 "{done.etag}"', f'piece 2 18 200 "{done.etag}"']
+    expected = ["status 0", "calls 18", "piece 1 7 200", "piece 2 7 501 NotImplemented"]
+    for calls in (15, 18):
+        expected += read_in_brief(2, calls, len(done.body), f'"{done.etag}"')
     to.case("the object isn't put, and another connection reads it", [LEAST, "after 7", "brief", "etags 3 4", *TELL, "nomodel"], requests, expected + at[7].left())
     to.note("Without another operation it stays as it is.")
     requests = complete(body_of(done)) + ["connection"] + request("GET", "/photos?versions")

@@ -21,7 +21,7 @@ FAULTS = [
     ("swift_calls account_at: one call early", "swift_calls/src/replay.rt", 1, "for entry in &self.log[..k as usize] {", "for entry in &self.log[..(k as usize).saturating_sub(1)] {", ["sweeps.txt"]),
     ("swift_calls go: a lost reply leaves the account", "swift_calls/src/replay.rt", 1, "                let _lost = serve(alloc, account, &self.request)?;", "                let _lost = self.request.copy()?;"),
     ("account_calls reply_of: a failed call is a refusal", "account_calls/src/plans.rt", 1, "Err(PlanFault::Failed) => Reply::Refused(Code::ServiceUnavailable)", "Err(PlanFault::Failed) => Reply::Refused(Code::AccessDenied)"),
-    ("planner plan_get_object_within: another code for a missing key", "planner/src/objects.rt", 1, "Code::NoSuchKey", "Code::NoSuchBucket"),
+    ("planner find_object_within: another code for a missing key", "planner/src/reading.rt", 1, "Code::NoSuchKey", "Code::NoSuchBucket"),
     ("planner delete_object: a call repeated", "planner/src/objects.rt", 1, "    plan_delete_object_within(state, bucket, key)\n", "    let _ = head_bucket(state, &bucket)?;\n    plan_delete_object_within(state, bucket, key)\n"),
     ("account_calls put_request: metadata dropped", "account_calls/src/object.rt", 1, "pack(alloc, meta)?", "pack(alloc, &Meta::new(alloc))?"),
     ("account_calls tag_of_put_object: another moment", "account_calls/src/object.rt", 1, "        moment,\n        id: None,", "        moment: moment / 2,\n        id: None,"),

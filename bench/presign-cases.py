@@ -284,21 +284,21 @@ def runs():
             text += f"> Content-Length: {len(body)}\n>\n>. {body}\n"
         else:
             text += ">\n"
-        text += f"= status 0\n= piece 1 2 200\n= piece 1 4 200 {etag}\n= piece 1 {expected}\n"
+        text += f"= status 0\n= piece 1 8 200\n= piece 1 10 200 {etag}\n= piece 1 {expected}\n"
 
-    run("a presigned request in its last second", "GET", get, "7 200", 10)
-    run("a presigned request a second later", "GET", get, "4 403 AccessDenied", 11)
-    run("a presigned request sent as HEAD", "HEAD", get, "4 403", 10)
-    run("a presigned request that holds longer than a week", "GET", get.replace("X-Amz-Expires=10", "X-Amz-Expires=604801"), "4 400 AuthorizationQueryParametersError")
-    run("a presigned request of another region", "GET", signed("GET", unsigned("/photos/k", 10, region="eu-west-1"), host), "4 400 AuthorizationQueryParametersError")
-    run("a presigned request with an Authorization header", "GET", get, "4 400 AuthorizationQueryParametersError", more=["Authorization: x"])
-    run("a presigned request of an unknown id", "GET", signed("GET", unsigned("/photos/k", 10, key="AKIA"), host), "4 403 InvalidAccessKeyId")
-    run("a presigned request with a header that had to be signed", "GET", get, "4 403 AccessDenied", more=["x-amz-acl: private"])
-    run("a presigned request of signed pieces", "GET", get, "4 501 NotImplemented", more=["x-amz-content-sha256: STREAMING-AWS4-HMAC-SHA256-PAYLOAD"])
-    run("a presigned upload", "PUT", put, f"6 200 {etag}", body="hello")
-    run("a presigned request with x-id", "PUT", signed("PUT", unsigned("/photos/l?x-id=PutObject", 10), host), f"6 200 {etag}", body="hello")
-    run("a presigned request with a name that no row has", "GET", signed("GET", unsigned("/photos/k?foo=1", 10), host), "4 501 NotImplemented")
-    run("a name of a signature in a request that isn't presigned", "GET", "/photos/k?X-Amz-Expires=10", "4 501 NotImplemented")
+    run("a presigned request in its last second", "GET", get, "12 200\n= piece 1 13 bytes 5", 10)
+    run("a presigned request a second later", "GET", get, "10 403 AccessDenied", 11)
+    run("a presigned request sent as HEAD", "HEAD", get, "10 403", 10)
+    run("a presigned request that holds longer than a week", "GET", get.replace("X-Amz-Expires=10", "X-Amz-Expires=604801"), "10 400 AuthorizationQueryParametersError")
+    run("a presigned request of another region", "GET", signed("GET", unsigned("/photos/k", 10, region="eu-west-1"), host), "10 400 AuthorizationQueryParametersError")
+    run("a presigned request with an Authorization header", "GET", get, "10 400 AuthorizationQueryParametersError", more=["Authorization: x"])
+    run("a presigned request of an unknown id", "GET", signed("GET", unsigned("/photos/k", 10, key="AKIA"), host), "10 403 InvalidAccessKeyId")
+    run("a presigned request with a header that had to be signed", "GET", get, "10 403 AccessDenied", more=["x-amz-acl: private"])
+    run("a presigned request of signed pieces", "GET", get, "10 501 NotImplemented", more=["x-amz-content-sha256: STREAMING-AWS4-HMAC-SHA256-PAYLOAD"])
+    run("a presigned upload", "PUT", put, f"12 200 {etag}", body="hello")
+    run("a presigned request with x-id", "PUT", signed("PUT", unsigned("/photos/l?x-id=PutObject", 10), host), f"12 200 {etag}", body="hello")
+    run("a presigned request with a name that no row has", "GET", signed("GET", unsigned("/photos/k?foo=1", 10), host), "10 501 NotImplemented")
+    run("a name of a signature in a request that isn't presigned", "GET", "/photos/k?X-Amz-Expires=10", "10 501 NotImplemented")
     return text
 
 

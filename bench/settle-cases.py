@@ -11,8 +11,8 @@ import json
 
 from case_signing import load_signing
 from case_uploads import (
-    ID, NO_UPLOADS, OBJECT, OTHER, PLAIN, PUT_AT, TELL, UPLOAD, Account, Completion, Writer, head_of, listing, md5, refusal, reply,
-    request, tag,
+    ID, NO_UPLOADS, OBJECT, OTHER, PLAIN, PUT_AT, TELL, UPLOAD, Account, Completion, Writer, head_of, listing, md5, read_in_brief,
+    read_reply, refusal, reply, request, tag,
 )
 
 STORE = "s3gate: store"
@@ -32,7 +32,7 @@ def seal_file(text):
 
 
 def read_whole(calls, turn, done):
-    return reply(f"1 {calls}", turn, "200 OK", *head_of(done), body=done.body)
+    return read_reply(1, calls, turn, "200 OK", *head_of(done), body=done.body)
 
 
 def each_beginning(to, done, sealed):
@@ -63,12 +63,18 @@ def each_operation(to, done, account):
         expected.extend(reply(f"1 {at[0]}", turn[0], status, *headers, **rest))
         turn[0] += 1
 
+    def read(asked, status, *headers, body):
+        at[0] += 3
+        requests.extend(asked)
+        expected.extend(read_reply(1, at[0], turn[0], status, *headers, body=body))
+        turn[0] += 1
+
     def refuse(calls, asked, status, code, message, path=OBJECT):
         ask(calls, asked, status, body=refusal(code, message, path, turn[0]))
 
     def part(given, first, last):
         headers = [*head_of(done), f"Content-Range: bytes {first}-{last}/{length}"]
-        ask(3, request("GET", OBJECT, f"Range: bytes={given}"), "206 Partial Content", *headers, body=done.body[first : last + 1])
+        read(request("GET", OBJECT, f"Range: bytes={given}"), "206 Partial Content", *headers, body=done.body[first : last + 1])
 
     missing = ("404 Not Found", "NoSuchUpload", "The upload does not exist.")
     ask(2, request("HEAD", OBJECT), "200 OK", *head_of(done), size=length)
@@ -77,7 +83,7 @@ def each_operation(to, done, account):
     part("-3", 7, 9)
     part("5-", 5, 9)
     refuse(2, request("GET", OBJECT, "Range: bytes=10-"), "416 Range Not Satisfiable", "InvalidRange", "The range is not satisfiable.")
-    ask(3, request("GET", OBJECT, "Range: bytes=0-1,3-4"), "200 OK", *head_of(done), body=done.body)
+    read(request("GET", OBJECT, "Range: bytes=0-1,3-4"), "200 OK", *head_of(done), body=done.body)
     ask(2, request("GET", "/photos?list-type=2"), "200 OK", body=listing(done, length, 2))
     ask(2, request("GET", "/photos"), "200 OK", body=listing(done, length, 1))
     ask(3, request("GET", "/photos?uploads"), "200 OK", body=NO_UPLOADS)
@@ -101,7 +107,8 @@ def other_firsts(to, done, account):
 
     plain = (tag(PLAIN, md5(b"other"), 1369353700, "-"), [], None, "other")
     requests = request("PUT", OBJECT, body="other") + request("GET", OBJECT) + request("GET", UPLOAD)
-    expected = ["status 0", "calls 12", f'piece 1 7 200 "{md5(b"other")}"', f'piece 1 10 200 "{md5(b"other")}"', "piece 1 12 404 NoSuchUpload"]
+    etag = f'"{md5(b"other")}"'
+    expected = ["status 0", "calls 12", f"piece 1 7 200 {etag}", *read_in_brief(1, 10, 5, etag), "piece 1 12 404 NoSuchUpload"]
     put = final.having("photos", "v.bin", plain)
     to.case("the object is put anew", ["etags 1 2", *given], requests, expected + put.left())
 
@@ -110,8 +117,10 @@ def other_firsts(to, done, account):
 
     to.note("A run settles once: the next connection finds the store as the one before left it.")
     requests = request("GET", OBJECT) + ["connection"] + request("GET", OBJECT)
-    to.case("two connections", given, requests, ["status 0", "calls 11", "piece 1 8 200", "piece 2 11 200"] + final.left())
-    expected = ["status 0", "calls 12", "piece 1 4 503 ServiceUnavailable", "piece 2 12 200"]
+    size = len(done.body)
+    expected = ["status 0", "calls 11", *read_in_brief(1, 8, size), *read_in_brief(2, 11, size)]
+    to.case("two connections", given, requests, expected + final.left())
+    expected = ["status 0", "calls 12", "piece 1 4 503 ServiceUnavailable", *read_in_brief(2, 12, size)]
     to.case("two connections, after 4", ["after 4", *given], requests, expected + final.left())
 
     to.note("What is refused before it is an operation settles nothing: no call is made.")
@@ -139,12 +148,14 @@ def each_loss(to, done, account):
         for word, again in [("before", 5), ("after", 5 if call < 5 else 2)]:
             requests = request("GET", OBJECT) * 2 + request("GET", "/photos?uploads")
             ends = call + again + 3
-            expected = ["status 0", f"calls {ends + 3}", f"piece 1 {call} 503 ServiceUnavailable", f'piece 1 {ends} 200 "{done.etag}"']
+            expected = ["status 0", f"calls {ends + 3}", f"piece 1 {call} 503 ServiceUnavailable"]
+            expected += read_in_brief(1, ends, len(done.body), f'"{done.etag}"')
             expected += [f"piece 1 {ends + 3} 200"] + account.after(5).left()
             to.case(f"a request, {word} {call}", [f"{word} {call}", "brief", "etags 2", *TELL, "nomodel"], requests, expected)
     to.note("Two calls are lost, one in each operation.")
     requests = request("GET", OBJECT) * 3
-    expected = ["status 0", "calls 16", "piece 1 3 503 ServiceUnavailable", "piece 1 8 503 ServiceUnavailable", f'piece 1 16 200 "{done.etag}"']
+    expected = ["status 0", "calls 16", "piece 1 3 503 ServiceUnavailable", "piece 1 8 503 ServiceUnavailable"]
+    expected += read_in_brief(1, 16, len(done.body), f'"{done.etag}"')
     given = ["after 3", "before 8", "brief", "etags 3", *TELL, "nomodel"]
     to.case("a request, after 3, and the next, before 8", given, requests, expected + account.after(5).left())
     requests = request("GET", OBJECT) * 2
@@ -198,10 +209,10 @@ def empty_parts(to):
     to.note("Where all parts are empty the object is a plain one without a byte. The upload's type and metadata are the object's.")
     to.setup(done, seal_file(done.sealed()))
     requests = request("GET", OBJECT) + request("HEAD", OBJECT) + request("GET", OBJECT, "Range: bytes=0-9") + request("GET", "/photos")
-    expected = ["status 0", "calls 14", *reply("1 8", 0, "200 OK", *head_of(done), body="")]
-    expected += reply("1 10", 1, "200 OK", *head_of(done), size=0)
-    expected += reply("1 12", 2, "416 Range Not Satisfiable", body=refusal("InvalidRange", "The range is not satisfiable.", OBJECT, 2))
-    expected += reply("1 14", 3, "200 OK", body=listing(done, 0, 1))
+    expected = ["status 0", "calls 13", *read_whole(7, 0, done)]
+    expected += reply("1 9", 1, "200 OK", *head_of(done), size=0)
+    expected += reply("1 11", 2, "416 Range Not Satisfiable", body=refusal("InvalidRange", "The range is not satisfiable.", OBJECT, 2))
+    expected += reply("1 13", 3, "200 OK", body=listing(done, 0, 1))
     to.case("an empty part alone", [*TELL, "nomodel"], requests, expected + account.after(5).left())
     to.recover("an empty part alone, recovered", account.after(5), 5)
     for call in (3, 4, 5):

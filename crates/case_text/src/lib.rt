@@ -21,8 +21,8 @@ pub use given::{
 pub use lines::append_bytes_of_lines;
 pub use outside::{LARGE, clock_of_run, line_of_one_connection, line_of_run};
 pub use pieces::{
-    are_pieces_successful, is_piece_service_unavailable, tell_pieces, tell_pieces_without_calls,
-    tell_statuses_of_pieces,
+    are_pieces_successful, begins_reply, is_piece_service_unavailable, reply_of_pieces,
+    tell_pieces, tell_pieces_without_calls, tell_statuses_of_pieces,
 };
 pub use texts::{
     cut_text, is_line_passed_over, number_of_text, numbers_of_text, text_of_bytes, words_of_text,

@@ -4,8 +4,8 @@ ghost use Rattle.s3_requests.specs.Proper.{IsProperMeant};
 
 use crate::play::First;
 use case_text::{
-    Fault, Given, Told, given_connections, given_keys, given_moments, given_text_behind,
-    has_failing_call, has_given_line, tell_bytes_by_lines,
+    Fault, Given, Told, begins_reply, given_connections, given_keys, given_moments,
+    given_text_behind, has_failing_call, has_given_line, reply_of_pieces, tell_bytes_by_lines,
 };
 use case_verbs::{Talk, USUAL_LEAST_PART, USUAL_REGION, is_shown_reply, settings_of_region};
 use gate_base::{Bytes, Caller, Copying, MOMENT_LIMIT, Memory, Piece, drop};
@@ -26,12 +26,12 @@ pub(crate) struct Machine {
     turn: u64,
 }
 
-/// By what a request is understood, its label but for its caller, and the piece that answers it.
+/// By what a request is understood, its label but for its caller, and the pieces whose first begins the reply to it.
 #[derive(Clone, Copy)]
 struct Turn<'a> {
     service: &'a Service,
     label: Label,
-    piece: &'a Piece,
+    pieces: &'a [Piece],
 }
 
 /// Tells what the machine answers where a run without a fault wrote something else.
@@ -115,16 +115,18 @@ impl Machine {
         pieces: &[Piece],
         told: &mut Told,
     ) {
-        for piece in pieces {
-            if piece.connection == number && !is_interim_piece(piece) {
+        let mut rest = pieces;
+        for _ in 0..pieces.len() {
+            if is_reply_on_connection(rest, number) {
                 let turn = Turn {
                     service,
                     label: label_of_turn(self.turn, moments),
-                    piece,
+                    pieces: rest,
                 };
                 self.turn = self.turn.saturating_add(1);
                 self.answer_next_request(talk, &turn, told);
             }
+            rest = pieces_behind_first(rest);
         }
     }
 
@@ -207,17 +209,32 @@ impl Machine {
         let method = message.method.as_slice();
         let resource = target.raw_path.as_slice();
         let stepped = self.native.step(op, &label);
-        compare_step_with_piece(self.alloc, &stepped, &label, method, resource, turn, told);
+        compare_step_with_pieces(self.alloc, &stepped, &label, method, resource, turn, told);
         drop(stepped);
     }
 }
 
-/// Whether a piece answers no request: an interim line is written before a body is read, and the reply follows.
-fn is_interim_piece(piece: &Piece) -> bool {
-    piece.bytes.as_slice().starts_with(b"HTTP/1.1 100 ")
+/// Whether the first of these pieces begins the reply to a request on a connection. An interim line is none: it is written before
+/// a body is read, and the reply follows.
+fn is_reply_on_connection(pieces: &[Piece], number: u64) -> bool {
+    match pieces.first() {
+        Some(piece) => {
+            piece.connection == number
+                && begins_reply(piece)
+                && !piece.bytes.as_slice().starts_with(b"HTTP/1.1 100 ")
+        }
+        None => false,
+    }
 }
 
-fn compare_step_with_piece(
+fn pieces_behind_first(pieces: &[Piece]) -> &[Piece] {
+    match pieces.split_first() {
+        Some((_, behind)) => behind,
+        None => pieces,
+    }
+}
+
+fn compare_step_with_pieces(
     alloc: Global,
     stepped: &Result<Reply, Memory>,
     label: &Label,
@@ -227,13 +244,13 @@ fn compare_step_with_piece(
     told: &mut Told,
 ) {
     match stepped {
-        Ok(reply) => compare_reply_with_piece(alloc, reply, label, method, resource, turn, told),
+        Ok(reply) => compare_reply_with_pieces(alloc, reply, label, method, resource, turn, told),
         Err(_) => told.note_fault(Fault::Memory),
     }
 }
 
-/// Tells the reply as it is printed where it isn't the piece, which may say besides that the connection ends.
-fn compare_reply_with_piece(
+/// Tells the reply as it is printed where it isn't what the pieces make, which may say besides that the connection ends.
+fn compare_reply_with_pieces(
     alloc: Global,
     reply: &Reply,
     label: &Label,
@@ -242,11 +259,11 @@ fn compare_reply_with_piece(
     turn: &Turn,
     told: &mut Told,
 ) {
-    let came = turn.piece.bytes.as_slice();
+    let came = reply_of_pieces(alloc, turn.pieces, told);
     let closing = printed_machine_reply(alloc, reply, label, method, resource, true, told);
-    if closing.as_slice() != came {
+    if closing.as_slice() != came.as_slice() {
         let due = printed_machine_reply(alloc, reply, label, method, resource, false, told);
-        if due.as_slice() != came {
+        if due.as_slice() != came.as_slice() {
             told.say("by the machine:\n");
             tell_bytes_by_lines(alloc, due.as_slice(), told);
         }

@@ -265,7 +265,7 @@ fn numbers_of_loss(alloc: Global, loss: &Loss, word: &str, told: &mut Told) -> L
 }
 
 /// The reply to a request one of whose calls was lost is ServiceUnavailable, where a call failed, or the ordinary one, where
-/// what it says was done.
+/// what it says was done. Where it tells the bytes of an object, it may be cut short behind the head or a piece.
 fn compare_reply_after_loss(
     alloc: Global,
     given: Given<'_>,
@@ -280,13 +280,22 @@ fn compare_reply_after_loss(
     let failed = loss.call <= store.calls();
     if failed
         && came.text().starts_with("status 0\n")
-        && is_piece_service_unavailable(line.pieces())
+        && (is_piece_service_unavailable(line.pieces())
+            || is_cut_short(line.pieces(), came.text(), ordinary.answer))
     {
         return told.note_fault_of(&came);
     }
     let done = ordinary.commit == 0 || loss.is_done;
     let due = if done { ordinary.answer } else { "" };
     told.say_if_other(loss.word, loss.call, &came, due);
+}
+
+/// Whether these pieces, of which that text is told, are the first of those that an answer has, but not all.
+fn is_cut_short(pieces: &[Piece], came: &str, answer: &str) -> bool {
+    match answer.strip_prefix(came) {
+        Some(rest) => !pieces.is_empty() && rest.starts_with("piece "),
+        None => false,
+    }
 }
 
 /// The probe over the account after each number of calls sees the request as not done, or as done where that is to be.
