@@ -33,7 +33,7 @@ import time
 from urllib.parse import quote
 
 sys.dont_write_bytecode = True
-from scripted_swift import ACCOUNT, TOKEN, Segments, Store, answer, cut_answer, http, lose_answer, lose_request, ordinary_and_closed, plain, raw, silent, unasked
+from scripted_swift import ACCOUNT, TOKEN, Segments, Store, answer, cut_answer, http, lose_answer, lose_request, ordinary, ordinary_and_closed, plain, raw, silent, unasked
 
 # How the line serves its clients: "in turn", one connection at a time, or "side by side". A group that is marked with one of them
 # is left out under the other; a group without a mark holds for both.
@@ -51,6 +51,7 @@ ALMOST = 0.95  # the part of a limit that has passed at least, where it was wait
 
 WORKERS = 12
 LARGEST = 16_777_216  # bytes of a body
+PIECE = 1_048_576  # the most bytes of an object that the store is asked for at once, when it is read
 
 ROOT = os.path.dirname(os.path.dirname(os.path.abspath(__file__)))
 KEYS = os.path.join(ROOT, "examples/keys.txt")
@@ -1167,7 +1168,8 @@ def answers_spelled_otherwise(check):
             check("over one connection", 1, store.connections)
 
 
-# Answers that are none, by docs/PROFILE.md, "Swift's calls and answers": the call has failed. They stand for the answer to GET of the object.
+# Answers that are none, by docs/PROFILE.md, "Swift's calls and answers": the call has failed. They stand for the answer to GET of the
+# object. A read asks for a range, and its head was written before it: so it breaks off. A copy asks for all.
 LIKE = [("Content-Type", TAG), ("Etag", ABC)]
 NO_ANSWERS = {
     "in chunks": http(200, LIKE + [("Transfer-Encoding", "chunked")], b"3\r\nabc\r\n0\r\n\r\n", length=False),
@@ -1196,15 +1198,29 @@ NO_ANSWERS = {
 }
 
 
+def cut_off(gate, *words, **more):
+    """What comes of a read that breaks off: the status, the length that its head tells, and the bytes before the end of the connection."""
+    with gate.client(request(*words, **more)) as client:
+        head, _, body = client.rest().partition(b"\r\n\r\n")
+    reply = Reply(head, body)
+    return reply.status, int(reply.headers.get("content-length", "-1")), body
+
+
 @group()
 def answers_that_are_none(check):
-    unavailable = (503, "ServiceUnavailable")
     with Store(account=account()) as store, Gate(store.text).settled(store) as gate:
         for title, bytes_ in NO_ANSWERS.items():
-            store.begin({3: raw(bytes_)})
-            begun = time.monotonic()
-            check(f"an answer {title}", unavailable, brief(gate.ask(*GET, owner=False)))
-            check("is found out soon, and asked for once", (True, 3), (time.monotonic() - begun < SOON, len(store.calls)))
+            copy = "PUT", "/photos/c", [("x-amz-copy-source", "/photos/a")]
+            for ask, number, wanted, does in (
+                (lambda: brief(gate.ask(*copy)), 4, (503, "ServiceUnavailable"), "fails a copy"),
+                (lambda: cut_off(gate, *GET, owner=False), 3, (200, 3, b""), "ends a read behind its head"),
+            ):
+                if number == 3 and title.endswith("where no range was asked for"):
+                    continue
+                store.begin({number: raw(bytes_)})
+                begun = time.monotonic()
+                check(f"an answer {title} {does}", wanted, ask())
+                check("is found out soon, and asked for once", (True, number), (time.monotonic() - begun < SOON, len(store.calls)))
         store.begin({})
         check("and the store is asked again for the next request", FOUND, both(gate.ask(*GET, owner=False)))
 
@@ -1327,7 +1343,7 @@ SWEPT = [
     ("PutBucketAcl", ("PUT", "/photos?acl", [("x-amz-acl", "public-read")]), None, 1, 1, 200, 200, ("GET", "/photos?location"), (200, 200)),
     ("PutObject", ("PUT", "/photos/k"), None, 2, 2, 200, 200, ("GET", "/photos/k"), ((404, "NoSuchKey"), 200)),
     ("DeleteObject", ("DELETE", "/photos/a"), None, 2, 2, 204, 204, ("GET", "/photos/a"), (200, (404, "NoSuchKey"))),
-    ("GetObject", ("GET", "/photos/a"), None, 3, 0, 200, 200, ("GET", "/photos/a"), (200, 200)),
+    ("GetObject, up to its head,", ("GET", "/photos/a"), None, 2, 0, 200, 200, ("GET", "/photos/a"), (200, 200)),
     ("ListObjects", ("GET", "/photos"), None, 2, 0, 200, 200, ("GET", "/photos/a"), (200, 200)),
     ("ListBuckets", ("GET", "/"), None, 2, 0, 200, 200, ("GET", "/photos/a"), (200, 200)),
     ("CreateUpload", ("POST", "/photos/w?uploads"), None, 4, 4, 200, 200, ("GET", "/photos?uploads"), ((200, 1), (200, 2))),
@@ -1359,6 +1375,135 @@ def each_call_is_lost(check):
                     found.append((reply, made, ask(*probe), ask(*words)))
                     wanted.append((done if is_behind else (503, "ServiceUnavailable"), number, after if is_done else before, again if is_done else done))
             check(f"{title} with each of its calls lost in three ways", wanted, found)
+
+
+# Objects that are read in pieces: the head of the reply, and then a GET of the store for each MiB.
+
+
+def asked_of(store, name):
+    """The ranges of that object that the store was asked for, and how many other calls it heard."""
+    ranges = [call.headers.get("range") for call in store.calls if (call.method, call.name) == ("GET", name)]
+    return ranges, len(store.calls) - len(ranges)
+
+
+def cut_by_pieces(first, last):
+    """The ranges in which the bytes from the first to the last are asked for."""
+    return [f"bytes={at}-{min(at + PIECE - 1, last)}" for at in range(first, last + 1, PIECE)]
+
+
+@group(first=True)
+def an_object_is_asked_for_by_pieces(check):
+    large = random.Random(6).randbytes(LARGEST)
+    objects = {b"a": b"abc", b"empty": b"", b"large": large}
+    with Store(account=account(objects)) as store, Gate(store.text).settled(store) as gate, gate.client() as client:
+
+        def ask(name, *range_, method="GET"):
+            store.begin({})
+            client.send(request(method, f"/photos/{name.decode()}", [("Range", f"bytes={it}") for it in range_], owner=False))
+            reply = client.reply(method == "HEAD")
+            return reply.status, reply.body, *asked_of(store, name)
+
+        check("an object of 16 MiB, one at a time", (200, True, cut_by_pieces(0, LARGEST - 1), 2), (lambda it: (it[0], it[1] == large, *it[2:]))(ask(b"large")))
+        check("of three bytes", (200, b"abc", ["bytes=0-2"], 2), ask(b"a"))
+        check("of no byte", (200, b"", [], 2), ask(b"empty"))
+        for title, given, first, last in (
+            ("over the end of a MiB", f"{PIECE - 1}-{PIECE}", PIECE - 1, PIECE),
+            ("of a MiB", f"7-{PIECE + 6}", 7, PIECE + 6),
+            ("of a MiB and a byte", f"7-{PIECE + 7}", 7, PIECE + 7),
+            ("of the last bytes", f"-{2 * PIECE + 5}", LARGEST - 2 * PIECE - 5, LARGEST - 1),
+            ("past the end", f"{LARGEST - PIECE - 1}-{2 * LARGEST}", LARGEST - PIECE - 1, LARGEST - 1),
+        ):
+            found = ask(b"large", given)
+            check(f"a range {title}", (206, True, cut_by_pieces(first, last), 2), (found[0], found[1] == large[first : last + 1], *found[2:]))
+        check("a range that isn't there asks for none", ([], 2), ask(b"large", f"{LARGEST}-")[2:])
+        check("and HEAD asks for none", (200, b"", [], 2), ask(b"large", method="HEAD"))
+        check("all of them over one connection to the store", 1, store.connections)
+
+
+@group()
+def a_read_breaks_off(check):
+    """The store fails at the third piece: what came before it stays, and the connection ends. The log has what was sent."""
+    long = random.Random(7).randbytes(3 * PIECE + 5)
+    failures = [("loses its request", lose_request), ("loses its answer", lose_answer), ("loses a byte of its answer", cut_answer(1)), ("answers 500", answer(500)), ("answers 404", answer(404))]
+    with Store(account=account({b"a": b"abc", b"long": long})) as store, Gate(store.text, 2 * len(failures) + 1, S3GATE_LOG="on") as gate:
+        gate.settled(store)
+        wanted = []
+        for number, (title, act) in enumerate(failures):
+            store.begin({5: act})
+            with gate.client(request("GET", "/photos/long", owner=False), request(*GET, owner=False)) as client:
+                came = client.rest()
+            head, _, body = came.partition(b"\r\n\r\n")
+            check(f"a store that {title} at the third piece", (200, str(len(long)), True), (Reply(head, b"").status, Reply(head, b"").headers.get("content-length"), body == long[: 2 * PIECE]))
+            check("is asked no more", (cut_by_pieces(0, 3 * PIECE - 1), 2), asked_of(store, b"long"))
+            wanted.append(in_log(2 * number + 2, "GET /photos/long", came, 4))
+            store.begin({})
+            check("and the next client is served", FOUND, both(gate.ask(*GET, owner=False)))
+        lines = [line for line in log_of(b"\n".join(it for it in gate.ended()[1].splitlines() if b" store " not in it)) if " /photos/long " in line]
+        check("the log has what was sent of each", wanted, lines)
+
+
+@group(first=True)
+def a_store_is_silent_between_two_pieces(check):
+    long = random.Random(8).randbytes(2 * PIECE)
+    with Store(account=account({b"a": b"abc", b"long": long})) as store, Gate(store.text, S3GATE_STORE_TIMEOUT=str(SILENCE)).settled(store) as gate:
+        store.begin({4: silent})
+        begun = time.monotonic()
+        status, length, body = cut_off(gate, "GET", "/photos/long", owner=False)
+        check("a store that is silent at the second piece", (200, 2 * PIECE, True), (status, length, body == long[:PIECE]))
+        check("is waited for up to the limit", True, time.monotonic() - begun > SILENCE * ALMOST)
+        store.begin({})
+        check("and the next client is served", FOUND, both(gate.ask(*GET, owner=False)))
+
+
+@group()
+def an_object_changes_while_it_is_read(check):
+    """Before the second piece. No reply is of two objects."""
+    long, other = (random.Random(it).randbytes(2 * PIECE + 1) for it in (9, 10))
+    with Store() as store, Gate(store.text).settled(store) as gate:
+
+        def changed(body):
+            def act(store, call, stream):
+                objects = store.account["photos"][1]
+                objects.update({b"long": stored(body, "text/plain")} if body is not None else {})
+                if body is None:
+                    del objects[b"long"]
+                return ordinary(store, call, stream)
+
+            return act
+
+        for title, body in (("replaced", other), ("replaced by a longer one", long + b"."), ("replaced by a shorter one", long[:-1]), ("replaced by a very short one", b"abc"), ("deleted", None)):
+            store.account = account({b"long": long})
+            store.begin({4: changed(body)})
+            status, length, came = cut_off(gate, "GET", "/photos/long", owner=False)
+            check(f"an object that is {title} meanwhile", (200, len(long), True), (status, length, came == long[:PIECE]))
+            check("of which no more is asked for", (cut_by_pieces(0, 2 * PIECE - 1), 2), asked_of(store, b"long"))
+            store.begin({})
+            reply = gate.ask("GET", "/photos/long", owner=False)
+            check("and which is whole the next time", (200, True) if body is not None else ((404, "NoSuchKey"), True), (brief(reply), body is None or reply.body == body))
+        store.account = account({b"long": long})
+        store.begin({4: changed(long)})
+        check("one that is put again as it was goes on", True, gate.ask("GET", "/photos/long", owner=False).body == long)
+
+
+@group()
+def a_client_goes_away_within_a_read(check):
+    """The store is asked for no further piece, but for what was on its way."""
+    long, gone = random.Random(11).randbytes(12 * PIECE), threading.Event()
+
+    def once_it_is_gone(store, call, stream):
+        gone.wait(PATIENCE)
+        return ordinary(store, call, stream)
+
+    with Store(account=account({b"a": b"abc", b"long": long})) as store, Gate(store.text).settled(store) as gate:
+        store.begin({5: once_it_is_gone})
+        client = gate.client(request("GET", "/photos/long", owner=False))
+        while len(client.came) < 2 * PIECE and client.more():
+            pass
+        client.reset()
+        gone.set()
+        check("a client goes away, and the next one is served", FOUND, both(gate.ask(*GET, owner=False)))
+        ranges, _ = asked_of(store, b"long")
+        check("and the store isn't asked for the rest", True, ranges in (cut_by_pieces(0, 3 * PIECE - 1), cut_by_pieces(0, 4 * PIECE - 1)))
 
 
 @group()
@@ -1477,12 +1622,6 @@ ODD = [
     ("a file whose ETag isn't its tag's", GET, [OPEN, file(ABD)]),
     ("a file past the largest size", GET, [OPEN, file(size=LARGEST + 1)]),
     ("a file with segments", GET, [OPEN, file(more=[("X-Static-Large-Object", "True")])]),
-    ("a file that comes shorter than it was", GET, [OPEN, file(size=4), answer(200, LIKE, b"abc")]),
-    ("a file that comes longer than it was", GET, [OPEN, file(), answer(200, LIKE, b"abcd")]),
-    ("a file that comes with another ETag", GET, [OPEN, file(), answer(200, [("Content-Type", TAG), ("Etag", ABD)], b"abd")]),
-    ("a part of a file that comes with another ETag", PART, [OPEN, file(size=5), part(5, ABD)]),
-    ("a part of a file that comes with another size", PART, [OPEN, file(size=5), part(6)]),
-    ("a file that goes between HEAD and GET", GET, [OPEN, file(), MISSING]),
     ("a type without a tag", GET, [OPEN, answer(200, [("Content-Type", "text/plain"), ("Etag", ABC)], length=3)]),
     ("metadata that doesn't read", GET, [OPEN, file(more=[("X-Object-Meta-S3-0", "[7.3.-colourre]")])]),
     ("a bucket without its moment, asked for its place", ("GET", "/photos?location"), [UNTIMED]),
@@ -1506,6 +1645,18 @@ for ending, body in (("is empty", b""), ("is {}", b"{}"), ("is no JSON", b"open"
     ODD += [(f"a record that {ending}, to {words[0]}", words, [OPEN, record_text(body)]) for words in (PART_ABC, PARTS_OF_V, ABORT)]
     ODD.append((f"a record that {ending}, listed", OPEN_ONES, [OPEN, RECORDS, record_text(body)]))
 
+# Those to GET of a file, behind the head of the reply, which tells this length: the connection ends.
+BROKEN = [
+    ("a file that comes shorter than it was", GET, 4, [OPEN, file(size=4), answer(200, LIKE, b"abc")]),
+    ("a file that comes longer than it was", GET, 3, [OPEN, file(), answer(200, LIKE, b"abcd")]),
+    ("a file that comes with another ETag", GET, 3, [OPEN, file(), answer(200, [("Content-Type", TAG), ("Etag", ABD)], b"abd")]),
+    ("a file of which fewer bytes come", GET, 3, [OPEN, file(), answer(206, [*LIKE, ("Content-Range", "bytes 0-1/3")], b"ab")]),
+    ("a file that has no such range any more", GET, 3, [OPEN, file(), answer(416)]),
+    ("a part of a file that comes with another ETag", PART, 2, [OPEN, file(size=5), part(5, ABD)]),
+    ("a part of a file that comes with another size", PART, 2, [OPEN, file(size=5), part(6)]),
+    ("a file that goes between HEAD and GET", GET, 3, [OPEN, file(), MISSING]),
+]
+
 # And answers that their call can't have, which spell nothing: the call has failed.
 MISPLACED = [
     ("202 to HEAD of a container", ("PUT", "/photos"), [THERE]),
@@ -1527,6 +1678,7 @@ MISPLACED = [
     ("201 to a listing of a segment", CREATE, [OPEN, MISSING, answer(201, body=b"[]")]),
     ("201 without an ETag to PUT of a record", CREATE, [OPEN, MISSING, files_named(), answer(201)]),
     ("206 to GET of a record", PART_ABC, [OPEN, answer(206)]),
+    ("416 to GET of a record", PART_ABC, [OPEN, answer(416)]),
     ("200 to PUT of a part", PART_ABC, [OPEN, RECORD, answer(200, [("Etag", ABC)])]),
     ("201 to a listing of parts", PARTS_OF_V, [OPEN, RECORD, answer(201, body=b"[]")]),
     ("201 to a listing of records", OPEN_ONES, [OPEN, answer(201, body=b"[]")]),
@@ -1546,6 +1698,9 @@ def each_is_answered(check, store, gate, shown, *tables):
 def odd_answers_are_found_out(check):
     with Store() as store, Gate(store.text).settled(store) as gate:
         each_is_answered(check, store, gate, brief, (ODD, (500, "InconsistentStore")), (MISPLACED, (503, "ServiceUnavailable")))
+        for title, words, length, answers in BROKEN:
+            store.begin(answers)
+            check(title, ((206 if words is PART else 200, length, b""), len(answers)), (cut_off(gate, *words), len(store.calls)))
         store.begin([OPEN, file(), answer(200, LIKE, b"abc")])
         reply = gate.ask(*GET)
         names = ["Date", "x-amz-request-id", "Last-Modified", "ETag", "Accept-Ranges", "Content-Type", "Content-Length", "Connection"]
