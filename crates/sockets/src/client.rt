@@ -1,7 +1,7 @@
 //! One client that is connected: what came of it, and what it has not taken yet.
 ghost use Rattle.std.specs.Prelude.{◌≤◌, length, IfOk};
 
-use crate::front::{Front, HEAD_LIMIT, find_front};
+use crate::front::{Front, HEAD_LIMIT, begins_no_head, find_front};
 use std::alloc::{AllocError, Global};
 use std::io;
 use std::io::{ErrorKind, Read, Write};
@@ -105,8 +105,8 @@ pub(crate) struct Client<S> {
     heard: Duration,
     took: Duration,
     pub(crate) began: Duration,
-    /// Whether it stands in the queue of those that are ready, and in that of those to be attended.
-    pub(crate) queued: bool,
+    /// The number of its turn among those that are ready, 0 where it has none, and whether it stands in the queue of those to be attended.
+    pub(crate) turn: u64,
     pub(crate) stirred: bool,
     /// How many of its bytes are counted as held.
     pub(crate) counted: usize,
@@ -139,7 +139,7 @@ impl<S: Read + Write + OpenStream + Drop> Client<S> {
             heard: now,
             took: now,
             began: now,
-            queued: false,
+            turn: 0,
             stirred: false,
             counted: 0,
         }
@@ -302,7 +302,7 @@ impl<S: Read + Write + OpenStream + Drop> Client<S> {
         if self.came.is_empty() {
             return;
         }
-        if self.size == 0 && self.has_line() {
+        if self.size == 0 && (self.has_line() || begins_no_head(&self.came)) {
             self.find();
         }
         if self.size != 0 && (self.over || self.came.len() >= self.size) {
@@ -356,7 +356,7 @@ impl<S: Read + Write + OpenStream + Drop> Client<S> {
         self.busy = true;
         self.replying = false;
         self.ready = false;
-        self.queued = false;
+        self.turn = 0;
         if self.size == 0 {
             self.framed = false;
         }
@@ -448,9 +448,9 @@ impl<S: Read + Write + OpenStream + Drop> Client<S> {
         }
     }
 
-    /// Whether the ends of its requests are known, so that it can give way to another client.
-    pub(crate) fn is_framed(&self) -> bool {
-        self.framed
+    /// Whether nothing of a request is given, so that it can give way to another client.
+    pub(crate) fn is_waiting(&self) -> bool {
+        self.phase == Phase::Waits
     }
 
     /// Why it gives nothing now. It may be silent for the limit.

@@ -24,10 +24,18 @@ const REST: u64 = 100;
 /// How many times in a row the listener may fail while nobody is connected.
 const LOSSES: u32 = 100;
 
+/// The turn of the client at that place, by its number from 1.
+#[derive(Clone, Copy)]
+struct Turn {
+    place: usize,
+    number: u64,
+}
+
 /// One thread reads ahead of all clients and sends what is kept for them, while one of them is served.
 ///
 /// Work goes by two queues: who is to be attended, and who has a whole request. An entry may be outdated, for a client that
-/// was served or ended meanwhile; then it is passed over. Only every `REST` are all clients looked at, for their times.
+/// was served or ended meanwhile; then it is passed over. So that it never becomes another turn of the same place, each turn has
+/// a number. Only every `REST` are all clients looked at, for their times.
 #[derive(Drop)]
 pub(crate) struct Crowd<R: Net> {
     rt: R,
@@ -35,8 +43,10 @@ pub(crate) struct Crowd<R: Net> {
     listener: R::Listener,
     watch: Watch,
     places: Places<R::Stream>,
-    ready: VecDeque<usize>,
+    ready: VecDeque<Turn>,
     stirred: VecDeque<usize>,
+    /// How many turns were given.
+    turns: u64,
     /// The place of the client that is served.
     open: Option<usize>,
     /// Whether the listener may have clients, and whether they are still taken.
@@ -72,6 +82,7 @@ impl<R: Net + Clock + Drop> Crowd<R> {
             places: Places::new(alloc),
             ready: VecDeque::new(alloc),
             stirred: VecDeque::new(alloc),
+            turns: 0,
             open: None,
             waiting: true,
             ending: false,
@@ -116,21 +127,29 @@ impl<R: Net + Clock + Drop> Crowd<R> {
 
     fn first_ready(&mut self) -> Option<usize> {
         for _entry in 0..self.ready.len() {
-            let place = match self.ready.front() {
-                Some(place) => *place,
+            let turn = match self.ready.front() {
+                Some(turn) => *turn,
                 None => return None,
             };
-            if self.is_next(place) {
-                return Some(place);
+            if self.is_due(turn) {
+                return Some(turn.place);
             }
             let _ = self.ready.pop_front();
         }
         None
     }
 
+    /// Whether that turn is still to come.
+    fn is_due(&self, turn: Turn) -> bool {
+        match self.places.get(turn.place) {
+            Some(client) => client.turn == turn.number && client.is_next(),
+            None => false,
+        }
+    }
+
     fn is_next(&self, place: usize) -> bool {
         match self.places.get(place) {
-            Some(client) => client.queued && client.is_next(),
+            Some(client) => client.is_next(),
             None => false,
         }
     }
@@ -191,8 +210,12 @@ impl<R: Net + Clock + Drop> Crowd<R> {
         }
     }
 
-    /// Whether a client that has no request at hand gives way to one that has.
+    /// Whether a client that has no request at hand gives way to one that has. If its next one is there already it has a turn behind
+    /// theirs, so what they have sent is looked for first.
     fn gives_way(&mut self, place: usize, wait: Duration) -> io::Result<bool> {
+        if self.is_next(place) {
+            self.look(Duration::ZERO)?;
+        }
         match self.choose() {
             Some(first) if first == place => {
                 self.begin(place);
@@ -209,13 +232,13 @@ impl<R: Net + Clock + Drop> Crowd<R> {
         }
     }
 
-    /// It stays connected, though it isn't served. Where the ends of its requests aren't known it can't, and ends.
+    /// It stays connected, though it isn't served. Where the end of the request that it was given isn't known it can't, and ends.
     fn park(&mut self, place: usize) {
-        let framed = match self.places.get(place) {
-            Some(client) => client.is_framed(),
+        let waits = match self.places.get(place) {
+            Some(client) => client.is_waiting(),
             None => false,
         };
-        if framed {
+        if waits {
             self.open = None;
         }
     }
@@ -456,13 +479,15 @@ impl<R: Net + Clock + Drop> Crowd<R> {
         }
     }
 
-    /// A client that can be given stands in the queue of those, once.
+    /// A client that can be given has a turn, behind those that others have.
     fn line_up(&mut self, place: usize) {
         if let Some(client) = self.places.get_mut(place) {
-            if client.is_next() && !client.queued {
-                client.queued = true;
-                if self.ready.push_back(place).is_err() {
-                    client.queued = false;
+            if client.is_next() && client.turn == 0 {
+                let number = self.turns.saturating_add(1);
+                if self.ready.push_back(Turn { place, number }).is_ok() {
+                    self.turns = number;
+                    client.turn = number;
+                } else {
                     self.due = self.now;
                 }
             }

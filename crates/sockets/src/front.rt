@@ -6,6 +6,10 @@ pub(crate) const HEAD_LIMIT: usize = 16_384;
 /// The most bytes of a body that is read ahead.
 const BODY_LIMIT: usize = 16_777_216;
 
+/// In so many bytes a first line has to end that is judged before its head is whole. Who reads the line is given as many at
+/// once, and looks at them at once.
+const LINE_LIMIT: usize = 4_096;
+
 /// What stands at the front of bytes.
 #[derive(Clone, Copy, Debug, PartialEq, Eq)]
 pub(crate) enum Front {
@@ -27,8 +31,11 @@ struct Said {
     modern: bool,
 }
 
-/// What stands at the front of bytes that more may follow.
+/// What stands at the front of bytes that more may follow. It is open as soon as no head can come of them.
 pub(crate) fn find_front(bytes: &[u8]) -> Front {
+    if begins_no_head(bytes) {
+        return Front::Open;
+    }
     let mut rest = &bytes[..HEAD_LIMIT.min(bytes.len())];
     let mut said = Said {
         body: None,
@@ -51,6 +58,9 @@ pub(crate) fn find_front(bytes: &[u8]) -> Front {
             }
         } else if first {
             first = false;
+            if read <= LINE_LIMIT && !is_request_line(line) {
+                return Front::Open;
+            }
             said.modern = line.ends_with(b"HTTP/1.1");
         } else {
             said = heard(said, line);
@@ -60,6 +70,43 @@ pub(crate) fn find_front(bytes: &[u8]) -> Front {
         Front::Open
     } else {
         Front::Part
+    }
+}
+
+/// Whether the first byte, behind empty lines, is one that no method has.
+pub(crate) fn begins_no_head(bytes: &[u8]) -> bool {
+    let front = &bytes[..LINE_LIMIT.min(bytes.len())];
+    match front.iter().find(|byte| !is_line_end(**byte)) {
+        Some(first) => !is_method_byte(*first),
+        None => false,
+    }
+}
+
+fn is_line_end(byte: u8) -> bool {
+    byte == b'\r' || byte == b'\n'
+}
+
+fn is_method_byte(byte: u8) -> bool {
+    byte.is_ascii_alphanumeric() || b"!#$%&'*+-.^_`|~".contains(&byte)
+}
+
+/// Whether a whole line has a method, a target and a version, with one space between each two. Which bytes the first two have isn't
+/// asked.
+fn is_request_line(line: &[u8]) -> bool {
+    let (method, rest) = split_word(line);
+    let (target, version) = split_word(rest);
+    !method.is_empty() && !target.is_empty() && is_known_version(version)
+}
+
+fn is_known_version(version: &[u8]) -> bool {
+    version == b"HTTP/1.1".as_slice() || version == b"HTTP/1.0".as_slice()
+}
+
+/// What stands before the first space, and behind it.
+fn split_word(line: &[u8]) -> (&[u8], &[u8]) {
+    match line.iter().position(|byte| *byte == b' ') {
+        Some(at) => (&line[..at], &line[at + 1..]),
+        None => (line, b""),
     }
 }
 

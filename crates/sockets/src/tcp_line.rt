@@ -18,13 +18,14 @@ use std::time::{Clock, Duration};
 /// listener's queue until one of those leaves, or has been idle for a second and gives its place away.
 ///
 /// `next` gives the one that has had a whole request for the longest time, so a silent or a slow client delays nobody. After a
-/// reply a connection whose next request isn't there gives way to one that has one: `read` gives 0, and it stays connected. When its
-/// next request has come, `next` gives it again, as one more connection.
+/// reply a connection gives way to one that has waited with a request, also where its own next one is there: `read` gives 0, and it
+/// stays connected. When its turn has come, `next` gives it again, as one more connection.
 ///
 /// Requests are read ahead, head and body, and of a reply what a client doesn't take at once is kept and sent while others are
 /// served. All that together has a bound. Past it the request that began first is given before it is there whole, and a write
-/// waits until its client has taken it. A request whose end the line doesn't know is given at once too, and its connection
-/// doesn't give way but ends: one with a transfer coding, a head over 16,384 bytes, or a body over 16,777,216.
+/// waits until its client has taken it. A request whose end the line doesn't know is given at once too, and then its connection
+/// doesn't give way but ends: one with a transfer coding, a head over 16,384 bytes, or a body over 16,777,216, and what can't become
+/// a request by its first byte or its first line.
 ///
 /// A client that expects `100 Continue` is sent that by the line, once its head is there and its body isn't. The same bytes, written
 /// before the reply, are then passed over.
