@@ -782,6 +782,89 @@ def clients_are_served_side_by_side(check):
             check("and the first one again, on the same connection", FOUND, both(idle.reply()))
 
 
+def turns_of(gate, client):
+    """The targets of the log's lines, in the order of the replies. The client is the last one that was served."""
+    client.half_close()
+    client.rest()
+    gate.signal(signal.SIGTERM)
+    return [line.split(" ")[2] for line in log_of(gate.ended()[1])]
+
+
+@group(line="side by side")
+def requests_sent_ahead_wait_their_turn(check):
+    """One request a turn: whoever has waited the longest is next, however many another has sent."""
+    ahead, last = request(*GET, owner=False) * 20, request("GET", "/photos/b", owner=False)
+    with Store(account=account()) as store, Gate(store.text, S3GATE_LOG="on") as gate, gate.client() as client, gate.client() as other:
+        gate.signal(signal.SIGSTOP)
+        client.send(ahead)
+        other.send(last)
+        gate.signal(signal.SIGCONT)
+        check("all are served", [200] * 20 + [404], [it.status for it in [client.reply() for _ in range(20)] + [other.reply()]])
+        check("a client that asked once is served behind the first of many", ["/photos/a", "/photos/b"] + ["/photos/a"] * 19, turns_of(gate, client))
+
+    def slowly(call, *more):
+        time.sleep(0.05)
+        return plain(call, *more)
+
+    with Store(account=account(), spell=slowly) as store, Gate(store.text, S3GATE_LOG="on") as gate, gate.client(ahead) as client, gate.client() as other:
+        check("the first of many", FOUND, both(client.reply()))
+        other.send(last)
+        check("all are served", [404] + [200] * 19, [it.status for it in [other.reply()] + [client.reply() for _ in range(19)]])
+        check("one that asks in the midst of them is served in their midst", True, "/photos/b" in turns_of(gate, client)[:6])
+
+
+@group(line="side by side")
+def a_refusal_waits_its_turn(check):
+    """Where another client is served first, the refusal of a next request whose end isn't known comes behind that."""
+    for title, asked, wanted in (
+        ("a body in chunks", b"PUT /photos/k HTTP/1.1\r\nTransfer-Encoding: chunked\r\n\r\n1\r\na\r\n0\r\n\r\n", (501, "NotImplemented")),
+        ("a header that is none", b"GET / HTTP/1.1\r\nA\r\n\r\n", (400, "InvalidRequest")),
+        ("a head that is none", b"HELLO\r\n\r\n", (400, "InvalidRequest")),
+        ("a body that is too long", b"PUT /photos/k HTTP/1.1\r\nContent-Length: 16777217\r\n\r\n", (400, "EntityTooLarge")),
+    ):
+        with Store(account=account()) as store, Gate(store.text) as gate, gate.client(request(*GET, owner=False)) as client, gate.client() as other:
+            check("a client is served", FOUND, both(client.reply()))
+            gate.signal(signal.SIGSTOP)
+            other.send(request(*GET, owner=False))
+            client.send(asked)
+            gate.signal(signal.SIGCONT)
+            check("and another", FOUND, both(other.reply()))
+            check(f"and the first one's next request, {title}, is refused", [wanted, None], client.replies(2))
+
+
+@group(line="side by side")
+def nothing_follows_a_reply_that_closes(check):
+    """No body is asked for that nobody will read."""
+    following = request("PUT", "/photos/k", [("Expect", "100-continue")], length=5)
+    with Store(account=account()) as store, Gate(store.text) as gate:
+        for title, asked in (
+            ("Connection: close", request(*GET, owner=False, close=True)),
+            ("HTTP/1.0", b"GET /photos/a HTTP/1.0\r\n\r\n"),
+            ("a head that is refused", b"GET  /photos/a HTTP/1.1\r\n\r\n"),
+            ("a header that is refused", b"GET /photos/a HTTP/1.1\r\nA : a\r\n\r\n"),
+        ):
+            with gate.client(asked + following) as client:
+                check(f"behind the reply to {title} comes nothing", 1, client.rest().count(b"HTTP/1.1 "))
+
+
+@group(line="side by side")
+def what_is_no_head_is_refused_at_once(check):
+    """It isn't ended in silence at the limit of time. And what may still become one is waited for, while others are served."""
+    asked = request(*GET, owner=False, close=True)
+    with Store(account=account()) as store, Gate(store.text, S3GATE_IDLE=str(IDLE)) as gate:
+        for given in (b"\0\1", b"\x16\3\1\2\0", b"\r\n\r\n(", b"GET / HTTP/9\r\n", b"GET /\n", b"HELLO\r\n", b" GET / HTTP/1.1\r\n"):
+            with gate.client(given) as client:
+                check(f"{given} is refused", [(400, "InvalidRequest"), None], client.replies(2))
+    with Store(account=account()) as store, Gate(store.text, S3GATE_IDLE=str(LONG)) as gate:
+        long = b"GET /" + b"a" * 4100
+        for given, rest in ((b"\r\n", asked), (asked[:1], asked[1:]), (long, b" HTTP/1.0\r\n\r\n"), (long + b" HTTP/9\r\n", b"\r\n")):
+            with gate.client(given) as client, gate.client(asked) as other:
+                check(f"beside a client that sent {given[:20]} another is served", ["abc", None], other.replies(2))
+                check("soon", True, other.took() < SOON)
+                client.send(rest)
+                check("and then that one is answered", True, client.reply().status in (200, 400, 403, 404))
+
+
 # Signals.
 
 
