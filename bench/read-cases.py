@@ -169,27 +169,38 @@ def no_pieces(to, files):
     run.end(to, "heads, conditions and ranges without a byte")
 
 
-def lost_calls(to, files):
-    to.note("An object of 2 MiB and a byte is read by 5 calls, behind the two that settle.")
+def three_pieces(to, files):
+    to.note("An object of 2 MiB and a byte is read by 5 calls, behind the two that settle. Its first piece is lost, and its third.")
     setup(to, files)
     run = Run(files)
     run.read("k")
     run.end(to, "2 MiB and a byte")
+    for number in (5, 7):
+        run = Run(files, "before", number)
+        run.read("k")
+        run.next()
+        run.head("k")
+        run.end(to, f"2 MiB and a byte, before {number}", "nomodel")
+
+
+def lost_calls(to, files):
+    to.note("An object of 1 MiB and a byte is read by 4 calls, behind the two that settle.")
+    setup(to, files)
     to.note(
         "Each call is lost. One before the head is ServiceUnavailable. One behind it ends the connection: what was written stays as it",
         "is, a request behind it isn't answered, and the next connection is served.",
     )
-    for number in range(3, 8):
+    for number in range(3, 7):
         for word in ("before", "after", "stop"):
             run = Run(files, word, number)
             run.read("k")
             run.head("k") if number > 4 or word != "stop" else run.read("k")
             run.next()
             run.head("k") if word != "stop" else run.read("k", "Range: bytes=0-0", first=0, last=0)
-            run.end(to, f"2 MiB and a byte, {word} {number}", "nomodel")
+            run.end(to, f"1 MiB and a byte, {word} {number}", "nomodel")
     to.note("The same of a range, whose second piece is lost.")
     run = Run(files, "before", 6)
-    run.read("k", f"Range: bytes=7-{MIB + 7}", first=7, last=MIB + 7)
+    run.read("k", f"Range: bytes=0-{MIB}", first=0, last=MIB)
     run.next()
     run.head("k")
     run.end(to, "a range of two pieces, before 6", "nomodel")
@@ -200,13 +211,13 @@ def lost_writes(to, files):
         "Each write fails: that of the head, and of each piece. Nothing of it is sent, no further piece is asked for, and the connection",
         "ends. The line's calls before them are the next connection and one read.",
     )
-    for failing in range(1, 5):
+    for failing in range(1, 4):
         run = Run(files, failing=failing)
         run.read("k")
         run.head("k")
         run.next()
         run.head("k")
-        run.end(to, f"2 MiB and a byte, write {failing} fails", "nomodel")
+        run.end(to, f"1 MiB and a byte, write {failing} fails", "nomodel")
 
 
 def swept(to, files):
@@ -214,7 +225,7 @@ def swept(to, files):
     run = Run(files)
     run.read("k")
     probe = request("GET", "/photos/k", "Range: bytes=-1") + request("HEAD", "/photos/k")
-    to.lines += ["case 2 MiB and a byte, swept", "clock 1369353700", "pieces 100000", "connection", *run.requests, "sweep", "probe", *probe]
+    to.lines += ["case 1 MiB and a byte, swept", "clock 1369353700", "pieces 100000", "connection", *run.requests, "sweep", "probe", *probe]
     to.end(["status 0", *run.expected, "before 206 200", "after 206 200"])
 
 
@@ -258,7 +269,8 @@ def main():
     wholes(to, files)
     ranges(to, files)
     no_pieces(to, files)
-    files = {"k": File(2 * MIB + 1)}
+    three_pieces(to, {"k": File(2 * MIB + 1)})
+    files = {"k": File(MIB + 1)}
     lost_calls(to, files)
     lost_writes(to, files)
     swept(to, files)
