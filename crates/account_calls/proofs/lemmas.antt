@@ -10,6 +10,7 @@ pub mod FilePages
 pub mod Fits
 pub mod Forms
 pub mod Idle
+pub mod Left
 pub mod ListPut
 pub mod Markers
 pub mod Names

@@ -29,3 +29,7 @@ CountsOne p q (Ok told) = q ≡ p + 1
 CountsOne p q (Err Failed) = (q ≡ p + 1) ⊎ ((budget ≤ p) × (q ≡ p))
 CountsOne p q (Err Memory) = Unit {0}
 CountsOne p q (Err Inconsistent) = q ≡ p + 1
+
+-- where the store is observable, its account is as it was, whether that is consistent or not
+abbrev pub LeavesAccount : History → History → Type 0
+LeavesAccount old new = IsTrue old.observable → present new ≡ present old

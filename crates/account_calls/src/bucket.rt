@@ -6,6 +6,7 @@ ghost use Rattle.upload_records.specs.Native.{IsSettled};
 ghost use Rattle.account_calls.specs.Calls.{always, Any, Asks, Becomes, Changes, DropsBucket, Given, GivenOf, SetsAcl, Tells, TellsBucket, makes_bucket};
 ghost use Rattle.account_calls.specs.Lent.{Stays};
 ghost use Rattle.account_calls.specs.Purging.{MayMake};
+ghost use Rattle.account_calls.specs.Told.{LeavesAccount};
 
 use crate::interpret::{
     interpret_bucket_delete, interpret_bucket_head, interpret_bucket_post, interpret_bucket_put,
@@ -18,7 +19,7 @@ use swift_calls::{Swift, SwiftRequest};
 use upload_records::container_readers_of_acl;
 
 /// The access control list of a bucket, and `None` where the bucket is missing, by HEAD of its container (Object
-/// Storage API v1, "Show container metadata"). At most one call, and the S3 state stays. Failed comes only where the
+/// Storage API v1, "Show container metadata"). At most one call, which leaves the account, consistent or not. Failed comes only where the
 /// store's count of faults rose; Memory where memory ran out, before the call or to read its answer; Inconsistent
 /// never over an observable consistent account.
 #[tactic(auto, using(crate::proofs::lemmas::Names::container_name))]
@@ -30,6 +31,7 @@ pub fn head_bucket<W: Swift>(
     ensures stays { Stays state.old state.new }
     ensures asks { Asks (always 1) (W.history state.old.store.now) (W.history state.new.store.now)
         IsSettled (Tells (TellsBucket bucket.now)) result }
+    ensures leaves { LeavesAccount (W.history state.old.store.now) (W.history state.new.store.now) }
 {
     let reply = ask(
         state.store,

@@ -13,7 +13,7 @@ ghost use Rattle.account_calls.specs.Interpret.{IsShownHead, plain_tag, put_of};
 ghost use Rattle.upload_records.specs.Native.{IsSettled};
 ghost use Rattle.account_calls.specs.Calls.{always, Any, Asks, Becomes, Changes, Given, GivesUnchanged, HasBucket, HasObject, Tells, TellsBytes, TellsObject, drops_object, puts_object};
 ghost use Rattle.account_calls.specs.Lent.{Stays};
-ghost use Rattle.account_calls.specs.Told.{CountsOne};
+ghost use Rattle.account_calls.specs.Told.{CountsOne, LeavesAccount};
 
 use crate::interpret::{
     bytes_in, interpret_file_delete, interpret_object_head, interpret_put_with_etag,
@@ -28,7 +28,7 @@ use swift_calls::{Swift, SwiftRequest};
 use swift_marks::{Tag, pack};
 
 /// The head of an object, and `None` where it is missing, by HEAD of its file (Object Storage API v1, "Show object
-/// metadata"). At most one call, and the S3 state stays. Failed comes only where the store's count of faults rose;
+/// metadata"). At most one call, which leaves the account, consistent or not. Failed comes only where the store's count of faults rose;
 /// Memory where memory ran out, before the call, to read its answer or to read the marks of the file; Inconsistent
 /// never over an observable consistent account.
 #[tactic(auto, using(crate::proofs::lemmas::Names::container_name, crate::proofs::lemmas::Names::object_name))]
@@ -43,6 +43,7 @@ pub fn head_object<W: Swift>(
     ensures stays { Stays state.old state.new }
     ensures asks { Asks (always 1) (W.history state.old.store.now) (W.history state.new.store.now)
         IsSettled (Tells (TellsObject bucket.now key.now)) result }
+    ensures leaves { LeavesAccount (W.history state.old.store.now) (W.history state.new.store.now) }
     ensures shown { IfOk result IsShownHead }
 {
     let container = bucket.copy()?;
@@ -54,8 +55,8 @@ pub fn head_object<W: Swift>(
 /// The bytes of an object, or those of a range, by GET of its file (Object Storage API v1, "Get object content and
 /// metadata"), of which HEAD told this ETag and this size in bytes. A range has the number of its first byte and that of its
 /// last, which may be past the end of the object. `None` where the object is missing, or has no byte of the range. At most
-/// one call, and the S3 state stays. Failed comes only where the store's count of faults rose; Memory where memory ran out;
-/// Inconsistent where the file that answers has no tag, isn't what its tag says, or has another ETag in it or another size,
+/// one call, which leaves the account, consistent or not. Failed comes only where the store's count of faults rose; Memory where
+/// memory ran out; Inconsistent where the file that answers has no tag, isn't what its tag says, or has another ETag in it or another size,
 /// and never over an observable consistent account whose object has these.
 #[tactic(auto, using(crate::proofs::lemmas::Names::container_name, crate::proofs::lemmas::Names::object_name))]
 pub fn get_object<W: Swift>(
@@ -75,6 +76,7 @@ pub fn get_object<W: Swift>(
         (Given (HasObject bucket key etag.now size)) (Tells (TellsBytes bucket key range)) result }
     ensures unchanged { GivesUnchanged (W.history state.old.store.now) bucket key etag.now size
         result }
+    ensures leaves { LeavesAccount (W.history state.old.store.now) (W.history state.new.store.now) }
     ensures counts { CountsOne (W.history state.old.store.now).called
         (W.history state.new.store.now).called result }
 {

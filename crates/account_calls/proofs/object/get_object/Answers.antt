@@ -1,5 +1,6 @@
 use Rattle.std.proofs.Common.{refl}
 use Rattle.account_calls.proofs.Files.{get_reads}
+use Rattle.account_calls.proofs.lemmas.Left.{left}
 use Rattle.account_calls.proofs.lemmas.One.{asked_in_vain, asked}
 use Rattle.account_calls.proofs.Unchanged.{gives_unchanged}
 use Rattle.account_calls.proofs.lemmas.Counted.{counted, not_counted}
@@ -19,3 +20,9 @@ returns-in_err-reply-clause-counts g c = not_counted c.in_err-reply.ensures _ c.
 
 pub returns-clause-counts : goal.returns-clause-counts
 returns-clause-counts g c = counted c.in_ok-reply.ensures _ c.bytes_in.ensures.own
+
+pub returns-in_err-reply-clause-leaves : goal.returns-in_err-reply-clause-leaves
+returns-in_err-reply-clause-leaves g c = left (λ tree. refl) c.in_err-reply.ensures
+
+pub returns-clause-leaves : goal.returns-clause-leaves
+returns-clause-leaves g c = left (λ tree. refl) c.in_ok-reply.ensures
