@@ -6,3 +6,4 @@ pub mod MakeBucket
 pub mod Readings
 pub mod Replies
 pub mod Steps
+pub mod Unchanged

@@ -1,5 +1,5 @@
 -- A read of an object before its bytes are got, and piece by piece. Source: this profile.
-use Rattle.std.specs.Prelude.{◌≡◌, ◌==◌, ◌≤◌, ◌+◌, ◌-◌, ℕ, if◌then◌else◌, List, length, take, drop, Option, None, Some, Result, Ok, Err}
+use Rattle.std.specs.Prelude.{◌≡◌, ◌==◌, ◌≤◌, ◌+◌, ◌-◌, ℕ, IsTrue, IfOk, if◌then◌else◌, List, length, take, drop, Option, None, Some, Result, Ok, Err}
 use Rattle.s3_machine.specs.declared.operation.Label.{Label}
 use Rattle.s3_machine.specs.declared.operation.ObjectHead.{ObjectHead}
 use Rattle.s3_machine.specs.declared.operation.Op.{Op}
@@ -16,16 +16,16 @@ use Rattle.s3_machine.specs.Shown.{IsShown}
 use Rattle.s3_machine.specs.State.{Object as StoredObject, State}
 use Rattle.s3_machine.specs.Step.{S3Step, IsPlace}
 use Rattle.swift_calls.specs.Account.{SwiftAccount}
-use Rattle.swift_calls.specs.History.{History}
+use Rattle.swift_calls.specs.History.{History, present}
 use Rattle.upload_records.specs.Native.{object_at, s3_state}
 use Rattle.std.specs.FinMap.{get}
 use Rattle.account_calls.specs.declared.fault.PlanFault.{PlanFault}
 use Rattle.account_calls.specs.declared.fault.PlanFault.TheVariants.{Inconsistent}
 use Rattle.account_calls.specs.declared.state.Known.TheVariants as known
 use Rattle.account_calls.specs.Answers.{most_calls, pieces}
-use Rattle.account_calls.specs.Calls.{Bound, amount, Any, Given, HasObject}
+use Rattle.account_calls.specs.Calls.{Bound, amount, Any, Given, HasObject, IsStoredAs}
 use Rattle.account_calls.specs.Plan.{reply_of, Plans, Answered}
-use Rattle.account_calls.specs.Told.{Told}
+use Rattle.account_calls.specs.Told.{Told, LeavesAccount}
 use Rattle.planner.specs.declared.reading.Found.{Found}
 use Rattle.planner.specs.declared.reading.Reading.{Reading}
 use Rattle.planner.specs.declared.reading.Reading.TheVariants.{Whole, Pieces}
@@ -92,6 +92,10 @@ abbrev pub reading_end : Result Reading PlanFault → Reading
 reading_end (Ok reading) = reading
 reading_end (Err fault) = Whole (reply_of (Err fault))
 
+-- a read leaves the account, whether it is consistent or not
+abbrev pub ReadLeaves : Op → History → History → Type 0
+ReadLeaves op old new = (bucket key : List ℕ) (range : Option Range) (conditions : Conditions) → op ≡ GetObject bucket key range conditions → LeavesAccount old new
+
 -- ---- a piece
 
 -- the range of so many bytes from one on, by its first and its last
@@ -102,8 +106,11 @@ piece_range from size = (from, from + (size - 1))
 abbrev pub TellsPiece : Found → ℕ → ℕ → State → List ℕ → Type 0
 TellsPiece found at size state bytes = (o : StoredObject) → object_at (get state found.bucket) found.key ≡ Some o → bytes ≡ take size (drop (found.from + at) o.bytes)
 
--- what was told of a piece, where it is as long as it should be
+-- where the store is observable, a piece is given of the file that HEAD told of alone, whether its account is consistent or not
+abbrev pub GivesPieceOf : History → Found → Result (List ℕ) PlanFault → Type 0
+GivesPieceOf h found result = IsTrue h.observable → IfOk result (λ bytes. IsStoredAs (present h) found.bucket found.key found.head.etag found.head.size)
 
+-- what was told of a piece, where it is as long as it should be
 abbrev pub piece_end : Option (List ℕ) → ℕ → Result (List ℕ) PlanFault
 piece_end None size = Err Inconsistent
 piece_end (Some bytes) size = if length bytes == size then Ok bytes else Err Inconsistent

@@ -7,7 +7,7 @@ ghost use Rattle.account_calls.specs.declared.state.Known.TheVariants as known;
 ghost use Rattle.account_calls.specs.Calls.{Any, Given};
 ghost use Rattle.account_calls.specs.Lent.{Stays};
 ghost use Rattle.account_calls.specs.Plan.{Plans};
-ghost use Rattle.planner.specs.Reading.{AnsweredOrFound, reading_end};
+ghost use Rattle.planner.specs.Reading.{AnsweredOrFound, ReadLeaves, reading_end};
 
 use crate::acls::{get_bucket_acl, get_object_acl, put_bucket_acl};
 use crate::buckets::{create_bucket, delete_bucket, get_location, list_buckets, plan_head_bucket};
@@ -36,6 +36,9 @@ pub fn answer<W: Swift>(alloc: Global, state: &mut Settled<'_, W>, op: Op, label
     ensures answered { AnsweredOrFound (most_calls op (present (W.history state.old.store.now)))
         (W.history state.old.store.now) (W.history state.new.store.now) state.old.settings.now op
         label.now result }
+
+    // A read leaves the account, whether it is consistent or not.
+    ensures account { ReadLeaves op (W.history state.old.store.now) (W.history state.new.store.now) }
 {
     let mut op = op;
     let reading = begin(alloc, state, &mut op, label);
@@ -52,6 +55,8 @@ fn begin<W: Swift>(alloc: Global, state: &mut Settled<'_, W>, op: &mut Op, label
     ensures answered { AnsweredOrFound (most_calls op.old (present (W.history state.old.store.now)))
         (W.history state.old.store.now) (W.history state.new.store.now) state.old.settings.now
         op.old label.now result }
+    ensures account { ReadLeaves op.old (W.history state.old.store.now)
+        (W.history state.new.store.now) }
 {
     match op {
         Op::GetObject {

@@ -8,9 +8,9 @@ ghost use Rattle.account_calls.specs.Answers.{most_calls};
 ghost use Rattle.account_calls.specs.Calls.{always, Any, Asks, Given, Tells, TellsBucket};
 ghost use Rattle.account_calls.specs.Interpret.{IsShownHead};
 ghost use Rattle.account_calls.specs.Lent.{Stays};
-ghost use Rattle.account_calls.specs.Told.{CountsOne};
+ghost use Rattle.account_calls.specs.Told.{CountsOne, LeavesAccount};
 ghost use Rattle.account_calls.specs.declared.fault.PlanFault.TheVariants.{Failed};
-ghost use Rattle.planner.specs.Reading.{EndsOrFinds, HasFound, IsFound, TellsPiece, piece_end, reading_of};
+ghost use Rattle.planner.specs.Reading.{EndsOrFinds, GivesPieceOf, HasFound, IsFound, TellsPiece, piece_end, reading_of};
 
 use account_calls::{PlanFault, Settled, head_bucket};
 use gate_base::{Bytes, Copying};
@@ -42,7 +42,7 @@ pub enum Reading {
 
 /// GetObject: HEAD of the bucket's container, then HEAD of the object's file. At most two calls. Conditions and range are decided
 /// by the head: where a condition doesn't hold, or the object has no byte of the range, that is the reply. The faults are those
-/// of the calls.
+/// of the calls, which leave the account, consistent or not.
 pub(crate) fn find_object<W: Swift>(
     alloc: Global,
     state: &mut Settled<'_, W>,
@@ -58,6 +58,7 @@ pub(crate) fn find_object<W: Swift>(
         (present (W.history state.old.store.now))) 2 (W.history state.old.store.now)
         (W.history state.new.store.now) state.old.settings.now Any
         (GetObject bucket key range conditions.now) label.now result }
+    ensures account { LeavesAccount (W.history state.old.store.now) (W.history state.new.store.now) }
 {
     let Some(list) = head_bucket(state, &bucket)? else {
         return Ok(Reading::Whole(Reply::Refused(Code::NoSuchBucket)));
@@ -82,6 +83,7 @@ fn find_object_within<W: Swift>(
         (W.history state.new.store.now) state.old.settings.now
         (λ s. TellsBucket bucket s (Some list)) (GetObject bucket key range conditions.now)
         label.now result }
+    ensures account { LeavesAccount (W.history state.old.store.now) (W.history state.new.store.now) }
 {
     if !may_read(label.caller, list) {
         return Ok(Reading::Whole(Reply::Refused(Code::AccessDenied)));
@@ -118,7 +120,8 @@ fn reading_of(
 }
 
 /// So many bytes of those that are asked for, from the byte `at` of them on, by one GET of the range. The faults are those of the
-/// call. A store that gives another number of bytes is inconsistent, and so is one whose file isn't any more what HEAD told.
+/// call, which leaves the account, consistent or not. A store that gives another number of bytes is inconsistent, and so is one
+/// whose file isn't any more what HEAD told.
 pub fn read_piece<W: Swift>(
     alloc: Global,
     state: &mut Settled<'_, W>,
@@ -133,6 +136,8 @@ pub fn read_piece<W: Swift>(
     ensures asks { Asks (always 1) (W.history state.old.store.now) (W.history state.new.store.now)
         (Given (HasFound found.now)) (Tells (TellsPiece found.now at size)) result }
     ensures sized { IfOk result (λ bytes. length bytes ≡ size) }
+    ensures unchanged { GivesPieceOf (W.history state.old.store.now) found.now result }
+    ensures account { LeavesAccount (W.history state.old.store.now) (W.history state.new.store.now) }
     ensures counts { CountsOne (W.history state.old.store.now).called
         (W.history state.new.store.now).called result }
 {

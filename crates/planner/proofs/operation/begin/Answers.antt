@@ -10,3 +10,6 @@ returns-in-GetObject-clause-answered g c = rw (c.in-GetObject.is, c.reading_end.
 
 pub returns-in_default-clause-answered : goal.returns-in_default-clause-answered
 returns-in_default-clause-answered g c = subst (Answered _ _ _ _ _ _ _) (sym c.reply_of.ensures) (answered_by (none_beside _ c.requires.own) c.plan.ensures.plans)
+
+pub returns-in-GetObject-clause-account : goal.returns-in-GetObject-clause-account
+returns-in-GetObject-clause-account g c = λ bucket key range conditions is. c.find_object.ensures.account

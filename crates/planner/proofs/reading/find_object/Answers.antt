@@ -3,6 +3,7 @@ use Rattle.std.proofs.Common.{arith, rules}
 use Rattle.s3_machine.specs.declared.operation.Op.TheVariants.{GetObject}
 use Rattle.account_calls.specs.Calls.{Any, TellsBucket}
 use Rattle.account_calls.proofs.lemmas.Ends.{answers}
+use Rattle.account_calls.proofs.lemmas.Left.{leaves_then}
 use Rattle.planner.proofs.Finding.{found_nothing, finds_on}
 use Rattle.planner.proofs.Readings.{get_missing}
 use Rattle.planner.proofs.reading.find_object.Goals as goal
@@ -15,3 +16,12 @@ returns-in_default-clause-finds g c = answers (omega arith) None c.in_default.is
 
 pub returns-clause-finds : goal.returns-clause-finds
 returns-clause-finds g c = finds_on _ _ 1 _ _ _ _ _ Any (λ s. TellsBucket c.args.bucket s (Some c.in-Some.list)) (GetObject c.args.bucket c.args.key c.args.range c.args.conditions.now) c.args.label.now (omega arith) (Some c.in-Some.list) c.in-Some.is c.head_bucket.ensures.stays.settings c.in_ok-list.ensures.asks (λ tree any told. told) _ c.find_object_within.ensures.finds
+
+pub returns-in_err-list-clause-account : goal.returns-in_err-list-clause-account
+returns-in_err-list-clause-account g c = c.in_err-list.ensures.leaves
+
+pub returns-in_default-clause-account : goal.returns-in_default-clause-account
+returns-in_default-clause-account g c = c.in_ok-list.ensures.leaves
+
+pub returns-clause-account : goal.returns-clause-account
+returns-clause-account g c = leaves_then _ _ _ c.in_ok-list.ensures.asks.grows.on.observable c.in_ok-list.ensures.leaves c.find_object_within.ensures.account

@@ -21,3 +21,15 @@ pub returns-clause-finds : goal.returns-clause-finds
 returns-clause-finds g c = rw c.reading_of.ensures
     (found_ends c.args.state.now.settings.now _ _ c.args.range c.args.conditions.now c.args.label.now c.args.list c.in-Some.head _ c.in-Some.is c.requires.place
     (sym c.may_read.ensures ∙ c.if-not-may_read.false) (subst IsShownHead c.in-Some.is c.in_ok-head.ensures.shown) c.in_ok-head.ensures.asks _ refl)
+
+pub returns-then-not-may_read-clause-account : goal.returns-then-not-may_read-clause-account
+returns-then-not-may_read-clause-account g c = λ observable. refl
+
+pub returns-in_err-head-clause-account : goal.returns-in_err-head-clause-account
+returns-in_err-head-clause-account g c = c.in_err-head.ensures.leaves
+
+pub returns-in_default-clause-account : goal.returns-in_default-clause-account
+returns-in_default-clause-account g c = c.in_ok-head.ensures.leaves
+
+pub returns-clause-account : goal.returns-clause-account
+returns-clause-account g c = c.in_ok-head.ensures.leaves
