@@ -16,6 +16,7 @@ pub mod Markers
 pub mod Names
 pub mod One
 pub mod Pages
+pub mod Puts
 pub mod Quiet
 pub mod Removal
 pub mod Replies

@@ -9,6 +9,7 @@ pub mod Lent
 pub mod Listing
 pub mod Plan
 pub mod Purging
+pub mod Puts
 pub mod Sealed
 pub mod Stutters
 pub mod SubManifests

@@ -1,10 +1,8 @@
--- What is put of a completion that is sealed, and of a copy that is laid out like one; and what is answered. Source: Object
--- Storage API v1, "Static large objects", and this profile.
-use Rattle.std.specs.Prelude.{◌+◌, ℕ, List, [], ◌∷◌, codes, Result, Ok, Err}
+-- What is put of a completion that is sealed, and of a copy that is laid out like one. Source: Object Storage API v1, "Static large
+-- objects", and this profile.
+use Rattle.std.specs.Prelude.{◌+◌, ℕ, List, [], ◌∷◌, codes}
 use Rattle.s3_names.specs.Id.{id_digits}
 use Rattle.slo_manifest.specs.declared.Segment.{Segment}
-use Rattle.swift_calls.specs.declared.calls.SwiftReply.{SwiftReply}
-use Rattle.swift_calls.specs.declared.calls.SwiftReply.TheVariants.{Stored}
 use Rattle.swift_calls.specs.declared.calls.SwiftRequest.{SwiftRequest}
 use Rattle.swift_calls.specs.declared.calls.SwiftRequest.TheVariants.{PutManifest, PutObject}
 use Rattle.swift_marks.specs.Pack.{pack_of}
@@ -13,17 +11,6 @@ use Rattle.upload_texts.specs.Records.{record_text}
 use Rattle.upload_texts.specs.declared.sealed.Sealed.{Sealed}
 use Rattle.upload_records.specs.Layout.{uploads_name, segments_name, sub_manifest_name}
 use Rattle.upload_records.specs.Native.{sealed_record, sealed_tag, filled_parts, listing_of, run, sealed_segments, sub_tag}
-use Rattle.account_calls.specs.declared.fault.PlanFault.{PlanFault}
-use Rattle.account_calls.specs.declared.fault.PlanFault.TheVariants.{Inconsistent}
-
--- ---- what an answer comes to
-
--- PUT of a file, whatever ETag the store has of it
-abbrev pub kept_due : SwiftReply → Result (Unit {0}) PlanFault
-kept_due (Stored etag) = Ok tt
-kept_due _ = Err Inconsistent
-
--- ---- what is put
 
 -- the PUT of an object that lists these segments, or has no byte where there are none
 abbrev pub put_by : List ℕ → List ℕ → List ℕ → List (List ℕ) → List Segment → SwiftRequest

@@ -13,6 +13,7 @@ ghost use Rattle.account_calls.specs.Interpret.{IsShownHead, plain_tag, put_of};
 ghost use Rattle.upload_records.specs.Native.{IsSettled};
 ghost use Rattle.account_calls.specs.Calls.{always, Any, Asks, Becomes, Changes, Given, GivesUnchanged, HasBucket, HasObject, Tells, TellsBytes, TellsObject, drops_object, puts_object};
 ghost use Rattle.account_calls.specs.Lent.{Stays};
+ghost use Rattle.account_calls.specs.Puts.{Stands};
 ghost use Rattle.account_calls.specs.Told.{CountsOne, LeavesAccount};
 
 use crate::interpret::{
@@ -93,7 +94,8 @@ pub fn get_object<W: Swift>(
 
 /// Puts an object into a bucket that is there, by PUT of its file (Object Storage API v1, "Create or replace object"):
 /// the one call that commits. At most one call. The moment is in seconds since the beginning of 1970, before the year
-/// 10000. After Ok the S3 state has the new object in place of what stood under the key. After Failed, which comes only
+/// 10000. After Ok the S3 state has the new object in place of what stood under the key, and over every observable store, consistent
+/// or not, its file stands. After Failed, which comes only
 /// where the store's count of faults rose, and after Memory the state is the old one or the new one. Inconsistent never
 /// comes over an observable consistent account in which the bucket is there.
 pub fn put_object<W: Swift>(
@@ -116,6 +118,8 @@ pub fn put_object<W: Swift>(
     ensures changes { Changes (always 1) (W.history state.old.store.now)
         (W.history state.new.store.now) (Given (HasBucket bucket))
         (Becomes (puts_object bucket key content_type meta.now body moment)) result }
+    ensures stands { Stands (W.history state.new.store.now)
+        (put_of bucket key content_type meta.now body moment) result }
 {
     let request = put_request(alloc, bucket, key, content_type, meta, body, etag, moment)?;
     let reply = ask(state.store, request)?;

@@ -1,35 +1,22 @@
 //! What is put of a completion that is sealed, or of a copy that is laid out like one: its object.
-ghost use Rattle.std.specs.Prelude.{◌≡◌, ◌≢◌, ◌∷◌, ◌++◌, [], map, Some, true, Err, IfOk, OnOk};
+ghost use Rattle.std.specs.Prelude.{◌≡◌, ◌∷◌, ◌++◌, [], map, Some, true, IfOk, OnOk};
 ghost use Rattle.std.specs.List.{list_all};
 ghost use Rattle.s3_names.specs.Id.{id_digits};
 ghost use Rattle.swift_calls.specs.Step.{Fit};
 ghost use Rattle.swift_marks.specs.Tag.{tag_text};
 ghost use Rattle.upload_texts.specs.Sealed.{has_sealed_text, part_fits_sealed_text};
 ghost use Rattle.upload_records.specs.Native.{filled_parts, part_segment, part_segments, sealed_segments, sealed_tag};
-ghost use Rattle.account_calls.specs.Sealed.{kept_due, put_by, put_object_of, sealed_listing};
-ghost use Rattle.account_calls.specs.declared.fault.PlanFault.TheVariants as fault;
+ghost use Rattle.account_calls.specs.Sealed.{put_by, put_object_of, sealed_listing};
 
-use crate::PlanFault;
 use crate::sub_manifests::listing_of_segments;
 use gate_base::{Bytes, Copying, List, Memory};
 use s3_names::id_digits;
 use slo_manifest::Segment;
 use std::alloc::Global;
-use swift_calls::{SwiftReply, SwiftRequest};
+use swift_calls::SwiftRequest;
 use swift_marks::{Tag, pack};
 use upload_records::{segment_name, segments_container};
 use upload_texts::{Sealed, SealedPart};
-
-/// The answer to PUT of a file, whatever ETag the store has of it.
-pub fn interpret_put_without_etag(reply: &SwiftReply) -> Result<(), PlanFault>
-    ensures due { result ≡ kept_due reply.now }
-    ensures own { result ≢ Err fault.Failed }
-{
-    match reply {
-        SwiftReply::Stored { .. } => Ok(()),
-        _ => Err(PlanFault::Inconsistent),
-    }
-}
 
 /// The PUT of the object of a sealed completion: a static large object of its parts that aren't empty, or an object without a
 /// byte where all are.

@@ -2,6 +2,7 @@ use Rattle.std.proofs.Common.{ap, ◌∙◌}
 use Rattle.account_calls.specs.Interpret.{stored_due}
 use Rattle.account_calls.proofs.Files.{puts}
 use Rattle.account_calls.proofs.lemmas.One.{not_sent, sent_in_vain, sent}
+use Rattle.account_calls.proofs.lemmas.Puts.{stands_by}
 use Rattle.account_calls.proofs.object.put_object.Goals as goal
 
 pub returns-in_err-request-clause-changes : goal.returns-in_err-request-clause-changes
@@ -29,3 +30,6 @@ returns-clause-changes g c =
       below = c.requires.moment;
     })) c.in_ok-reply.ensures _
     (c.interpret_put_with_etag.ensures.due ∙ ap (λ etag. stored_due etag c.in_ok-reply.reply) c.requires.etag) c.interpret_put_with_etag.ensures.own
+
+pub returns-clause-stands : goal.returns-clause-stands
+returns-clause-stands g c = stands_by c.args.etag.now c.in_ok-request.ensures.request c.in_ok-reply.ensures _ c.interpret_put_with_etag.ensures.due
