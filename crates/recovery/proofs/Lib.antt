@@ -1,4 +1,5 @@
 pub mod RollCalls
+pub mod RollStands
 pub mod SealedVersions
 pub mod SettleCalls
 pub mod SubCalls

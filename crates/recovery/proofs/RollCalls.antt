@@ -6,6 +6,7 @@ use Rattle.gate_base.proofs.lemmas.Maps.{some_value}
 use Rattle.s3_names.specs.Id.{id_digits}
 use Rattle.s3_machine.specs.ETag.{body_etag}
 use Rattle.swift_calls.specs.Account.{SwiftObject, SwiftAccount, files, find_object, put_file}
+use Rattle.swift_calls.specs.Bodies.{etag_of}
 use Rattle.swift_calls.specs.History.{History, Calls, present}
 use Rattle.swift_calls.specs.Step.{Answer, delete_object, put_object, swift_step}
 use Rattle.swift_calls.specs.declared.calls.SwiftFault.{SwiftFault}
@@ -30,11 +31,13 @@ use Rattle.upload_records.proofs.lemmas.SideCalls.{delete_settled, none_sealed}
 use Rattle.account_calls.specs.declared.fault.PlanFault.{PlanFault}
 use Rattle.account_calls.specs.declared.fault.PlanFault.TheVariants as fault
 use Rattle.account_calls.specs.Interpret.{Gives, gone_due, known, stored_due}
-use Rattle.account_calls.specs.Sealed.{kept_due, put_object_of, put_record_of, put_sub_of, sealed_listing}
+use Rattle.account_calls.specs.Puts.{etag_put}
+use Rattle.account_calls.specs.Sealed.{put_object_of, put_record_of, put_sub_of, sealed_listing}
 use Rattle.account_calls.proofs.lemmas.SealStands.{limits, may_stand, object_stored, record_short, segments_are, sub_stands, sub_stored, takes_list, takes_sub}
 use Rattle.account_calls.proofs.lemmas.Etags.{etag_agrees}
 use Rattle.account_calls.proofs.lemmas.ListPut.{by_stays, manifest_stays, manifest_step, put_stays, put_step}
 use Rattle.account_calls.proofs.lemmas.One.{found, stays_so}
+use Rattle.account_calls.proofs.lemmas.Puts.{by_etag, due_of}
 use Rattle.account_calls.proofs.lemmas.Quiet.{IsQuietOf, QuietEffect}
 use Rattle.account_calls.proofs.lemmas.SideNames.{file_name, id_fits}
 use Rattle.recovery.specs.Rolls.{HasGateway, HasObject, HasRecord, HasSubs, IsSealed, KeepsGateway, Leaves, LeavesClear, TellsSealed, sealed_by, sealed_due}
@@ -134,28 +137,28 @@ module _ (tree : SwiftAccount) (s : Sealed) (n : ℕ) (has : has_sealed_text s �
     subs = rolls.subs_grow tree s n given.sealed.is below (sub_stands s n has below) (sub_stored s n has below) sound given.subs;
   }
 
-  sub_effect : QuietEffect tree (put_sub_of s n) kept_due (Leaves (HasSubs s (n + 1)))
+  sub_effect : QuietEffect tree (put_sub_of s n) (stored_due (etag_put (put_sub_of s n))) (Leaves (HasSubs s (n + 1)))
   sub_effect = record {
     told = tt;
-    says = ap (λ (a : Answer). kept_due a.reply) sub_answered;
+    says = ap (λ (a : Answer). stored_due (etag_put (put_sub_of s n)) a.reply) sub_answered ∙ due_of (etag_of (sub_file_at s n).content) (etag_put (put_sub_of s n)) refl;
     sound = subst IsConsistent (sym (ap (λ (a : Answer). a.tree) sub_answered)) sub_rolled.sound;
     same = ap (λ (a : Answer). s3_state a.tree) sub_answered ∙ sub_rolled.same;
     tells = subst (HasSubs s (n + 1)) (sym (ap (λ (a : Answer). a.tree) sub_answered)) has_sub;
   }
 
-sub_same : (tree : SwiftAccount) (s : Sealed) (n : ℕ) → has_sealed_text s ≡ true → SameGateway tree (swift_step (put_sub_of s n) tree).tree
+pub sub_same : (tree : SwiftAccount) (s : Sealed) (n : ℕ) → has_sealed_text s ≡ true → SameGateway tree (swift_step (put_sub_of s n) tree).tree
 sub_same tree s n has = same_beside tree (swift_step (put_sub_of s n) tree).tree s.bucket (segments_name s.bucket) (record { of_bucket = (limits s has).bucket; is = inr refl })
     (manifest_stays tree (segments_name s.bucket) (sub_manifest_name (id_digits s.id) (n + 1)) (tag_text (sub_tag s (run n (sealed_segments s)))) [] (get tree (segments_name s.bucket)) (run n (sealed_segments s)))
 
-sub_put : (s : Sealed) (n : ℕ) → has_sealed_text s ≡ true → n < sealed_sub_manifests s → IsQuietOf (HasSubs s n) (put_sub_of s n) kept_due (Leaves (HasSubs s (n + 1)))
+sub_put : (s : Sealed) (n : ℕ) → has_sealed_text s ≡ true → n < sealed_sub_manifests s → IsQuietOf (HasSubs s n) (put_sub_of s n) (stored_due (etag_put (put_sub_of s n))) (Leaves (HasSubs s (n + 1)))
 sub_put s n has below = record {
   effect = λ tree sound given. sub_effect tree s n has below sound given;
   settled = λ tree. settled_same (sub_same tree s n has);
 }
 
 pub puts_sub : {request : SwiftRequest} {s : Sealed} {n : ℕ} → request ≡ put_sub_of s n → has_sealed_text s ≡ true → n < sealed_sub_manifests s
-    → IsQuietOf (HasSubs s n) request kept_due (Leaves (HasSubs s (n + 1)))
-puts_sub {s = s} {n = n} same has below = subst (λ r. IsQuietOf (HasSubs s n) r kept_due (Leaves (HasSubs s (n + 1)))) (sym same) (sub_put s n has below)
+    → IsQuietOf (HasSubs s n) request (stored_due (etag_put request)) (Leaves (HasSubs s (n + 1)))
+puts_sub {s = s} {n = n} same has below = subst (λ r. IsQuietOf (HasSubs s n) r (stored_due (etag_put r)) (Leaves (HasSubs s (n + 1)))) (sym same) (sub_put s n has below)
 
 pub sub_keeps : {a b : History} {request : SwiftRequest} (s : Sealed) (n : ℕ) {result : Result SwiftReply SwiftFault} → request ≡ put_sub_of s n → has_sealed_text s ≡ true → Calls a b request result → KeepsGateway a b
 sub_keeps {a = a} {b = b} s n {result = result} same has calls =
@@ -191,26 +194,28 @@ module _ (tree : SwiftAccount) (s : Sealed) (has : has_sealed_text s ≡ true) (
         (sym (rolls.object_segments tree s (completed_file s) given.sealed.is stands.is stands.lists (object_stored s has) sound)) stands.reads;
   }
 
-  object_effect : QuietEffect tree (put_object_of s) kept_due (Leaves (HasObject s))
+  object_effect : QuietEffect tree (put_object_of s) (stored_due (etag_put (put_object_of s))) (Leaves (HasObject s))
   object_effect = record {
     told = tt;
-    says = ap (λ (a : Answer). kept_due a.reply) object_answered;
+    says = ap (λ (a : Answer). stored_due (etag_put (put_object_of s)) a.reply) object_answered
+        ∙ due_of (etag_of (completed_file s).content) (etag_put (put_object_of s)) (by_etag s.bucket s.key (tag_text (sealed_tag s)) (pack_of s.meta) (sealed_listing s));
     sound = subst IsConsistent (sym (ap (λ (a : Answer). a.tree) object_answered)) object_rolled.sound;
     same = ap (λ (a : Answer). s3_state a.tree) object_answered ∙ object_rolled.same;
     tells = subst (HasObject s) (sym (ap (λ (a : Answer). a.tree) object_answered)) has_object;
   }
 
-object_same : (tree : SwiftAccount) (s : Sealed) → has_sealed_text s ≡ true → SameGateway tree (swift_step (put_object_of s) tree).tree
+pub object_same : (tree : SwiftAccount) (s : Sealed) → has_sealed_text s ≡ true → SameGateway tree (swift_step (put_object_of s) tree).tree
 object_same tree s has = same_off tree (swift_step (put_object_of s) tree).tree s.bucket (limits s has).bucket (by_stays tree s.bucket s.key (tag_text (sealed_tag s)) (pack_of s.meta) (sealed_listing s))
 
-object_put : (s : Sealed) → has_sealed_text s ≡ true → IsQuietOf (HasSubs s (sealed_sub_manifests s)) (put_object_of s) kept_due (Leaves (HasObject s))
+object_put : (s : Sealed) → has_sealed_text s ≡ true → IsQuietOf (HasSubs s (sealed_sub_manifests s)) (put_object_of s) (stored_due (etag_put (put_object_of s))) (Leaves (HasObject s))
 object_put s has = record {
   effect = λ tree sound given. object_effect tree s has sound given;
   settled = λ tree. settled_same (object_same tree s has);
 }
 
-pub puts_object : {request : SwiftRequest} {s : Sealed} → request ≡ put_object_of s → has_sealed_text s ≡ true → IsQuietOf (HasSubs s (sealed_sub_manifests s)) request kept_due (Leaves (HasObject s))
-puts_object {s = s} same has = subst (λ r. IsQuietOf (HasSubs s (sealed_sub_manifests s)) r kept_due (Leaves (HasObject s))) (sym same) (object_put s has)
+pub puts_object : {request : SwiftRequest} {s : Sealed} → request ≡ put_object_of s → has_sealed_text s ≡ true
+    → IsQuietOf (HasSubs s (sealed_sub_manifests s)) request (stored_due (etag_put request)) (Leaves (HasObject s))
+puts_object {s = s} same has = subst (λ r. IsQuietOf (HasSubs s (sealed_sub_manifests s)) r (stored_due (etag_put r)) (Leaves (HasObject s))) (sym same) (object_put s has)
 
 pub object_keeps : {a b : History} {request : SwiftRequest} (s : Sealed) {result : Result SwiftReply SwiftFault} → request ≡ put_object_of s → has_sealed_text s ≡ true → Calls a b request result → KeepsGateway a b
 object_keeps {a = a} {b = b} s {result = result} same has calls =
@@ -259,7 +264,7 @@ module _ (tree : SwiftAccount) (s : Sealed) (has : has_sealed_text s ≡ true) (
         tells = has_record;
       }
 
-record_same : (tree : SwiftAccount) (s : Sealed) → has_sealed_text s ≡ true → SameGateway tree (swift_step (put_record_of s) tree).tree
+pub record_same : (tree : SwiftAccount) (s : Sealed) → has_sealed_text s ≡ true → SameGateway tree (swift_step (put_record_of s) tree).tree
 record_same tree s has = same_beside tree (swift_step (put_record_of s) tree).tree s.bucket (uploads_name s.bucket) (record { of_bucket = (limits s has).bucket; is = inl refl })
     (put_stays tree (uploads_name s.bucket) (id_digits s.id) (codes "application/json") [] (get tree (uploads_name s.bucket)) (file_put (codes "application/json") [] (record_text (sealed_record s))))
 
@@ -307,10 +312,10 @@ pub deletes_sealed : {folder name : List ℕ} (s : Sealed) → folder ≡ gatewa
 deletes_sealed s foldered named = subst {A = List ℕ × List ℕ} (λ n. IsQuietOf (HasRecord s) (DeleteObject n.0 n.1) gone_due (Leaves IsSettled)) (λ i. (sym foldered i, sym named i)) (sealed_gone s)
 
 -- both names are those of what is sealed
-abbrev called_so : List ℕ → List ℕ → History → History → Result SwiftReply SwiftFault → Type 0
+abbrev pub called_so : List ℕ → List ℕ → History → History → Result SwiftReply SwiftFault → Type 0
 called_so folder name a b result = Calls a b (DeleteObject folder name) result
 
-so_called : {a b : History} {folder name : List ℕ} {result : Result SwiftReply SwiftFault} → folder ≡ gateway_name → name ≡ sealed_name → called_so folder name a b result → called_so gateway_name sealed_name a b result
+pub so_called : {a b : History} {folder name : List ℕ} {result : Result SwiftReply SwiftFault} → folder ≡ gateway_name → name ≡ sealed_name → called_so folder name a b result → called_so gateway_name sealed_name a b result
 so_called {a = a} {b = b} {result = result} foldered named calls = subst {A = List ℕ × List ℕ} (λ n. called_so n.0 n.1 a b result) (λ i. (foldered i, named i)) calls
 
 -- it leaves the container

@@ -1,11 +1,12 @@
 -- A completion that is sealed, and the calls that finish it: how far it is, and what each call leaves. Source: Object Storage API
 -- v1, "Static large objects", and this profile.
-use Rattle.std.specs.Prelude.{◌≡◌, ◌≤◌, ◌+◌, ℕ, Bool, true, false, IsTrue, List, Option, None, Some, Result, Ok, Err}
+use Rattle.std.specs.Prelude.{◌≡◌, ◌⊎◌, ◌≤◌, ◌+◌, ℕ, Bool, true, false, IsTrue, List, Option, None, Some, Result, Ok, Err}
 use Rattle.s3_names.specs.Id.{id_digits}
 use Rattle.swift_calls.specs.Account.{SwiftObject, SwiftAccount, files, find_object}
 use Rattle.swift_calls.specs.History.{History, present}
 use Rattle.swift_calls.specs.declared.calls.SwiftReply.{SwiftReply}
 use Rattle.swift_calls.specs.declared.calls.SwiftReply.TheVariants.{NotFound, Bytes}
+use Rattle.swift_calls.specs.declared.calls.SwiftRequest.{SwiftRequest}
 use Rattle.upload_texts.specs.Sealed.{read_sealed}
 use Rattle.upload_texts.specs.declared.sealed.Sealed.{Sealed}
 use Rattle.upload_records.specs.Consistent.{HasSubManifests, IsThere}
@@ -15,6 +16,8 @@ use Rattle.account_calls.specs.declared.fault.PlanFault.{PlanFault}
 use Rattle.account_calls.specs.declared.fault.PlanFault.TheVariants.{Inconsistent}
 use Rattle.account_calls.specs.Calls.{Met}
 use Rattle.account_calls.specs.Interpret.{known}
+use Rattle.account_calls.specs.Puts.{StandsIn}
+use Rattle.account_calls.specs.Sealed.{put_object_of, put_record_of}
 
 -- ---- how far a sealed completion is
 
@@ -60,6 +63,23 @@ KeepsGateway old new = IsTrue old.observable → HasGateway (present old) → Ha
 -- and where they told this over a store that has it, no completion is sealed after them
 abbrev pub LeavesClear : {T : Type 0} → T → History → History → Result T PlanFault → Type 0
 LeavesClear told old new result = IsTrue old.observable → HasGateway (present old) → result ≡ Ok told → IsSettled (present new)
+
+-- over every observable store, whatever calls came to, what stands in the gateway's own container stays
+abbrev pub HoldsSealed : History → History → Type 0
+HoldsSealed old new = IsTrue old.observable → files (present new) gateway_name ≡ files (present old) gateway_name
+
+-- the files of its object and of its record stand as they were put
+pub record IsFinished (s : Sealed) (tree : SwiftAccount) : Type 0 where
+  pub object : StandsIn tree (put_object_of s)
+  pub kept : StandsIn tree (put_record_of s)
+
+-- over every observable store, whatever calls came to, both stand, or what is sealed stands as it did
+abbrev pub HoldsOrFinished : Sealed → History → History → Type 0
+HoldsOrFinished s old new = IsTrue old.observable → (files (present new) gateway_name ≡ files (present old) gateway_name) ⊎ IsFinished s (present new)
+
+-- and calls leave what this request put
+abbrev pub KeepsFile : SwiftRequest → History → History → Type 0
+KeepsFile request old new = IsTrue old.observable → StandsIn (present old) request → StandsIn (present new) request
 
 -- what is sealed is told, and the account is left as it is
 pub record TellsSealed (old new : SwiftAccount) (told : Option Sealed) : Type 0 where

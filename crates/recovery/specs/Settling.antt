@@ -31,9 +31,15 @@ IsNamedFault plan.Failed fault = fault ≡ Failed
 IsNamedFault plan.Memory fault = fault ≡ Memory
 IsNamedFault plan.Inconsistent fault = (fault ≡ Memory) ⊎ (fault ≡ Inconsistent gateway_name sealed_name)
 
+-- what settling names where the store was found inconsistent: the file of what is sealed
+abbrev pub NamesSealed : Result (Unit {0}) SettleFault → Type 0
+NamesSealed (Err (Inconsistent container name)) = (container ≡ gateway_name) × (name ≡ sealed_name)
+NamesSealed _ = Unit {0}
+
 -- a store was settled by at most fifteen calls, and over a consistent account by no more than it has sub-manifests to put: the state stays, and after Ok no completion is sealed and the gateway's own container is there, also where
 -- the account is not consistent
 pub record Settles (old new : History) (result : Result (Unit {0}) SettleFault) : Type 0 where
   pub within : new.called ≤ old.called + 15
   pub asks : Asks (most_settling (present old)) old new Any SettlesIt (as_plan result)
   pub done : IsTrue old.observable → result ≡ Ok tt → IsSettled (present new)
+  pub named : NamesSealed result

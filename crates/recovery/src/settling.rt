@@ -5,15 +5,17 @@ ghost use Rattle.upload_texts.specs.Sealed.{has_sealed_text};
 ghost use Rattle.upload_records.specs.Native.{IsSettled, sealed_segments, sealed_sub_manifests};
 ghost use Rattle.account_calls.specs.Calls.{always, Any, Asks};
 ghost use Rattle.account_calls.specs.Lent.{Stays};
-ghost use Rattle.recovery.specs.Rolls.{HasGateway, HasObject, HasRecord, HasSubs, IsCounted, IsSealed, KeepsGateway, Leaves, LeavesClear, OpensGateway, TellsSealed};
+ghost use Rattle.account_calls.specs.Puts.{Ensures, Stands, StandsIn};
+ghost use Rattle.account_calls.specs.Sealed.{put_object_of, put_record_of, put_sub_of};
+ghost use Rattle.recovery.specs.Rolls.{HasGateway, HasObject, HasRecord, HasSubs, HoldsOrFinished, HoldsSealed, IsCounted, IsFinished, IsSealed, KeepsFile, KeepsGateway, Leaves, LeavesClear, OpensGateway, TellsSealed};
 
 use crate::sealed::{
     interpret_sealed_get, rolled_forward_record_request, rolled_forward_record_text,
 };
 use account_calls::{
-    PlanFault, Settled, ask, interpret_container_put, interpret_file_delete,
-    interpret_put_with_etag, interpret_put_without_etag, object_request, sealed_segments,
-    sub_manifest_count, sub_manifest_request,
+    PlanFault, Settled, ask, etag_of_put, interpret_container_put, interpret_file_delete,
+    interpret_put_with_etag, object_request, sealed_segments, sub_manifest_count,
+    sub_manifest_request,
 };
 use s3_machine::body_etag;
 use slo_manifest::Segment;
@@ -100,6 +102,8 @@ fn roll_forward<W: Swift>(alloc: Global, store: &mut W, sealed: &Sealed) -> Resu
         (W.history store.new) (IsSealed sealed.now) (Leaves IsSettled) result }
     ensures keeps { KeepsGateway (W.history store.old) (W.history store.new) }
     ensures done { LeavesClear tt (W.history store.old) (W.history store.new) result }
+    ensures rolls { HoldsOrFinished sealed.now (W.history store.old) (W.history store.new) }
+    ensures finishes { Ensures (W.history store.new) (IsFinished sealed.now) result }
 {
     put_sub_manifests(alloc, store, sealed)?;
     roll_forward_object(alloc, store, sealed)
@@ -116,6 +120,7 @@ fn put_sub_manifests<W: Swift>(
         (W.history store.new) (IsSealed sealed.now)
         (Leaves (HasSubs sealed.now (sealed_sub_manifests sealed.now))) result }
     ensures keeps { KeepsGateway (W.history store.old) (W.history store.new) }
+    ensures holds { HoldsSealed (W.history store.old) (W.history store.new) }
 {
     let segments = sealed_segments(alloc, sealed)?;
     put_sub_manifests_of(alloc, store, sealed, segments.as_slice())
@@ -134,6 +139,7 @@ fn put_sub_manifests_of<W: Swift>(
         (W.history store.new) (IsSealed sealed.now)
         (Leaves (HasSubs sealed.now (sealed_sub_manifests sealed.now))) result }
     ensures keeps { KeepsGateway (W.history store.old) (W.history store.new) }
+    ensures holds { HoldsSealed (W.history store.old) (W.history store.new) }
 {
     let count = sub_manifest_count(segments.len());
     for n in 0..count {
@@ -157,10 +163,13 @@ fn put_sub_manifest<W: Swift>(
     ensures asks { Asks (always 1) (W.history store.old) (W.history store.new)
         (HasSubs sealed.now n) (Leaves (HasSubs sealed.now (n + 1))) result }
     ensures keeps { KeepsGateway (W.history store.old) (W.history store.new) }
+    ensures holds { HoldsSealed (W.history store.old) (W.history store.new) }
+    ensures stands { Stands (W.history store.new) (put_sub_of sealed.now n) result }
 {
     let request = sub_manifest_request(alloc, sealed, segments, n)?;
+    let etag = etag_of_put(&request);
     let reply = ask(store, request)?;
-    interpret_put_without_etag(&reply)
+    interpret_put_with_etag(&reply, &etag)
 }
 
 /// Finishes a sealed completion whose sub-manifests are there.
@@ -174,6 +183,8 @@ fn roll_forward_object<W: Swift>(
         (HasSubs sealed.now (sealed_sub_manifests sealed.now)) (Leaves IsSettled) result }
     ensures keeps { KeepsGateway (W.history store.old) (W.history store.new) }
     ensures done { LeavesClear tt (W.history store.old) (W.history store.new) result }
+    ensures rolls { HoldsOrFinished sealed.now (W.history store.old) (W.history store.new) }
+    ensures finishes { Ensures (W.history store.new) (IsFinished sealed.now) result }
 {
     put_rolled_forward_object(alloc, store, sealed)?;
     finish_roll_forward(alloc, store, sealed)
@@ -194,6 +205,8 @@ pub fn roll_forward_held<W: Swift>(
     ensures keeps { KeepsGateway (W.history state.old.store.now) (W.history state.new.store.now) }
     ensures done { LeavesClear tt (W.history state.old.store.now) (W.history state.new.store.now)
         result }
+    ensures rolls { HoldsOrFinished sealed.now (W.history state.old.store.now) (W.history state.new.store.now) }
+    ensures finishes { Ensures (W.history state.new.store.now) (IsFinished sealed.now) result }
 {
     roll_forward(alloc, state.store, sealed)
 }
@@ -208,10 +221,13 @@ fn put_rolled_forward_object<W: Swift>(
     ensures asks { Asks (always 1) (W.history store.old) (W.history store.new)
         (HasSubs sealed.now (sealed_sub_manifests sealed.now)) (Leaves (HasObject sealed.now)) result }
     ensures keeps { KeepsGateway (W.history store.old) (W.history store.new) }
+    ensures holds { HoldsSealed (W.history store.old) (W.history store.new) }
+    ensures stands { Stands (W.history store.new) (put_object_of sealed.now) result }
 {
     let request = object_request(alloc, sealed)?;
+    let etag = etag_of_put(&request);
     let reply = ask(store, request)?;
-    interpret_put_without_etag(&reply)
+    interpret_put_with_etag(&reply, &etag)
 }
 
 /// Puts the record of a sealed completion whose object is there, and deletes what is sealed.
@@ -225,6 +241,10 @@ fn finish_roll_forward<W: Swift>(
         (HasObject sealed.now) (Leaves IsSettled) result }
     ensures keeps { KeepsGateway (W.history store.old) (W.history store.new) }
     ensures done { LeavesClear tt (W.history store.old) (W.history store.new) result }
+    ensures rolls { StandsIn (present (W.history store.old)) (put_object_of sealed.now)
+        → HoldsOrFinished sealed.now (W.history store.old) (W.history store.new) }
+    ensures finishes { StandsIn (present (W.history store.old)) (put_object_of sealed.now)
+        → Ensures (W.history store.new) (IsFinished sealed.now) result }
 {
     put_rolled_forward_record(alloc, store, sealed)?;
     delete_rolled_forward_seal(alloc, store, sealed)
@@ -240,6 +260,9 @@ fn put_rolled_forward_record<W: Swift>(
     ensures asks { Asks (always 1) (W.history store.old) (W.history store.new)
         (HasObject sealed.now) (Leaves (HasRecord sealed.now)) result }
     ensures keeps { KeepsGateway (W.history store.old) (W.history store.new) }
+    ensures holds { HoldsSealed (W.history store.old) (W.history store.new) }
+    ensures object { KeepsFile (put_object_of sealed.now) (W.history store.old) (W.history store.new) }
+    ensures stands { Stands (W.history store.new) (put_record_of sealed.now) result }
 {
     let text = rolled_forward_record_text(alloc, sealed)?;
     let etag = body_etag(text.as_slice());
@@ -255,10 +278,13 @@ fn delete_rolled_forward_seal<W: Swift>(
     store: &mut W,
     sealed: &Sealed,
 ) -> Result<(), PlanFault>
+    requires { has_sealed_text sealed.now ≡ true }
     ensures asks { Asks (always 1) (W.history store.old) (W.history store.new)
         (HasRecord sealed.now) (Leaves IsSettled) result }
     ensures keeps { KeepsGateway (W.history store.old) (W.history store.new) }
     ensures done { LeavesClear tt (W.history store.old) (W.history store.new) result }
+    ensures object { KeepsFile (put_object_of sealed.now) (W.history store.old) (W.history store.new) }
+    ensures kept { KeepsFile (put_record_of sealed.now) (W.history store.old) (W.history store.new) }
 {
     let container = gateway_container(alloc)?;
     let name = sealed_name(alloc)?;

@@ -2,6 +2,7 @@ use Rattle.std.proofs.Common.{inr}
 use Rattle.account_calls.proofs.lemmas.One.{not_asked}
 use Rattle.account_calls.proofs.lemmas.Quiet.{quiet_in_vain, quieted}
 use Rattle.recovery.proofs.RollCalls.{delete_keeps, deleted, deletes_sealed}
+use Rattle.recovery.proofs.RollStands.{object_through_delete, record_through_delete}
 use Rattle.recovery.proofs.settling.delete_rolled_forward_seal.Goals as goal
 
 pub returns-in_err-container-clause-asks : goal.returns-in_err-container-clause-asks
@@ -25,3 +26,15 @@ returns-clause-keeps g c = delete_keeps c.in_ok-container.ensures c.in_ok-name.e
 
 pub returns-clause-done : goal.returns-clause-done
 returns-clause-done g c = λ observable has is. deleted c.in_ok-container.ensures c.in_ok-name.ensures c.in_ok-reply.ensures observable has
+
+pub returns-in_err-reply-clause-object : goal.returns-in_err-reply-clause-object
+returns-in_err-reply-clause-object g c = object_through_delete c.args.sealed.now c.in_ok-container.ensures c.in_ok-name.ensures c.requires c.in_err-reply.ensures
+
+pub returns-clause-object : goal.returns-clause-object
+returns-clause-object g c = object_through_delete c.args.sealed.now c.in_ok-container.ensures c.in_ok-name.ensures c.requires c.in_ok-reply.ensures
+
+pub returns-in_err-reply-clause-kept : goal.returns-in_err-reply-clause-kept
+returns-in_err-reply-clause-kept g c = record_through_delete c.args.sealed.now c.in_ok-container.ensures c.in_ok-name.ensures c.requires c.in_err-reply.ensures
+
+pub returns-clause-kept : goal.returns-clause-kept
+returns-clause-kept g c = record_through_delete c.args.sealed.now c.in_ok-container.ensures c.in_ok-name.ensures c.requires c.in_ok-reply.ensures

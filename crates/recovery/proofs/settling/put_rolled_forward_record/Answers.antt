@@ -3,7 +3,9 @@ use Rattle.s3_machine.specs.ETag.{body_etag}
 use Rattle.account_calls.specs.Interpret.{stored_due}
 use Rattle.account_calls.proofs.lemmas.One.{not_asked}
 use Rattle.account_calls.proofs.lemmas.Quiet.{quiet_in_vain, quieted}
+use Rattle.account_calls.proofs.lemmas.Puts.{stands_by}
 use Rattle.recovery.proofs.RollCalls.{puts_record, record_keeps, written_by}
+use Rattle.recovery.proofs.RollStands.{object_through_record, record_holds}
 use Rattle.recovery.proofs.settling.put_rolled_forward_record.Goals as goal
 
 pub returns-in_err-text-clause-asks : goal.returns-in_err-text-clause-asks
@@ -28,3 +30,18 @@ returns-clause-asks g c =
 
 pub returns-clause-keeps : goal.returns-clause-keeps
 returns-clause-keeps g c = record_keeps c.args.sealed.now c.in_ok-request.ensures.request c.requires c.in_ok-reply.ensures
+
+pub returns-in_err-reply-clause-holds : goal.returns-in_err-reply-clause-holds
+returns-in_err-reply-clause-holds g c = record_holds c.args.sealed.now c.in_ok-request.ensures.request c.requires c.in_err-reply.ensures
+
+pub returns-clause-holds : goal.returns-clause-holds
+returns-clause-holds g c = record_holds c.args.sealed.now c.in_ok-request.ensures.request c.requires c.in_ok-reply.ensures
+
+pub returns-in_err-reply-clause-object : goal.returns-in_err-reply-clause-object
+returns-in_err-reply-clause-object g c = object_through_record c.args.sealed.now c.in_ok-request.ensures.request c.requires c.in_err-reply.ensures
+
+pub returns-clause-object : goal.returns-clause-object
+returns-clause-object g c = object_through_record c.args.sealed.now c.in_ok-request.ensures.request c.requires c.in_ok-reply.ensures
+
+pub returns-clause-stands : goal.returns-clause-stands
+returns-clause-stands g c = stands_by _ c.in_ok-request.ensures.request c.in_ok-reply.ensures _ c.interpret_put_with_etag.ensures.due

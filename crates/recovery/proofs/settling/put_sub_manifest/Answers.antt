@@ -1,7 +1,10 @@
-use Rattle.std.proofs.Common.{inr}
+use Rattle.std.proofs.Common.{ap, inr, ◌∙◌}
+use Rattle.account_calls.specs.Interpret.{stored_due}
 use Rattle.account_calls.proofs.lemmas.One.{not_asked}
 use Rattle.account_calls.proofs.lemmas.Quiet.{quiet_in_vain, quieted}
+use Rattle.account_calls.proofs.lemmas.Puts.{stands_by}
 use Rattle.recovery.proofs.RollCalls.{puts_sub, sub_keeps}
+use Rattle.recovery.proofs.RollStands.{sub_holds}
 use Rattle.recovery.proofs.settling.put_sub_manifest.Goals as goal
 
 pub returns-in_err-request-clause-asks : goal.returns-in_err-request-clause-asks
@@ -14,7 +17,16 @@ pub returns-in_err-reply-clause-keeps : goal.returns-in_err-reply-clause-keeps
 returns-in_err-reply-clause-keeps g c = sub_keeps c.args.sealed.now c.args.n c.in_ok-request.ensures.request c.requires.has c.in_err-reply.ensures
 
 pub returns-clause-asks : goal.returns-clause-asks
-returns-clause-asks g c = quieted (puts_sub c.in_ok-request.ensures.request c.requires.has c.requires.below) c.in_ok-reply.ensures _ (inr c.interpret_put_without_etag.ensures.due) c.interpret_put_without_etag.ensures.own
+returns-clause-asks g c = quieted (puts_sub c.in_ok-request.ensures.request c.requires.has c.requires.below) c.in_ok-reply.ensures _ (inr (c.interpret_put_with_etag.ensures.due ∙ ap (λ etag. stored_due etag c.in_ok-reply.reply) c.etag_of_put-etag.ensures)) c.interpret_put_with_etag.ensures.own
 
 pub returns-clause-keeps : goal.returns-clause-keeps
 returns-clause-keeps g c = sub_keeps c.args.sealed.now c.args.n c.in_ok-request.ensures.request c.requires.has c.in_ok-reply.ensures
+
+pub returns-in_err-reply-clause-holds : goal.returns-in_err-reply-clause-holds
+returns-in_err-reply-clause-holds g c = sub_holds c.args.sealed.now c.args.n c.in_ok-request.ensures.request c.requires.has c.in_err-reply.ensures
+
+pub returns-clause-holds : goal.returns-clause-holds
+returns-clause-holds g c = sub_holds c.args.sealed.now c.args.n c.in_ok-request.ensures.request c.requires.has c.in_ok-reply.ensures
+
+pub returns-clause-stands : goal.returns-clause-stands
+returns-clause-stands g c = stands_by _ c.in_ok-request.ensures.request c.in_ok-reply.ensures _ c.interpret_put_with_etag.ensures.due
