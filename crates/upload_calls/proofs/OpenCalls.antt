@@ -1,5 +1,5 @@
 -- What PUT of an open record does to the state, under an id under which nothing stands.
-use Rattle.std.specs.Prelude.{◌≡◌, ◌<◌, ◌≤◌, ◌^◌, ℕ, cond, List, [], length, true, Some, Ok, Err}
+use Rattle.std.specs.Prelude.{◌≡◌, ◌<◌, ◌≤◌, ◌^◌, ℕ, cond, List, [], length, true, Some, Result, Ok, Err}
 use Rattle.std.proofs.Common.{refl, sym, ap, subst, ◌∙◌, inl, arith}
 use Rattle.gate_base.proofs.lemmas.Maps.{some_value}
 use Rattle.gate_base.specs.declared.page.Pair.{Pair}
@@ -7,7 +7,9 @@ use Rattle.s3_names.specs.Bucket.{is_bucket}
 use Rattle.s3_names.specs.Id.{id_digits}
 use Rattle.s3_machine.specs.ETag.{body_etag}
 use Rattle.swift_calls.specs.Account.{SwiftAccount}
+use Rattle.swift_calls.specs.History.{History, Calls, present}
 use Rattle.swift_calls.specs.Step.{Answer, Fit, put_object, swift_step}
+use Rattle.swift_calls.specs.declared.calls.SwiftReply.{SwiftReply}
 use Rattle.swift_calls.specs.declared.calls.SwiftRequest.{SwiftRequest}
 use Rattle.upload_texts.specs.Records.{read_record}
 use Rattle.upload_texts.specs.declared.record.Record.TheVariants.{Open}
@@ -19,12 +21,15 @@ use Rattle.upload_records.proofs.lemmas.Beside.{records_there}
 use Rattle.upload_records.proofs.lemmas.Settled.{settled_same, unsealed_of}
 use Rattle.account_calls.specs.Calls.{Becomes}
 use Rattle.account_calls.specs.Interpret.{stored_due}
+use Rattle.account_calls.specs.Puts.{Ensures, StandsIn}
+use Rattle.account_calls.specs.declared.fault.PlanFault.{PlanFault}
 use Rattle.account_calls.specs.declared.fault.PlanFault.TheVariants.{Inconsistent}
 use Rattle.account_calls.proofs.lemmas.Etags.{etag_agrees}
 use Rattle.account_calls.proofs.lemmas.One.{Effect, IsWritingOf}
+use Rattle.account_calls.proofs.lemmas.Puts.{file_stands}
 use Rattle.account_calls.proofs.lemmas.SideNames.{file_name, id_fits, uploads_fits}
 use Rattle.upload_calls.specs.Interpret.{most_open_text, put_record_of, record_type}
-use Rattle.upload_calls.specs.Records.{MayOpen, opens_upload}
+use Rattle.upload_calls.specs.Records.{MayOpen, StandsOpen, opens_upload}
 use Rattle.upload_calls.proofs.SideFiles.{same_put}
 
 -- the PUT of a record is one that a store takes
@@ -74,3 +79,10 @@ opens_by {request = request} {bucket = bucket} {id = id} {key = key} {content_ty
   settled = λ tree. settled_same (subst (λ r. SameGateway tree (swift_step r tree).tree) (sym put.same)
       (same_put tree (uploads_name bucket) bucket (record { of_bucket = put.is; is = inl refl }) (id_digits id) record_type [] text));
 }
+
+-- over every observable store its file stands, where it was answered so
+pub stands_open : {a b : History} {request : SwiftRequest} {reply : SwiftReply} {bucket : List ℕ} {id : ℕ} {key content_type : List ℕ} {meta : List Pair} {started : ℕ} {text : List ℕ} (etag : List ℕ)
+    → request ≡ put_record_of bucket id text → read_record text ≡ Some (Open key content_type meta started) → Calls a b request (Ok reply) → (result : Result (Unit {0}) PlanFault) → result ≡ stored_due etag reply
+    → Ensures b (StandsOpen bucket id key content_type meta started) result
+stands_open {b = b} {text = text} etag same reads calls (Ok done) is = record { so = λ observable. record { text = text; reads = reads; stands = subst (StandsIn (present b)) same (file_stands etag calls (sym is) observable) } }
+stands_open etag same reads calls (Err fault) is = record { so = λ observable. tt }

@@ -39,3 +39,9 @@ abbrev pub found_by : Option Record → List ℕ → ℕ → Found
 found_by None key id = found.NoUpload
 found_by (Some (Open under content_type meta started)) key id = cond (bytes_eq under key) (found.Open id) found.NoUpload
 found_by (Some (Done under list etag started moment)) key id = found.NoUpload
+
+-- the id that was found is the one that this text writes
+abbrev pub IsFoundBy : List ℕ → Found → Type 0
+IsFoundBy text found.NoBucket = Unit {0}
+IsFoundBy text found.NoUpload = Unit {0}
+IsFoundBy text (found.Open id) = text ≡ id_digits id

@@ -11,13 +11,17 @@ use Rattle.s3_machine.specs.Uploads.{cut, drop_upload, new_part, new_upload, on_
 use Rattle.s3_machine.specs.declared.items.PartItem.{PartItem}
 use Rattle.s3_machine.specs.declared.items.UploadItem.{UploadItem}
 use Rattle.swift_calls.specs.Account.{SwiftAccount, files}
+use Rattle.upload_texts.specs.Records.{read_record}
 use Rattle.upload_texts.specs.declared.record.Record.{Record}
+use Rattle.upload_texts.specs.declared.record.Record.TheVariants.{Open}
 use Rattle.upload_records.specs.Layout.{segments_name, segments_prefix, sub_manifest_name, uploads_name}
 use Rattle.upload_records.specs.Native.{parts_of, record_at}
 use Rattle.upload_records.specs.Consistent.{IsConsistent, IsOpen, IsThere}
 use Rattle.upload_records.specs.Laws.{IsUnused}
 use Rattle.account_calls.specs.Answers.{IsFirstFree, IsTaken}
 use Rattle.account_calls.specs.Purging.{MayPurge}
+use Rattle.account_calls.specs.Puts.{StandsIn}
+use Rattle.upload_calls.specs.Interpret.{put_part_of, put_record_of}
 
 -- ---- the text of an id
 
@@ -57,6 +61,18 @@ pub record MayOpen (bucket : List ℕ) (id : ℕ) (tree : SwiftAccount) : Type 0
 pub record MayClear (bucket : List ℕ) (id : ℕ) (old new : SwiftAccount) : Type 0 where
   pub may : MayPurge (segments_name bucket) bucket (segments_prefix (id_digits id)) [] new
   pub same : files new (segments_name bucket) ≡ files old (segments_name bucket)
+
+-- the file of the record of an upload that is open so stands as it was put
+pub record StandsOpen (bucket : List ℕ) (id : ℕ) (key content_type : List ℕ) (meta : List Pair) (started : ℕ) (tree : SwiftAccount) : Type 0 where
+  pub text : List ℕ
+  pub reads : read_record text ≡ Some (Open key content_type meta started)
+  pub stands : StandsIn tree (put_record_of bucket id text)
+
+-- the file of a part stands as it was put, into the upload whose id this text writes
+pub record StandsPart (bucket text : List ℕ) (number : ℕ) (body : List ℕ) (moment : ℕ) (tree : SwiftAccount) : Type 0 where
+  pub id : ℕ
+  pub is : text ≡ id_digits id
+  pub stands : StandsIn tree (put_part_of bucket id number body moment)
 
 -- ---- what is told of the account
 

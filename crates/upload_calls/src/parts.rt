@@ -9,6 +9,7 @@ ghost use Rattle.swift_calls.specs.Step.{Fit};
 ghost use Rattle.swift_marks.specs.Tag.{has_text, tag_text};
 ghost use Rattle.account_calls.specs.Calls.{always, Becomes, Changes, GivenOf};
 ghost use Rattle.account_calls.specs.Lent.{Stays};
+ghost use Rattle.account_calls.specs.Puts.{Stands};
 ghost use Rattle.upload_calls.specs.Interpret.{part_tag, put_part_of};
 ghost use Rattle.upload_calls.specs.Records.{HasOpen, puts_part};
 
@@ -21,7 +22,7 @@ use upload_records::{law_part_put, segment_name, segments_container};
 
 /// Puts a part into an open upload, in place of the one of its number, by PUT of its file (Object Storage API v1, "Create or
 /// replace object"): the one call that commits. At most one call. The moment is in seconds since the beginning of 1970, before
-/// the year 10000. After Ok the S3 state has the part. After Failed, which comes only where the store's count of faults rose,
+/// the year 10000. After Ok the S3 state has the part, and over every observable store, consistent or not, its file stands. After Failed, which comes only where the store's count of faults rose,
 /// and after Memory the state is the old one or that. Inconsistent never comes over an observable consistent account on which
 /// the upload is open.
 pub fn put_part<W: Swift>(
@@ -42,6 +43,8 @@ pub fn put_part<W: Swift>(
     ensures stays { Stays state.old state.new }
     ensures changes { Changes (always 1) (W.history state.old.store.now) (W.history state.new.store.now)
         (GivenOf (HasOpen bucket.now id)) (Becomes (puts_part bucket.now id number body moment)) result }
+    ensures stands { Stands (W.history state.new.store.now)
+        (put_part_of bucket.now id number body moment) result }
 {
     law_part_put();
     let request = part_request(alloc, bucket, id, number, body, etag, moment)?;

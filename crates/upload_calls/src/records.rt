@@ -12,10 +12,11 @@ ghost use Rattle.upload_texts.specs.declared.record.Record.TheVariants.{Open};
 ghost use Rattle.account_calls.specs.Calls.{always, Asks, Becomes, Changes, ChangesTo, GivenOf};
 ghost use Rattle.account_calls.specs.Interpret.{Gives, known};
 ghost use Rattle.account_calls.specs.Lent.{Stays};
+ghost use Rattle.account_calls.specs.Puts.{Ensures};
 ghost use Rattle.account_calls.specs.Listing.{TellsOf};
 ghost use Rattle.account_calls.specs.declared.fault.PlanFault.TheVariants as fault;
 ghost use Rattle.upload_calls.specs.Interpret.{most_open_text, put_record_of, record_due};
-ghost use Rattle.upload_calls.specs.Records.{HasOpen, InBucket, MayClear, MayOpen, TellsRecord, drops_upload, opens_upload};
+ghost use Rattle.upload_calls.specs.Records.{HasOpen, InBucket, MayClear, MayOpen, StandsOpen, TellsRecord, drops_upload, opens_upload};
 
 use account_calls::{PlanFault, Settled, interpret_file_delete, interpret_put_with_etag};
 use gate_base::{Bytes, List, Memory};
@@ -79,7 +80,8 @@ fn record_in_fetched_file(alloc: Global, text: &[u8]) -> Result<Option<Record>, 
 
 /// Opens an upload under an id under which nothing stands, by PUT of its record (Object Storage API v1, "Create or replace
 /// object"): the one call that commits. At most one call. The moment is in seconds since the beginning of 1970, before the year
-/// 10000. After Ok the S3 state has the upload, without parts. After Failed, which comes only where the store's count of faults
+/// 10000. After Ok the S3 state has the upload, without parts, and over every observable store, consistent or not, its record's file
+/// stands. After Failed, which comes only where the store's count of faults
 /// rose, and after Memory the state is the old one or that. Inconsistent never comes over an observable consistent account of
 /// which this is so.
 pub fn put_record<W: Swift>(
@@ -100,6 +102,8 @@ pub fn put_record<W: Swift>(
     ensures stays { Stays state.old state.new }
     ensures changes { Changes (always 1) (W.history state.old.store.now) (W.history state.new.store.now)
         (GivenOf (MayOpen bucket.now id)) (Becomes (opens_upload bucket.now id key content_type meta started)) result }
+    ensures stands { Ensures (W.history state.new.store.now)
+        (StandsOpen bucket.now id key content_type meta started) result }
 {
     law_upload_opened();
     let text = text_for_put_record(alloc, key, content_type, meta, started)?;

@@ -28,7 +28,7 @@ use Rattle.account_calls.specs.Listing.{TellsOf}
 use Rattle.account_calls.specs.Calls.{Given, GivenOf, Met, TellsBucket, acl_of_bucket}
 use Rattle.upload_calls.specs.declared.found.Found.{Found}
 use Rattle.upload_calls.specs.declared.found.Found.TheVariants as found
-use Rattle.upload_calls.specs.Found.{IsOpenUpload, LacksUpload, TellsUpload, found_by}
+use Rattle.upload_calls.specs.Found.{IsFoundBy, IsOpenUpload, LacksUpload, TellsUpload, found_by}
 use Rattle.upload_calls.specs.Records.{InBucket, ReadsId}
 
 -- ---- the bucket
@@ -182,3 +182,15 @@ pub named_same : {bucket key text : List ℕ} {id : ℕ} {old new : SwiftAccount
 named_same {bucket = bucket} {key = key} {text = text} {id = id} {old = old} is tells =
     let it : IsOpenUpload bucket key text id old = subst (TellsUpload bucket key text old) is tells.of_account in
     ap (λ tree. named_by tree bucket (id_digits id)) tells.same ∙ ap (named_by old bucket) (sym it.is)
+
+-- ---- its id
+
+id_by : (t : Bool) (id : ℕ) → IsFoundBy (id_digits id) (cond t (found.Open id) found.NoUpload)
+id_by true id = refl
+id_by false id = tt
+
+-- what a record says of an upload is of this id
+pub found_by_text : (kept : Option Record) (key : List ℕ) (id : ℕ) → IsFoundBy (id_digits id) (found_by kept key id)
+found_by_text None key id = tt
+found_by_text (Some (Open under content_type meta started)) key id = id_by (bytes_eq under key) id
+found_by_text (Some (Done under list etag started moment)) key id = tt

@@ -22,3 +22,8 @@ returns-clause-asks g c =
     asks_on {rest = GivenOf (InBucket c.args.bucket.now)} {m = 1} (lit≤ tt) c.in_ok-head_bucket.ensures.asks
     (λ tree settled told. record { settled = settled; is = there_of tree _ c.in-Some.field-0 c.requires settled (subst (TellsBucket _ (s3_state tree)) c.in-Some.is told) })
     (rw reads c.find_upload_by_id.ensures.asks)
+
+pub returns-clause-by_text : goal.returns-clause-by_text
+returns-clause-by_text g c =
+    let reads : ReadsId c.args.text.now (Some c.in-Some-read_upload_id_to_find.id) = subst (ReadsId c.args.text.now) c.in-Some-read_upload_id_to_find.is (subst (λ t. ReadsId t c.read_upload_id_to_find.result) c.as_slice.ensures c.read_upload_id_to_find.ensures) in
+    rw reads c.find_upload_by_id.ensures.by_text

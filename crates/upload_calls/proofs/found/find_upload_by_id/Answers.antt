@@ -1,7 +1,8 @@
+use Rattle.s3_names.specs.Id.{id_digits}
 use Rattle.std.proofs.Common.{sym, subst}
 use Rattle.account_calls.proofs.lemmas.Ask.{asks_told}
-use Rattle.upload_calls.specs.Found.{TellsUpload}
-use Rattle.upload_calls.proofs.lemmas.Finding.{tells_found}
+use Rattle.upload_calls.specs.Found.{IsFoundBy, TellsUpload}
+use Rattle.upload_calls.proofs.lemmas.Finding.{found_by_text, tells_found}
 use Rattle.upload_calls.proofs.found.find_upload_by_id.Goals as goal
 
 pub returns-clause-asks : goal.returns-clause-asks
@@ -9,3 +10,6 @@ returns-clause-asks g c =
     asks_told (λ tree has. has) c.found_in.result
     (λ tree sound has told. subst (TellsUpload c.args.bucket.now c.args.key.now _ tree) (sym c.found_in.ensures) (tells_found _ _ c.args.id tree has.settled has.is _ told))
     c.in_ok-record.ensures.asks
+
+pub returns-clause-by_text : goal.returns-clause-by_text
+returns-clause-by_text g c = subst (IsFoundBy (id_digits c.args.id)) (sym c.found_in.ensures) (found_by_text c.in_ok-record.record c.args.key.now c.args.id)

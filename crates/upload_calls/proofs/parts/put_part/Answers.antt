@@ -1,6 +1,7 @@
 use Rattle.std.proofs.Common.{ap, ◌∙◌}
 use Rattle.account_calls.specs.Interpret.{stored_due}
 use Rattle.account_calls.proofs.lemmas.One.{not_sent, sent_in_vain, sent}
+use Rattle.account_calls.proofs.lemmas.Puts.{stands_by}
 use Rattle.upload_calls.proofs.PartCalls.{puts}
 use Rattle.upload_calls.proofs.parts.put_part.Goals as goal
 
@@ -29,3 +30,6 @@ returns-clause-changes g c =
       fits = c.ranges.id.fits;
     })) c.in_ok-reply.ensures.calls _
     (c.interpret_put_with_etag.ensures.due ∙ ap (λ etag. stored_due etag c.in_ok-reply.reply) c.requires.etag) c.interpret_put_with_etag.ensures.own
+
+pub returns-clause-stands : goal.returns-clause-stands
+returns-clause-stands g c = stands_by c.args.etag.now c.in_ok-request.ensures.request c.in_ok-reply.ensures.calls _ c.interpret_put_with_etag.ensures.due

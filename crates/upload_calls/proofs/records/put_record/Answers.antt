@@ -2,7 +2,7 @@ use Rattle.std.proofs.Common.{ap, ◌∙◌}
 use Rattle.account_calls.specs.Interpret.{stored_due}
 use Rattle.s3_machine.specs.ETag.{body_etag}
 use Rattle.account_calls.proofs.lemmas.One.{not_sent, sent_in_vain, sent}
-use Rattle.upload_calls.proofs.OpenCalls.{opens_by}
+use Rattle.upload_calls.proofs.OpenCalls.{opens_by, stands_open}
 use Rattle.upload_calls.proofs.records.put_record.Goals as goal
 
 pub returns-in_err-text-clause-changes : goal.returns-in_err-text-clause-changes
@@ -31,3 +31,6 @@ returns-clause-changes g c =
       fits = c.ranges.id.fits;
     })) c.in_ok-reply.ensures.calls _
     (c.interpret_put_with_etag.ensures.due ∙ ap (λ etag. stored_due etag c.in_ok-reply.reply) (c.body_etag-etag.ensures ∙ ap body_etag c.as_slice.ensures)) c.interpret_put_with_etag.ensures.own
+
+pub returns-clause-stands : goal.returns-clause-stands
+returns-clause-stands g c = stands_open _ c.in_ok-request.ensures.request c.in_ok-text.ensures.reads c.in_ok-reply.ensures.calls _ c.interpret_put_with_etag.ensures.due
