@@ -1,5 +1,5 @@
 -- An object is found that a read asks for, and a piece of it is got.
-use Rattle.std.specs.Prelude.{◌≡◌, ◌≢◌, ◌≤◌, ◌<◌, ◌+◌, ◌-◌, ◌^◌, ℕ, Bool, true, false, cond, nat_lt, min, List, length, take, drop, Option, Some, None, Result, Ok, Err}
+use Rattle.std.specs.Prelude.{◌≡◌, ◌≢◌, ◌≤◌, ◌<◌, ◌+◌, ◌-◌, ◌^◌, ℕ, Bool, true, false, IsTrue, cond, nat_lt, min, List, length, take, drop, Option, Some, None, Result, Ok, Err}
 use Rattle.std.specs.Option.{option_and_then, option_map}
 use Rattle.std.specs.FinMap.{get}
 use Rattle.std.specs.Result.{IsErrAnd}
@@ -13,6 +13,7 @@ use Rattle.s3_machine.specs.declared.operation.ObjectHead.{ObjectHead}
 use Rattle.s3_machine.specs.declared.operation.Settings.{Settings}
 use Rattle.s3_machine.specs.declared.operation.Op.{Op}
 use Rattle.s3_machine.specs.declared.operation.Op.TheVariants.{GetObject}
+use Rattle.s3_machine.specs.declared.operation.Reply.{Reply}
 use Rattle.s3_machine.specs.declared.operation.Reply.TheVariants as reply
 use Rattle.s3_machine.specs.declared.reading.Conditions.{Conditions}
 use Rattle.s3_machine.specs.declared.reading.Judged.{Judged}
@@ -35,15 +36,17 @@ use Rattle.account_calls.specs.Calls.{Bound, always, amount, Any, Given, GivenOf
 use Rattle.account_calls.specs.Fault.{CausesFault}
 use Rattle.account_calls.specs.Interpret.{IsShownHead}
 use Rattle.account_calls.specs.Plan.{IsOwnReply, Plans, Answered}
+use Rattle.account_calls.specs.Puts.{IfDone}
 use Rattle.account_calls.specs.Told.{Told}
 use Rattle.account_calls.proofs.lemmas.Causes.{due_cause}
 use Rattle.account_calls.proofs.lemmas.Ends.{IsOneMore, IsWider, answers, answered_by, goes_on, met_settled, told_nothing}
 use Rattle.account_calls.proofs.lemmas.Faults.{err_is}
+use Rattle.account_calls.proofs.lemmas.Puts.{done_so}
 use Rattle.account_calls.proofs.lemmas.Told.{told_by, told_trans}
 use Rattle.planner.specs.declared.reading.Found.{Found}
 use Rattle.planner.specs.declared.reading.Reading.{Reading}
 use Rattle.planner.specs.declared.reading.Reading.TheVariants.{Whole, Pieces}
-use Rattle.planner.specs.Objects.{TellsReadable}
+use Rattle.planner.specs.Objects.{ObjectStands, StandsAnswered, TellsReadable}
 use Rattle.planner.specs.Reading.{found_reply, IsFound, HasFound, AreFirst, HasBody, Finds, EndsOrFinds, AnsweredOrFound, reading_of, reading_end, piece_range, piece_end, TellsPiece}
 use Rattle.planner.proofs.Readings.{found, get_judged, size_is, fits, judged_found, not_modified_is_own, failed_is_own, beyond_is_own}
 use Rattle.planner.proofs.Steps.{object_by_head}
@@ -185,3 +188,16 @@ module _ (it : Found) (at size : ℕ) (is : IsFound it) (filled : 0 < size) (wit
         subst (Keeps b a.called b.called (Tells (TellsPiece it at size))) (sym (end ∙ ends.1)) (keeps.0, keeps.1, record { of_state = ends.2; same = keeps.2.same });
     settled = asks.settled;
   }
+
+-- ---- what stands
+
+-- a read puts no object
+pub read_puts_none : {bucket key : List ℕ} {range : Option Range} {conditions : Conditions} {label : Label} {h : History} (reading : Reading) → StandsAnswered (GetObject bucket key range conditions) label h reading
+read_puts_none reading = record { so = λ reply is observable. done_so reply tt }
+
+same_whole : (reply other : Reply) → Whole reply ≡ Whole other → reply ≡ other
+same_whole reply other e = cc
+
+-- what the reply says
+pub whole_stands : {op : Op} {label : Label} {h : History} (reply : Reply) → (IsTrue h.observable → IfDone reply (ObjectStands op label (present h))) → StandsAnswered op label h (Whole reply)
+whole_stands {op = op} {label = label} {h = h} reply says = record { so = λ other is observable. subst (λ r. IfDone r (ObjectStands op label (present h))) (same_whole reply other is) (says observable) }

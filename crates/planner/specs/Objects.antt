@@ -1,15 +1,24 @@
--- What the calls before the last one told of an object that is read. Source: this profile.
-use Rattle.std.specs.Prelude.{◌≡◌, ℕ, true, List, [], Option, Some}
+-- What the calls before the last one told of an object that is read, and what stands of one that was put. Source: this profile.
+use Rattle.std.specs.Prelude.{◌≡◌, ℕ, true, IsTrue, List, [], Option, Some}
 use Rattle.gate_base.specs.declared.caller.Caller.{Caller}
 use Rattle.s3_names.specs.declared.acl.Acl.{Acl}
+use Rattle.s3_machine.specs.declared.operation.Label.{Label}
 use Rattle.s3_machine.specs.declared.operation.ObjectHead.{ObjectHead}
+use Rattle.s3_machine.specs.declared.operation.Op.{Op}
+use Rattle.s3_machine.specs.declared.operation.Op.TheVariants.{PutObject}
 use Rattle.s3_machine.specs.declared.operation.Reply.{Reply}
 use Rattle.s3_machine.specs.declared.reading.Conditions.{Conditions}
 use Rattle.s3_machine.specs.declared.reading.Range.{Range}
 use Rattle.s3_machine.specs.Reading.{judged}
 use Rattle.s3_machine.specs.State.{State}
 use Rattle.s3_machine.specs.Step.{may_read, read_by}
+use Rattle.swift_calls.specs.Account.{SwiftAccount}
+use Rattle.swift_calls.specs.History.{History, present}
 use Rattle.account_calls.specs.Calls.{TellsBucket, TellsObject}
+use Rattle.account_calls.specs.Interpret.{put_of}
+use Rattle.account_calls.specs.Puts.{IfDone, StandsIn}
+use Rattle.planner.specs.declared.reading.Reading.{Reading}
+use Rattle.planner.specs.declared.reading.Reading.TheVariants.{Whole}
 
 -- the object is there, in a bucket that one who asks may read
 pub record TellsReadable (bucket key : List ℕ) (caller : Caller) (acl : Acl) (head : ObjectHead) (state : State) : Type 0 where
@@ -20,3 +29,14 @@ pub record TellsReadable (bucket key : List ℕ) (caller : Caller) (acl : Acl) (
 -- the reply to HeadObject, by the head of the object
 abbrev pub headed_reply : Option Range → Conditions → ObjectHead → Reply
 headed_reply range conditions head = read_by head (λ span. []) (judged range conditions head)
+
+-- ---- what stands, over every observable store, whether its account is consistent or not
+
+-- what an operation that was done leaves where it stands: the file of an object that it put; of any other operation nothing is said
+abbrev pub ObjectStands : Op → Label → SwiftAccount → Type 0
+ObjectStands (PutObject bucket key acl content_type meta body) label tree = StandsIn tree (put_of bucket key content_type meta body label.moment)
+ObjectStands _ label tree = Unit {0}
+
+-- so it is after an operation that was answered; a read that found its object put none
+pub record StandsAnswered (op : Op) (label : Label) (h : History) (reading : Reading) : Type 0 where
+  pub so : (reply : Reply) → reading ≡ Whole reply → IsTrue h.observable → IfDone reply (ObjectStands op label (present h))

@@ -8,10 +8,11 @@ ghost use Rattle.s3_machine.specs.declared.operation.Label.{Label};
 ghost use Rattle.s3_machine.specs.declared.operation.Op.TheVariants.{PutObject, HeadObject, DeleteObject};
 ghost use Rattle.s3_machine.specs.declared.operation.Reply.TheVariants.{Gone, Stored};
 ghost use Rattle.account_calls.specs.Calls.{always, Any, Given, TellsBucket};
-ghost use Rattle.account_calls.specs.Interpret.{IsShownHead};
+ghost use Rattle.account_calls.specs.Interpret.{IsShownHead, put_of};
 ghost use Rattle.account_calls.specs.Lent.{Stays};
 ghost use Rattle.account_calls.specs.declared.state.Known.TheVariants as known;
 ghost use Rattle.account_calls.specs.Plan.{ended, Plans, IsOwnReply};
+ghost use Rattle.account_calls.specs.Puts.{EnsuresIfDone, StandsIn};
 ghost use Rattle.planner.specs.Objects.{headed_reply};
 
 use account_calls::{PlanFault, Settled, head_bucket};
@@ -24,7 +25,8 @@ use std::alloc::Global;
 use swift_calls::Swift;
 
 /// PutObject: HEAD of the bucket's container, then PUT of the object's file, which commits. At most two calls. The
-/// reply is made before the PUT, so that no memory is needed after it. The faults are those of the two calls.
+/// reply is made before the PUT, so that no memory is needed after it. The faults are those of the two calls. Where the reply is no
+/// refusal the object's file stands, over every observable store, consistent or not.
 pub(crate) fn put_object<W: Swift>(
     alloc: Global,
     state: &mut Settled<'_, W>,
@@ -43,6 +45,9 @@ pub(crate) fn put_object<W: Swift>(
     ensures plans { Plans (always 2) (W.history state.old.store.now) (W.history state.new.store.now)
         state.old.settings.now (Given Any) (PutObject bucket key acl content_type meta.now body)
         label.now known.Settled result }
+    ensures stands { EnsuresIfDone (W.history state.new.store.now)
+        (λ tree. StandsIn tree (put_of bucket key content_type meta.now body label.now.moment))
+        result }
 {
     let Some(list) = head_bucket(state, &bucket)? else {
         return Ok(Reply::Refused(Code::NoSuchBucket));
@@ -81,6 +86,9 @@ fn plan_put_object_within<W: Swift>(
     ensures plans { Plans (always 1) (W.history state.old.store.now) (W.history state.new.store.now)
         state.old.settings.now (Given (λ s. TellsBucket bucket s (Some list)))
         (PutObject bucket key acl content_type meta.now body) label.now known.Settled result }
+    ensures stands { EnsuresIfDone (W.history state.new.store.now)
+        (λ tree. StandsIn tree (put_of bucket key content_type meta.now body label.now.moment))
+        result }
 {
     if is_other_acl(acl, list) {
         return Ok(Reply::Refused(Code::NotImplemented));
@@ -124,6 +132,9 @@ fn plan_put_object_bytes<W: Swift>(
     ensures plans { Plans (always 1) (W.history state.old.store.now) (W.history state.new.store.now)
         state.old.settings.now (Given (λ s. TellsBucket bucket s (Some list)))
         (PutObject bucket key acl content_type meta.now body) label.now known.Settled result }
+    ensures stands { EnsuresIfDone (W.history state.new.store.now)
+        (λ tree. StandsIn tree (put_of bucket key content_type meta.now body label.now.moment))
+        result }
 {
     let text = Bytes::from_slice(alloc, etag)?;
     end_put_object_plan(

@@ -8,6 +8,8 @@ ghost use Rattle.account_calls.specs.Calls.{Any, Given};
 ghost use Rattle.account_calls.specs.Lent.{Stays};
 ghost use Rattle.account_calls.specs.Plan.{Plans};
 ghost use Rattle.planner.specs.Reading.{AnsweredOrFound, ReadLeaves, reading_end};
+ghost use Rattle.account_calls.specs.Puts.{EnsuresIfDone};
+ghost use Rattle.planner.specs.Objects.{ObjectStands, StandsAnswered};
 
 use crate::acls::{get_bucket_acl, get_object_acl, put_bucket_acl};
 use crate::buckets::{create_bucket, delete_bucket, get_location, list_buckets, plan_head_bucket};
@@ -39,6 +41,9 @@ pub fn answer<W: Swift>(alloc: Global, state: &mut Settled<'_, W>, op: Op, label
 
     // A read leaves the account, whether it is consistent or not.
     ensures account { ReadLeaves op (W.history state.old.store.now) (W.history state.new.store.now) }
+
+    // What was put stands, over every observable store, consistent or not.
+    ensures stands { StandsAnswered op label.now (W.history state.new.store.now) result }
 {
     let mut op = op;
     let reading = begin(alloc, state, &mut op, label);
@@ -57,6 +62,8 @@ fn begin<W: Swift>(alloc: Global, state: &mut Settled<'_, W>, op: &mut Op, label
         op.old label.now result }
     ensures account { ReadLeaves op.old (W.history state.old.store.now)
         (W.history state.new.store.now) }
+
+    ensures stands { StandsAnswered op.old label.now (W.history state.new.store.now) result }
 {
     match op {
         Op::GetObject {
@@ -99,6 +106,7 @@ fn plan<W: Swift>(
     ensures plans { Plans (most_calls op.old (present (W.history state.old.store.now)))
         (W.history state.old.store.now) (W.history state.new.store.now) state.old.settings.now
         (Given Any) op.old label.now known.Settled result }
+    ensures stands { EnsuresIfDone (W.history state.new.store.now) (ObjectStands op.old label.now) result }
 {
     match op {
         Op::CreateBucket { bucket, acl } => {
@@ -129,6 +137,7 @@ fn plan_of_key<W: Swift>(
     ensures plans { Plans (most_calls op.old (present (W.history state.old.store.now)))
         (W.history state.old.store.now) (W.history state.new.store.now) state.old.settings.now
         (Given Any) op.old label.now known.Settled result }
+    ensures stands { EnsuresIfDone (W.history state.new.store.now) (ObjectStands op.old label.now) result }
 {
     match op {
         Op::PutObject {
@@ -168,6 +177,7 @@ fn plan_lent<W: Swift>(
     ensures plans { Plans (most_calls op.now (present (W.history state.old.store.now)))
         (W.history state.old.store.now) (W.history state.new.store.now) state.old.settings.now
         (Given Any) op.now label.now known.Settled result }
+    ensures stands { EnsuresIfDone (W.history state.new.store.now) (ObjectStands op.now label.now) result }
 {
     match op {
         Op::ListBuckets => list_buckets(alloc, state),

@@ -1,6 +1,8 @@
 use Rattle.std.proofs.Common.{sym, subst, ◌∙◌, lit≤, rules}
 use Rattle.account_calls.specs.Plan.{Plans}
 use Rattle.account_calls.proofs.lemmas.Ends.{out_of_memory, commits, becomes}
+use Rattle.account_calls.proofs.lemmas.Puts.{ensures_ended}
+use Rattle.account_calls.specs.Puts.{EnsuresIfDone}
 use Rattle.planner.proofs.Steps.{put_stored}
 use Rattle.planner.proofs.objects.plan_put_object_bytes.Goals as goal
 
@@ -13,3 +15,6 @@ returns-clause-plans g c =
     (commits _ (lit≤ tt) c.put_object.ensures.changes (λ done. search rules) (λ tree there. (c.args.list, there))
     (λ tree done new there is. becomes (put_stored c.args.state.now.settings.now _ c.args.bucket c.args.key c.args.label.now _ there c.args.acl c.args.content_type c.args.meta.now c.args.body _
     c.requires.acl (c.in_ok-text.ensures ∙ c.requires.etag)) is))
+
+pub returns-clause-stands : goal.returns-clause-stands
+returns-clause-stands g c = subst (EnsuresIfDone _ _) (sym c.end_put_object_plan.ensures) (ensures_ended _ _ c.put_object.ensures.stands)

@@ -8,3 +8,6 @@ returns-then-is_other_acl-clause-plans g c = needs_none _ (search rules) (λ tre
 
 pub returns-clause-plans : goal.returns-clause-plans
 returns-clause-plans g c = rw c.into_bytes.ensures at c.plan_put_object_bytes.ensures.plans
+
+pub returns-clause-stands : goal.returns-clause-stands
+returns-clause-stands g c = rw c.into_bytes.ensures at c.plan_put_object_bytes.ensures.stands

@@ -1,7 +1,8 @@
 use Rattle.std.proofs.Common.{refl, sym, subst}
 use Rattle.account_calls.specs.Plan.{Answered}
 use Rattle.account_calls.proofs.lemmas.Ends.{answered_by, none_beside}
-use Rattle.planner.proofs.Finding.{answered_or_found}
+use Rattle.account_calls.proofs.lemmas.Puts.{ensures_reply}
+use Rattle.planner.proofs.Finding.{answered_or_found, read_puts_none, whole_stands}
 use Rattle.planner.proofs.operation.begin.Goals as goal
 
 pub returns-in-GetObject-clause-answered : goal.returns-in-GetObject-clause-answered
@@ -13,3 +14,9 @@ returns-in_default-clause-answered g c = subst (Answered _ _ _ _ _ _ _) (sym c.r
 
 pub returns-in-GetObject-clause-account : goal.returns-in-GetObject-clause-account
 returns-in-GetObject-clause-account g c = λ bucket key range conditions is. c.find_object.ensures.account
+
+pub returns-in-GetObject-clause-stands : goal.returns-in-GetObject-clause-stands
+returns-in-GetObject-clause-stands g c = rw c.in-GetObject.is (read_puts_none _)
+
+pub returns-in_default-clause-stands : goal.returns-in_default-clause-stands
+returns-in_default-clause-stands g c = whole_stands _ (rw c.reply_of.ensures (ensures_reply _ c.plan.ensures.stands))

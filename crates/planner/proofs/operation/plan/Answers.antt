@@ -1,3 +1,4 @@
+use Rattle.account_calls.proofs.lemmas.Puts.{ensures_nothing}
 use Rattle.planner.proofs.operation.plan.Goals as goal
 
 pub returns-in-DeleteBucket-clause-plans : goal.returns-in-DeleteBucket-clause-plans
@@ -5,3 +6,15 @@ returns-in-DeleteBucket-clause-plans g c = rw c.in-DeleteBucket.is (rw c.taken_t
 
 pub returns-in-PutBucketAcl-clause-plans : goal.returns-in-PutBucketAcl-clause-plans
 returns-in-PutBucketAcl-clause-plans g c = rw c.in-PutBucketAcl.is (rw c.taken_text-in-PutBucketAcl.ensures at (c.put_bucket_acl.ensures.plans c.args.label.now))
+
+pub returns-in-CreateBucket-clause-stands : goal.returns-in-CreateBucket-clause-stands
+returns-in-CreateBucket-clause-stands g c = rw c.in-CreateBucket.is (ensures_nothing _)
+
+pub returns-in-DeleteBucket-clause-stands : goal.returns-in-DeleteBucket-clause-stands
+returns-in-DeleteBucket-clause-stands g c = rw c.in-DeleteBucket.is (ensures_nothing _)
+
+pub returns-in-PutBucketAcl-clause-stands : goal.returns-in-PutBucketAcl-clause-stands
+returns-in-PutBucketAcl-clause-stands g c = rw c.in-PutBucketAcl.is (ensures_nothing _)
+
+pub returns-in-ListObjects-clause-stands : goal.returns-in-ListObjects-clause-stands
+returns-in-ListObjects-clause-stands g c = rw c.in-ListObjects.is (ensures_nothing _)

@@ -2,6 +2,7 @@ use Rattle.std.specs.Prelude.{Err}
 use Rattle.std.proofs.Common.{refl}
 use Rattle.account_calls.specs.declared.fault.PlanFault.TheVariants.{Memory}
 use Rattle.account_calls.proofs.lemmas.Ends.{out_of_memory}
+use Rattle.account_calls.proofs.lemmas.Puts.{ensures_nothing}
 use Rattle.planner.proofs.operation.plan_lent.Goals as goal
 
 pub returns-in-ListBuckets-clause-plans : goal.returns-in-ListBuckets-clause-plans
@@ -17,4 +18,22 @@ pub returns-in-GetObjectAcl-clause-plans : goal.returns-in-GetObjectAcl-clause-p
 returns-in-GetObjectAcl-clause-plans g c = rw c.in-GetObjectAcl.is (c.get_object_acl.ensures.plans c.args.label.now)
 
 pub returns-in_default : goal.returns-in_default
-returns-in_default g c = record { stays = record { store = refl; settings = refl }; plans = out_of_memory _ (Err Memory) refl }
+returns-in_default g c = record { stays = record { store = refl; settings = refl }; plans = out_of_memory _ (Err Memory) refl; stands = record { so = λ observable. tt } }
+
+pub returns-in-ListBuckets-clause-stands : goal.returns-in-ListBuckets-clause-stands
+returns-in-ListBuckets-clause-stands g c = rw c.in-ListBuckets.is (ensures_nothing _)
+
+pub returns-in-HeadBucket-clause-stands : goal.returns-in-HeadBucket-clause-stands
+returns-in-HeadBucket-clause-stands g c = rw c.in-HeadBucket.is (ensures_nothing _)
+
+pub returns-in-GetLocation-clause-stands : goal.returns-in-GetLocation-clause-stands
+returns-in-GetLocation-clause-stands g c = rw c.in-GetLocation.is (ensures_nothing _)
+
+pub returns-in-GetBucketAcl-clause-stands : goal.returns-in-GetBucketAcl-clause-stands
+returns-in-GetBucketAcl-clause-stands g c = rw c.in-GetBucketAcl.is (ensures_nothing _)
+
+pub returns-in-HeadObject-clause-stands : goal.returns-in-HeadObject-clause-stands
+returns-in-HeadObject-clause-stands g c = rw c.in-HeadObject.is (ensures_nothing _)
+
+pub returns-in-GetObjectAcl-clause-stands : goal.returns-in-GetObjectAcl-clause-stands
+returns-in-GetObjectAcl-clause-stands g c = rw c.in-GetObjectAcl.is (ensures_nothing _)
