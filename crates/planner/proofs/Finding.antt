@@ -1,9 +1,9 @@
 -- An object is found that a read asks for, and a piece of it is got.
-use Rattle.std.specs.Prelude.{◌≡◌, ◌≢◌, ◌≤◌, ◌<◌, ◌+◌, ◌-◌, ◌^◌, ℕ, Bool, true, false, IsTrue, cond, nat_lt, min, List, length, take, drop, Option, Some, None, Result, Ok, Err}
+use Rattle.std.specs.Prelude.{◌≡◌, ◌≢◌, ◌≤◌, ◌<◌, ◌+◌, ◌-◌, ◌^◌, ℕ, Bool, true, false, IsTrue, cond, nat_lt, min, List, length, take, drop, Option, Some, None, Result, Ok, Err, IfOk}
 use Rattle.std.specs.Option.{option_and_then, option_map}
 use Rattle.std.specs.FinMap.{get}
 use Rattle.std.specs.Result.{IsErrAnd}
-use Rattle.std.proofs.Common.{refl, sym, ap, subst, ◌∙◌, arith, lit≤, rules}
+use Rattle.std.proofs.Common.{refl, sym, ap, subst, ◌∙◌, arith, lit≤}
 use Rattle.std.proofs.lemmas.Bool.{cond-true, eq-eqb}
 use Rattle.std.proofs.lemmas.Bool.Decides.{nat_tests}
 use Rattle.std.proofs.lemmas.List.{length-drop, length-take-le}
@@ -22,7 +22,7 @@ use Rattle.s3_machine.specs.declared.reading.Range.{Range}
 use Rattle.s3_machine.specs.declared.reading.Span.{Span}
 use Rattle.s3_machine.specs.Reading.{judged, taken}
 use Rattle.s3_machine.specs.State.{Object, State}
-use Rattle.s3_machine.specs.Step.{IsPlace, may_read, head_of}
+use Rattle.s3_machine.specs.Step.{IsPlace, may_read}
 use Rattle.s3_machine.proofs.lemmas.Reading.{IsWithin}
 use Rattle.swift_calls.specs.Account.{SwiftAccount}
 use Rattle.swift_calls.specs.Bodies.{ranged}
@@ -30,9 +30,8 @@ use Rattle.swift_calls.specs.History.{History, present}
 use Rattle.upload_records.specs.Native.{IsSettled, object_at, s3_state}
 use Rattle.account_calls.specs.declared.fault.PlanFault.{PlanFault}
 use Rattle.account_calls.specs.declared.fault.PlanFault.TheVariants.{Failed, Memory, Inconsistent}
-use Rattle.account_calls.specs.declared.state.Known.TheVariants.{Settled}
-use Rattle.account_calls.specs.Answers.{most_calls, judged_length, read_length, beside_of, nothing_beside, pieces}
-use Rattle.account_calls.specs.Calls.{Bound, always, amount, Any, Given, GivenOf, Met, HasObject, TellsBucket, TellsObject, TellsBytes, Tells, Asks, Keeps, bytes_in}
+use Rattle.account_calls.specs.Answers.{judged_length, read_length, beside_of, nothing_beside, pieces}
+use Rattle.account_calls.specs.Calls.{Bound, always, Any, Given, GivenOf, Met, HasObject, TellsBucket, TellsObject, TellsBytes, Tells, Asks, Keeps, bytes_in}
 use Rattle.account_calls.specs.Fault.{CausesFault}
 use Rattle.account_calls.specs.Interpret.{IsShownHead}
 use Rattle.account_calls.specs.Plan.{IsOwnReply, Plans, Answered}
@@ -47,7 +46,7 @@ use Rattle.planner.specs.declared.reading.Found.{Found}
 use Rattle.planner.specs.declared.reading.Reading.{Reading}
 use Rattle.planner.specs.declared.reading.Reading.TheVariants.{Whole, Pieces}
 use Rattle.planner.specs.Objects.{ObjectStands, StandsAnswered, TellsReadable}
-use Rattle.planner.specs.Reading.{found_reply, IsFound, HasFound, AreFirst, HasBody, Finds, EndsOrFinds, AnsweredOrFound, reading_of, reading_end, piece_range, piece_end, TellsPiece}
+use Rattle.planner.specs.Reading.{found_reply, IsFound, HasFound, AreFirst, HasBody, Finds, EndsOrFinds, AnsweredOrFound, reading_of, reading_end, piece_range, piece_end, TellsPiece, LeavesBytes}
 use Rattle.planner.proofs.Readings.{found, get_judged, size_is, fits, judged_found, not_modified_is_own, failed_is_own, beyond_is_own}
 use Rattle.planner.proofs.Steps.{object_by_head}
 
@@ -117,6 +116,19 @@ pub answered_or_found : (most : Bound) (a b : History) (settings : Settings) (op
 answered_or_found most a b settings op label none (Ok (Whole reply)) plans = answered_by none plans
 answered_or_found most a b settings op label none (Err fault) plans = answered_by none plans
 answered_or_found most a b settings op label none (Ok (Pieces it)) finds = finds
+
+-- no bytes were got with it
+pub leaves_by : (bucket key : List ℕ) (head : ObjectHead) (j : Judged) → LeavesBytes (reading_of bucket key head j)
+leaves_by bucket key head PreconditionFailed = refl
+leaves_by bucket key head NotModified = refl
+leaves_by bucket key head InvalidRange = refl
+leaves_by bucket key head (Bytes span partial) = tt
+
+pub leaves_end : (end : Result Reading PlanFault) → IfOk end LeavesBytes → LeavesBytes (reading_end end)
+leaves_end (Ok reading) leaves = leaves
+leaves_end (Err Failed) leaves = refl
+leaves_end (Err Memory) leaves = refl
+leaves_end (Err Inconsistent) leaves = refl
 
 -- ---- a piece
 

@@ -1,13 +1,7 @@
 -- The steps of the operations that read an object, from what the calls told.
-use Rattle.std.specs.Prelude.{◌≡◌, ◌≤◌, ◌<◌, ◌+◌, ◌-◌, ◌^◌, ℕ, Bool, true, false, cond, nat_lt, min, List, length, take, drop, Option, Some, None, Ok, Err}
-use Rattle.std.specs.Option.{option_and_then, option_map}
+use Rattle.std.specs.Prelude.{◌≡◌, ℕ, Bool, true, false, List, length, Option, Some, None}
 use Rattle.std.specs.FinMap.{get}
-use Rattle.std.proofs.Common.{refl, sym, ap, subst, ◌∙◌, arith}
-use Rattle.std.proofs.lemmas.Bool.{cond-true, eq-eqb}
-use Rattle.std.proofs.lemmas.Bool.Decides.{nat_tests}
-use Rattle.std.proofs.lemmas.List.{length-drop, length-take-le}
-use Rattle.std.proofs.Math.Seq.{take-length}
-use Rattle.gate_base.specs.declared.caller.Caller.{Caller}
+use Rattle.std.proofs.Common.{sym, ap, subst, ◌∙◌, arith}
 use Rattle.s3_names.specs.declared.acl.Acl.{Acl}
 use Rattle.s3_machine.specs.declared.code.Code.TheVariants.{AccessDenied, NoSuchBucket, NoSuchKey}
 use Rattle.s3_machine.specs.declared.code.Code.TheVariants as code
@@ -27,9 +21,8 @@ use Rattle.s3_machine.specs.State.{Object, Bucket, State}
 use Rattle.s3_machine.specs.Step.{S3Step, IsPlace, may_read, head_of, read_by}
 use Rattle.s3_machine.proofs.lemmas.Reading.{IsWithin, Fits, judged_fits}
 use Rattle.s3_machine.proofs.lemmas.StepLemmas.{get_without_bucket, head_without_bucket, get_denied, head_denied, get_without_key, head_without_key, step_read, step_headed}
-use Rattle.swift_calls.specs.Bodies.{ranged}
 use Rattle.upload_records.specs.Native.{object_at}
-use Rattle.account_calls.specs.Calls.{TellsBucket, TellsObject, TellsBytes, HasObject, bytes_in}
+use Rattle.account_calls.specs.Calls.{TellsBucket, TellsObject}
 use Rattle.account_calls.specs.Interpret.{IsShownHead}
 use Rattle.account_calls.specs.Plan.{IsOwnReply}
 use Rattle.planner.specs.Objects.{TellsReadable, headed_reply}

@@ -1,5 +1,5 @@
 -- A read of an object before its bytes are got, and piece by piece. Source: this profile.
-use Rattle.std.specs.Prelude.{◌≡◌, ◌==◌, ◌≤◌, ◌+◌, ◌-◌, ℕ, IsTrue, IfOk, if◌then◌else◌, List, length, take, drop, Option, None, Some, Result, Ok, Err}
+use Rattle.std.specs.Prelude.{◌≡◌, ◌==◌, ◌≤◌, ◌+◌, ◌-◌, ℕ, IsTrue, IfOk, if◌then◌else◌, List, length, take, drop, Option, None, Some, Result, Ok, Err, Bool, true, false}
 use Rattle.s3_machine.specs.declared.operation.Label.{Label}
 use Rattle.s3_machine.specs.declared.operation.ObjectHead.{ObjectHead}
 use Rattle.s3_machine.specs.declared.operation.Op.{Op}
@@ -25,7 +25,7 @@ use Rattle.account_calls.specs.declared.state.Known.TheVariants as known
 use Rattle.account_calls.specs.Answers.{most_calls, pieces}
 use Rattle.account_calls.specs.Calls.{Bound, amount, Any, Given, HasObject, IsStoredAs}
 use Rattle.account_calls.specs.Plan.{reply_of, Plans, Answered}
-use Rattle.account_calls.specs.Told.{Told, LeavesAccount}
+use Rattle.account_calls.specs.Told.{Told}
 use Rattle.planner.specs.declared.reading.Found.{Found}
 use Rattle.planner.specs.declared.reading.Reading.{Reading}
 use Rattle.planner.specs.declared.reading.Reading.TheVariants.{Whole, Pieces}
@@ -92,9 +92,21 @@ abbrev pub reading_end : Result Reading PlanFault → Reading
 reading_end (Ok reading) = reading
 reading_end (Err fault) = Whole (reply_of (Err fault))
 
--- a read leaves the account, whether it is consistent or not
-abbrev pub ReadLeaves : Op → History → History → Type 0
-ReadLeaves op old new = (bucket key : List ℕ) (range : Option Range) (conditions : Conditions) → op ≡ GetObject bucket key range conditions → LeavesAccount old new
+-- ---- what isn't replied as a whole
+
+-- the operation reads an object
+abbrev pub ReadsBytes : Op → Type 0
+ReadsBytes op = (bucket : List ℕ) × (key : List ℕ) × (range : Option Range) × (conditions : Conditions) × (op ≡ GetObject bucket key range conditions)
+
+-- whether the reply gives bytes of an object
+abbrev pub gives_bytes : Reply → Bool
+gives_bytes (Object head from length partial body) = true
+gives_bytes reply = false
+
+-- no bytes were got: a whole reply gives none of an object
+abbrev pub LeavesBytes : Reading → Type 0
+LeavesBytes (Whole reply) = gives_bytes reply ≡ false
+LeavesBytes (Pieces found) = Unit {0}
 
 -- ---- a piece
 

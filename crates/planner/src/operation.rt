@@ -7,9 +7,10 @@ ghost use Rattle.account_calls.specs.declared.state.Known.TheVariants as known;
 ghost use Rattle.account_calls.specs.Calls.{Any, Given};
 ghost use Rattle.account_calls.specs.Lent.{Stays};
 ghost use Rattle.account_calls.specs.Plan.{Plans};
-ghost use Rattle.planner.specs.Reading.{AnsweredOrFound, ReadLeaves, reading_end};
 ghost use Rattle.account_calls.specs.Puts.{EnsuresIfDone};
+ghost use Rattle.account_calls.specs.Told.{LeavesAccount};
 ghost use Rattle.planner.specs.Objects.{ObjectStands, StandsAnswered};
+ghost use Rattle.planner.specs.Reading.{AnsweredOrFound, LeavesBytes, ReadsBytes, reading_end};
 
 use crate::acls::{get_bucket_acl, get_object_acl, put_bucket_acl};
 use crate::buckets::{create_bucket, delete_bucket, get_location, list_buckets, plan_head_bucket};
@@ -40,7 +41,11 @@ pub fn answer<W: Swift>(alloc: Global, state: &mut Settled<'_, W>, op: Op, label
         label.now result }
 
     // A read leaves the account, whether it is consistent or not.
-    ensures account { ReadLeaves op (W.history state.old.store.now) (W.history state.new.store.now) }
+    ensures account { ReadsBytes op → LeavesAccount (W.history state.old.store.now)
+        (W.history state.new.store.now) }
+
+    // And gives no bytes with a whole reply.
+    ensures leaves { ReadsBytes op → LeavesBytes result }
 
     // What was put stands, over every observable store, consistent or not.
     ensures stands { StandsAnswered op label.now (W.history state.new.store.now) result }
@@ -60,10 +65,10 @@ fn begin<W: Swift>(alloc: Global, state: &mut Settled<'_, W>, op: &mut Op, label
     ensures answered { AnsweredOrFound (most_calls op.old (present (W.history state.old.store.now)))
         (W.history state.old.store.now) (W.history state.new.store.now) state.old.settings.now
         op.old label.now result }
-    ensures account { ReadLeaves op.old (W.history state.old.store.now)
+    ensures account { ReadsBytes op.old → LeavesAccount (W.history state.old.store.now)
         (W.history state.new.store.now) }
-
     ensures stands { StandsAnswered op.old label.now (W.history state.new.store.now) result }
+    ensures leaves { ReadsBytes op.old → LeavesBytes result }
 {
     match op {
         Op::GetObject {

@@ -10,7 +10,7 @@ ghost use Rattle.account_calls.specs.Interpret.{IsShownHead};
 ghost use Rattle.account_calls.specs.Lent.{Stays};
 ghost use Rattle.account_calls.specs.Told.{CountsOne, LeavesAccount};
 ghost use Rattle.account_calls.specs.declared.fault.PlanFault.TheVariants.{Failed};
-ghost use Rattle.planner.specs.Reading.{EndsOrFinds, GivesPieceOf, HasFound, IsFound, TellsPiece, piece_end, reading_of};
+ghost use Rattle.planner.specs.Reading.{EndsOrFinds, GivesPieceOf, HasFound, IsFound, TellsPiece, piece_end, reading_of, LeavesBytes};
 
 use account_calls::{PlanFault, Settled, head_bucket};
 use gate_base::{Bytes, Copying};
@@ -59,6 +59,7 @@ pub(crate) fn find_object<W: Swift>(
         (W.history state.new.store.now) state.old.settings.now Any
         (GetObject bucket key range conditions.now) label.now result }
     ensures account { LeavesAccount (W.history state.old.store.now) (W.history state.new.store.now) }
+    ensures leaves { IfOk result LeavesBytes }
 {
     let Some(list) = head_bucket(state, &bucket)? else {
         return Ok(Reading::Whole(Reply::Refused(Code::NoSuchBucket)));
@@ -84,6 +85,7 @@ fn find_object_within<W: Swift>(
         (λ s. TellsBucket bucket s (Some list)) (GetObject bucket key range conditions.now)
         label.now result }
     ensures account { LeavesAccount (W.history state.old.store.now) (W.history state.new.store.now) }
+    ensures leaves { IfOk result LeavesBytes }
 {
     if !may_read(label.caller, list) {
         return Ok(Reading::Whole(Reply::Refused(Code::AccessDenied)));

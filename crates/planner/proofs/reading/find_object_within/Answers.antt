@@ -1,10 +1,10 @@
-use Rattle.std.specs.Prelude.{None, Some, Ok}
-use Rattle.std.proofs.Common.{refl, sym, ap, subst, ◌∙◌, lit≤, rules}
+use Rattle.std.specs.Prelude.{None, Some}
+use Rattle.std.proofs.Common.{refl, sym, subst, ◌∙◌, lit≤, rules}
 use Rattle.s3_machine.specs.declared.operation.Op.TheVariants.{GetObject}
 use Rattle.account_calls.specs.Calls.{TellsBucket}
 use Rattle.account_calls.specs.Interpret.{IsShownHead}
 use Rattle.account_calls.proofs.lemmas.Ends.{needs_none, answers}
-use Rattle.planner.proofs.Finding.{found_ends, found_nothing}
+use Rattle.planner.proofs.Finding.{found_ends, found_nothing, leaves_by}
 use Rattle.planner.proofs.Readings.{get_refused, get_none}
 use Rattle.planner.proofs.reading.find_object_within.Goals as goal
 
@@ -33,3 +33,6 @@ returns-in_default-clause-account g c = c.in_ok-head.ensures.leaves
 
 pub returns-clause-account : goal.returns-clause-account
 returns-clause-account g c = c.in_ok-head.ensures.leaves
+
+pub returns-clause-leaves : goal.returns-clause-leaves
+returns-clause-leaves g c = rw c.reading_of.ensures (leaves_by c.args.bucket c.args.key c.in-Some.head _)

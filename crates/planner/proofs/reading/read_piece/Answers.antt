@@ -1,4 +1,3 @@
-use Rattle.std.proofs.Common.{refl, sym, ◌∙◌}
 use Rattle.account_calls.proofs.lemmas.One.{not_asked}
 use Rattle.planner.proofs.Finding.{piece_asked, piece_lost}
 use Rattle.planner.proofs.Unchanged.{piece_of_file}
